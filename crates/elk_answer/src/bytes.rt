@@ -1,0 +1,30 @@
+//! The answer to a document's bytes.
+ghost use Rattle.std.specs.Prelude.{IfErr, IfOk, OnOk};
+ghost use Rattle.elk_json.specs.Refused.{MatchFault};
+ghost use Rattle.elk_answer.specs.Answer.{IsAccepted, IsAnswer, Refuses};
+
+use crate::stack::{is_built, lay_out};
+use elk_json::{DocFault, Refusal, Rule, parse, read_doc};
+use elk_write::{answer_value, text_of};
+use std::alloc::Global;
+
+/// The text of the drawing of the document in these bytes, or the rule that refuses it and where.
+///
+/// The text is the same document placed, as compact JSON with ascending keys and a line feed.
+pub fn answer(alloc: Global, bytes: &[u8]) -> Result<Vec<u8>, DocFault>
+    ensures answered { IfOk result (λ text. IsAnswer bytes.now text.items) }
+    ensures accepted { OnOk result (IsAccepted bytes.now) }
+    ensures refused { IfErr result (λ fault. MatchFault fault (Refuses bytes.now)) }
+{
+    let value = parse(alloc, bytes)?;
+    let doc = read_doc(alloc, &value)?;
+    if !is_built(&doc) {
+        return Err(DocFault::Refused(Refusal {
+            rule: Rule::NotBuilt,
+            place: None,
+        }));
+    }
+    let placed = lay_out(alloc, &doc)?;
+    let answer = answer_value(alloc, &value, &doc, &placed)?;
+    Ok(text_of(alloc, &answer)?)
+}

@@ -1,0 +1,47 @@
+-- What each command does with its input. A new command adds a case to each of the first definitions.
+use Rattle.std.specs.Prelude.{◌≡◌, ◌⊎◌, ℕ, ◌^◌, ◌<◌, List, [], length, ⊤, Option, Some, None}
+use Rattle.elk_json.specs.declared.fault.Refusal.{Refusal}
+use Rattle.elk_answer.specs.Answer as answer
+use Rattle.elk_engine.specs.declared.words.Command.{Command}
+use Rattle.elk_engine.specs.declared.words.Command.TheVariants.{Layout}
+use Rattle.elk_engine.specs.Notes.{refused_note}
+
+-- the most bytes that it takes of its input
+abbrev pub limit : Command → ℕ
+limit Layout = 2 ^ 24
+
+-- it reads its input, so that this holds where it is done
+abbrev pub Reads : Command → Type 0 → Type 0
+Reads Layout at_end = at_end
+
+-- it refuses this input with this note
+abbrev pub Refuses : Command → List ℕ → List ℕ → Type 0
+Refuses Layout input note = (r : Refusal) × answer.Refuses input r × (note ≡ refused_note r)
+
+-- it answers this input by this status, 0 or 1, and this text
+abbrev pub Answers : Command → List ℕ → ℕ → List ℕ → Type 0
+Answers Layout input status text = (status ≡ 0) × answer.IsAnswer input text
+
+-- the input is longer than it takes
+abbrev pub IsTooLong : Command → List ℕ → Type 0
+IsTooLong Layout input = limit Layout < length input
+
+-- what it has written when it ends early, having taken these bytes
+abbrev pub Begun : Command → List ℕ → List ℕ → Type 0
+Begun Layout taken text = text ≡ []
+
+-- ---- the same for all commands
+
+-- the input is refused
+abbrev pub IsRefused : Command → List ℕ → Type 0
+IsRefused command input = IsTooLong command input ⊎ ((note : List ℕ) × Refuses command input note)
+
+-- the input is accepted
+pub record IsAccepted (command : Command) (input : List ℕ) : Type 0 where
+  pub not_long : IsTooLong command input → ⊥
+  pub not_refused : (note : List ℕ) → Refuses command input note → ⊥
+
+-- these words leave the source alone
+abbrev pub LeavesInput : Option Command → Type 0
+LeavesInput None = ⊤
+LeavesInput (Some command) = Reads command ⊥

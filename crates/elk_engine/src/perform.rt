@@ -1,0 +1,96 @@
+// A run of one command.
+ghost use Rattle.std.specs.Prelude.{◌≡◌, ◌⊎◌, ◌≤◌, ⊤, ℕ, List};
+ghost use Rattle.std.specs.Io.KnownBytes.{Consumes, IsAtEnd};
+ghost use Rattle.elk_outer.specs.Causes.{Rose};
+ghost use Rattle.elk_engine.specs.Command.{Answers, IsAccepted, IsTooLong, Reads, limit};
+ghost use Rattle.elk_engine.specs.Outcome.{Outcome};
+
+use crate::Command;
+use crate::notes::{OUT_OF_MEMORY, READ_FAULT, TOO_LONG, WRITE_FAULT, noted};
+use crate::reply::{Stop, reply_to};
+use elk_outer::{ReadFault, Sink, Source, read_whole, write_whole};
+use std::alloc::Global;
+
+/// Reads the input, replies to it and writes the reply.
+pub(crate) fn perform<S: Source, K: Sink, N: Sink>(
+    alloc: Global,
+    command: Command,
+    source: &mut S,
+    out: &mut K,
+    notes: &mut N,
+) -> u8
+    requires { Reads command ⊥ → ⊥ }
+    ensures outcome { (taken : List ℕ) × Consumes (S.left source.old) (S.left source.new) taken
+        × Outcome command result taken (IsAtEnd (S.left source.new))
+        (K.taken out.old) (K.taken out.new) (N.taken notes.old) (N.taken notes.new) }
+    ensures read_fault { result ≡ 3 → Rose (S.faults source.old) (S.faults source.new) }
+    ensures write_fault { result ≡ 4 → Rose (K.faults out.old) (K.faults out.new) ⊎ Rose (N.faults notes.old) (N.faults notes.new) }
+    ensures sure_out { (room : ℕ) → K.sure out.old room → K.sure out.new room }
+    ensures sure_notes { (room : ℕ) → N.sure notes.old room → N.sure notes.new room }
+{
+    match read_whole(alloc, source, limit_of(command)) {
+        Ok(bytes) => replied(alloc, command, &bytes, out, notes),
+        Err(ReadFault::TooLong) => noted(notes, TOO_LONG, 2),
+        Err(ReadFault::Fault) => noted(notes, READ_FAULT, 3),
+        Err(ReadFault::Memory) => noted(notes, OUT_OF_MEMORY, 6),
+    }
+}
+
+// The most bytes that the command takes of its input.
+fn limit_of(command: Command) -> u64
+    ensures limit { result ≡ limit command }
+{
+    match command {
+        Command::Layout => 1 << 24,
+    }
+}
+
+// Replies to the whole input.
+pub(crate) fn replied<K: Sink, N: Sink>(
+    alloc: Global,
+    command: Command,
+    bytes: &[u8],
+    out: &mut K,
+    notes: &mut N,
+) -> u8
+    requires { IsTooLong command bytes.now → ⊥ }
+    ensures outcome { Outcome command result bytes.now ⊤
+        (K.taken out.old) (K.taken out.new) (N.taken notes.old) (N.taken notes.new) }
+    ensures read_fault { result ≡ 3 → ⊥ }
+    ensures write_fault { result ≡ 4 → Rose (K.faults out.old) (K.faults out.new) ⊎ Rose (N.faults notes.old) (N.faults notes.new) }
+    ensures sure_out { (room : ℕ) → K.sure out.old room → K.sure out.new room }
+    ensures sure_notes { (room : ℕ) → N.sure notes.old room → N.sure notes.new room }
+{
+    match reply_to(alloc, command, bytes) {
+        Ok(reply) => written(command, bytes, reply.status, &reply.text, out, notes),
+        Err(Stop::Refused(note)) => noted(notes, &note, 2),
+        Err(Stop::Memory) => noted(notes, OUT_OF_MEMORY, 6),
+    }
+}
+
+// Writes the reply to an input.
+fn written<K: Sink, N: Sink>(
+    _command: Command,
+    _bytes: &[u8],
+    status: u8,
+    text: &[u8],
+    out: &mut K,
+    notes: &mut N,
+) -> u8
+    requires accepted { IsAccepted _command _bytes.now }
+    requires answer { Answers _command _bytes.now status text.now }
+    ensures outcome { Outcome _command result _bytes.now ⊤
+        (K.taken out.old) (K.taken out.new) (N.taken notes.old) (N.taken notes.new) }
+    ensures read_fault { result ≡ 3 → ⊥ }
+    ensures write_fault { result ≡ 4 → Rose (K.faults out.old) (K.faults out.new) }
+    ensures sure_out { (room : ℕ) → K.sure out.old room → K.sure out.new room }
+    ensures sure_notes { (room : ℕ) → N.sure notes.old room → N.sure notes.new room }
+{
+    match write_whole(out, text) {
+        Ok(()) => status,
+        Err(_) => {
+            let _ = write_whole(notes, WRITE_FAULT);
+            4
+        }
+    }
+}

@@ -1,0 +1,10 @@
+pub mod Collected
+pub mod KeyedRead
+pub mod NodeLaws
+pub mod Places
+pub mod Tree
+pub mod Accepted
+pub mod EndLaws
+pub mod PortLaws
+pub mod Soundness
+pub mod BuildLaws

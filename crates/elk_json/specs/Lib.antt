@@ -1,0 +1,13 @@
+pub mod Bytes
+pub mod Refused
+pub mod Whole
+pub mod Elements
+pub mod Seen
+pub mod Members
+pub mod Shape
+pub mod Ranges
+pub mod Ends
+pub mod Rules
+pub mod Document
+pub mod Keyed
+pub mod Laws

@@ -1,0 +1,126 @@
+// Ids.
+ghost use Rattle.std.specs.Prelude.{◌≡◌, [], Some, not, if◌then◌else◌, IfOk, option_map};
+ghost use Rattle.std.specs.List.{list_any};
+ghost use Rattle.serde_json.specs.View.{view};
+ghost use Rattle.elk_doc.specs.declared.document.Id.TheVariants.{Text, Whole};
+ghost use Rattle.elk_json.specs.Members.{to_id, id_of as id_value, kind_is_edge};
+ghost use Rattle.elk_json.specs.Ends.{is_some_same_id, is_double as double_test, first_double as first_double_of};
+ghost use Rattle.elk_json.specs.Seen.{seen, seen_list};
+
+use crate::elements::{Element, Kind};
+use elk_doc::document::{Id, Name};
+use serde_json::Value;
+use std::alloc::{AllocError, Global};
+
+// The values are ids, and these are the same.
+pub(crate) fn is_same_id(a: &Value, b: &Value) -> bool
+    ensures { result ≡ is_some_same_id (to_id (view a.now)) (to_id (view b.now)) }
+{
+    match a {
+        Value::String(x) => is_text_id(x.as_str(), b),
+        Value::Number(m) => match m.as_i128() {
+            None => false,
+            Some(m) => is_whole_id(m, b),
+        },
+        _ => false,
+    }
+}
+
+fn is_text_id(text: &str, value: &Value) -> bool
+    ensures { result ≡ is_some_same_id (Some (Text text.now)) (to_id (view value.now)) }
+{
+    match value {
+        Value::String(other) => text == other.as_str(),
+        _ => false,
+    }
+}
+
+fn is_whole_id(whole: i128, value: &Value) -> bool
+    ensures { result ≡ is_some_same_id (Some (Whole whole)) (to_id (view value.now)) }
+{
+    match value {
+        Value::Number(other) => other.as_i128() == Some(whole),
+        _ => false,
+    }
+}
+
+// The element has this id.
+pub(crate) fn has_id(id: &Value, value: &Value) -> bool
+    ensures { result ≡ is_some_same_id (to_id (view id.now)) (id_value (view value.now)) }
+{
+    match value.get("id") {
+        None => false,
+        Some(own) => is_same_id(id, own),
+    }
+}
+
+fn have_one_id(a: &Value, b: &Value) -> bool
+    ensures { result ≡ is_some_same_id (id_value (view a.now)) (id_value (view b.now)) }
+{
+    match a.get("id") {
+        None => false,
+        Some(own) => has_id(own, b),
+    }
+}
+
+fn share_ids(a: Kind, b: Kind) -> bool
+    ensures { result ≡ (if kind_is_edge a then kind_is_edge b else not (kind_is_edge b)) }
+{
+    match a {
+        Kind::Edge => b == Kind::Edge,
+        _ => b != Kind::Edge,
+    }
+}
+
+#[tactic(auto, unfolding(crate::specs::Ends::is_double))]
+fn is_double(a: &Element<'_>, b: &Element<'_>) -> bool
+    ensures { result ≡ double_test (seen a.now) (seen b.now) }
+{
+    share_ids(a.kind, b.kind) && have_one_id(a.value, b.value)
+}
+
+fn stood_earlier(element: &Element<'_>, earlier: &[Element<'_>]) -> bool
+    ensures { result ≡ list_any (double_test (seen element.now)) (seen_list earlier.now) }
+{
+    for other in earlier {
+        if is_double(element, other) {
+            return true;
+        }
+    }
+    false
+}
+
+// The first element whose id stood earlier.
+pub(crate) fn first_double<'e, 'a>(elements: &'e [Element<'a>]) -> Option<&'e Element<'a>>
+    ensures { option_map (λ e. seen e.now) result ≡ first_double_of [] (seen_list elements.now) }
+{
+    for (i, element) in elements.iter().enumerate() {
+        if stood_earlier(element, &elements[..i]) {
+            return Some(element);
+        }
+    }
+    None
+}
+
+// The element's id.
+pub(crate) fn id_of(alloc: Global, value: &Value) -> Result<Option<Id>, AllocError>
+    ensures { IfOk result (λ id. id ≡ id_value (view value.now)) }
+{
+    match value.get("id") {
+        None => Ok(None),
+        Some(id) => id_from(alloc, id),
+    }
+}
+
+fn id_from(alloc: Global, value: &Value) -> Result<Option<Id>, AllocError>
+    ensures { IfOk result (λ id. id ≡ to_id (view value.now)) }
+{
+    match value {
+        Value::String(text) => {
+            let name = String::from_str(alloc, text.as_str())?;
+            Ok(Some(Id::Text(Name::from_string(name))))
+        }
+        Value::Number(number) => Ok(number.as_i128().map(Id::Whole)),
+        _ => Ok(None),
+    }
+}

@@ -1,0 +1,25 @@
+//! Reading a document: from bytes to a JSON value, from a value to its nodes, ports and edges in document order, and the
+//! rule that refuses a value, with its place.
+#![tactic(auto)]
+
+mod build;
+pub mod bytes;
+pub mod document;
+pub mod elements;
+mod ends;
+pub mod fault;
+mod ids;
+pub mod laws;
+mod limits;
+mod members;
+mod ranges;
+mod rules;
+mod shape;
+mod whole;
+
+pub use bytes::parse;
+pub use document::read_doc;
+pub use fault::{DocFault, Refusal, Rule, rule_name, rule_number};
+
+#[cfg(test)]
+mod tests;

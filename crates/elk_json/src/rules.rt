@@ -1,0 +1,223 @@
+// Which rule refuses a value, and where.
+ghost use Rattle.std.specs.Prelude.{◌≡◌, ◌+ℤ◌, int_lt, IfOk, Some, [], option_map, find, is_some, false, ◌&&◌, nat_eq};
+ghost use Rattle.std.specs.Option.{option_map_or, option_eq};
+ghost use Rattle.std.specs.List.{list_any};
+ghost use Rattle.serde_json.specs.View.{view};
+ghost use Rattle.elk_options.specs.Reading.{first_bad};
+ghost use Rattle.elk_json.specs.Members.{is_edge, whole_at as whole_test, role_of as role_test, options_data, options_at, has_bad_option as bad_option_test, is_compound as compound_test};
+ghost use Rattle.elk_json.specs.Ends.{level_of_edge as level_place};
+ghost use Rattle.elk_json.specs.Rules.{first_at, has_boxes_and_edges as boxes_test, is_badly_optioned as badly_test, has_face_inside as face_test, lies_inside as lies_test, is_port_inside as inside_test, is_placed_inside as placed_inside_test, is_side_inside as side_inside_test, if_so, at, option_refusal as option_refusal_of, edge_refusal as edge_refusal_of, value_refusal as value_refusal_of, refused};
+ghost use Rattle.elk_json.specs.Elements.{elements as elements_spec};
+ghost use Rattle.elk_json.specs.Seen.{seen, seen_list};
+
+use crate::elements::{Element, Kind};
+use crate::ends::{first_cross_level, first_hyperedge, first_unknown, level_of_edge};
+use crate::fault::{Refusal, Rule};
+use crate::ids::{first_double, id_of};
+use crate::limits::{are_too_many, is_too_deep};
+use crate::members::{is_at_compound, is_compound, node_role, options_in, role_of, whole_at};
+use crate::ranges::{first_out_of_range, is_fixed_pos};
+use crate::shape::has_bad_shape;
+use crate::whole::is_whole;
+use elk_doc::shape::Side;
+use serde_json::Value;
+use std::alloc::{AllocError, Global};
+
+// An edge of the level of the node at the place.
+fn has_level_edge(elements: &[Element<'_>], place: usize) -> bool
+    ensures { result ≡ list_any (λ f. is_edge f && option_eq nat_eq (level_place (seen_list elements.now) f.value) (Some place)) (seen_list elements.now) }
+{
+    for element in elements {
+        if element.kind == Kind::Edge && level_of_edge(elements, element.value) == Some(place) {
+            return true;
+        }
+    }
+    false
+}
+
+#[tactic(auto, unfolding(crate::specs::Rules::is_badly_optioned, crate::specs::Rules::has_boxes_and_edges))]
+fn is_badly_optioned_node(elements: &[Element<'_>], place: usize, element: &Element<'_>) -> bool
+    ensures { result ≡ badly_test (seen_list elements.now) place (seen element.now) }
+{
+    match options_in(element.value, role_of(element)) {
+        Err(_) => true,
+        Ok(options) => match options.level {
+            None => false,
+            Some(level) => {
+                is_compound(element) && level.boxes && has_level_edge(elements, place)
+            }
+        },
+    }
+}
+
+// The first element with a bad value of an option.
+fn first_badly_optioned<'e, 'a>(elements: &'e [Element<'a>]) -> Option<&'e Element<'a>>
+    ensures { option_map (λ e. seen e.now) result ≡ first_at (badly_test (seen_list elements.now)) 0 (seen_list elements.now) }
+{
+    for (i, element) in elements.iter().enumerate() {
+        if is_badly_optioned_node(elements, i, element) {
+            return Some(element);
+        }
+    }
+    None
+}
+
+// The sum of two of the port's numbers is below one of the node's.
+fn reaches_less(port: &Value, at: &str, size: &str, node: &Value) -> bool
+    ensures { result ≡ int_lt (whole_test at.now (view port.now) +ℤ whole_test size.now (view port.now)) (whole_test size.now (view node.now)) }
+{
+    let end = whole_at(port, at) + whole_at(port, size);
+    end < whole_at(node, size)
+}
+
+// The outer face lies strictly inside.
+#[tactic(auto, unfolding(crate::specs::Rules::has_face_inside))]
+fn has_face_inside(side: Side, node: &Value, port: &Value) -> bool
+    ensures { result ≡ face_test side (view node.now) (view port.now) }
+{
+    match side {
+        Side::West => whole_at(port, "x") > 0,
+        Side::East => reaches_less(port, "x", "width", node),
+        Side::North => whole_at(port, "y") > 0,
+        Side::South => reaches_less(port, "y", "height", node),
+    }
+}
+
+#[tactic(auto, unfolding(crate::specs::Rules::lies_inside))]
+fn lies_inside(node: &Value, port: &Value) -> bool
+    ensures { result ≡ lies_test (view node.now) (view port.now) }
+{
+    has_face_inside(Side::West, node, port)
+        && has_face_inside(Side::East, node, port)
+        && has_face_inside(Side::North, node, port)
+        && has_face_inside(Side::South, node, port)
+}
+
+#[tactic(auto, unfolding(crate::specs::Rules::is_port_inside))]
+fn is_port_inside(element: &Element<'_>) -> bool
+    ensures { result ≡ inside_test (seen element.now) }
+{
+    match element.kind {
+        Kind::Port => !is_at_compound(element) && is_placed_inside(element),
+        _ => false,
+    }
+}
+
+// Where the options of the port or of its node have bad values, an earlier rule holds.
+fn is_placed_inside(element: &Element<'_>) -> bool
+    ensures { result ≡ placed_inside_test (seen element.now) }
+{
+    match options_in(element.holder, node_role(is_at_compound(element))) {
+        Err(_) => false,
+        Ok(holder) => match options_in(element.value, role_of(element)) {
+            Err(_) => false,
+            Ok(own) => is_fixed_pos(holder.rule) && is_face_inside(own.side, element),
+        },
+    }
+}
+
+fn is_face_inside(side: Option<Side>, element: &Element<'_>) -> bool
+    ensures { result ≡ side_inside_test side (seen element.now) }
+{
+    match side {
+        None => lies_inside(element.holder, element.value),
+        Some(side) => has_face_inside(side, element.holder, element.value),
+    }
+}
+
+// The first port that lies inside its node.
+fn first_inside<'e, 'a>(elements: &'e [Element<'a>]) -> Option<&'e Element<'a>>
+    ensures { option_map (λ e. seen e.now) result ≡ find inside_test (seen_list elements.now) }
+{
+    for element in elements {
+        if is_port_inside(element) {
+            return Some(element);
+        }
+    }
+    None
+}
+
+// The rule, at the element if there is one.
+fn refusal_at(
+    alloc: Global,
+    rule: Rule,
+    element: Option<&Element<'_>>,
+) -> Result<Option<Refusal>, AllocError>
+    ensures { IfOk result (λ r. r ≡ at rule (option_map (λ e. seen e.now) element.entry)) }
+{
+    match element {
+        None => Ok(None),
+        Some(element) => {
+            let place = id_of(alloc, element.value)?;
+            Ok(Some(Refusal { rule, place }))
+        }
+    }
+}
+
+fn refusal_if(rule: Rule, holds: bool) -> Option<Refusal>
+    ensures { result ≡ if_so rule holds }
+{
+    if holds {
+        Some(Refusal { rule, place: None })
+    } else {
+        None
+    }
+}
+
+#[tactic(auto, unfolding(crate::specs::Rules::option_refusal))]
+fn option_refusal(alloc: Global, elements: &[Element<'_>]) -> Result<Option<Refusal>, AllocError>
+    ensures { IfOk result (λ r. r ≡ option_refusal_of (seen_list elements.now)) }
+{
+    let optioned = refusal_at(alloc, Rule::OptionValue, first_badly_optioned(elements))?;
+    let inside = refusal_at(alloc, Rule::PortInside, first_inside(elements))?;
+    Ok(optioned.or(inside))
+}
+
+#[tactic(auto, unfolding(crate::specs::Rules::edge_refusal))]
+fn edge_refusal(alloc: Global, elements: &[Element<'_>]) -> Result<Option<Refusal>, AllocError>
+    ensures { IfOk result (λ r. r ≡ edge_refusal_of (seen_list elements.now)) }
+{
+    let double = refusal_at(alloc, Rule::DoubleId, first_double(elements))?;
+    let unknown = refusal_at(alloc, Rule::UnknownEnd, first_unknown(elements))?;
+    let hyperedge = refusal_at(alloc, Rule::Hyperedge, first_hyperedge(elements))?;
+    let cross = refusal_at(alloc, Rule::CrossLevel, first_cross_level(elements))?;
+    Ok(double.or(unknown.or(hyperedge.or(cross))))
+}
+
+#[tactic(auto, unfolding(crate::specs::Rules::value_refusal))]
+fn value_refusal(
+    alloc: Global,
+    value: &Value,
+    elements: &[Element<'_>],
+) -> Result<Option<Refusal>, AllocError>
+    requires { seen_list elements.now ≡ elements_spec (view value.now) }
+    ensures { IfOk result (λ r. r ≡ value_refusal_of (view value.now)) }
+{
+    let broken = refusal_if(Rule::NotWhole, !is_whole(value));
+    let shape = refusal_if(Rule::BadShape, has_bad_shape(elements));
+    let range = refusal_at(alloc, Rule::OutOfRange, first_out_of_range(elements))?;
+    let many = refusal_if(Rule::TooMany, are_too_many(elements));
+    let deep = refusal_if(Rule::TooDeep, is_too_deep(value));
+    Ok(broken.or(shape.or(range.or(many.or(deep)))))
+}
+
+// The first rule that refuses the value with these elements, and its place, or none.
+#[tactic(auto, unfolding(crate::specs::Rules::refused))]
+pub(crate) fn refusal_in(
+    alloc: Global,
+    value: &Value,
+    elements: &[Element<'_>],
+) -> Result<Option<Refusal>, AllocError>
+    requires { seen_list elements.now ≡ elements_spec (view value.now) }
+    ensures { IfOk result (λ r. r ≡ refused (view value.now)) }
+{
+    let whole = value_refusal(alloc, value, elements)?;
+    if whole.is_some() {
+        return Ok(whole);
+    }
+    let edges = edge_refusal(alloc, elements)?;
+    if edges.is_some() {
+        return Ok(edges);
+    }
+    option_refusal(alloc, elements)
+}

@@ -1,0 +1,22 @@
+-- Ranges that options keep, whatever is asked.
+use Rattle.std.specs.Prelude.{ℕ, ◌-◌, ◌^◌, ◌≤◌, pos, neg_ℤ}
+use Rattle.serde_json.specs.Data.{Data}
+use Rattle.elk_doc.specs.Sound.{IsWithin, IsDistance, IsSoundSpacing, IsSoundPadding}
+use Rattle.elk_options.specs.declared.names.OptionName.TheVariants as name
+use Rattle.elk_options.specs.Table.{to_index, to_padding}
+use Rattle.elk_options.specs.Reading.{spacing_of, value_or, distance_or, usual_padding, weight_of}
+
+abbrev pub SpacingIsSound : Type 0
+SpacingIsSound = (d : Data) → IsSoundSpacing (spacing_of d)
+
+abbrev pub ComponentIsSound : Type 0
+ComponentIsSound = (d : Data) → IsDistance (distance_or 20 name.ComponentComponent d)
+
+abbrev pub PaddingIsSound : Type 0
+PaddingIsSound = (d : Data) → IsSoundPadding (value_or to_padding usual_padding name.Padding d)
+
+abbrev pub IndexIsSound : Type 0
+IndexIsSound = (d : Data) → IsWithin (neg_ℤ (pos (2 ^ 31))) (pos (2 ^ 31 - 1)) (value_or to_index (pos 0) name.PortIndex d)
+
+abbrev pub WeightIsSound : Type 0
+WeightIsSound = (d : Data) → (1 ≤ weight_of d) × (weight_of d ≤ 2 ^ 20)

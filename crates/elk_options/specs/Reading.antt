@@ -1,0 +1,150 @@
+-- The options of an element.
+use Rattle.std.specs.Prelude.{◌≡◌, ℕ, List, [], ◌∷◌, ◌++◌, Bool, true, false, not, ◌&&◌, is_some, find, Option, Some, None, option_map, unwrap_or, ℤ, pos, nat_abs, Result, MatchResult}
+use Rattle.std.specs.Option.{option_map_or, option_and_then}
+use Rattle.std.specs.Int.{int_max}
+use Rattle.serde_json.specs.Data.{Data}
+use Rattle.elk_doc.specs.declared.document.Direction.{Direction}
+use Rattle.elk_doc.specs.declared.document.Sweep.{Sweep}
+use Rattle.elk_doc.specs.declared.document.Placing.{Placing}
+use Rattle.elk_doc.specs.declared.document.Direction.TheVariants as direction
+use Rattle.elk_doc.specs.declared.document.PortRule.{PortRule}
+use Rattle.elk_doc.specs.declared.document.PortRule.TheVariants as rule
+use Rattle.elk_doc.specs.declared.document.Placing.TheVariants as placing
+use Rattle.elk_doc.specs.declared.document.Padding.{Padding}
+use Rattle.elk_doc.specs.declared.document.Spacing.{Spacing}
+use Rattle.elk_doc.specs.declared.document.LevelOptions.{LevelOptions}
+use Rattle.elk_options.specs.declared.names.OptionName.{OptionName}
+use Rattle.elk_options.specs.declared.names.OptionName.TheVariants as name
+use Rattle.elk_options.specs.declared.options.Role.{Role}
+use Rattle.elk_options.specs.declared.options.Role.TheVariants.{Level, Leaf, Port, Edge}
+use Rattle.elk_options.specs.declared.options.Options.{Options}
+use Rattle.elk_options.specs.declared.options.BadValue.{BadValue}
+use denote.Bor.{Bor}
+use Rattle.serde_json.specs.View.{view}
+use Rattle.serde_json.specs.declared.value.Value.{Value}
+use Rattle.elk_options.specs.Names.{asked, or_empty}
+use Rattle.elk_options.specs.Table.{to_boxes, to_direction, to_rule, to_side, to_index, to_routing, to_padding, to_distance, to_sweep, to_shortness, to_truth, to_placing}
+
+unfoldable pub front_names : List OptionName
+front_names = name.Algorithm ∷ name.Direction ∷ name.PortConstraints ∷ name.EdgeRouting ∷ name.Padding ∷ []
+
+unfoldable pub spacing_names : List OptionName
+spacing_names = name.NodeNode ∷ name.EdgeNode ∷ name.EdgeEdge ∷ name.NodeLayers ∷ name.EdgeNodeLayers ∷ name.EdgeEdgeLayers ∷ []
+
+unfoldable pub back_names : List OptionName
+back_names = name.FixedAlignment ∷ name.SeparateParts ∷ name.ComponentComponent ∷ name.NodePlacement ∷ []
+
+-- the options that are read in a role, in order
+abbrev pub names_of : Role → List OptionName
+names_of Level = front_names ++ (spacing_names ++ back_names)
+names_of Leaf = name.PortConstraints ∷ []
+names_of Port = name.PortSide ∷ name.PortIndex ∷ []
+names_of Edge = name.Shortness ∷ []
+
+-- a value of the option's table
+abbrev pub is_valued : OptionName → Data → Bool
+is_valued name.Algorithm d = is_some (to_boxes d)
+is_valued name.Direction d = is_some (to_direction d)
+is_valued name.PortConstraints d = is_some (to_rule d)
+is_valued name.PortSide d = is_some (to_side d)
+is_valued name.PortIndex d = is_some (to_index d)
+is_valued name.EdgeRouting d = is_some (to_routing d)
+is_valued name.Padding d = is_some (to_padding d)
+is_valued name.NodeNode d = is_some (to_distance d)
+is_valued name.EdgeNode d = is_some (to_distance d)
+is_valued name.EdgeEdge d = is_some (to_distance d)
+is_valued name.NodeLayers d = is_some (to_distance d)
+is_valued name.EdgeNodeLayers d = is_some (to_distance d)
+is_valued name.EdgeEdgeLayers d = is_some (to_distance d)
+is_valued name.FixedAlignment d = is_some (to_sweep d)
+is_valued name.Shortness d = is_some (to_shortness d)
+is_valued name.SeparateParts d = is_some (to_truth d)
+is_valued name.ComponentComponent d = is_some (to_distance d)
+is_valued name.NodePlacement d = is_some (to_placing d)
+
+-- the option is there, with a value outside its table
+unfoldable pub is_bad : Data → OptionName → Bool
+is_bad d option = option_map_or (λ v. not (is_valued option v)) (asked option d) false
+
+-- the first option read in the role whose value is outside its table
+unfoldable pub first_bad : Role → Data → Option OptionName
+first_bad role d = find (is_bad d) (names_of role)
+
+-- the option's value, or its default
+abbrev pub value_or : {T : Type 0} → (Data → Option T) → T → OptionName → Data → T
+value_or to default option d = unwrap_or (option_and_then to (asked option d)) default
+
+-- a distance counts as at least 1
+abbrev pub distance_or : ℕ → OptionName → Data → ℤ
+distance_or default option d = int_max (value_or to_distance (pos default) option d) (pos 1)
+
+unfoldable pub spacing_of : Data → Spacing
+spacing_of d = record {
+  node_node = distance_or 20 name.NodeNode d;
+  edge_node = distance_or 10 name.EdgeNode d;
+  edge_edge = distance_or 10 name.EdgeEdge d;
+  node_layers = distance_or 20 name.NodeLayers d;
+  edge_node_layers = distance_or 10 name.EdgeNodeLayers d;
+  edge_edge_layers = distance_or 10 name.EdgeEdgeLayers d;
+}
+
+abbrev pub AreDistances : Data → Spacing → Type 0
+AreDistances d s =
+    (s.node_node ≡ distance_or 20 name.NodeNode d)
+    × (s.edge_node ≡ distance_or 10 name.EdgeNode d)
+    × (s.edge_edge ≡ distance_or 10 name.EdgeEdge d)
+    × (s.node_layers ≡ distance_or 20 name.NodeLayers d)
+    × (s.edge_node_layers ≡ distance_or 10 name.EdgeNodeLayers d)
+    × (s.edge_edge_layers ≡ distance_or 10 name.EdgeEdgeLayers d)
+
+abbrev pub usual_padding : Padding
+usual_padding = record { top = pos 12; left = pos 12; bottom = pos 12; right = pos 12 }
+
+-- a level of boxes is never split
+unfoldable pub level_of : Data → LevelOptions
+level_of d =
+    let boxes = value_or to_boxes false name.Algorithm d in record {
+      direction = value_or to_direction direction.Right name.Direction d;
+      spacing = spacing_of d;
+      padding = value_or to_padding usual_padding name.Padding d;
+      fixed = value_or to_sweep None name.FixedAlignment d;
+      split = not boxes && value_or to_truth false name.SeparateParts d;
+      component = distance_or 20 name.ComponentComponent d;
+      placing = value_or to_placing placing.BrandesKoepf name.NodePlacement d;
+      boxes = boxes;
+    }
+
+unfoldable pub rule_of : Data → PortRule
+rule_of d = value_or to_rule rule.Free name.PortConstraints d
+
+-- a weight is at least 1
+unfoldable pub weight_of : Data → ℕ
+weight_of d = nat_abs (int_max (value_or to_shortness (pos 0) name.Shortness d) (pos 1))
+
+unfoldable pub options_of : Role → Data → Options
+options_of Level d = record { level = Some (level_of d); rule = rule_of d; side = None; index = pos 0; weight = 1 }
+options_of Leaf d = record { level = None; rule = rule_of d; side = None; index = pos 0; weight = 1 }
+options_of Port d = record { level = None; rule = rule.Free; side = value_or to_side None name.PortSide d; index = value_or to_index (pos 0) name.PortIndex d; weight = 1 }
+options_of Edge d = record { level = None; rule = rule.Free; side = None; index = pos 0; weight = weight_of d }
+
+-- ---- for private clauses
+
+-- a level's options from what was read
+abbrev pub joined_options : Bool → Direction → PortRule → Padding → Spacing → Option Sweep → Bool → ℤ → Placing → Options
+joined_options boxes direction rule padding spacing sweep split component placing = record {
+  level = Some (record { direction = direction; spacing = spacing; padding = padding; fixed = sweep; split = not boxes && split; component = component; placing = placing; boxes = boxes });
+  rule = rule;
+  side = None;
+  index = pos 0;
+  weight = 1;
+}
+
+-- one option is read
+
+-- the option's value or default, or its name where its value is outside the table
+abbrev pub Reads : {T : Type 0} → OptionName → Data → T → Result T BadValue → Type 0
+Reads option d value r = MatchResult r (λ v. (is_bad d option ≡ false) × (v ≡ value)) (λ e. (e ≡ record { option = option }) × (is_bad d option ≡ true))
+
+-- the options that are handed in
+abbrev pub given : Option (Bor Value) → Data
+given o = or_empty (option_map (λ v. view v.now) o)

@@ -1,0 +1,14 @@
+// Options of nodes, ports and edges.
+#![tactic(auto)]
+
+pub mod laws;
+pub mod names;
+pub mod options;
+mod padding;
+mod readers;
+mod texts;
+mod values;
+
+pub use names::OptionName;
+pub use options::{BadValue, Options, Role, read_options};
+pub use padding::read_padding;

@@ -1,0 +1,13 @@
+pub mod Lists
+pub mod Found
+pub mod Puts
+pub mod Kept
+pub mod Shape
+pub mod Stripped
+pub mod Pairs
+pub mod Turned
+pub mod Puttings
+pub mod Ready
+pub mod Known
+pub mod Clean
+pub mod Law

@@ -1,0 +1,19 @@
+// The text of a value.
+ghost use Rattle.std.specs.Prelude.{◌≡◌, false, IfOk};
+ghost use Rattle.serde_json.specs.View.{view};
+ghost use Rattle.serde_json.specs.Written.{has_float};
+ghost use Rattle.elk_write.specs.Text.{text};
+
+use serde_json::Value;
+use std::alloc::{AllocError, Global};
+
+/// The compact text of a value whose numbers are all whole, and a line feed. The members of each object stand in the order
+/// in which the value has them.
+pub fn text_of(alloc: Global, value: &Value) -> Result<Vec<u8>, AllocError>
+    requires { has_float (view value.now) ≡ false }
+    ensures { IfOk result (λ b. b.items ≡ text (view value.now)) }
+{
+    let mut bytes = value.to_vec(alloc)?;
+    bytes.push(b'\n')?;
+    Ok(bytes)
+}
