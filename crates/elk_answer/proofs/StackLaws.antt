@@ -1,8 +1,8 @@
 -- A stack of leaves is drawn and fitted.
-use Rattle.std.proofs.Common.{◌≡◌, ◌≢◌, ◌⊎◌, inl, inr, ⊎_elim, ℕ, zero, suc, ◌+◌, ◌-◌, ◌*◌, ◌^◌, ◌<◌, ◌≤◌, ◌==◌, Bool, true, false, List, [], ◌∷◌, length, get_or, replicate, Option, Some, None, unwrap_or, IsTrue, IsFalse, IsSome, IsNone, IfSome, All, ℤ, pos, ◌+ℤ◌, ◌-ℤ◌, ◌*ℤ◌, ◌≤ℤ◌, if◌then◌else◌, refl, sym, ◌∙◌, ap, subst, add-one, arith, rules, eq-eqb}
-use Rattle.std.proofs.lemmas.Int.{ints, clamps}
-use Rattle.std.proofs.lemmas.Bool.{cases_lt, cases_order}
-use Rattle.std.proofs.lemmas.List.{get_or-replicate, length-replicate}
+use Rattle.std.proofs.Common.{◌≡◌, ◌⊎◌, inl, inr, ⊎_elim, ℕ, zero, suc, ◌+◌, ◌-◌, ◌*◌, ◌^◌, ◌<◌, ◌≤◌, Bool, true, false, List, length, get_or, replicate, Option, Some, None, unwrap_or, IsTrue, IsFalse, IsSome, IsNone, All, ℤ, pos, ◌+ℤ◌, ◌-ℤ◌, ◌*ℤ◌, ◌≤ℤ◌, if◌then◌else◌, refl, sym, ◌∙◌, ap, subst, arith, rules}
+use Rattle.std.proofs.lemmas.Int.{ints}
+use Rattle.std.proofs.lemmas.Bool.{cases_lt}
+use Rattle.std.proofs.lemmas.List.{length-replicate}
 use Rattle.std.proofs.lemmas.List.Elements.{All-nil, All-from_get_or}
 use Rattle.elk_doc.specs.declared.shape.Point.{Point}
 use Rattle.elk_doc.specs.declared.shape.Rect.{Rect}
@@ -14,25 +14,24 @@ use Rattle.elk_doc.specs.declared.drawing.Certificate.{Certificate}
 use Rattle.elk_doc.specs.declared.drawing.Placed.{Placed}
 use Rattle.elk_doc.specs.Document.{Document, edge_at, node_at, parent_of}
 use Rattle.elk_doc.specs.Numbers.{count_below, sum_below, total_below}
-use Rattle.elk_doc.specs.Level.{IsChild, IsEdge, is_child, is_edge_of, is_number}
+use Rattle.elk_doc.specs.Level.{IsChild, is_child, is_edge_of, is_number}
 use Rattle.elk_doc.specs.Drawing.{box_of, certificate_of, layer_in, flow_in, head_node, tail_node, no_rect}
 use Rattle.elk_doc.specs.Shapes.{right_of, bottom_of, turned}
 use Rattle.elk_doc.specs.Places.{outline_to, outline_of}
-use Rattle.elk_doc.specs.Sound.{IsSound, IsSoundLevel, IsSoundSize}
+use Rattle.elk_doc.specs.Sound.{IsSound}
 use Rattle.elk_doc.specs.Fits.{Fits, FitsBox, FitsCertificate, FitsLevel, FitsSection, KeepsSize, IsNear}
 use Rattle.elk_doc.specs.Content.{IsAboveBy, SomeShape}
-use Rattle.elk_doc.specs.Apart.{Apart, LayersApart, framed}
+use Rattle.elk_doc.specs.Apart.{Apart, framed}
 use Rattle.elk_doc.specs.Inside.{Inside, IsWithinPadding}
-use Rattle.elk_doc.specs.PortsKept.{PortsKept, KeepsPorts, IsSpread, Spot, a_port, an_end}
+use Rattle.elk_doc.specs.PortsKept.{KeepsPorts, IsSpread, Spot, a_port, an_end}
 use Rattle.elk_doc.specs.Paths.{stay}
-use Rattle.elk_doc.specs.Reversed.{Reversed, UnlistedStep}
 use Rattle.elk_doc.specs.Layering.{Layering, written_layer}
 use Rattle.elk_doc.specs.FlowProof.{FlowProof, enters_child, leaves_child, weight_at}
 use Rattle.elk_doc.specs.Drawn.{Drawn, LevelDrawn}
-use Rattle.elk_doc.specs.Fitted.{Fitted, LevelFitted, HasNoChild, IsGreatestOf, IsLeastOf, NeedsHeight, NeedsWidth}
+use Rattle.elk_doc.specs.Fitted.{Fitted, LevelFitted, HasNoChild, IsLeastOf, NeedsHeight, NeedsWidth}
 use Rattle.elk_answer.specs.Built.{IsBuilt, IsPlainLevel}
 use Rattle.elk_answer.proofs.Stacking.{leaf_size, root_level, some_of}
-use Rattle.elk_answer.specs.Stack.{IsStack, IsLeafBox, one_layer, box_in}
+use Rattle.elk_answer.specs.Stack.{IsStack, one_layer}
 
 -- a sound document of leaves, its root's options, and the drawing of a stack of them
 pub record StackOf (d : Document) (p : Placed) (o : LevelOptions) : Type 0 where

@@ -241,9 +241,9 @@ deep_enough es n r hi some =
     ⊎_elim
     (λ (e : n ≡ 0). ap (ancestor (doc_of es) 49) e ∙ ancestor_zero (doc_of es) 49 (root_itself es r))
     (λ (ne : n ≡ 0 → ⊥).
-        let b = below_root es n r (omega arith) hi in
-        let there : IsSome (node_at (doc_of es) (number is_node es b.place)).level = subst (λ m. IsSome (node_at (doc_of es) m).level) (sym b.is) some in
-        let compound : is_compound b.element ≡ true = compound_there es b.place b.element b.at b.passes there in
-        let way = b.placed.depth b.passes (children_if b.element b.placed.owner_place b.placed.owned compound) in
-        ap (ancestor (doc_of es) 49) (sym b.is) ∙ climbed es 49 b.place r way)
+    let b = below_root es n r (omega arith) hi in
+    let there : IsSome (node_at (doc_of es) (number is_node es b.place)).level = subst (λ m. IsSome (node_at (doc_of es) m).level) (sym b.is) some in
+    let compound : is_compound b.element ≡ true = compound_there es b.place b.element b.at b.passes there in
+    let way = b.placed.depth b.passes (children_if b.element b.placed.owner_place b.placed.owned compound) in
+    ap (ancestor (doc_of es) 49) (sym b.is) ∙ climbed es 49 b.place r way)
     (cases_eq n 0)

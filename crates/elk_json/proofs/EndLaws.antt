@@ -181,7 +181,10 @@ end_of_node es i x at is =
     let e = node_end es i x at is in
     record {
       inside = subst (λ z. IsEndIn (doc_of es) z) (sym e) (node_in es i x at is);
-      place = i; element = x; at = at; node_is = is;
+      place = i;
+      element = x;
+      at = at;
+      node_is = is;
       stands = node_stands es i x at is;
       is = ap (node_of_end (doc_of es)) e;
     }
@@ -200,7 +203,10 @@ end_of_port es i x r at is edge =
     let p = r.placed i x (past_first es i x r at is) at in
     record {
       inside = subst (λ z. IsEndIn (doc_of es) z) (sym e) (port_in es i x at port);
-      place = p.owner_place; element = p.keeper; at = p.kept; node_is = p.keeper_is;
+      place = p.owner_place;
+      element = p.keeper;
+      at = p.kept;
+      node_is = p.keeper_is;
       stands = port_stands es i x at is ∙ p.owned;
       is = ap (node_of_end (doc_of es)) e ∙ port_node es i x p.owner_place at port p.owned;
     }
@@ -227,7 +233,10 @@ has_ends es d r known hyper =
     let s = some_is (source_of es d) found.0 in
     let t = some_is (target_of es d) found.1 in
     record {
-      source_place = s.0; target_place = t.0; source_is = s.1; target_is = t.1;
+      source_place = s.0;
+      target_place = t.0;
+      source_is = s.1;
+      target_is = t.1;
       source_end = end_found es s.0 r (found_source es d s.0 s.1);
       target_end = end_found es t.0 r (found_target es d t.0 t.1);
     }

@@ -75,7 +75,6 @@ pub leaf_size : (e : Element) → is_node e ≡ true → is_compound e ≡ false
 unfolding is_out_of_range
 leaf_size e n c h = good_by (is_node e) (is_compound e) (has_good_size e.value) _ n c h
 
-
 pub not_none : {X : Type 0} (o : Option X) (x : X) → o ≡ Some x → IsNone o → ⊥
 not_none o x e h = let bad : IsNone (Some x) = subst (λ v. IsNone v) e h in search rules
 

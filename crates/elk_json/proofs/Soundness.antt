@@ -185,7 +185,10 @@ level_edge es k a r h =
     let simple = second (is_edge b.element) _ b.passes (none_found (λ e. is_edge e && is_hyperedge e.value) es b.place b.element a.simple b.at) in
     let inner = second (is_edge b.element) _ b.passes (none_found (λ e. is_edge e && is_cross_level es e.value) es b.place b.element a.within b.at) in
     record {
-      element = b.element; place = b.place; at = b.at; edge_is = b.passes;
+      element = b.element;
+      place = b.place;
+      at = b.at;
+      edge_is = b.passes;
       value = subst (λ n. edge_at (doc_of es) n ≡ edge_of es b.element) b.is (value_at is_edge (edge_of es) es b.place b.element no_edge b.at b.passes);
       ends = has_ends es b.element.value r known simple;
       crossing = inner;
@@ -357,7 +360,11 @@ stands_at es k r hi =
     let b = behind is_port (port_of es) es k hi in
     let p = r.placed b.place b.element (past_first es b.place b.element r b.at (port_no_node b.element.kind b.passes)) b.at in
     record {
-      element = b.element; place = b.place; at = b.at; port_is = b.passes; is = b.is;
+      element = b.element;
+      place = b.place;
+      at = b.at;
+      port_is = b.passes;
+      is = b.is;
       value = subst (λ n. port_at (doc_of es) n ≡ port_of es b.element) b.is (port_value es b.place b.element b.at b.passes);
       placed = p;
       node_is = subst (λ n. node_of_port (doc_of es) n ≡ number is_node es p.owner_place) b.is (port_node es b.place b.element p.owner_place b.at b.passes p.owned);
@@ -370,12 +377,12 @@ ports_order es j k less s t =
     let order : s.place < t.place = place_less is_port es s.place t.place (omega arith) in
     let before : s.placed.owner_place < s.place = s.placed.before in
     let rises : s.placed.owner_place ≤ t.placed.owner_place =
-        ⊎_elim
-        (λ (h : t.placed.owner_place < s.placed.owner_place).
-            let not_node : is_node s.placed.keeper ≡ false = t.placed.lone (port_no_node t.element.kind t.port_is) s.placed.owner_place s.placed.keeper h (omega arith) s.placed.kept in
-            let node : is_node s.placed.keeper ≡ true = s.placed.keeper_is in absurd cc)
-        (λ (h : s.placed.owner_place ≤ t.placed.owner_place). h)
-        (cases_lt t.placed.owner_place s.placed.owner_place) in
+    ⊎_elim
+    (λ (h : t.placed.owner_place < s.placed.owner_place).
+    let not_node : is_node s.placed.keeper ≡ false = t.placed.lone (port_no_node t.element.kind t.port_is) s.placed.owner_place s.placed.keeper h (omega arith) s.placed.kept in
+    let node : is_node s.placed.keeper ≡ true = s.placed.keeper_is in absurd cc)
+    (λ (h : s.placed.owner_place ≤ t.placed.owner_place). h)
+    (cases_lt t.placed.owner_place s.placed.owner_place) in
     let numbers : number is_node es s.placed.owner_place ≤ number is_node es t.placed.owner_place = number_rises is_node es s.placed.owner_place t.placed.owner_place rises in
     let sn : node_of_port (doc_of es) j ≡ number is_node es s.placed.owner_place = s.node_is in
     let tn : node_of_port (doc_of es) k ≡ number is_node es t.placed.owner_place = t.node_is in

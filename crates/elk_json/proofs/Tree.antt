@@ -129,9 +129,19 @@ placed_append es low a (x ∷ xs) ys h k =
 
 lowered : (es : List Element) (low less i : ℕ) (x : Element) → less ≤ low → IsPlaced es low i x → IsPlaced es less i x
 lowered es low less i x h p = record {
-  owner_place = p.owner_place; owned = p.owned; low_owner = (let l : low ≤ p.owner_place = p.low_owner in omega arith); before = p.before;
-  keeper = p.keeper; kept = p.kept; keeper_is = p.keeper_is; same = p.same;
-  between = p.between; lone = p.lone; parent_has = p.parent_has; child = p.child; depth = p.depth;
+  owner_place = p.owner_place;
+  owned = p.owned;
+  low_owner = (let l : low ≤ p.owner_place = p.low_owner in omega arith);
+  before = p.before;
+  keeper = p.keeper;
+  kept = p.kept;
+  keeper_is = p.keeper_is;
+  same = p.same;
+  between = p.between;
+  lone = p.lone;
+  parent_has = p.parent_has;
+  child = p.child;
+  depth = p.depth;
 }
 
 placed_lower : (es : List Element) (low less a : ℕ) (xs : List Element) → less ≤ low → ArePlaced es low a xs → ArePlaced es less a xs
@@ -144,9 +154,9 @@ placed_there es low a [] s p m y h k at = absurd (omega arith)
 placed_there es low a (x ∷ xs) s p m y h k at =
     ⊎_elim
     (λ (e : m ≡ a).
-        let there : slice_get es a ≡ Some y = subst (λ n. slice_get es n ≡ Some y) e at in
-        let same : x ≡ y = same_Some x y (sym s.0 ∙ there) in
-        subst (λ n. IsPlaced es low n y) (sym e) (subst (λ z. IsPlaced es low a z) same p.0))
+    let there : slice_get es a ≡ Some y = subst (λ n. slice_get es n ≡ Some y) e at in
+    let same : x ≡ y = same_Some x y (sym s.0 ∙ there) in
+    subst (λ n. IsPlaced es low n y) (sym e) (subst (λ z. IsPlaced es low a z) same p.0))
     (λ (n : m ≡ a → ⊥). placed_there es low (suc a) xs s.1 p.1 m y (omega arith) (omega arith) at)
     (cases_eq m a)
 
@@ -173,8 +183,8 @@ no_more : (es : List Element) (node place : ℕ) (x : Element) → NoNodes es no
 no_more es node place x none at is = λ m y lo hi there.
     ⊎_elim
     (λ (e : m ≡ place).
-        let same : x ≡ y = same_Some x y (sym at ∙ subst (λ n. slice_get es n ≡ Some y) e there) in
-        ap is_node (sym same) ∙ is)
+    let same : x ≡ y = same_Some x y (sym at ∙ subst (λ n. slice_get es n ≡ Some y) e there) in
+    ap is_node (sym same) ∙ is)
     (λ (ne : m ≡ place → ⊥). none m y lo (omega arith) there)
     (cases_eq m place)
 
@@ -191,8 +201,14 @@ parts_placed : (kind : Kind) (es : List Element) (low node place : ℕ) (d : Dat
 parts_placed kind es low node place d keeper [] is at keeps same l b none s = tt
 parts_placed kind es low node place d keeper (x ∷ xs) is at keeps same l b none s = (
   record {
-    owner_place = node; owned = refl; low_owner = l; before = b;
-    keeper = keeper; kept = at; keeper_is = keeps; same = same;
+    owner_place = node;
+    owned = refl;
+    low_owner = l;
+    before = b;
+    keeper = keeper;
+    kept = at;
+    keeper_is = keeps;
+    same = same;
     between = λ m y q lo hi there node_is own. (let not_is : is_node y ≡ false = none m y lo hi there in absurd cc);
     lone = λ _. none;
     parent_has = λ node_is. absurd cc;
@@ -225,8 +241,7 @@ own_parts es low place x d at is same l s =
     let middle : NoNodes es place (suc place + length ps) = parts_none Port es place (suc place) d (listed (codes "ports") d) refl none left in
     let first = parts_placed Port es low place (suc place) d x (listed (codes "ports") d) refl at is same l (omega arith) none left in
     let second = parts_placed Edge es low place (suc place + length ps) d x (listed (codes "edges") d) refl at is same l (omega arith) middle right in
-    let far : suc place + length ps + length qs ≡ suc place + length (ps ++ qs) = omega (arith, length-append ps qs) in
-    (
+    let far : suc place + length ps + length qs ≡ suc place + length (ps ++ qs) = omega (arith, length-append ps qs) in (
       placed_append es low (suc place) ps qs first second,
       subst (λ n. NoNodes es place n) far (parts_none Edge es place (suc place + length ps) d (listed (codes "edges") d) refl middle right),
     )
@@ -238,8 +253,14 @@ head_placed : (es : List Element) (node place depth : ℕ) (holder d : Data) (ke
     → slice_get es place ≡ Some (node_element (Some node) holder d)
     → (has_children d ≡ true → HasChild es place) → (has_children d ≡ true → suc depth ≤ 49) → IsPlaced es node place (node_element (Some node) holder d)
 head_placed es node place depth holder d keeper h same has at child deep = record {
-  owner_place = node; owned = refl; low_owner = omega arith; before = h.before;
-  keeper = keeper; kept = h.stands; keeper_is = h.is; same = same;
+  owner_place = node;
+  owned = refl;
+  low_owner = omega arith;
+  before = h.before;
+  keeper = keeper;
+  kept = h.stands;
+  keeper_is = h.is;
+  same = same;
   between = h.between;
   lone = λ bad. absurd cc;
   parent_has = λ _. has;
@@ -253,8 +274,7 @@ own_placed : (es : List Element) (node place depth : ℕ) (holder d : Data) (kee
     → Stands es place (own_elements place (Some node) holder d)
     → ArePlaced es node place (own_elements place (Some node) holder d)
 own_placed es node place depth holder d keeper h same has child deep s =
-    let b : node < place = h.before in
-    (
+    let b : node < place = h.before in (
       head_placed es node place depth holder d keeper h same has s.0 child deep,
       (own_parts es node place (node_element (Some node) holder d) d s.0 refl refl (omega arith) s.1).0,
     )
@@ -335,9 +355,9 @@ holds_later es node place depth keeper xs h s p = record {
   between = λ m y q lo hi there is own.
       ⊎_elim (λ (l : m < place). h.between m y q lo l there is own)
       (λ (l : place ≤ m).
-          let found = placed_there es node place xs s p m y l hi there in
-          let same : found.owner_place ≡ q = same_Some found.owner_place q (sym found.owned ∙ own) in
-          subst (λ n. node ≤ n) same found.low_owner)
+      let found = placed_there es node place xs s p m y l hi there in
+      let same : found.owner_place ≡ q = same_Some found.owner_place q (sym found.owned ∙ own) in
+      subst (λ n. node ≤ n) same found.low_owner)
       (cases_lt m place);
   climbs = h.climbs;
 }

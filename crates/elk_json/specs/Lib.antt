@@ -11,3 +11,4 @@ pub mod Rules
 pub mod Document
 pub mod Keyed
 pub mod Laws
+pub mod Keys

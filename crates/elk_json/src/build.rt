@@ -104,7 +104,10 @@ fn node_size(element: &Element<'_>) -> Size
     ensures { result ≡ node_size_spec (seen element.now) }
 {
     if is_compound(element) {
-        Size { width: 0, height: 0 }
+        Size {
+            width: 0,
+            height: 0,
+        }
     } else {
         size_of(element.value)
     }
@@ -199,10 +202,7 @@ fn edge_of(
 }
 
 // The nodes of a document, in document order.
-pub(crate) fn nodes_of(
-    alloc: Global,
-    elements: &[Element<'_>],
-) -> Result<Vec<Node>, AllocError>
+pub(crate) fn nodes_of(alloc: Global, elements: &[Element<'_>]) -> Result<Vec<Node>, AllocError>
     requires few { length elements.now ≤ 8192 }
     requires in_range { find is_out_of_range (seen_list elements.now) ≡ None }
     requires good { find has_bad_option (seen_list elements.now) ≡ None }
@@ -218,10 +218,7 @@ pub(crate) fn nodes_of(
 }
 
 // The ports of a document, in document order.
-pub(crate) fn ports_of(
-    alloc: Global,
-    elements: &[Element<'_>],
-) -> Result<Vec<Port>, AllocError>
+pub(crate) fn ports_of(alloc: Global, elements: &[Element<'_>]) -> Result<Vec<Port>, AllocError>
     requires few { length elements.now ≤ 8192 }
     requires in_range { find is_out_of_range (seen_list elements.now) ≡ None }
     requires good { find has_bad_option (seen_list elements.now) ≡ None }
@@ -237,10 +234,7 @@ pub(crate) fn ports_of(
 }
 
 // The edges of a document, in document order.
-pub(crate) fn edges_of(
-    alloc: Global,
-    elements: &[Element<'_>],
-) -> Result<Vec<Edge>, AllocError>
+pub(crate) fn edges_of(alloc: Global, elements: &[Element<'_>]) -> Result<Vec<Edge>, AllocError>
     requires few { length elements.now ≤ 8192 }
     requires good { find has_bad_option (seen_list elements.now) ≡ None }
     ensures { IfOk result (λ es. es.items ≡ edges_spec (seen_list elements.now)) }

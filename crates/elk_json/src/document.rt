@@ -16,11 +16,7 @@ use serde_json::Value;
 use std::alloc::Global;
 
 // The document of a value that no rule refuses, from its elements.
-fn document_of(
-    alloc: Global,
-    value: &Value,
-    elements: &[Element<'_>],
-) -> Result<Doc, DocFault>
+fn document_of(alloc: Global, value: &Value, elements: &[Element<'_>]) -> Result<Doc, DocFault>
     requires accepted { refused (view value.now) ≡ None }
     requires all { seen_list elements.now ≡ elements_spec (view value.now) }
     ensures { MatchResult result

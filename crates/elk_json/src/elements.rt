@@ -1,13 +1,14 @@
-// The elements of a value, in document order.
-ghost use Rattle.std.specs.Prelude.{◌≡◌, ◌++◌, map, length, bytes_eq, string_bytes, IfOk};
-ghost use Rattle.serde_json.specs.View.{view, items_view, members_view};
-ghost use Rattle.elk_json.specs.Elements.{elements, elements_at, elements_below, elements_within, elements_among, own_elements, part, listed, items_list};
-ghost use Rattle.elk_json.specs.Seen.{seen_list};
+//! The elements of a value: nodes, ports and edges.
+ghost use Rattle.std.specs.Prelude.{◌≡◌, option_map};
+ghost use Rattle.serde_json.specs.View.{view};
+ghost use Rattle.elk_json.specs.Members.{id_of};
+ghost use Rattle.elk_json.specs.Keys.{key_id};
 
+pub use crate::collect::elements_of;
+use crate::key::Key;
 use serde_json::Value;
-use serde_json::value::Map;
-use std::alloc::{AllocError, Global};
 
+/// What an element is.
 #[derive(Clone, Copy, Drop, PartialEq, Eq)]
 pub enum Kind {
     Node,
@@ -15,154 +16,14 @@ pub enum Kind {
     Edge,
 }
 
-// A node, port or edge, and the node that it stands at: its place in the list, and its value.
+/// A node, port or edge; the node that it stands at, by its place in the list, and that node's value; its own value, and
+/// its id.
 #[derive(Clone, Copy, Drop)]
 pub struct Element<'a> {
     pub kind: Kind,
     pub owner: Option<usize>,
     pub holder: &'a Value,
     pub value: &'a Value,
-}
-
-// The elements of a whole value.
-pub fn elements_of(alloc: Global, value: &Value) -> Result<Vec<Element<'_>>, AllocError>
-    ensures { IfOk result (λ es. seen_list es.items ≡ elements (view value.now)) }
-{
-    let mut found = Vec::new(alloc);
-    collect_node(value, None, value, &mut found)?;
-    Ok(found)
-}
-
-#[cycle(collect)]
-fn collect_node<'a>(
-    value: &'a Value,
-    owner: Option<usize>,
-    holder: &'a Value,
-    found: &mut Vec<Element<'a>>,
-) -> Result<(), AllocError>
-    ensures { IfOk result (λ _. seen_list found.new.items ≡ seen_list found.old.items
-        ++ elements_at (length found.old.items) owner (view holder.now) (view value.now)) }
-{
-    let place = found.len();
-    collect_own(owner, holder, value, found)?;
-    match value {
-        Value::Object(members) => collect_below(members, place, value, found),
-        _ => Ok(()),
-    }
-}
-
-#[cycle(collect)]
-fn collect_below<'a>(
-    members: &'a Map<String, Value>,
-    place: usize,
-    holder: &'a Value,
-    found: &mut Vec<Element<'a>>,
-) -> Result<(), AllocError>
-    ensures { IfOk result (λ _. seen_list found.new.items ≡ seen_list found.old.items
-        ++ elements_below (length found.old.items) place (view holder.now) (members_view members.now.entries)) }
-{
-    for (key, member) in members.iter() {
-        if is_key(key, "children") {
-            return collect_member(member, place, holder, found);
-        }
-    }
-    Ok(())
-}
-
-#[cycle(collect)]
-fn collect_member<'a>(
-    member: &'a Value,
-    place: usize,
-    holder: &'a Value,
-    found: &mut Vec<Element<'a>>,
-) -> Result<(), AllocError>
-    ensures { IfOk result (λ _. seen_list found.new.items ≡ seen_list found.old.items
-        ++ elements_within (length found.old.items) place (view holder.now) (view member.now)) }
-{
-    match member {
-        Value::Array(items) => collect_children(items, place, holder, found),
-        _ => Ok(()),
-    }
-}
-
-pub(crate) fn is_key(key: &String, name: &str) -> bool
-    ensures { result ≡ bytes_eq (string_bytes key.now) name.now }
-{
-    key.as_str() == name
-}
-
-#[cycle(collect)]
-fn collect_children<'a>(
-    items: &'a Vec<Value>,
-    place: usize,
-    holder: &'a Value,
-    found: &mut Vec<Element<'a>>,
-) -> Result<(), AllocError>
-    ensures { IfOk result (λ _. seen_list found.new.items ≡ seen_list found.old.items
-        ++ elements_among (length found.old.items) place (view holder.now) (items_view items.now.items)) }
-{
-    for item in items {
-        collect_node(item, Some(place), holder, found)?;
-    }
-    Ok(())
-}
-
-// The node at the end of the list, its ports and its edges.
-fn collect_own<'a>(
-    owner: Option<usize>,
-    holder: &'a Value,
-    value: &'a Value,
-    found: &mut Vec<Element<'a>>,
-) -> Result<(), AllocError>
-    ensures { IfOk result (λ _. seen_list found.new.items ≡ seen_list found.old.items
-        ++ own_elements (length found.old.items) owner (view holder.now) (view value.now)) }
-{
-    let place = found.len();
-    found.push(Element {
-        kind: Kind::Node,
-        owner,
-        holder,
-        value,
-    })?;
-    collect_parts(Kind::Port, place, value, "ports", found)?;
-    collect_parts(Kind::Edge, place, value, "edges", found)
-}
-
-// The items of one member of a node.
-fn collect_parts<'a>(
-    kind: Kind,
-    place: usize,
-    holder: &'a Value,
-    key: &str,
-    found: &mut Vec<Element<'a>>,
-) -> Result<(), AllocError>
-    ensures { IfOk result (λ _. seen_list found.new.items ≡ seen_list found.old.items
-        ++ map (part kind place (view holder.now)) (listed key.now (view holder.now))) }
-{
-    if let Some(items) = holder.get(key).and_then(Value::as_array) {
-        collect_items(kind, place, holder, items, found)
-    } else {
-        Ok(())
-    }
-}
-
-fn collect_items<'a>(
-    kind: Kind,
-    place: usize,
-    holder: &'a Value,
-    items: &'a Vec<Value>,
-    found: &mut Vec<Element<'a>>,
-) -> Result<(), AllocError>
-    ensures { IfOk result (λ _. seen_list found.new.items ≡ seen_list found.old.items
-        ++ map (part kind place (view holder.now)) (items_list (items_view items.now.items))) }
-{
-    for value in items {
-        found.push(Element {
-            kind,
-            owner: Some(place),
-            holder,
-            value,
-        })?;
-    }
-    Ok(())
+    pub key: Option<Key<'a>>,
+    pub ghost keyed: { option_map key_id key ≡ id_of (view value.now) },
 }

@@ -1,4 +1,4 @@
-// The ends of edges. The elements are searched from the front.
+//! The ends of edges. The elements are searched from the front.
 ghost use Rattle.std.specs.Prelude.{◌≡◌, ◌==◌, length, Some, false, option_map, option_and_then, is_some, find, not, ◌&&◌, nat_eq};
 ghost use Rattle.std.specs.Option.{option_map_or, option_eq};
 ghost use Rattle.std.specs.List.{list_all};
@@ -9,7 +9,7 @@ ghost use Rattle.elk_json.specs.Ends.{is_named as named_test, named as named_pla
 ghost use Rattle.elk_json.specs.Seen.{seen, seen_list};
 
 use crate::elements::{Element, Kind};
-use crate::ids::has_id;
+use crate::key::{are_same_keys, key_from};
 use crate::shape::is_extended;
 use serde_json::Value;
 
@@ -17,7 +17,7 @@ use serde_json::Value;
 fn is_named(id: &Value, element: &Element<'_>) -> bool
     ensures { result ≡ named_test (view id.now) (seen element.now) }
 {
-    element.kind != Kind::Edge && has_id(id, element.value)
+    element.kind != Kind::Edge && are_same_keys(key_from(id), element.key)
 }
 
 // The place of the node or port that the reference names.

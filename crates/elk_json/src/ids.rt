@@ -1,4 +1,4 @@
-// Ids.
+//! Ids.
 ghost use Rattle.std.specs.Prelude.{◌≡◌, [], Some, not, if◌then◌else◌, IfOk, option_map};
 ghost use Rattle.std.specs.List.{list_any};
 ghost use Rattle.serde_json.specs.View.{view};
@@ -8,60 +8,10 @@ ghost use Rattle.elk_json.specs.Ends.{is_some_same_id, is_double as double_test,
 ghost use Rattle.elk_json.specs.Seen.{seen, seen_list};
 
 use crate::elements::{Element, Kind};
+use crate::key::are_same_keys;
 use elk_doc::document::{Id, Name};
 use serde_json::Value;
 use std::alloc::{AllocError, Global};
-
-// The values are ids, and these are the same.
-pub(crate) fn is_same_id(a: &Value, b: &Value) -> bool
-    ensures { result ≡ is_some_same_id (to_id (view a.now)) (to_id (view b.now)) }
-{
-    match a {
-        Value::String(x) => is_text_id(x.as_str(), b),
-        Value::Number(m) => match m.as_i128() {
-            None => false,
-            Some(m) => is_whole_id(m, b),
-        },
-        _ => false,
-    }
-}
-
-fn is_text_id(text: &str, value: &Value) -> bool
-    ensures { result ≡ is_some_same_id (Some (Text text.now)) (to_id (view value.now)) }
-{
-    match value {
-        Value::String(other) => text == other.as_str(),
-        _ => false,
-    }
-}
-
-fn is_whole_id(whole: i128, value: &Value) -> bool
-    ensures { result ≡ is_some_same_id (Some (Whole whole)) (to_id (view value.now)) }
-{
-    match value {
-        Value::Number(other) => other.as_i128() == Some(whole),
-        _ => false,
-    }
-}
-
-// The element has this id.
-pub(crate) fn has_id(id: &Value, value: &Value) -> bool
-    ensures { result ≡ is_some_same_id (to_id (view id.now)) (id_value (view value.now)) }
-{
-    match value.get("id") {
-        None => false,
-        Some(own) => is_same_id(id, own),
-    }
-}
-
-fn have_one_id(a: &Value, b: &Value) -> bool
-    ensures { result ≡ is_some_same_id (id_value (view a.now)) (id_value (view b.now)) }
-{
-    match a.get("id") {
-        None => false,
-        Some(own) => has_id(own, b),
-    }
-}
 
 fn share_ids(a: Kind, b: Kind) -> bool
     ensures { result ≡ (if kind_is_edge a then kind_is_edge b else not (kind_is_edge b)) }
@@ -76,7 +26,7 @@ fn share_ids(a: Kind, b: Kind) -> bool
 fn is_double(a: &Element<'_>, b: &Element<'_>) -> bool
     ensures { result ≡ double_test (seen a.now) (seen b.now) }
 {
-    share_ids(a.kind, b.kind) && have_one_id(a.value, b.value)
+    share_ids(a.kind, b.kind) && are_same_keys(a.key, b.key)
 }
 
 fn stood_earlier(element: &Element<'_>, earlier: &[Element<'_>]) -> bool

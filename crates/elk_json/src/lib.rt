@@ -4,11 +4,13 @@
 
 mod build;
 pub mod bytes;
+mod collect;
 pub mod document;
 pub mod elements;
 mod ends;
 pub mod fault;
 mod ids;
+pub mod key;
 pub mod laws;
 mod limits;
 mod members;

@@ -1,11 +1,12 @@
-// How many elements there are, and how deep levels nest.
+//! How many elements there are, and how deep levels nest.
 ghost use Rattle.std.specs.Prelude.{◌≡◌, ◌+◌, ◌≤◌, min, length, filter};
 ghost use Rattle.serde_json.specs.View.{view, items_view, members_view};
 ghost use Rattle.elk_json.specs.Members.{is_node, is_port, is_edge};
 ghost use Rattle.elk_json.specs.Ranges.{are_too_many as many_test, levels, levels_below, levels_within, levels_among, is_too_deep as deep_test};
 ghost use Rattle.elk_json.specs.Seen.{seen_list};
 
-use crate::elements::{Element, Kind, is_key};
+use crate::collect::is_key;
+use crate::elements::{Element, Kind};
 use serde_json::Value;
 use serde_json::value::Map;
 

@@ -1,4 +1,4 @@
-// Ranges of sizes and places.
+//! Ranges of sizes and places.
 ghost use Rattle.std.specs.Prelude.{◌≡◌, option_map, option_and_then, find, is_some, ◌<◌, length, slice_get, IfSome};
 ghost use Rattle.std.specs.Option.{option_map_or};
 ghost use Rattle.serde_json.specs.View.{view};

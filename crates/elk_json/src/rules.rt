@@ -1,4 +1,4 @@
-// Which rule refuses a value, and where.
+//! Which rule refuses a value, and where.
 ghost use Rattle.std.specs.Prelude.{◌≡◌, ◌+ℤ◌, int_lt, IfOk, Some, [], option_map, find, is_some, false, ◌&&◌, nat_eq};
 ghost use Rattle.std.specs.Option.{option_map_or, option_eq};
 ghost use Rattle.std.specs.List.{list_any};

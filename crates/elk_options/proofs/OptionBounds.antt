@@ -1,22 +1,21 @@
 -- Options keep their ranges, whatever is asked.
-use Rattle.std.proofs.Common.{◌≡◌, ℕ, ◌-◌, ◌^◌, ◌≤◌, ◌≤ℤ◌, ℤ, pos, neg_ℤ, List, [], ◌∷◌, Bool, true, false, not, ◌&&◌, T, Option, Some, None, if◌then◌else◌, refl, arith}
-use Rattle.std.specs.Prelude.{◌==◌, length, option_map, option_and_then, unwrap_or, IfSome, IsTrue, IsFalse, int_le, nat_le, nat_abs, bytes_eq, codes}
+use Rattle.std.proofs.Common.{◌≡◌, ℕ, ◌-◌, ◌^◌, ◌≤◌, ℤ, pos, neg_ℤ, List, [], ◌∷◌, Bool, true, false, ◌&&◌, T, Option, Some, None, if◌then◌else◌, refl, arith}
+use Rattle.std.specs.Prelude.{◌==◌, length, option_map, option_and_then, unwrap_or, IfSome, int_le, nat_le, nat_abs, bytes_eq, codes}
 use Rattle.serde_json.specs.Find.{as_str}
 use Rattle.std.specs.Int.{int_max}
 use Rattle.std.specs.Int.Signed.{le_z_yes}
-use Rattle.std.proofs.lemmas.Bool.{leb-true, and_parts}
+use Rattle.std.proofs.lemmas.Bool.{leb-true}
 use Rattle.std.proofs.lemmas.Int.{ints, clamps}
 use Rattle.serde_json.specs.Data.{Data}
-use Rattle.elk_doc.specs.declared.document.Padding.{Padding}
 use Rattle.elk_doc.specs.Sound.{IsWithin, IsLength, IsDistance, IsSoundSpacing, IsSoundPadding}
 use Rattle.elk_options.specs.declared.names.OptionName.{OptionName}
 use Rattle.elk_options.specs.declared.names.OptionName.TheVariants as name
 use Rattle.elk_options.specs.declared.padding.Given.{Given}
 use Rattle.elk_options.specs.Names.{asked}
-use Rattle.elk_options.specs.Values.{if_within, whole_of, whole_within}
+use Rattle.elk_options.specs.Values.{if_within, whole_of}
 use Rattle.elk_options.specs.PaddingText.{once, with_side, length_text, part_of, with_part, with_parts, padding_of, nothing_given, given_within, pieces, bare, cut, between_brackets, padding_text}
 use Rattle.elk_options.specs.Table.{to_distance, to_padding, to_index, to_shortness}
-use Rattle.elk_options.specs.Reading.{value_or, distance_or, usual_padding, spacing_of, level_of, weight_of}
+use Rattle.elk_options.specs.Reading.{value_or, distance_or, usual_padding, spacing_of, weight_of}
 use Rattle.elk_options.specs.Values.{unsigned_text}
 
 pub holds : (b : Bool) → b ≡ true → T b

@@ -1,5 +1,5 @@
 -- Ranges that options keep, whatever is asked.
-use Rattle.std.specs.Prelude.{ℕ, ◌-◌, ◌^◌, ◌≤◌, pos, neg_ℤ}
+use Rattle.std.specs.Prelude.{◌-◌, ◌^◌, ◌≤◌, pos, neg_ℤ}
 use Rattle.serde_json.specs.Data.{Data}
 use Rattle.elk_doc.specs.Sound.{IsWithin, IsDistance, IsSoundSpacing, IsSoundPadding}
 use Rattle.elk_options.specs.declared.names.OptionName.TheVariants as name

@@ -1,4 +1,4 @@
-// Options of nodes, ports and edges.
+//! Options of nodes, ports and edges: which are read in which role, their three spellings, their values and defaults.
 #![tactic(auto)]
 
 pub mod laws;
@@ -12,3 +12,6 @@ mod values;
 pub use names::OptionName;
 pub use options::{BadValue, Options, Role, read_options};
 pub use padding::read_padding;
+
+#[cfg(test)]
+mod tests;

@@ -1,4 +1,4 @@
-// The options of an element.
+//! The options of an element.
 ghost use Rattle.std.specs.Prelude.{◌≡◌, false, Some, None, find, MatchResult};
 ghost use Rattle.elk_doc.specs.declared.document.Direction.TheVariants as direction;
 ghost use Rattle.elk_doc.specs.declared.document.Placing.TheVariants as placing;
@@ -12,7 +12,7 @@ use elk_doc::document::{Direction, LevelOptions, Padding, Placing, PortRule, Spa
 use elk_doc::shape::Side;
 use serde_json::Value;
 
-// What an element is to its options.
+/// What an element is to its options: a compound node, a leaf, a port or an edge.
 #[derive(Clone, Copy, Drop, PartialEq, Eq)]
 pub enum Role {
     Level,
@@ -21,6 +21,8 @@ pub enum Role {
     Edge,
 }
 
+/// The options of an element: a level's at a compound node, the rule for ports at a node, the asked side and the index at a
+/// port, the weight at an edge, and the defaults elsewhere.
 #[derive(Clone, Copy, Drop, PartialEq, Eq)]
 pub struct Options {
     pub level: Option<LevelOptions>,
@@ -30,7 +32,7 @@ pub struct Options {
     pub weight: u32,
 }
 
-// An option whose value is outside its table.
+/// An option whose value is outside its table.
 #[derive(Clone, Copy, Drop, PartialEq, Eq)]
 pub struct BadValue {
     pub option: OptionName,
@@ -200,8 +202,10 @@ fn edge_options(options: Option<&Value>) -> Result<Options, BadValue>
     })
 }
 
-// The options of an element in its role: no options are those of an empty object. It fails where an
-// option that is read has a value outside its table, and names the first one.
+/// The options of an element in its role; no options are those of an empty object. Each option is looked up under its full
+/// name, its name from `elk.` on and its short name, and the longest that is there counts. It fails where an option that is
+/// read in the role has a value outside its table, and names the first in the order of `OptionName`. Distances are
+/// effective, at least 1, in document units; a level of boxes is never split.
 pub fn read_options(options: Option<&Value>, role: Role) -> Result<Options, BadValue>
     ensures { MatchResult result
         (λ o. (first_bad role (given options.entry) ≡ None) × (o ≡ options_of role (given options.entry)))

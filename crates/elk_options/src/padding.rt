@@ -1,4 +1,4 @@
-// The text of a padding.
+//! The text of a padding.
 ghost use Rattle.std.specs.Prelude.{◌≡◌, ◌<◌, pos, length, bytes_eq, option_map, unwrap_or, IfSome};
 ghost use Rattle.elk_options.specs.PaddingText.{after_spaces, before_spaces, bare, cut, pieces, nothing_given, once, with_side, length_text, with_part, with_parts, padding_of, given_within, before_bracket, between_brackets, padding_text};
 
@@ -164,7 +164,8 @@ fn side(given: Option<u32>) -> i64
     i64::from(given.unwrap_or(0))
 }
 
-// The padding that the text gives, or none where the text is outside the grammar.
+/// The padding that a text like `[top=12,left=4.0]` gives, in document units; a side that is not named is 0. None where the
+/// text is outside the grammar: each name at most once, each number from 0 to 2^20, spaces anywhere between the words.
 pub fn read_padding(text: &str) -> Option<Padding>
     ensures { result ≡ padding_text text.now }
 {

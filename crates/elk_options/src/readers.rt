@@ -1,4 +1,4 @@
-// One option each: its value or its default, or its name where the value is outside its table.
+//! One option each: its value or its default, or its name where the value is outside its table.
 ghost use Rattle.std.specs.Prelude.{◌≡◌, ◌^◌, ◌<ℤ◌, neg_ℤ, pos, true, false, not, ◌&&◌, is_some, unwrap_or, None, option_map, option_and_then, MatchResult, IfOk, ◌≤ℤ◌, nat_abs};
 ghost use Rattle.std.specs.Option.{option_map_or};
 ghost use Rattle.std.specs.Int.{int_max};

@@ -1,4 +1,4 @@
-// Texts of options.
+//! Texts of options.
 ghost use Rattle.std.specs.Prelude.{◌≡◌, bytes_eq};
 ghost use Rattle.elk_options.specs.Table.{boxes_text, direction_text, rule_text, side_text, routing_text, sweep_text, truth_text, placing_text};
 

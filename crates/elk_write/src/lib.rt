@@ -12,3 +12,6 @@ mod text;
 pub use answer::answer_value;
 pub use ids::id_text;
 pub use text::text_of;
+
+#[cfg(test)]
+mod tests;

@@ -1,4 +1,4 @@
-use Rattle.std.proofs.Common.{subst, sym}
+use Rattle.std.proofs.Common.{subst}
 use Rattle.serde_json.specs.View.{view}
 use Rattle.elk_doc.specs.Sound.{IsSound}
 use Rattle.drawing_laws.proofs.DualityLaw.{flow_shows_least}

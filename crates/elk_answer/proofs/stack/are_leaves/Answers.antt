@@ -1,4 +1,4 @@
-use Rattle.std.proofs.Common.{arith, below_more, ⊎_elim, ℕ, ◌<◌, ◌≤◌, ◌≡◌, IsNone, is_some, false, Option, Some, None, ◌∙◌, subst, sym, ap, rules}
+use Rattle.std.proofs.Common.{arith, ⊎_elim, ℕ, ◌<◌, ◌≤◌, ◌≡◌, IsNone, is_some, false, Option, Some, None, ◌∙◌, subst, sym, ap, rules}
 use Rattle.std.proofs.lemmas.Bool.{cases_lt}
 use Rattle.elk_doc.specs.declared.document.Node.{Node}
 use Rattle.elk_doc.specs.Document.{node_at}

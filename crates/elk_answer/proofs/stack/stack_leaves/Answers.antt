@@ -1,7 +1,6 @@
-use Rattle.std.proofs.Common.{◌≡◌, ℕ, length-append, ◌<◌, ◌+◌, ◌*◌, ◌^◌, pos, ◌≤ℤ◌, List, ◌∷◌, ◌++◌, [], length, arith, ap, subst, sym, ◌∙◌, ℤ, w64, to_z, of_z, SFits}
+use Rattle.std.proofs.Common.{◌≡◌, ℕ, length-append, ◌<◌, ◌+◌, List, ◌∷◌, ◌++◌, [], length, arith, ap, subst, sym, ◌∙◌, ℤ, w64, to_z, of_z, SFits}
 use Rattle.std.proofs.lemmas.Int.{ints, to_z-of_z}
 use Rattle.elk_doc.specs.declared.document.Node.{Node}
-use Rattle.elk_doc.specs.Document.{node_at}
 use Rattle.elk_doc.specs.declared.shape.Rect.{Rect}
 use Rattle.elk_doc.specs.Shapes.{bottom_of}
 use Rattle.elk_answer.specs.Stack.{EndsAt, IsLeafBox, IsStacked}

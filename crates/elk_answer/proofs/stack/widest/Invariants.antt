@@ -1,4 +1,3 @@
-use Rattle.std.proofs.Common.{◌^◌, ◌≤ℤ◌, pos}
 use Rattle.elk_doc.specs.Sound.{IsLength}
 use Rattle.elk_answer.specs.Stack.{IsWidest}
 use Rattle.elk_answer.proofs.stack.widest.Given as goal
