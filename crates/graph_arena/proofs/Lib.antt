@@ -1,0 +1,11 @@
+pub mod Chains
+pub mod Unlinking
+pub mod Renaming
+pub mod Counting
+pub mod Moves
+pub mod Views
+pub mod Whole
+pub mod Rooms
+pub mod Copies
+pub mod Readers
+pub mod Removal

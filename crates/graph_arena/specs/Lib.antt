@@ -1,0 +1,5 @@
+pub mod Graph
+pub mod Changes
+pub mod Paths
+pub mod Chain
+pub mod Sides

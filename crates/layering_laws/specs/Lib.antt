@@ -1,0 +1,10 @@
+pub mod Network
+pub mod Layering
+pub mod Tight
+pub mod Linked
+pub mod Paths
+pub mod Links
+pub mod Parts
+pub mod Joining
+pub mod Lowering
+pub mod Sorted
