@@ -1,0 +1,4 @@
+pub mod DueLemmas
+pub mod LinesLemmas
+pub mod ReadyLemmas
+pub mod ThreeValues
