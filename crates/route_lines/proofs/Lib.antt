@@ -1,0 +1,4 @@
+pub mod Dropping
+pub mod Headings
+pub mod PuttingBefore
+pub mod Gathering

@@ -1,0 +1,4 @@
+pub mod Tidied
+pub mod Points
+pub mod Waypoints
+pub mod Path

@@ -1,0 +1,4 @@
+pub mod Pieces
+pub mod GapFree
+pub mod Standing
+pub mod Forms
