@@ -1,0 +1,19 @@
+use Rattle.std.proofs.Common.{rules, below_more, IsTrue}
+use Rattle.check_routes.specs.FirstRoutes.{ChildClear}
+use Rattle.check_routes.proofs.ParallelLaws.{route_parallel}
+use Rattle.check_routes.proofs.clear.first_met.Goals as goal
+
+pub child_clear-requires : goal.child_clear-requires
+child_clear-requires c =
+    record {
+      edge_in = c.requires.edge_in;
+      child_in = search rules;
+      fits = c.requires.fits;
+      outlines = c.requires.outlines;
+      parallel = route_parallel _ _ _ c.requires.route;
+    }
+
+pub loop-child-preserved : goal.loop-child-preserved
+loop-child-preserved c =
+    let t : IsTrue c.child_clear.result = search rules in
+    below_more (ChildClear c.args.doc.now c.args.placed.now c.args.node c.args.edge) _ c.loop-child.invariant (c.child_clear.ensures.0 t)

@@ -1,0 +1,2 @@
+pub mod FirstRoutes
+pub mod Stretches

@@ -1,0 +1,146 @@
+//! Routes that keep out of boxes.
+ghost use Rattle.std.specs.Prelude.{◌≡◌, ◌⊎◌, ◌↔◌, ℕ, ◌<◌, IsTrue, MatchOption, length};
+ghost use Rattle.elk_doc.specs.Clear.{Clear};
+ghost use Rattle.elk_doc.specs.Drawing.{section_of};
+ghost use Rattle.elk_doc.specs.Fits.{Fits};
+ghost use Rattle.elk_doc.specs.Level.{IsEdge, source_node, target_node};
+ghost use Rattle.elk_doc.specs.Route.{Route};
+ghost use Rattle.drawing_faults.specs.Faults.{IsFirst};
+ghost use Rattle.drawing_faults.specs.Shapes.{AreOutlines};
+ghost use Rattle.check_routes.specs.FirstRoutes.{ChildClear, ClearHolds, FirstClear};
+ghost use Rattle.check_routes.specs.Stretches.{AreParallel, KeepsOff, KeepsOut};
+
+use drawing_faults::{
+    Fault, Place, is_child, is_edge_of, node_of, outline_at, point_at, point_count,
+};
+use elk_doc::document::Doc;
+use elk_doc::drawing::{Placed, Section};
+use elk_doc::geometry::{segment_enters_rect, segment_meets_rect};
+use elk_doc::shape::Rect;
+
+// Whether no segment has a point in the closed rectangle.
+fn keeps_off(section: &Section, r: Rect) -> bool
+    requires { AreParallel section.now }
+    ensures { IsTrue result ↔ KeepsOff section.now r }
+{
+    for i in 0..point_count(section) - 1 {
+        if segment_meets_rect(point_at(section, i), point_at(section, i + 1), r) {
+            return false;
+        }
+    }
+    true
+}
+
+// Whether no segment has a point strictly inside the rectangle.
+fn keeps_out(section: &Section, r: Rect) -> bool
+    requires { AreParallel section.now }
+    ensures { IsTrue result ↔ KeepsOut section.now r }
+{
+    for i in 0..point_count(section) - 1 {
+        if segment_enters_rect(point_at(section, i), point_at(section, i + 1), r) {
+            return false;
+        }
+    }
+    true
+}
+
+// Whether a node is an end node of an edge.
+fn is_end_node(doc: &Doc, edge: u32, node: u32) -> bool
+    requires { edge < length doc.now.edges }
+    ensures { IsTrue result ↔ ((source_node doc.now edge ≡ node) ⊎ (target_node doc.now edge ≡ node)) }
+{
+    if node_of(doc, doc.edge(edge).source) == node {
+        return true;
+    }
+    node_of(doc, doc.edge(edge).target) == node
+}
+
+// Whether a route keeps out of a child: of its outline, and of the box of an end node.
+fn is_clear(doc: &Doc, placed: &Placed, outlines: &[Rect], edge: u32, child: u32) -> bool
+    requires edge_in { edge < length doc.now.edges }
+    requires child_in { child < length doc.now.nodes }
+    requires fits { Fits doc.now placed.now }
+    requires outlines { AreOutlines doc.now placed.now outlines.now }
+    requires parallel { AreParallel (section_of placed.now edge) }
+    ensures { IsTrue result ↔ Clear doc.now placed.now edge child }
+{
+    let section = placed.section(edge);
+    if is_end_node(doc, edge, child) {
+        keeps_out(section, placed.box_of(child))
+    } else {
+        keeps_off(section, outline_at(doc, placed, outlines, child))
+    }
+}
+
+// Whether a node, if it is a child, is clear of a route.
+fn child_clear(
+    doc: &Doc,
+    placed: &Placed,
+    outlines: &[Rect],
+    node: u32,
+    edge: u32,
+    child: u32,
+) -> bool
+    requires edge_in { edge < length doc.now.edges }
+    requires child_in { child < length doc.now.nodes }
+    requires fits { Fits doc.now placed.now }
+    requires outlines { AreOutlines doc.now placed.now outlines.now }
+    requires parallel { AreParallel (section_of placed.now edge) }
+    ensures { IsTrue result ↔ ChildClear doc.now placed.now node edge child }
+{
+    if !is_child(doc, node, child) {
+        return true;
+    }
+    is_clear(doc, placed, outlines, edge, child)
+}
+
+// The first child of a node that is not clear of a route.
+fn first_met(doc: &Doc, placed: &Placed, outlines: &[Rect], node: u32, edge: u32) -> Option<u32>
+    requires edge_in { edge < length doc.now.edges }
+    requires fits { Fits doc.now placed.now }
+    requires outlines { AreOutlines doc.now placed.now outlines.now }
+    requires route { Route doc.now placed.now edge }
+    ensures { IsFirst (ChildClear doc.now placed.now node edge) result }
+{
+    for child in 0..doc.nodes().len() {
+        if !child_clear(doc, placed, outlines, node, edge, child as u32) {
+            return Some(child as u32);
+        }
+    }
+    None
+}
+
+// The first child that an edge, if it belongs to the level of the node, is not clear of.
+fn first_unclear(doc: &Doc, placed: &Placed, outlines: &[Rect], node: u32, edge: u32) -> Option<u32>
+    requires edge_in { edge < length doc.now.edges }
+    requires fits { Fits doc.now placed.now }
+    requires outlines { AreOutlines doc.now placed.now outlines.now }
+    requires routes { (e : ℕ) → IsEdge doc.now node e → Route doc.now placed.now e }
+    ensures { IsFirst (ClearHolds doc.now placed.now node edge) result }
+{
+    if !is_edge_of(doc, node, edge) {
+        return None;
+    }
+    first_met(doc, placed, outlines, node, edge)
+}
+
+/// The first edge of a node's level whose route meets the outline of a child that is no end node of it, or enters the box
+/// of one that is, with the first such child. The outlines are those of all nodes.
+pub fn clear_fault(doc: &Doc, placed: &Placed, outlines: &[Rect], node: u32) -> Option<Fault>
+    requires fits { Fits doc.now placed.now }
+    requires outlines { AreOutlines doc.now placed.now outlines.now }
+    requires routes { (e : ℕ) → IsEdge doc.now node e → Route doc.now placed.now e }
+    ensures { MatchOption result
+        ((e a : ℕ) → ClearHolds doc.now placed.now node e a)
+        (FirstClear doc.now placed.now node) }
+{
+    for edge in 0..doc.edges().len() {
+        if let Some(child) = first_unclear(doc, placed, outlines, node, edge as u32) {
+            return Some(Fault {
+                first: Place::Edge(edge as u32),
+                second: Place::Node(child),
+            });
+        }
+    }
+    None
+}

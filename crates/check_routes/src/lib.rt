@@ -1,0 +1,11 @@
+//! Whether the routes of a level obey its document: orthogonal from dock to dock, clear of boxes, and with a common
+//! piece only where edges share a dock. Each test answers the first fault.
+#![tactic(auto)]
+
+mod clear;
+mod route;
+mod sharing;
+
+pub use clear::clear_fault;
+pub use route::route_fault;
+pub use sharing::sharing_fault;

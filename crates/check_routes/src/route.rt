@@ -1,0 +1,189 @@
+//! Orthogonal routes that leave both docks outward.
+ghost use Rattle.std.specs.Prelude.{◌≡◌, ◌↔◌, ℕ, ◌<◌, IsTrue, MatchOption, length};
+ghost use Rattle.elk_doc.specs.Fits.{Fits};
+ghost use Rattle.elk_doc.specs.Route.{IsOrthogonal, IsPointLoop, IsStep, IsTurn, LeavesOutward, Route};
+ghost use Rattle.drawing_faults.specs.Faults.{IsFirst};
+ghost use Rattle.check_routes.specs.FirstRoutes.{FirstRoute, IsAnchored, LeavesBoth, RouteHolds};
+ghost use Rattle.check_routes.specs.Stretches.{AreSteps, AreTurns};
+
+use drawing_faults::{Fault, Place, is_edge_of, is_loop, point_at, point_count};
+use elk_doc::document::Doc;
+use elk_doc::drawing::{Placed, Section};
+use elk_doc::places::{anchor, dock_at};
+use elk_doc::shape::{Point, Side};
+use elk_doc::sides::side_of_end;
+
+// Whether two points differ in exactly one coordinate.
+fn is_step(a: Point, b: Point) -> bool
+    ensures { IsTrue result ↔ IsStep a b }
+{
+    if a.x == b.x { a.y != b.y } else { a.y == b.y }
+}
+
+// Whether the way from `a` over `b` to `c` turns by a right angle.
+fn is_turn(a: Point, b: Point, c: Point) -> bool
+    ensures { IsTrue result ↔ IsTurn a b c }
+{
+    if a.x == b.x && b.y != c.y {
+        return false;
+    }
+    if a.y == b.y && b.x != c.x {
+        return false;
+    }
+    true
+}
+
+// Whether the way from `a` to `b` leaves outward from this side.
+fn leaves_outward(side: Side, a: Point, b: Point) -> bool
+    ensures { IsTrue result ↔ LeavesOutward side a b }
+{
+    match side {
+        Side::North => a.x == b.x && b.y < a.y,
+        Side::East => a.y == b.y && a.x < b.x,
+        Side::South => a.x == b.x && a.y < b.y,
+        Side::West => a.y == b.y && b.x < a.x,
+    }
+}
+
+// Whether consecutive points differ in exactly one coordinate.
+fn are_steps(section: &Section) -> bool
+    ensures { IsTrue result ↔ AreSteps section.now }
+{
+    for i in 0..point_count(section) - 1 {
+        if !is_step(point_at(section, i), point_at(section, i + 1)) {
+            return false;
+        }
+    }
+    true
+}
+
+// Whether consecutive segments are perpendicular.
+fn are_turns(section: &Section) -> bool
+    ensures { IsTrue result ↔ AreTurns section.now }
+{
+    for i in 0..point_count(section) - 2 {
+        let turn = is_turn(
+            point_at(section, i),
+            point_at(section, i + 1),
+            point_at(section, i + 2),
+        );
+        if !turn {
+            return false;
+        }
+    }
+    true
+}
+
+// Whether the route leaves its source outward, and its target, seen from the end.
+fn is_outward(doc: &Doc, placed: &Placed, edge: u32) -> bool
+    requires edge_in { edge < length doc.now.edges }
+    requires fits { Fits doc.now placed.now }
+    ensures { IsTrue result ↔ LeavesBoth doc.now placed.now edge }
+{
+    let section = placed.section(edge);
+    let count = point_count(section);
+    let from = side_of_end(doc, placed, edge, true);
+    if !leaves_outward(from, point_at(section, 0), point_at(section, 1)) {
+        return false;
+    }
+    let to = side_of_end(doc, placed, edge, false);
+    leaves_outward(
+        to,
+        point_at(section, count - 1),
+        point_at(section, count - 2),
+    )
+}
+
+// Whether the route consists of steps that turn, and leaves both ends outward.
+fn is_orthogonal(doc: &Doc, placed: &Placed, edge: u32) -> bool
+    requires edge_in { edge < length doc.now.edges }
+    requires fits { Fits doc.now placed.now }
+    ensures { IsTrue result ↔ IsOrthogonal doc.now placed.now edge }
+{
+    let section = placed.section(edge);
+    if !are_steps(section) {
+        return false;
+    }
+    if !are_turns(section) {
+        return false;
+    }
+    is_outward(doc, placed, edge)
+}
+
+// Whether an edge is a self-loop at one single dock.
+fn is_point_loop(doc: &Doc, placed: &Placed, edge: u32) -> bool
+    requires edge_in { edge < length doc.now.edges }
+    requires fits { Fits doc.now placed.now }
+    ensures { IsTrue result ↔ IsPointLoop doc.now placed.now edge }
+{
+    if !is_loop(doc, edge) {
+        return false;
+    }
+    dock_at(doc, placed, edge, true) == dock_at(doc, placed, edge, false)
+}
+
+// Whether the route begins and ends at its anchors.
+fn is_anchored(doc: &Doc, placed: &Placed, edge: u32) -> bool
+    requires edge_in { edge < length doc.now.edges }
+    requires fits { Fits doc.now placed.now }
+    ensures { IsTrue result ↔ IsAnchored doc.now placed.now edge }
+{
+    let section = placed.section(edge);
+    if section.start != anchor(doc, placed, edge, true) {
+        return false;
+    }
+    section.end == anchor(doc, placed, edge, false)
+}
+
+// Whether a route leads from anchor to anchor as its docks ask.
+fn is_route(doc: &Doc, placed: &Placed, edge: u32) -> bool
+    requires edge_in { edge < length doc.now.edges }
+    requires fits { Fits doc.now placed.now }
+    ensures { IsTrue result ↔ Route doc.now placed.now edge }
+{
+    if !is_anchored(doc, placed, edge) {
+        return false;
+    }
+    if is_point_loop(doc, placed, edge) {
+        return placed.section(edge).bends.as_slice().is_empty();
+    }
+    is_orthogonal(doc, placed, edge)
+}
+
+// Whether an edge, if it belongs to the level of the node, has a good route.
+fn route_holds(doc: &Doc, placed: &Placed, node: u32, edge: u32) -> bool
+    requires edge_in { edge < length doc.now.edges }
+    requires fits { Fits doc.now placed.now }
+    ensures { IsTrue result ↔ RouteHolds doc.now placed.now node edge }
+{
+    if !is_edge_of(doc, node, edge) {
+        return true;
+    }
+    is_route(doc, placed, edge)
+}
+
+// The first edge of the level whose route fails.
+fn first_route(doc: &Doc, placed: &Placed, node: u32) -> Option<u32>
+    requires { Fits doc.now placed.now }
+    ensures { IsFirst (RouteHolds doc.now placed.now node) result }
+{
+    for edge in 0..doc.edges().len() {
+        if !route_holds(doc, placed, node, edge as u32) {
+            return Some(edge as u32);
+        }
+    }
+    None
+}
+
+/// The first edge of a node's level whose route does not lead orthogonally from anchor to anchor, outward from both docks.
+pub fn route_fault(doc: &Doc, placed: &Placed, node: u32) -> Option<Fault>
+    requires { Fits doc.now placed.now }
+    ensures { MatchOption result
+        ((e : ℕ) → RouteHolds doc.now placed.now node e)
+        (FirstRoute doc.now placed.now node) }
+{
+    match first_route(doc, placed, node) {
+        Some(edge) => Some(Fault::lone(Place::Edge(edge))),
+        None => None,
+    }
+}

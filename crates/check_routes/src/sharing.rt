@@ -1,0 +1,210 @@
+//! Routes that share a piece only where their edges share a dock.
+ghost use Rattle.std.specs.Prelude.{◌≡◌, ◌↔◌, ℕ, ◌<◌, IsTrue, MatchOption, length, true, false};
+ghost use Rattle.elk_doc.specs.Drawing.{section_of};
+ghost use Rattle.elk_doc.specs.Fits.{Fits};
+ghost use Rattle.elk_doc.specs.Level.{IsEdge};
+ghost use Rattle.elk_doc.specs.Route.{Route};
+ghost use Rattle.elk_doc.specs.Segments.{IsAxisParallel};
+ghost use Rattle.elk_doc.specs.Sharing.{Sharing};
+ghost use Rattle.drawing_faults.specs.Faults.{IsFirst};
+ghost use Rattle.drawing_faults.specs.Shapes.{AreDocks};
+ghost use Rattle.check_routes.specs.FirstRoutes.{FirstSharing, ShareDock, SharingHolds};
+ghost use Rattle.check_routes.specs.Stretches.{AreFree, AreParallel, IsFreeOf};
+
+use drawing_faults::{Fault, Place, dock_of, is_edge_of, point_at, point_count};
+use elk_doc::document::Doc;
+use elk_doc::drawing::{Placed, Section};
+use elk_doc::geometry::segments_share;
+use elk_doc::shape::{Dock, Point};
+
+// Whether the segment from `a` to `b` has no piece in common with a route.
+fn is_free_of(a: Point, b: Point, section: &Section) -> bool
+    requires first { IsAxisParallel a b }
+    requires second { AreParallel section.now }
+    ensures { IsTrue result ↔ IsFreeOf a b section.now }
+{
+    for j in 0..point_count(section) - 1 {
+        if segments_share(a, b, point_at(section, j), point_at(section, j + 1)) {
+            return false;
+        }
+    }
+    true
+}
+
+// Whether two routes have no piece in common.
+fn are_free(one: &Section, other: &Section) -> bool
+    requires one { AreParallel one.now }
+    requires other { AreParallel other.now }
+    ensures { IsTrue result ↔ AreFree one.now other.now }
+{
+    for i in 0..point_count(one) - 1 {
+        if !is_free_of(point_at(one, i), point_at(one, i + 1), other) {
+            return false;
+        }
+    }
+    true
+}
+
+// Whether two ends of edges have one dock, of the lists of all.
+fn is_same(one: Dock, other: Dock) -> bool
+    ensures { IsTrue result ↔ (one ≡ other) }
+{
+    one == other
+}
+
+// Whether a dock of one edge is a dock of another.
+fn share_dock(
+    doc: &Doc,
+    placed: &Placed,
+    sources: &[Dock],
+    targets: &[Dock],
+    edge: u32,
+    other: u32,
+) -> bool
+    requires edge_in { edge < length doc.now.edges }
+    requires other_in { other < length doc.now.edges }
+    requires sources { AreDocks doc.now placed.now true sources.now }
+    requires targets { AreDocks doc.now placed.now false targets.now }
+    ensures { IsTrue result ↔ ShareDock doc.now placed.now edge other }
+{
+    let source = dock_of(doc, placed, sources, edge, true);
+    let target = dock_of(doc, placed, targets, edge, false);
+    let other_source = dock_of(doc, placed, sources, other, true);
+    let other_target = dock_of(doc, placed, targets, other, false);
+    if is_same(source, other_source) {
+        return true;
+    }
+    if is_same(source, other_target) {
+        return true;
+    }
+    if is_same(target, other_source) {
+        return true;
+    }
+    is_same(target, other_target)
+}
+
+// Whether the routes of two edges share a piece only where the edges share a dock.
+fn is_sharing(
+    doc: &Doc,
+    placed: &Placed,
+    sources: &[Dock],
+    targets: &[Dock],
+    edge: u32,
+    other: u32,
+) -> bool
+    requires edge_in { edge < length doc.now.edges }
+    requires other_in { other < length doc.now.edges }
+    requires fits { Fits doc.now placed.now }
+    requires sources { AreDocks doc.now placed.now true sources.now }
+    requires targets { AreDocks doc.now placed.now false targets.now }
+    requires edge_route { Route doc.now placed.now edge }
+    requires other_route { Route doc.now placed.now other }
+    ensures { IsTrue result ↔ Sharing doc.now placed.now edge other }
+{
+    if are_free(placed.section(edge), placed.section(other)) {
+        return true;
+    }
+    share_dock(doc, placed, sources, targets, edge, other)
+}
+
+// Whether two edges, if they belong to the level of the node and the other has the greater number, share rightly.
+fn sharing_holds(
+    doc: &Doc,
+    placed: &Placed,
+    sources: &[Dock],
+    targets: &[Dock],
+    node: u32,
+    edge: u32,
+    other: u32,
+) -> bool
+    requires edge_in { edge < length doc.now.edges }
+    requires other_in { other < length doc.now.edges }
+    requires edge_of { IsEdge doc.now node edge }
+    requires fits { Fits doc.now placed.now }
+    requires sources { AreDocks doc.now placed.now true sources.now }
+    requires targets { AreDocks doc.now placed.now false targets.now }
+    requires routes { (e : ℕ) → IsEdge doc.now node e → Route doc.now placed.now e }
+    ensures { IsTrue result ↔ SharingHolds doc.now placed.now node edge other }
+{
+    if other <= edge {
+        return true;
+    }
+    if !is_edge_of(doc, node, other) {
+        return true;
+    }
+    is_sharing(doc, placed, sources, targets, edge, other)
+}
+
+// The first edge of greater number that shares wrongly with an edge of the level.
+fn first_partner(
+    doc: &Doc,
+    placed: &Placed,
+    sources: &[Dock],
+    targets: &[Dock],
+    node: u32,
+    edge: u32,
+) -> Option<u32>
+    requires edge_of { IsEdge doc.now node edge }
+    requires fits { Fits doc.now placed.now }
+    requires sources { AreDocks doc.now placed.now true sources.now }
+    requires targets { AreDocks doc.now placed.now false targets.now }
+    requires routes { (e : ℕ) → IsEdge doc.now node e → Route doc.now placed.now e }
+    ensures { IsFirst (SharingHolds doc.now placed.now node edge) result }
+{
+    for other in 0..doc.edges().len() {
+        if !sharing_holds(doc, placed, sources, targets, node, edge, other as u32) {
+            return Some(other as u32);
+        }
+    }
+    None
+}
+
+// The first edge of greater number that shares wrongly with an edge, if that belongs to the level.
+fn first_sharing(
+    doc: &Doc,
+    placed: &Placed,
+    sources: &[Dock],
+    targets: &[Dock],
+    node: u32,
+    edge: u32,
+) -> Option<u32>
+    requires edge_in { edge < length doc.now.edges }
+    requires fits { Fits doc.now placed.now }
+    requires sources { AreDocks doc.now placed.now true sources.now }
+    requires targets { AreDocks doc.now placed.now false targets.now }
+    requires routes { (e : ℕ) → IsEdge doc.now node e → Route doc.now placed.now e }
+    ensures { IsFirst (SharingHolds doc.now placed.now node edge) result }
+{
+    if !is_edge_of(doc, node, edge) {
+        return None;
+    }
+    first_partner(doc, placed, sources, targets, node, edge)
+}
+
+/// The first two edges of a node's level whose routes have a piece of positive length in common and whose docks are all
+/// different. The docks are those of all edges at their sources and at their targets.
+pub fn sharing_fault(
+    doc: &Doc,
+    placed: &Placed,
+    sources: &[Dock],
+    targets: &[Dock],
+    node: u32,
+) -> Option<Fault>
+    requires fits { Fits doc.now placed.now }
+    requires sources { AreDocks doc.now placed.now true sources.now }
+    requires targets { AreDocks doc.now placed.now false targets.now }
+    requires routes { (e : ℕ) → IsEdge doc.now node e → Route doc.now placed.now e }
+    ensures { MatchOption result
+        ((e f : ℕ) → SharingHolds doc.now placed.now node e f)
+        (FirstSharing doc.now placed.now node) }
+{
+    for edge in 0..doc.edges().len() {
+        if let Some(other) = first_sharing(doc, placed, sources, targets, node, edge as u32) {
+            return Some(Fault {
+                first: Place::Edge(edge as u32),
+                second: Place::Edge(other),
+            });
+        }
+    }
+    None
+}
