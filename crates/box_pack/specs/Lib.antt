@@ -1,0 +1,4 @@
+pub mod Boxes
+pub mod Walk
+pub mod Packed
+pub mod Squareness

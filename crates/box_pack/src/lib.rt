@@ -1,0 +1,12 @@
+//! Boxes in rows: a list of boxes is packed into rows from left to right, with a new row below the last one where a box
+//! would pass the limit, as text is broken into lines; and the limit is found that gives the squarest extent.
+#![tactic(auto)]
+
+mod packing;
+mod squarest;
+#[cfg(test)]
+mod tests;
+mod walk;
+
+pub use packing::{Rows, pack};
+pub use squarest::{Squarest, best};

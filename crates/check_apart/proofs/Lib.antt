@@ -1,0 +1,4 @@
+pub mod ChildLaws
+pub mod NameLaws
+pub mod NumberingLaws
+pub mod PartLaws

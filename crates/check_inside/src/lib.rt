@@ -1,0 +1,6 @@
+//! Whether the content of a level lies inside its node's padding. Each test answers the first fault.
+#![tactic(auto)]
+
+mod inside;
+
+pub use inside::inside_fault;
