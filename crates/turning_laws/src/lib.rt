@@ -1,0 +1,6 @@
+//! A drawing says the same in the frame in which its direction runs to the right.
+#![tactic(auto)]
+
+mod laws;
+
+pub use laws::{boxes_turn, routes_turn, sides_turn};
