@@ -1,0 +1,4 @@
+pub mod Order
+pub mod Ways
+pub mod Reversed
+pub mod Search

@@ -1,0 +1,16 @@
+pub mod Cuts
+pub mod Raises
+pub mod Reaching
+pub mod Slacks
+pub mod Pushing
+pub mod Searching
+pub mod Augmenting
+pub mod Leading
+pub mod Offering
+pub mod Within
+pub mod Beginning
+pub mod Nearing
+pub mod Settling
+pub mod Draining
+pub mod Starting
+pub mod Finishing

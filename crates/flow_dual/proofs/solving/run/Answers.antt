@@ -1,0 +1,18 @@
+use Rattle.std.proofs.Common.{◌≡◌, length, arith, subst}
+use Rattle.layering_laws.specs.Layering.{PartsBeginAtZero}
+use Rattle.flow_dual.specs.Searching.{TellsExcess}
+use Rattle.flow_dual.proofs.Starting.{first_between}
+use Rattle.flow_dual.proofs.Finishing.{done}
+use Rattle.flow_dual.proofs.solving.run.Goals as goal
+
+pub returns : goal.returns
+returns c =
+    let n : length c.drain_all.new.layer ≡ length c.args.layer.now = omega arith in
+    let m : length c.begin_at_zero.new.layers ≡ length c.args.layer.now = omega arith in
+    done (length c.args.layer.now) c.args.edges.now c.drain_all.new.layer c.drain_all.new.flow c.drain_all.new.excess c.drain_all.new.reached c.drain_all.new.labels c.drain_all.new.dist c.begin_at_zero.new.layers c.requires.network.ends c.in_ok-drain_all.ensures m c.in_ok-begin_at_zero.ensures.rises (subst (λ x. PartsBeginAtZero x c.args.edges.now c.begin_at_zero.new.layers) n c.in_ok-begin_at_zero.ensures.from_zero)
+
+pub drain_all-requires-clause-between : goal.drain_all-requires-clause-between
+drain_all-requires-clause-between c =
+    let n : length c.tally.new.excess ≡ length c.args.layer.now = let a = c.requires.excess in omega (arith, a) in
+    let t = subst (λ x. TellsExcess x c.args.edges.now c.args.flow.now c.tally.new.excess) c.requires.excess (c.tally.ensures c.args.flow.now c.requires.no_flow) in
+    first_between (length c.args.layer.now) c.args.edges.now c.args.layer.now c.args.flow.now c.tally.new.excess c.args.reached.now c.args.labels.now c.args.dist.now c.requires.network c.requires.greatest c.requires.layering c.requires.flow c.requires.no_flow n t c.requires.cleared c.requires.dist

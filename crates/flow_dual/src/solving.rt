@@ -1,0 +1,119 @@
+//! Layerings of least cost: the start, the augmentations, and each part lowered to begin at layer 0.
+
+ghost use Rattle.std.specs.Prelude.{◌≡◌, ◌≤◌, ◌<◌, ◌^◌, ℕ, pos, ◌≤ℤ◌, map, length, OnOk, IfOk, slice_index};
+ghost use Rattle.layering_laws.specs.Network.{EndsBelow, IsNetwork};
+ghost use Rattle.layering_laws.specs.Layering.{IsLayering, layer_of, IsSolution};
+ghost use Rattle.layering_laws.specs.Parts.{ArePartNumbers};
+ghost use Rattle.layering_laws.specs.Paths.{AreGreatestSums};
+ghost use Rattle.layering_laws.specs.Tight.{IsDone};
+ghost use Rattle.flow_dual.specs.Searching.{IsBetween, IsCleared};
+ghost use Rattle.flow_dual.specs.Augmented.{AreDrained};
+
+use crate::augment::drain_all;
+use crate::start::{as_layers, tally};
+use crate::{Label, finish};
+use layering_laws::{
+    End, NetEdge, Network, Solution, begin_at_zero, greatest_sums, link_edges, part_numbers,
+};
+use std::alloc::{AllocError, Global};
+
+/// The number of each node's connected part. The parts are numbered 0, 1, 2 in the order of their least nodes.
+pub fn parts(alloc: Global, net: &Network) -> Result<Vec<u32>, AllocError>
+    requires { IsNetwork net.now.nodes net.now.edges.items }
+    ensures { IfOk result (λ numbers. ArePartNumbers net.now.nodes net.now.edges.items numbers.items) }
+{
+    part_numbers(alloc, net.nodes, net.edges.as_slice())
+}
+
+/// Searches and pushes from the first state on until the flow balances.
+fn run(
+    alloc: Global,
+    edges: &[NetEdge],
+    layer: &mut [i64],
+    flow: &mut [u64],
+    excess: &mut [i64],
+    reached: &mut [bool],
+    labels: &mut [Label],
+    dist: &mut [u128],
+) -> Result<(), AllocError>
+    requires network { IsNetwork (length layer.old) edges.now }
+    requires greatest { AreGreatestSums (length layer.old) edges.now layer.old }
+    requires layering { IsLayering edges.now layer.old }
+    requires flow { length flow.old ≡ length edges.now }
+    requires no_flow { (k : ℕ) → slice_index flow.old k ≡ 0 }
+    requires excess { length excess.old ≡ length layer.old }
+    requires no_excess { (v : ℕ) → layer_of excess.old v ≡ pos 0 }
+    requires cleared { IsCleared (length layer.old) reached.old labels.old }
+    requires dist { length dist.old ≡ length layer.old }
+    ensures { OnOk result (IsDone (length layer.old) edges.now layer.new flow.new) }
+{
+    let tails = link_edges(alloc, layer.len() as u32, edges, End::Tail)?;
+    let heads = link_edges(alloc, layer.len() as u32, edges, End::Head)?;
+    tally(edges, excess);
+    drain_all(
+        alloc, edges, &tails, &heads, layer, flow, excess, reached, labels, dist,
+    )?;
+    begin_at_zero(alloc, layer.len() as u32, edges, layer)?;
+    Ok(())
+}
+
+/// Makes what the searches need, and runs them from these sums on.
+fn run_from(
+    alloc: Global,
+    edges: &[NetEdge],
+    sums: &[u64],
+    layer: &mut [i64],
+    flow: &mut [u64],
+) -> Result<(), AllocError>
+    requires network { IsNetwork (length layer.old) edges.now }
+    requires same { length layer.old ≡ length sums.now }
+    requires greatest { AreGreatestSums (length layer.old) edges.now (map pos sums.now) }
+    requires layering { IsLayering edges.now (map pos sums.now) }
+    requires flow { length flow.old ≡ length edges.now }
+    requires no_flow { (k : ℕ) → slice_index flow.old k ≡ 0 }
+    ensures { OnOk result (IsDone (length layer.old) edges.now layer.new flow.new) }
+{
+    let nodes = layer.len();
+    let blank = Label {
+        parent: 0,
+        depth: 0,
+        room: 0,
+    };
+    let mut excess: Vec<i64> = vec![in alloc; 0; nodes]?;
+    let mut reached: Vec<bool> = vec![in alloc; false; nodes]?;
+    let mut labels: Vec<Label> = vec![in alloc; blank; nodes]?;
+    let mut dist: Vec<u128> = vec![in alloc; 0; nodes]?;
+    as_layers(sums, layer);
+    run(
+        alloc,
+        edges,
+        layer,
+        flow,
+        excess.as_mut_slice(),
+        reached.as_mut_slice(),
+        labels.as_mut_slice(),
+        dist.as_mut_slice(),
+    )
+}
+
+/// A layering of least cost, and a flow that proves it: each head stands at least `least` above its tail, the least
+/// layer of each part is 0, and no layering costs less. The method is the primal-dual one of Ford and Fulkerson: from
+/// the layering of greatest path sums on it raises what a node with a surplus reaches over tight edges and used ones,
+/// and pushes the surplus to a node that asks for more.
+pub fn solve(alloc: Global, net: &Network) -> Result<Solution, AllocError>
+    requires { IsNetwork net.now.nodes net.now.edges.items }
+    ensures { IfOk result (λ s. IsSolution net.now.nodes net.now.edges.items s.layer.items s.flow.items s.cost) }
+{
+    let edges = net.edges.as_slice();
+    let sums = greatest_sums(alloc, net.nodes, edges)?;
+    let mut layer: Vec<i64> = vec![in alloc; 0; net.nodes as usize]?;
+    let mut flow: Vec<u64> = vec![in alloc; 0; edges.len()]?;
+    run_from(
+        alloc,
+        edges,
+        sums.as_slice(),
+        layer.as_mut_slice(),
+        flow.as_mut_slice(),
+    )?;
+    Ok(finish(net.nodes, edges, layer, flow))
+}
