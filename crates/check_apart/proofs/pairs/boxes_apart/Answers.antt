@@ -31,6 +31,6 @@ returns c =
     let one = subst R c.outline_at-s.ensures (subst Q c.outline_at-r.ensures (subst P (to_z-of_z w64 gap fits) c.stands_clear.ensures)) in
     let P2 : ℤ → Type 0 = λ z. IsTrue c.stands_clear-2.result ↔ StandsClearIn z Right c.outline_at-s.result c.outline_at-r.result in
     let Q2 : Rect → Type 0 = λ x. IsTrue c.stands_clear-2.result ↔ StandsClearIn gap Right x c.outline_at-r.result in
-    let R2 : Rect → Type 0 = λ x. IsTrue c.stands_clear-2.result ↔ StandsClearIn gap Right s x in
-    let other = subst R2 c.outline_at-r.ensures (subst Q2 c.outline_at-s.ensures (subst P2 (to_z-of_z w64 gap fits) c.stands_clear-2.ensures)) in
+    let Flipped : Rect → Type 0 = λ x. IsTrue c.stands_clear-2.result ↔ StandsClearIn gap Right s x in
+    let other = subst Flipped c.outline_at-r.ensures (subst Q2 c.outline_at-s.ensures (subst P2 (to_z-of_z w64 gap fits) c.stands_clear-2.ensures)) in
     (λ t. inr (other.0 t), λ h. ⊎_elim (λ x. absurd (both_ways c.stands_clear.result c.if-stands_clear.false (one.1 x))) other.1 h)
