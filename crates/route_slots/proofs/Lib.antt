@@ -2,6 +2,8 @@ pub mod Turning
 pub mod Borders
 pub mod Free
 pub mod Lists
-pub mod Counting
 pub mod Placing
 pub mod Raising
+pub mod Keys
+pub mod Taking
+pub mod Leveling

@@ -1,239 +1,250 @@
--- Nets with slots of their own keep apart.
-use Rattle.std.proofs.Common.{◌≡◌, ◌≢◌, ◌∙◌, ◌⊎◌, ⊎_elim, inl, inr, List, ℕ, ◌+◌, ◌-◌, ◌<◌, ◌≤◌, Bool, true, false, ℤ, pos, ◌+ℤ◌, length, refl, sym, ap, subst, arith, if◌then◌else◌}
+-- Nets keep apart whose pieces stand in slots by their levels.
+use Rattle.std.proofs.Common.{◌≡◌, ◌≢◌, ◌∙◌, ◌⊎◌, ⊎_elim, inl, inr, List, ℕ, zero, suc, ◌+◌, ◌<◌, ◌≤◌, Bool, true, false, not, ℤ, ◌≤ℤ◌, ◌<ℤ◌, length, refl, sym, ap, subst, arith, if◌then◌else◌, get_or}
 use Rattle.std.proofs.lemmas.Bool.{cases_lt}
 use Rattle.std.proofs.lemmas.Int.{ints, clamps}
-use Rattle.std.specs.Ordering.{int_cmp}
-use Rattle.std.specs.BTreeSet.{contains}
+use Rattle.std.specs.Int.{int_min, int_max}
 use Rattle.route_slots.specs.declared.Pin.{Pin}
 use Rattle.route_slots.specs.declared.Net.{Net}
 use Rattle.route_slots.specs.declared.NetRoute.{NetRoute}
 use Rattle.route_slots.specs.declared.NetRoute.TheVariants.{Straight, One, Two}
-use Rattle.route_slots.specs.declared.forms.Form.{Form}
-use Rattle.route_slots.specs.declared.forms.Form.TheVariants.{Level, Early, Late, Split}
+use Rattle.route_slots.specs.declared.marks.Mark.{Mark}
+use Rattle.route_slots.specs.declared.slotting.Piece.{Piece}
 use Rattle.route_slots.specs.Pieces.{net_at, route_at}
 use Rattle.route_slots.specs.GapFree.{IsLevelNet, IsAtHeight, StandsIn, IsNearPins, IsFresh, GapFree}
 use Rattle.route_slots.specs.Standing.{StandsAt, IsUpright, AreApart}
-use Rattle.route_slots.specs.Forms.{IsMet, AreForms, IsTop, ArePlaced, early_count, late_count, before, form_at, route_by}
-use Rattle.route_slots.proofs.Counting.{before_apart, before_used}
-use Rattle.route_slots.proofs.Free.{AreKept, has_pin, free}
+use Rattle.route_slots.specs.Slotting.{piece_at, IsReal, AreSlots}
+use Rattle.route_slots.specs.Marks.{mark_at, LevelAt, AreMarks, other_end, piece_a, piece_b, height_of, ArePieces, route_by, ArePlaced, IsTop}
+use Rattle.route_slots.proofs.Free.{AreKept, free}
 
-early_most : (f : Form) → early_count f ≤ 1
-early_most Level = omega arith
-early_most Early = omega arith
-early_most Late = omega arith
-early_most Split = omega arith
+-- a place in the list of pieces is one of the two of some net
+halved : (i n : ℕ) → i < n + n → (k : ℕ) × (k < n) × ((i ≡ k + k) ⊎ (i ≡ k + k + 1))
+halved i zero h = absurd (omega arith)
+halved i (suc n) h =
+    ⊎_elim
+    (λ (l : i < n + n). let w = halved i n l in let w1 = w.1 in (w.0, omega arith, w.2))
+    (λ (ge : n + n ≤ i). ⊎_elim
+    (λ (l : i < n + n + 1). (n, omega arith, inl (omega arith)))
+    (λ (g : n + n + 1 ≤ i). (n, omega arith, inr (omega arith)))
+    (cases_lt i (n + n + 1)))
+    (cases_lt i (n + n))
 
-late_most : (f : Form) → late_count f ≤ 1
-late_most Level = omega arith
-late_most Early = omega arith
-late_most Late = omega arith
-late_most Split = omega arith
+abbrev Slot : Bool → Bool → ℕ → ℕ → ℕ → Type 0
+Slot straight split a b s = ((straight ≡ false) × (a ≡ s)) ⊎ ((split ≡ true) × (b ≡ s))
 
--- which slots a net has
-abbrev InEither : Form → ℕ → ℕ → ℕ → Type 0
-InEither f e l s = ((early_count f ≡ 1) × (e ≡ s)) ⊎ ((late_count f ≡ 1) × (l ≡ s))
+abbrev by : Bool → Bool → ℕ → ℤ → ℕ → NetRoute
+by straight split a h b = if straight then Straight else (if split then Two a h b else One a)
 
-two_stands : (b : Bool) (e l s : ℕ) (h : ℤ) → StandsIn (if b then Two e h l else Two l h e) s → InEither Split e l s
-two_stands true e l s h x = ⊎_elim (λ y. inl (refl, y)) (λ y. inr (refl, y)) x
-two_stands false e l s h x = ⊎_elim (λ y. inr (refl, y)) (λ y. inl (refl, y)) x
+slot_is : (straight split : Bool) (a : ℕ) (h : ℤ) (b s : ℕ) → StandsIn (by straight split a h b) s → Slot straight split a b s
+slot_is true split a h b s x = absurd x
+slot_is false true a h b s x = ⊎_elim (λ y. inl (refl, y)) (λ y. inr (refl, y)) x
+slot_is false false a h b s x = inl (refl, x)
 
-slots_of : (f : Form) (n : Net) (e : ℕ) (h : ℤ) (l s : ℕ) → StandsIn (route_by f n e h l) s → InEither f e l s
-slots_of Level n e h l s x = absurd x
-slots_of Early n e h l s x = inl (refl, x)
-slots_of Late n e h l s x = inr (refl, x)
-slots_of Split n e h l s x = two_stands n.a.on_left e l s h x
+first_in : (straight split : Bool) (a : ℕ) (h : ℤ) (b : ℕ) → straight ≡ false → StandsIn (by straight split a h b) a
+first_in true split a h b e = absurd (cc)
+first_in false true a h b e = inl refl
+first_in false false a h b e = refl
 
-two_early : (b : Bool) (e l : ℕ) (h : ℤ) → StandsIn (if b then Two e h l else Two l h e) e
-two_early true e l h = inl refl
-two_early false e l h = inr refl
+second_in : (straight split : Bool) (a : ℕ) (h : ℤ) (b : ℕ) → straight ≡ false → split ≡ true → StandsIn (by straight split a h b) b
+second_in true split a h b e f = absurd (cc)
+second_in false true a h b e f = inr refl
+second_in false false a h b e f = absurd (cc)
 
-two_late : (b : Bool) (e l : ℕ) (h : ℤ) → StandsIn (if b then Two e h l else Two l h e) l
-two_late true e l h = inr refl
-two_late false e l h = inl refl
+is_straight : (straight split : Bool) (a : ℕ) (h : ℤ) (b : ℕ) → by straight split a h b ≡ Straight → straight ≡ true
+is_straight true split a h b e = refl
+is_straight false true a h b e = absurd (let bad : Two a h b ≡ Straight = e in cc)
+is_straight false false a h b e = absurd (let bad : One a ≡ Straight = e in cc)
 
-early_in : (f : Form) (n : Net) (e : ℕ) (h : ℤ) (l : ℕ) → early_count f ≡ 1 → StandsIn (route_by f n e h l) e
-early_in Level n e h l x = absurd (omega arith)
-early_in Early n e h l x = refl
-early_in Late n e h l x = absurd (omega arith)
-early_in Split n e h l x = two_early n.a.on_left e l h
+abbrev TwoIs : Bool → Bool → ℕ → ℤ → ℕ → ℕ → ℤ → ℕ → Type 0
+TwoIs straight split a h b s g t = (straight ≡ false) × (split ≡ true) × (s ≡ a) × (g ≡ h) × (t ≡ b)
 
-late_in : (f : Form) (n : Net) (e : ℕ) (h : ℤ) (l : ℕ) → late_count f ≡ 1 → StandsIn (route_by f n e h l) l
-late_in Level n e h l x = absurd (omega arith)
-late_in Early n e h l x = absurd (omega arith)
-late_in Late n e h l x = refl
-late_in Split n e h l x = two_late n.a.on_left e l h
+is_two : (straight split : Bool) (a : ℕ) (h : ℤ) (b s : ℕ) (g : ℤ) (t : ℕ) → by straight split a h b ≡ Two s g t → TwoIs straight split a h b s g t
+is_two true split a h b s g t e = absurd (let bad : Straight ≡ Two s g t = e in cc)
+is_two false true a h b s g t e = let f : Two a h b ≡ Two s g t = e in (refl, refl, cc, cc, cc)
+is_two false false a h b s g t e = absurd (let bad : One a ≡ Two s g t = e in cc)
 
-two_is_not : (b : Bool) (e l : ℕ) (h : ℤ) → (if b then Two e h l else Two l h e) ≡ Straight → ⊥
-two_is_not true e l h x = cc
-two_is_not false e l h x = cc
+-- where the piece at a pin stands, and at which level
+abbrev PinAt : Net → Mark → ℕ → ℕ → Pin → ℕ → Type 0
+PinAt n m a b p s = ((m.straight ≡ false) × LevelAt n m p m.at_a × (a ≡ s)) ⊎ ((m.split ≡ true) × LevelAt n m p m.at_b × (b ≡ s))
 
-straight_level : (f : Form) (n : Net) (e : ℕ) (h : ℤ) (l : ℕ) → route_by f n e h l ≡ Straight → f ≡ Level
-straight_level Level n e h l x = refl
-straight_level Early n e h l x = absurd (let bad : One e ≡ Straight = x in cc)
-straight_level Late n e h l x = absurd (let bad : One l ≡ Straight = x in cc)
-straight_level Split n e h l x = absurd (two_is_not n.a.on_left e l h x)
+pin_at : (n : Net) (m : Mark) (straight split : Bool) (a : ℕ) (h : ℤ) (b : ℕ) (p : Pin) (s : ℕ) → m.straight ≡ straight → m.split ≡ split
+    → (m.split ≡ false → m.at_a ≡ m.at_b) → StandsAt n (by straight split a h b) p s → PinAt n m a b p s
+pin_at n m true split a h b p s e f whole x = absurd x
+pin_at n m false true a h b p s e f whole x =
+    ⊎_elim (λ y. inl (e, inl (y.0, refl), y.1)) (λ y. inr (f, inr (y.0, refl), y.1)) x
+pin_at n m false false a h b p s e f whole x =
+    inl (e, ⊎_elim (λ y. inl (y, refl)) (λ y. inr (y, sym (whole f))) x.0, x.1)
 
-abbrev TwoIs : ℕ → ℤ → ℕ → ℕ → ℤ → ℕ → Type 0
-TwoIs e h l s g t = (g ≡ h) × (((s ≡ e) × (t ≡ l)) ⊎ ((s ≡ l) × (t ≡ e)))
+-- which piece an upright one is
+abbrev PieceIs : Net → Mark → ℤ → ℕ → ℕ → ℕ → ℤ → ℤ → Type 0
+PieceIs n m h a b s x y =
+    ((m.straight ≡ false) × (a ≡ s) × ((piece_a m n h).low ≡ int_min x y) × ((piece_a m n h).high ≡ int_max x y))
+    ⊎ ((m.split ≡ true) × (b ≡ s) × ((piece_b m n h).low ≡ int_min x y) × ((piece_b m n h).high ≡ int_max x y))
 
-two_is : (b : Bool) (e l : ℕ) (h : ℤ) (s t : ℕ) (g : ℤ) → (if b then Two e h l else Two l h e) ≡ Two s g t → TwoIs e h l s g t
-two_is true e l h s t g x = let y : Two e h l ≡ Two s g t = x in (cc, inl (cc, cc))
-two_is false e l h s t g x = let y : Two l h e ≡ Two s g t = x in (cc, inr (cc, cc))
+upright_is : (n : Net) (m : Mark) (straight split : Bool) (a : ℕ) (h : ℤ) (b s : ℕ) (x y : ℤ) → m.straight ≡ straight → m.split ≡ split
+    → IsUpright n (by straight split a h b) s x y → PieceIs n m h a b s x y
+upright_is n m true split a h b s x y e f u = absurd u
+upright_is n m false true a h b s x y e f u =
+    let end : other_end m n h ≡ h = ap (λ z. if z then h else n.b.height) f in
+    ⊎_elim
+    (λ v. inl (e, v.0, ap (int_min n.a.height) end ∙ ap (λ z. int_min z h) v.1 ∙ ap (int_min x) v.2, ap (int_max n.a.height) end ∙ ap (λ z. int_max z h) v.1 ∙ ap (int_max x) v.2))
+    (λ v. inr (f, v.0, ap (λ z. int_min z n.b.height) v.1 ∙ ap (int_min x) v.2, ap (λ z. int_max z n.b.height) v.1 ∙ ap (int_max x) v.2))
+    u
+upright_is n m false false a h b s x y e f u =
+    let end : other_end m n h ≡ n.b.height = ap (λ z. if z then h else n.b.height) f in
+    inl (e, u.0, ap (int_min n.a.height) end ∙ ap (λ z. int_min z n.b.height) u.1 ∙ ap (int_min x) u.2, ap (int_max n.a.height) end ∙ ap (λ z. int_max z n.b.height) u.1 ∙ ap (int_max x) u.2)
 
-split_is : (f : Form) (n : Net) (e : ℕ) (h : ℤ) (l s : ℕ) (g : ℤ) (t : ℕ) → route_by f n e h l ≡ Two s g t → (f ≡ Split) × TwoIs e h l s g t
-split_is Level n e h l s g t x = absurd (let bad : Straight ≡ Two s g t = x in cc)
-split_is Early n e h l s g t x = absurd (let bad : One e ≡ Two s g t = x in cc)
-split_is Late n e h l s g t x = absurd (let bad : One l ≡ Two s g t = x in cc)
-split_is Split n e h l s g t x = (refl, two_is n.a.on_left e l h s t g x)
+no_overlap : (low high low' high' : ℤ) → int_max low low' <ℤ int_min high high' → (high <ℤ low') ⊎ (high' <ℤ low) → ⊥
+no_overlap low high low' high' o x =
+    ⊎_elim (λ l. let l' = l in omega (arith, ints, clamps)) (λ l. let l' = l in omega (arith, ints, clamps)) x
 
--- a pin on the left of a split net stands early, and one on the right late
-two_left : (n : Net) (p : Pin) (b : Bool) (e l s : ℕ) (h : ℤ) → n.a.on_left ≡ b → n.a.on_left ≢ n.b.on_left → p.on_left ≡ true
-    → StandsAt n (if b then Two e h l else Two l h e) p s → e ≡ s
-two_left n p true e l s h eb ne pl x =
-    ⊎_elim (λ y. y.1) (λ y. absurd (ne (eb ∙ sym pl ∙ ap (λ z. z.on_left) (sym y.0)))) x
-two_left n p false e l s h eb ne pl x =
-    ⊎_elim (λ y. absurd (let bad : false ≡ true = sym eb ∙ ap (λ z. z.on_left) y.0 ∙ pl in cc)) (λ y. y.1) x
+meet_at : (a b h : ℤ) → ((int_max a h <ℤ int_min h b) ⊎ (int_max h b <ℤ int_min a h)) → ⊥
+meet_at a b h x = ⊎_elim (λ l. let l' = l in omega (arith, ints, clamps)) (λ l. let l' = l in omega (arith, ints, clamps)) x
 
-left_early : (f : Form) (n : Net) (p : Pin) (e : ℕ) (h : ℤ) (l s : ℕ) → (f ≡ Late → ⊥) → (f ≡ Split → n.a.on_left ≢ n.b.on_left) → p.on_left ≡ true
-    → StandsAt n (route_by f n e h l) p s → (early_count f ≡ 1) × (e ≡ s)
-left_early Level n p e h l s late split pl x = absurd x
-left_early Early n p e h l s late split pl x = (refl, x.1)
-left_early Late n p e h l s late split pl x = absurd (late refl)
-left_early Split n p e h l s late split pl x = (refl, two_left n p n.a.on_left e l s h refl (split refl) pl x)
+min_max : (a b : ℤ) → int_min a b ≤ℤ int_max a b
+min_max a b = omega (arith, ints, clamps)
 
-two_right : (n : Net) (p : Pin) (b : Bool) (e l s : ℕ) (h : ℤ) → n.a.on_left ≡ b → n.a.on_left ≢ n.b.on_left → p.on_left ≡ false
-    → StandsAt n (if b then Two e h l else Two l h e) p s → l ≡ s
-two_right n p true e l s h eb ne pl x =
-    ⊎_elim (λ y. absurd (let bad : true ≡ false = sym eb ∙ ap (λ z. z.on_left) y.0 ∙ pl in cc)) (λ y. y.1) x
-two_right n p false e l s h eb ne pl x =
-    ⊎_elim (λ y. y.1) (λ y. absurd (ne (eb ∙ sym pl ∙ ap (λ z. z.on_left) (sym y.0)))) x
+proper_a : (m : Mark) (n : Net) (h : ℤ) → (piece_a m n h).low ≤ℤ (piece_a m n h).high
+proper_a m n h = min_max n.a.height (other_end m n h)
 
-right_late : (f : Form) (n : Net) (p : Pin) (e : ℕ) (h : ℤ) (l s : ℕ) → (f ≡ Early → ⊥) → (f ≡ Split → n.a.on_left ≢ n.b.on_left) → p.on_left ≡ false
-    → StandsAt n (route_by f n e h l) p s → (late_count f ≡ 1) × (l ≡ s)
-right_late Level n p e h l s early split pl x = absurd x
-right_late Early n p e h l s early split pl x = absurd (early refl)
-right_late Late n p e h l s early split pl x = (refl, x.1)
-right_late Split n p e h l s early split pl x = (refl, two_right n p n.a.on_left e l s h refl (split refl) pl x)
+proper_b : (m : Mark) (n : Net) (h : ℤ) → (piece_b m n h).low ≤ℤ (piece_b m n h).high
+proper_b m n h = min_max h n.b.height
 
-upright_in : (n : Net) (r : NetRoute) (s : ℕ) (x y : ℤ) → IsUpright n r s x y → StandsIn r s
-upright_in n Straight s x y u = absurd u
-upright_in n (One t) s x y u = u.0
-upright_in n (Two t h u) s x y w = ⊎_elim (λ z. inl z.0) (λ z. inr z.0) w
+-- each piece leads from its low end to its high one
+pub all_proper : (nets : List Net) (ms : List Mark) (top : ℤ) (ps : List Piece) → ArePieces nets ms top ps → (i : ℕ) → i < length ps → (piece_at ps i).low ≤ℤ (piece_at ps i).high
+all_proper nets ms top ps pieces i h =
+    let len = pieces.len in
+    let at = halved i (length nets) (omega arith) in
+    ⊎_elim
+    (λ (e : i ≡ at.0 + at.0). subst (λ (p : Piece). p.low ≤ℤ p.high) (sym (ap (piece_at ps) e ∙ pieces.at_a at.0 at.1)) (proper_a (mark_at ms at.0) (net_at nets at.0) (height_of top at.0)))
+    (λ (e : i ≡ at.0 + at.0 + 1). subst (λ (p : Piece). p.low ≤ℤ p.high) (sym (ap (piece_at ps) e ∙ pieces.at_b at.0 at.1)) (proper_b (mark_at ms at.0) (net_at nets at.0) (height_of top at.0)))
+    at.2
 
--- numbers of slots, where early ones come before late ones
-module _ (nets : List Net) (fs : List Form) (top : ℤ) (count : ℕ) (routes : List NetRoute) (many : length fs ≡ length nets) (forms : AreForms nets fs) (at_top : IsTop nets top) (placed : ArePlaced nets fs top count routes) where
-  abbrev early : ℕ → ℕ
-  early k = before early_count fs k
+module _ (nets : List Net) (ms : List Mark) (top : ℤ) (ps : List Piece) (ss : List ℕ) (count : ℕ) (routes : List NetRoute)
+    (marks : AreMarks nets ms) (pieces : ArePieces nets ms top ps) (slots : AreSlots ps ss count) (at_top : IsTop nets top) (placed : ArePlaced nets ms top ss routes) where
+  abbrev net : ℕ → Net
+  net k = net_at nets k
 
-  abbrev late : ℕ → ℕ
-  late k = before early_count fs (length fs) + before late_count fs k
+  abbrev mark : ℕ → Mark
+  mark k = mark_at ms k
+
+  abbrev first : ℕ → ℕ
+  first k = get_or ss (k + k) 0
+
+  abbrev second : ℕ → ℕ
+  second k = get_or ss (k + k + 1) 0
 
   abbrev height : ℕ → ℤ
-  height k = top +ℤ pos (k + 1)
+  height k = height_of top k
 
-  in_either : (k s : ℕ) → k < length nets → StandsIn (route_at routes k) s → InEither (form_at fs k) (early k) (late k) s
+  real_a : (k : ℕ) → k < length nets → (mark k).straight ≡ false → IsReal ps (k + k)
+  real_a k h e = (let len = pieces.len in omega arith, ap (λ z. z.real) (pieces.at_a k h) ∙ ap not e)
+
+  real_b : (k : ℕ) → k < length nets → (mark k).split ≡ true → IsReal ps (k + k + 1)
+  real_b k h e = (let len = pieces.len in omega arith, ap (λ z. z.real) (pieces.at_b k h) ∙ e)
+
+  in_either : (k s : ℕ) → k < length nets → StandsIn (route_at routes k) s → Slot (mark k).straight (mark k).split (first k) (second k) s
   in_either k s h x =
-      slots_of (form_at fs k) (net_at nets k) (early k) (height k) (late k) s (subst (λ r. StandsIn r s) (placed.routes_are k h) x)
-
-  early_below : (k : ℕ) → k < length nets → early_count (form_at fs k) ≡ 1 → early k < early (length fs)
-  early_below k h e = before_apart early_count fs k (length fs) (omega arith) (omega arith) e
-
-  late_below : (k : ℕ) → k < length nets → late_count (form_at fs k) ≡ 1 → late k < count
-  late_below k h e =
-      let lt = before_apart late_count fs k (length fs) (omega arith) (omega arith) e in
-      let c = placed.count_is in omega arith
+      slot_is (mark k).straight (mark k).split (first k) (height k) (second k) s (subst (λ r. StandsIn r s) (placed.routes_are k h) x)
 
   in_range : (k s : ℕ) → k < length nets → StandsIn (route_at routes k) s → s < count
   in_range k s h x =
       ⊎_elim
-      (λ (y : (early_count (form_at fs k) ≡ 1) × (early k ≡ s)). let lt = early_below k h y.0 in let c = placed.count_is in let e = y.1 in omega arith)
-      (λ (y : (late_count (form_at fs k) ≡ 1) × (late k ≡ s)). let lt = late_below k h y.0 in let e = y.1 in omega arith)
+      (λ (y : ((mark k).straight ≡ false) × (first k ≡ s)). subst (λ z. z < count) y.1 (slots.below (k + k) (real_a k h y.0)))
+      (λ (y : ((mark k).split ≡ true) × (second k ≡ s)). subst (λ z. z < count) y.1 (slots.below (k + k + 1) (real_b k h y.0)))
       (in_either k s h x)
 
-  apart_in_order : (j k s : ℕ) → j < k → k < length nets → StandsIn (route_at routes j) s → StandsIn (route_at routes k) s → ⊥
-  apart_in_order j k s lt h x y =
-      let jl : j < length nets = omega arith in
-      ⊎_elim
-      (λ (u : (early_count (form_at fs j) ≡ 1) × (early j ≡ s)). ⊎_elim
-      (λ (v : (early_count (form_at fs k) ≡ 1) × (early k ≡ s)).
-      let less = before_apart early_count fs j k (omega arith) lt u.0 in
-      let e = u.1 in
-      let f = v.1 in
-      omega arith)
-      (λ (v : (late_count (form_at fs k) ≡ 1) × (late k ≡ s)).
-      let less = early_below j jl u.0 in
-      let e = u.1 in
-      let f = v.1 in
-      omega arith)
-      (in_either k s h y))
-      (λ (u : (late_count (form_at fs j) ≡ 1) × (late j ≡ s)). ⊎_elim
-      (λ (v : (early_count (form_at fs k) ≡ 1) × (early k ≡ s)).
-      let less = early_below k h v.0 in
-      let e = u.1 in
-      let f = v.1 in
-      omega arith)
-      (λ (v : (late_count (form_at fs k) ≡ 1) × (late k ≡ s)).
-      let less = before_apart late_count fs j k (omega arith) lt u.0 in
-      let e = u.1 in
-      let f = v.1 in
-      omega arith)
-      (in_either k s h y))
-      (in_either j s jl x)
+  used : (s : ℕ) → s < count → (k : ℕ) × (k < length nets) × StandsIn (route_at routes k) s
+  used s l =
+      let w = slots.used s l in
+      let len = pieces.len in
+      let i_in = w.1.0 in
+      let at = halved w.0 (length nets) (omega arith) in
+      (at.0, at.1, stands w.0 at.0 at.1 w.1 w.2 at.2)
+    where
+      not_true : (b : Bool) → not b ≡ true → b ≡ false
+      not_true true e = absurd (cc)
+      not_true false e = refl
 
-  own_slots : (j k s : ℕ) → j < length nets → k < length nets → j ≢ k → StandsIn (route_at routes j) s → StandsIn (route_at routes k) s → ⊥
-  own_slots j k s jl kl ne x y =
+      stands : (i k : ℕ) → k < length nets → IsReal ps i → get_or ss i 0 ≡ s → (i ≡ k + k) ⊎ (i ≡ k + k + 1) → StandsIn (route_at routes k) s
+      stands i k h r e x =
+          subst (λ z. StandsIn z s) (sym (placed.routes_are k h))
+          (⊎_elim
+          (λ (f : i ≡ k + k).
+          let real : (mark k).straight ≡ false = not_true (mark k).straight (sym (ap (λ z. z.real) (pieces.at_a k h)) ∙ subst (λ z. (piece_at ps z).real ≡ true) f r.1) in
+          subst (λ z. StandsIn (route_by (mark k) (first k) (height k) (second k)) z) (subst (λ z. get_or ss z 0 ≡ s) f e) (first_in (mark k).straight (mark k).split (first k) (height k) (second k) real))
+          (λ (f : i ≡ k + k + 1).
+          let real : (mark k).split ≡ true = sym (ap (λ z. z.real) (pieces.at_b k h)) ∙ subst (λ z. (piece_at ps z).real ≡ true) f r.1 in
+          subst (λ z. StandsIn (route_by (mark k) (first k) (height k) (second k)) z) (subst (λ z. get_or ss z 0 ≡ s) f e) (second_in (mark k).straight (mark k).split (first k) (height k) (second k) (marks.split k h real) real))
+          x)
+
+  -- the piece at a pin
+  abbrev AtPin : ℕ → Pin → ℕ → Type 0
+  AtPin k p s = (i : ℕ) × IsReal ps i × (get_or ss i 0 ≡ s) × ((mark k).straight ≡ false) × LevelAt (net k) (mark k) p (piece_at ps i).level
+
+  at_pin : (k : ℕ) (p : Pin) (s : ℕ) → k < length nets → StandsAt (net k) (route_at routes k) p s → AtPin k p s
+  at_pin k p s h x =
       ⊎_elim
-      (λ l. apart_in_order j k s l kl x y)
-      (λ l. apart_in_order k j s (omega arith) jl y x)
-      (cases_lt j k)
+      (λ (y : ((mark k).straight ≡ false) × LevelAt (net k) (mark k) p (mark k).at_a × (first k ≡ s)).
+      (k + k, real_a k h y.0, y.2, y.0, subst (λ z. LevelAt (net k) (mark k) p z) (sym (ap (λ z. z.level) (pieces.at_a k h))) y.1))
+      (λ (y : ((mark k).split ≡ true) × LevelAt (net k) (mark k) p (mark k).at_b × (second k ≡ s)).
+      (k + k + 1, real_b k h y.0, y.2, marks.split k h y.0, subst (λ z. LevelAt (net k) (mark k) p z) (sym (ap (λ z. z.level) (pieces.at_b k h))) y.1))
+      (pin_at (net k) (mark k) (mark k).straight (mark k).split (first k) (height k) (second k) p s refl refl (marks.whole k h)
+      (subst (λ r. StandsAt (net k) r p s) (placed.routes_are k h) x))
+
+  -- the piece that an upright one is
+  abbrev AtUpright : ℕ → ℕ → ℤ → ℤ → Type 0
+  AtUpright k s x y = (i : ℕ) × IsReal ps i × (get_or ss i 0 ≡ s) × ((i ≡ k + k) ⊎ (i ≡ k + k + 1)) × ((piece_at ps i).low ≡ int_min x y) × ((piece_at ps i).high ≡ int_max x y)
+
+  at_upright : (k s : ℕ) (x y : ℤ) → k < length nets → IsUpright (net k) (route_at routes k) s x y → AtUpright k s x y
+  at_upright k s x y h u =
+      ⊎_elim
+      (λ (v : ((mark k).straight ≡ false) × (first k ≡ s) × ((piece_a (mark k) (net k) (height k)).low ≡ int_min x y) × ((piece_a (mark k) (net k) (height k)).high ≡ int_max x y)).
+      (k + k, real_a k h v.0, v.1, inl refl, ap (λ z. z.low) (pieces.at_a k h) ∙ v.2, ap (λ z. z.high) (pieces.at_a k h) ∙ v.3))
+      (λ (v : ((mark k).split ≡ true) × (second k ≡ s) × ((piece_b (mark k) (net k) (height k)).low ≡ int_min x y) × ((piece_b (mark k) (net k) (height k)).high ≡ int_max x y)).
+      (k + k + 1, real_b k h v.0, v.1, inr refl, ap (λ z. z.low) (pieces.at_b k h) ∙ v.2, ap (λ z. z.high) (pieces.at_b k h) ∙ v.3))
+      (upright_is (net k) (mark k) (mark k).straight (mark k).split (first k) (height k) (second k) s x y refl refl
+      (subst (λ r. IsUpright (net k) r s x y) (placed.routes_are k h) u))
+
+  other_place : (i i' j k : ℕ) → j ≢ k → (i ≡ j + j) ⊎ (i ≡ j + j + 1) → (i' ≡ k + k) ⊎ (i' ≡ k + k + 1) → i ≢ i'
+  other_place i i' j k ne x y e =
+      ne
+      (⊎_elim
+      (λ (a : i ≡ j + j). ⊎_elim (λ (b : i' ≡ k + k). omega arith) (λ (b : i' ≡ k + k + 1). omega arith) y)
+      (λ (a : i ≡ j + j + 1). ⊎_elim (λ (b : i' ≡ k + k). omega arith) (λ (b : i' ≡ k + k + 1). omega arith) y)
+      x)
 
   apart : AreApart nets routes
   apart =
       record {
         order = λ j k p q s t jl kl ne x y pl ql e.
-            let fj = forms.forms j jl in
-            let fk = forms.forms k kl in
-            let rj = subst (λ r. StandsAt (net_at nets j) r p s) (placed.routes_are j jl) x in
-            let rk = subst (λ r. StandsAt (net_at nets k) r q t) (placed.routes_are k kl) y in
-            let hp = has_pin (net_at nets j) (route_at routes j) p s x in
-            let hq = has_pin (net_at nets k) (route_at routes k) q t y in
-            let met : IsMet forms.lefts q = record { side = ql; there = subst (λ h. contains int_cmp forms.lefts h ≡ true) e (forms.holds j jl p hp pl) } in
-            let first = left_early (form_at fs j) (net_at nets j) p (early j) (height j) (late j) s (fj.left p hp pl) fj.split pl rj in
-            let second = right_late (form_at fs k) (net_at nets k) q (early k) (height k) (late k) t (fk.right q hq met) fk.split ql rk in
-            let lt = early_below j jl first.0 in
-            let e1 = first.1 in
-            let e2 = second.1 in
+            let u = at_pin j p s jl x in
+            let v = at_pin k q t kl y in
+            let lower = marks.order j k p q (piece_at ps u.0).level (piece_at ps v.0).level jl kl u.3 v.3 u.4 v.4 pl ql e in
+            let less = slots.order u.0 v.0 u.1 v.1 lower in
+            let us = u.2 in
+            let vt = v.2 in
             omega arith;
         uprights = λ j k s x y z w jl kl ne u v o.
-            own_slots j k s jl kl ne (upright_in (net_at nets j) (route_at routes j) s x y u) (upright_in (net_at nets k) (route_at routes k) s z w v);
+            let a = at_upright j s x y jl u in
+            let b = at_upright k s z w kl v in
+            let clear = slots.apart a.0 b.0 a.1 b.1 (other_place a.0 b.0 j k ne a.3 b.3) (a.2 ∙ sym b.2) in
+            no_overlap (int_min x y) (int_max x y) (int_min z w) (int_max z w) o
+            (⊎_elim
+            (λ l. inl (subst (λ r. r <ℤ int_min z w) a.5 (subst (λ r. (piece_at ps a.0).high <ℤ r) b.4 l)))
+            (λ l. inr (subst (λ r. r <ℤ int_min x y) b.5 (subst (λ r. (piece_at ps b.0).high <ℤ r) a.4 l)))
+            clear);
       }
 
-  used : (s : ℕ) → s < count → (k : ℕ) × (k < length nets) × StandsIn (route_at routes k) s
-  used s h =
-      ⊎_elim
-      (λ (l : s < early (length fs)).
-      let w = before_used early_count early_most fs s l in
-      let kl : w.0 < length nets = subst (λ z. w.0 < z) many w.1 in
-      (w.0, kl, subst (λ r. StandsIn r s) (sym (placed.routes_are w.0 kl)) (subst (λ z. StandsIn (route_by (form_at fs w.0) (net_at nets w.0) (early w.0) (height w.0) (late w.0)) z) w.2 (early_in (form_at fs w.0) (net_at nets w.0) (early w.0) (height w.0) (late w.0) w.3))))
-      (λ (l : early (length fs) ≤ s).
-      let c = placed.count_is in
-      let w = before_used late_count late_most fs (s - early (length fs)) (omega arith) in
-      let kl : w.0 < length nets = subst (λ z. w.0 < z) many w.1 in
-      let w2 = w.2 in
-      let e : late w.0 ≡ s = omega arith in
-      (w.0, kl, subst (λ r. StandsIn r s) (sym (placed.routes_are w.0 kl)) (subst (λ z. StandsIn (route_by (form_at fs w.0) (net_at nets w.0) (early w.0) (height w.0) (late w.0)) z) e (late_in (form_at fs w.0) (net_at nets w.0) (early w.0) (height w.0) (late w.0) w.3))))
-      (cases_lt s (early (length fs)))
-
-  level : (k : ℕ) → k < length nets → (route_at routes k ≡ Straight → IsLevelNet (net_at nets k)) × (IsLevelNet (net_at nets k) → route_at routes k ≡ Straight)
+  level : (k : ℕ) → k < length nets → (route_at routes k ≡ Straight → IsLevelNet (net k)) × (IsLevelNet (net k) → route_at routes k ≡ Straight)
   level k h = (
-    λ e. (forms.forms k h).level.0 (straight_level (form_at fs k) (net_at nets k) (early k) (height k) (late k) (sym (placed.routes_are k h) ∙ e)),
-    λ v. placed.routes_are k h ∙ ap (λ f. route_by f (net_at nets k) (early k) (height k) (late k)) ((forms.forms k h).level.1 v),
+    λ e. (marks.straight k h).0 (is_straight (mark k).straight (mark k).split (first k) (height k) (second k) (sym (placed.routes_are k h) ∙ e)),
+    λ v. placed.routes_are k h ∙ ap (λ z. by z (mark k).split (first k) (height k) (second k)) ((marks.straight k h).1 v),
   )
 
-  two : (k s : ℕ) (h : ℤ) (t : ℕ) → k < length nets → route_at routes k ≡ Two s h t → (form_at fs k ≡ Split) × TwoIs (early k) (height k) (late k) s h t
-  two k s h t l e = split_is (form_at fs k) (net_at nets k) (early k) (height k) (late k) s h t (sym (placed.routes_are k l) ∙ e)
+  two : (k s : ℕ) (h : ℤ) (t : ℕ) → k < length nets → route_at routes k ≡ Two s h t → TwoIs (mark k).straight (mark k).split (first k) (height k) (second k) s h t
+  two k s h t l e = is_two (mark k).straight (mark k).split (first k) (height k) (second k) s h t (sym (placed.routes_are k l) ∙ e)
 
-  above_pins : (j k : ℕ) (h : ℤ) → j < length nets → h ≡ height k → IsAtHeight (net_at nets j) h → ⊥
+  above_pins : (j k : ℕ) (h : ℤ) → j < length nets → h ≡ height k → IsAtHeight (net j) h → ⊥
   above_pins j k h l e x =
       let t = at_top.above j l in
       let t0 = t.0 in
@@ -248,21 +259,31 @@ module _ (nets : List Net) (fs : List Form) (top : ℤ) (count : ℕ) (routes : 
       let a0 = above.0 in
       record { i = k; j = top_at.0; i_in = l; j_in = top_at.1; low = omega (arith, ints, clamps); high = omega (arith, ints) }
 
+  -- the two pieces of a net meet at the height between them, so they stand in two slots
+  halves_differ : (k : ℕ) → k < length nets → (mark k).split ≡ true → first k ≡ second k → ⊥
+  halves_differ k h e same =
+      let clear = slots.apart (k + k) (k + k + 1) (real_a k h (marks.split k h e)) (real_b k h e) (omega arith) same in
+      let end : other_end (mark k) (net k) (height k) ≡ height k = ap (λ z. if z then height k else (net k).b.height) e in
+      let low_a = ap (λ z. z.low) (pieces.at_a k h) ∙ ap (int_min (net k).a.height) end in
+      let high_a = ap (λ z. z.high) (pieces.at_a k h) ∙ ap (int_max (net k).a.height) end in
+      let low_b = ap (λ z. z.low) (pieces.at_b k h) in
+      let high_b = ap (λ z. z.high) (pieces.at_b k h) in
+      meet_at (net k).a.height (net k).b.height (height k)
+      (⊎_elim
+      (λ l. inl (subst (λ r. r <ℤ int_min (height k) (net k).b.height) high_a (subst (λ r. (piece_at ps (k + k)).high <ℤ r) low_b l)))
+      (λ l. inr (subst (λ r. r <ℤ int_min (net k).a.height (height k)) high_b (subst (λ r. (piece_at ps (k + k + 1)).high <ℤ r) low_a l)))
+      clear)
+
   fresh : (k s : ℕ) (h : ℤ) (t : ℕ) → k < length nets → route_at routes k ≡ Two s h t → IsFresh nets routes k s h t
   fresh k s h t l e =
       let w = two k s h t l e in
-      let split : early_count (form_at fs k) ≡ 1 = ap early_count w.0 in
-      let lt = early_below k l split in
-      let h_is = w.1.0 in
+      let h_is = w.3 in
       record {
-        differ = λ same. ⊎_elim
-            (λ (x : (s ≡ early k) × (t ≡ late k)). let x0 = x.0 in let x1 = x.1 in omega arith)
-            (λ (x : (s ≡ late k) × (t ≡ early k)). let x0 = x.0 in let x1 = x.1 in omega arith)
-            w.1.1;
+        differ = λ same. halves_differ k l w.1 (sym w.2 ∙ same ∙ w.4);
         no_pin = λ j jl x. above_pins j k h jl h_is x;
         no_other = λ j s' h' t' jl ne f same.
             let v = two j s' h' t' jl f in
-            let g_is = v.1.0 in
+            let g_is = v.3 in
             let e' : j ≡ k = omega (arith, ints) in ne e';
         near = near k h l h_is;
       }

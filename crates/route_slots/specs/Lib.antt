@@ -1,4 +1,6 @@
 pub mod Pieces
 pub mod GapFree
 pub mod Standing
-pub mod Forms
+pub mod Slotting
+pub mod Marks
+pub mod Depths

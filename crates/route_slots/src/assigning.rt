@@ -1,11 +1,13 @@
-//! Slots for the nets of a gap.
-ghost use Rattle.std.specs.Prelude.{◌≡◌, ◌+◌, ◌<◌, ◌≤◌, ◌^◌, pos, ◌+ℤ◌, length, IfOk};
+//! Routes for the nets of a gap.
+ghost use Rattle.std.specs.Prelude.{◌≡◌, ◌+◌, ◌<◌, ◌≤◌, ◌^◌, pos, ◌+ℤ◌, length, slice_index, IfOk};
 ghost use Rattle.std.specs.List.{All};
 ghost use Rattle.std.specs.Int.{int_max};
 ghost use Rattle.route_slots.specs.GapFree.{IsNet, IsHeight, AreHeights, GapFree};
-ghost use Rattle.route_slots.specs.Forms.{IsTop, ArePlaced, before, early_count, late_count, route_by};
+ghost use Rattle.route_slots.specs.Marks.{AreMarks, IsTop, ArePieces, ArePlaced, piece_a, piece_b, other_end, height_of, route_by};
 
-use crate::forms::{Form, forms_of};
+use crate::depths::depths_of;
+use crate::marks::{Mark, marks_of};
+use crate::slotting::{Piece, slots_of};
 use crate::{Net, NetRoute, Slots};
 use std::alloc::{AllocError, Global};
 
@@ -37,110 +39,151 @@ fn highest(nets: &[Net]) -> Height
     top
 }
 
-// The height for the net with this number, if it is split.
+// The height between the pieces of the net with this number.
 fn fresh_height(top: Height, number: u32) -> Height
     requires number { number < 2 ^ 24 }
     requires range { IsHeight top.value }
-    ensures { result.value ≡ top.value +ℤ pos (number + 1) }
+    ensures { result.value ≡ height_of top.value number }
 {
     Height {
         value: top.value + i64::from(number) + 1,
     }
 }
 
-// The number of early pieces.
-fn early_pieces(form: Form) -> u32
-    ensures value { result ≡ early_count form }
-    ensures most { result ≤ 1 }
+// The height to which the piece at the pin `a` leads.
+fn end_of_a(mark: Mark, net: Net, height: Height) -> Height
+    ensures { result.value ≡ other_end mark net height.value }
 {
-    match form {
-        Form::Level | Form::Late => 0,
-        Form::Early | Form::Split => 1,
-    }
-}
-
-// The number of late pieces.
-fn late_pieces(form: Form) -> u32
-    ensures value { result ≡ late_count form }
-    ensures most { result ≤ 1 }
-{
-    match form {
-        Form::Level | Form::Early => 0,
-        Form::Late | Form::Split => 1,
-    }
-}
-
-// The number of all early pieces.
-fn all_early(forms: &[Form]) -> u32
-    requires { length forms.now ≤ 2 ^ 24 }
-    ensures value { result ≡ before early_count forms.now (length forms.now) }
-    ensures most { result ≤ length forms.now }
-{
-    let mut count = 0;
-    'forms: for form in forms {
-        count += early_pieces(*form);
-    }
-    count
-}
-
-// The route of a net by its form.
-fn route_of(net: Net, form: Form, early: u32, height: Height, late: u32) -> NetRoute
-    ensures { result ≡ route_by form net early height.value late }
-{
-    match form {
-        Form::Level => NetRoute::Straight,
-        Form::Early => NetRoute::One { slot: early },
-        Form::Late => NetRoute::One { slot: late },
-        Form::Split => {
-            if net.a.on_left {
-                NetRoute::Two {
-                    first: early,
-                    height: height.value,
-                    second: late,
-                }
-            } else {
-                NetRoute::Two {
-                    first: late,
-                    height: height.value,
-                    second: early,
-                }
-            }
+    if mark.split {
+        height
+    } else {
+        Height {
+            value: net.b.height,
         }
     }
 }
 
-// Gives each net slots of its own, the early pieces before the late ones.
-fn place(alloc: Global, nets: &[Net], forms: &[Form], top: Height) -> Result<Slots, AllocError>
-    requires len { length forms.now ≡ length nets.now }
+// The piece at the pin `a`, which is that of the whole net where this is not split.
+fn first_piece(mark: Mark, net: Net, height: Height) -> Piece
+    ensures { result ≡ piece_a mark net height.value }
+{
+    let end = end_of_a(mark, net, height);
+    Piece {
+        real: !mark.straight,
+        level: mark.at_a,
+        low: net.a.height.min(end.value),
+        high: net.a.height.max(end.value),
+    }
+}
+
+// The piece at the pin `b` of a net that is split.
+fn second_piece(mark: Mark, net: Net, height: Height) -> Piece
+    ensures { result ≡ piece_b mark net height.value }
+{
+    Piece {
+        real: mark.split,
+        level: mark.at_b,
+        low: height.value.min(net.b.height),
+        high: height.value.max(net.b.height),
+    }
+}
+
+// The pieces of all nets, two places for each.
+fn pieces_of(
+    alloc: Global,
+    nets: &[Net],
+    marks: &[Mark],
+    top: Height,
+) -> Result<Vec<Piece>, AllocError>
+    requires len { length marks.now ≡ length nets.now }
     requires few { length nets.now ≤ 2 ^ 24 }
     requires range { IsHeight top.value }
-    ensures { IfOk result (λ slots. ArePlaced nets.now forms.now top.value slots.count slots.routes.items) }
+    ensures { IfOk result (λ pieces. ArePieces nets.now marks.now top.value pieces.items) }
 {
-    let mut early = 0;
-    let mut late = all_early(forms);
+    let mut pieces = Vec::new(alloc);
+    'nets: for number in 0..nets.len() as u32 {
+        let net = nets[number as usize];
+        let mark = marks[number as usize];
+        let height = fresh_height(top, number);
+        pieces.push(first_piece(mark, net, height))?;
+        pieces.push(second_piece(mark, net, height))?;
+    }
+    Ok(pieces)
+}
+
+// The route of a net by the slots of its pieces.
+fn route_of(mark: Mark, first: u32, height: Height, second: u32) -> NetRoute
+    ensures { result ≡ route_by mark first height.value second }
+{
+    if mark.straight {
+        return NetRoute::Straight;
+    }
+    if mark.split {
+        return NetRoute::Two {
+            first,
+            height: height.value,
+            second,
+        };
+    }
+    NetRoute::One { slot: first }
+}
+
+// The routes of all nets.
+fn routes_of(
+    alloc: Global,
+    nets: &[Net],
+    marks: &[Mark],
+    top: Height,
+    slots: &[u32],
+) -> Result<Vec<NetRoute>, AllocError>
+    requires len { length marks.now ≡ length nets.now }
+    requires places { length slots.now ≡ length nets.now + length nets.now }
+    requires few { length nets.now ≤ 2 ^ 24 }
+    requires range { IsHeight top.value }
+    ensures { IfOk result (λ routes. ArePlaced nets.now marks.now top.value slots.now routes.items) }
+{
     let mut routes = Vec::new(alloc);
     'nets: for number in 0..nets.len() as u32 {
-        let form = forms[number as usize];
+        let place = (number + number) as usize;
         let height = fresh_height(top, number);
-        routes.push(route_of(nets[number as usize], form, early, height, late))?;
-        early += early_pieces(form);
-        late += late_pieces(form);
+        routes.push(route_of(
+            marks[number as usize],
+            slots[place],
+            height,
+            slots[place + 1],
+        ))?;
     }
+    Ok(routes)
+}
+
+// Places the nets by their marks.
+fn place(alloc: Global, nets: &[Net], marks: &[Mark], top: Height) -> Result<Slots, AllocError>
+    requires few { length nets.now ≤ 2 ^ 24 }
+    requires marks { AreMarks nets.now marks.now }
+    requires top { IsTop nets.now top.value }
+    requires range { IsHeight top.value }
+    ensures { IfOk result (λ slots. GapFree nets.now slots.count slots.routes.items) }
+{
+    let pieces = pieces_of(alloc, nets, marks, top)?;
+    let standing = slots_of(alloc, pieces.as_slice())?;
+    let routes = routes_of(alloc, nets, marks, top, standing.slots.as_slice())?;
     Ok(Slots {
-        count: late,
+        count: standing.count,
         routes,
     })
 }
 
 /// A route for each net: straight exactly where its pins are on both sides at one height, and otherwise by one slot or two.
 /// Pieces of two nets overlap only where the nets have a common pin.
+///
+/// Nets are ordered by their conflicts at heights at which one has a pin on the left and another on the right.
 pub fn assign(alloc: Global, nets: &[Net]) -> Result<Slots, AllocError>
     requires few { length nets.now ≤ 2 ^ 24 }
     requires pins { All IsNet nets.now }
     requires heights { All AreHeights nets.now }
     ensures { IfOk result (λ slots. GapFree nets.now slots.count slots.routes.items) }
 {
-    let forms = forms_of(alloc, nets)?;
-    let top = highest(nets);
-    place(alloc, nets, forms.as_slice(), top)
+    let depths = depths_of(alloc, nets)?;
+    let marks = marks_of(alloc, nets, depths.splits.as_slice(), &depths.heights)?;
+    place(alloc, nets, marks.as_slice(), highest(nets))
 }

@@ -2,8 +2,10 @@
 #![tactic(auto)]
 
 mod assigning;
-mod forms;
+mod depths;
 pub mod laws;
+mod marks;
+mod slotting;
 
 pub use assigning::assign;
 

@@ -1,50 +1,35 @@
-use Rattle.std.proofs.Common.{◌≡◌, ◌∙◌, ◌∷◌, ◌++◌, [], ap, ℕ, ℤ, ◌+◌, ◌<◌, pos, ◌+ℤ◌, length, arith, rules}
-use Rattle.route_slots.specs.declared.NetRoute.{NetRoute}
-use Rattle.route_slots.specs.declared.NetRoute.TheVariants.{Straight}
-use Rattle.route_slots.specs.Pieces.{net_at}
-use Rattle.route_slots.specs.Forms.{early_count, late_count, before, form_at, route_by, IsRouteOf}
-use Rattle.route_slots.proofs.Lists.{each_pushed}
-use Rattle.route_slots.proofs.Counting.{before_none, before_more}
+use Rattle.std.proofs.Common.{◌<◌, ◌≤ℤ◌, ◌∙◌, ℕ, List, sym, ap, subst, length, arith}
+use Rattle.route_slots.specs.declared.slotting.Piece.{Piece}
+use Rattle.route_slots.specs.Slotting.{piece_at, AreSlots}
+use Rattle.route_slots.specs.Marks.{ArePlaced}
+use Rattle.route_slots.proofs.Placing.{gap_free, all_proper}
 use Rattle.route_slots.proofs.assigning.place.Goals as goal
 
-pub nets-init : goal.nets-init
-nets-init c =
-    let early = before_none early_count c.args.forms.now in
-    let late = before_none late_count c.args.forms.now in
-    let all = c.all_early-late.ensures.value in
-    record {
-      len = search rules;
-      early_is = omega arith;
-      early_most = omega arith;
-      late_is = omega arith;
-      late_most = omega (arith, c.all_early-late.ensures.most);
-      each = λ k h. absurd (omega arith);
-    }
+pub slots_of-requires-clause-few : goal.slots_of-requires-clause-few
+slots_of-requires-clause-few c =
+    let len = c.in_ok-pieces.ensures.len in
+    let same = ap length c.as_slice.ensures.value in
+    omega (arith, len, same)
 
-pub nets-preserved : goal.nets-preserved
-nets-preserved c =
-    let i = c.nets.number in
-    let fs = c.args.forms.now in
+pub slots_of-requires-clause-proper : goal.slots_of-requires-clause-proper
+slots_of-requires-clause-proper c =
+    subst (λ (ps : List Piece). (i : ℕ) → i < length ps → (piece_at ps i).low ≤ℤ (piece_at ps i).high) (sym c.as_slice.ensures.value)
+    (all_proper c.args.nets.now c.args.marks.now c.args.top.value c.in_ok-pieces.pieces.items c.in_ok-pieces.ensures)
+
+pub routes_of-requires-clause-places : goal.routes_of-requires-clause-places
+routes_of-requires-clause-places c =
+    ap length c.as_slice-2.ensures.value ∙ c.in_ok-standing.ensures.len ∙ ap length c.as_slice.ensures.value ∙ c.in_ok-pieces.ensures.len
+
+pub returns : goal.returns
+returns c =
     let nets = c.args.nets.now in
-    let h : c.nets.number < length c.args.forms.now = omega arith in
-    let early = before_more early_count fs i h in
-    let late = before_more late_count fs i h in
-    let early_value = c.early_pieces-early.ensures.value in
-    let early_most = c.early_pieces-early.ensures.most in
-    let late_value = c.late_pieces-late.ensures.value in
-    let late_most = c.late_pieces-late.ensures.most in
-    let items : c.push.new.self.items ≡ c.nets.routes.items ++ c.route_of.result ∷ [] = search rules in
-    let by : ℕ → ℤ → ℕ → NetRoute = λ e t l. route_by (form_at fs i) (net_at nets i) e t l in
-    let here : IsRouteOf nets fs c.args.top.value i c.route_of.result =
-    c.route_of.ensures
-    ∙ ap (λ e. by e c.fresh_height-height.result.value c.nets.late) c.nets.invariant.early_is
-    ∙ ap (λ t. by (before early_count fs i) t c.nets.late) c.fresh_height-height.ensures
-    ∙ ap (λ l. by (before early_count fs i) (c.args.top.value +ℤ pos (i + 1)) l) c.nets.invariant.late_is in
-    record {
-      len = search rules;
-      early_is = omega arith;
-      early_most = omega arith;
-      late_is = omega arith;
-      late_most = omega arith;
-      each = each_pushed NetRoute Straight (IsRouteOf nets fs c.args.top.value) c.nets.routes.items c.push.new.self.items c.route_of.result i c.nets.invariant.len items c.nets.invariant.each here;
-    }
+    let ms = c.args.marks.now in
+    let top = c.args.top.value in
+    let ps = c.in_ok-pieces.pieces.items in
+    let ss = c.in_ok-standing.standing.slots.items in
+    let count = c.in_ok-standing.standing.count in
+    let rs = c.in_ok-routes.routes.items in
+    gap_free nets ms top ps ss count rs c.requires.marks c.in_ok-pieces.ensures
+    (subst (λ z. AreSlots z ss count) c.as_slice.ensures.value c.in_ok-standing.ensures)
+    c.requires.top
+    (subst (λ z. ArePlaced nets ms top z rs) c.as_slice-2.ensures.value c.in_ok-routes.ensures)

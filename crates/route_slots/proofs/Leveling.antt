@@ -1,0 +1,129 @@
+-- Levels from depths.
+use Rattle.std.proofs.Common.{◌≡◌, ◌∙◌, ⊎_elim, inl, inr, List, ℕ, ◌<◌, ◌≤◌, max, Bool, true, false, ℤ, length, refl, sym, ap, subst, arith, if◌then◌else◌}
+use Rattle.std.specs.BTreeMap.{BTreeMap}
+use Rattle.route_slots.specs.declared.Pin.{Pin}
+use Rattle.route_slots.specs.declared.Net.{Net}
+use Rattle.route_slots.specs.declared.marks.Mark.{Mark}
+use Rattle.route_slots.specs.Pieces.{net_at}
+use Rattle.route_slots.specs.GapFree.{HasPin, IsLevelNet}
+use Rattle.route_slots.specs.Depths.{depth, depth_of, is_split, AreDepths}
+use Rattle.route_slots.specs.Marks.{mark_at, LevelAt, IsMarkOf, AreMarks}
+
+pub record AreMarked (nets : List Net) (bs : List Bool) (m : BTreeMap ℤ ℕ) (ms : List Mark) (n : ℕ) : Type 0 where
+  pub len : length ms ≡ n
+  pub each : (k : ℕ) → k < n → IsMarkOf (net_at nets k) (depth_of m (net_at nets k).a) (depth_of m (net_at nets k).b) (is_split bs k) (mark_at ms k)
+
+left_depth : (m : BTreeMap ℤ ℕ) (p : Pin) → p.on_left ≡ true → depth_of m p ≡ 0
+left_depth m p e = ap (λ z. if z then 0 else depth m p.height) e
+
+right_depth : (m : BTreeMap ℤ ℕ) (p : Pin) → p.on_left ≡ false → depth_of m p ≡ depth m p.height
+right_depth m p e = ap (λ z. if z then 0 else depth m p.height) e
+
+less_max : (x y z : ℕ) → x < z → y < z → max x y < z
+less_max x y z h k = omega arith
+
+module _ (nets : List Net) (bs : List Bool) (m : BTreeMap ℤ ℕ) (ms : List Mark) (depths : AreDepths nets bs m) (marked : AreMarked nets bs m ms (length nets)) where
+  abbrev net : ℕ → Net
+  net k = net_at nets k
+
+  abbrev mark : ℕ → Mark
+  mark k = mark_at ms k
+
+  not_level : (k : ℕ) → k < length nets → (mark k).straight ≡ false → IsLevelNet (net k) → ⊥
+  not_level k h e v =
+      by_split (is_split bs k) refl
+    where
+      by_split : (b : Bool) → is_split bs k ≡ b → ⊥
+      by_split true f = depths.bent k h f v
+      by_split false f = let t : (mark k).straight ≡ true = ((marked.each k h).straight f).1 v in let bad : true ≡ false = sym t ∙ e in cc
+
+  -- a pin's depth is below that of any height that all pins of its piece are below
+  pin_below : (k : ℕ) (p r : Pin) (z : ℕ) → k < length nets → (IsLevelNet (net k) → ⊥) → is_split bs k ≡ false → HasPin (net k) p → p.on_left ≡ true
+      → depth m p.height ≡ z → HasPin (net k) r → depth_of m r < z
+  pin_below k p r z h bent e hp pl d hr = by_side r.on_left refl
+    where
+      by_side : (b : Bool) → r.on_left ≡ b → depth_of m r < z
+      by_side true f = let zero_depth = left_depth m r f in let deep = depths.deep k p h bent hp pl in omega arith
+      by_side false f = let same = right_depth m r f in let rising = depths.rising k p r h bent e hp hr pl f in omega arith
+
+  -- the piece at a pin on the left stands before the depth of its height
+  left_level : (k : ℕ) (p : Pin) (x : ℕ) → k < length nets → (IsLevelNet (net k) → ⊥) → LevelAt (net k) (mark k) p x → p.on_left ≡ true → x < depth m p.height
+  left_level k p x h bent l pl = by_split (is_split bs k) refl
+    where
+      has : HasPin (net k) p
+      has = ⊎_elim (λ y. inl y.0) (λ y. inr y.0) l
+
+      by_split : (b : Bool) → is_split bs k ≡ b → x < depth m p.height
+      by_split true f =
+          let deep = depths.deep k p h bent has pl in
+          let zero_depth = left_depth m p pl in
+          ⊎_elim
+          (λ (y : ((net k).a ≡ p) × ((mark k).at_a ≡ x)).
+          let d : x ≡ depth_of m (net k).a = sym y.1 ∙ (marked.each k h).at_a ∙ ap (λ z. if z then depth_of m (net k).a else max (depth_of m (net k).a) (depth_of m (net k).b)) f in
+          let e : depth_of m (net k).a ≡ depth_of m p = ap (depth_of m) y.0 in omega arith)
+          (λ (y : ((net k).b ≡ p) × ((mark k).at_b ≡ x)).
+          let d : x ≡ depth_of m (net k).b = sym y.1 ∙ (marked.each k h).at_b ∙ ap (λ z. if z then depth_of m (net k).b else max (depth_of m (net k).a) (depth_of m (net k).b)) f in
+          let e : depth_of m (net k).b ≡ depth_of m p = ap (depth_of m) y.0 in omega arith)
+          l
+      by_split false f =
+          let a = pin_below k p (net k).a (depth m p.height) h bent f has pl refl (inl refl) in
+          let b = pin_below k p (net k).b (depth m p.height) h bent f has pl refl (inr refl) in
+          let both = less_max (depth_of m (net k).a) (depth_of m (net k).b) (depth m p.height) a b in
+          ⊎_elim
+          (λ (y : ((net k).a ≡ p) × ((mark k).at_a ≡ x)).
+          let d : x ≡ max (depth_of m (net k).a) (depth_of m (net k).b) = sym y.1 ∙ (marked.each k h).at_a ∙ ap (λ z. if z then depth_of m (net k).a else max (depth_of m (net k).a) (depth_of m (net k).b)) f in
+          subst (λ z. z < depth m p.height) (sym d) both)
+          (λ (y : ((net k).b ≡ p) × ((mark k).at_b ≡ x)).
+          let d : x ≡ max (depth_of m (net k).a) (depth_of m (net k).b) = sym y.1 ∙ (marked.each k h).at_b ∙ ap (λ z. if z then depth_of m (net k).b else max (depth_of m (net k).a) (depth_of m (net k).b)) f in
+          subst (λ z. z < depth m p.height) (sym d) both)
+          l
+
+  -- the piece at a pin on the right does not stand before the depth of its height
+  right_level : (k : ℕ) (q : Pin) (y : ℕ) → k < length nets → LevelAt (net k) (mark k) q y → q.on_left ≡ false → depth m q.height ≤ y
+  right_level k q y h l ql = by_split (is_split bs k) refl
+    where
+      by_split : (b : Bool) → is_split bs k ≡ b → depth m q.height ≤ y
+      by_split true f =
+          let same = right_depth m q ql in
+          ⊎_elim
+          (λ (z : ((net k).a ≡ q) × ((mark k).at_a ≡ y)).
+          let d : y ≡ depth_of m (net k).a = sym z.1 ∙ (marked.each k h).at_a ∙ ap (λ z. if z then depth_of m (net k).a else max (depth_of m (net k).a) (depth_of m (net k).b)) f in
+          let e : depth_of m (net k).a ≡ depth_of m q = ap (depth_of m) z.0 in omega arith)
+          (λ (z : ((net k).b ≡ q) × ((mark k).at_b ≡ y)).
+          let d : y ≡ depth_of m (net k).b = sym z.1 ∙ (marked.each k h).at_b ∙ ap (λ z. if z then depth_of m (net k).b else max (depth_of m (net k).a) (depth_of m (net k).b)) f in
+          let e : depth_of m (net k).b ≡ depth_of m q = ap (depth_of m) z.0 in omega arith)
+          l
+      by_split false f =
+          let same = right_depth m q ql in
+          ⊎_elim
+          (λ (z : ((net k).a ≡ q) × ((mark k).at_a ≡ y)).
+          let d : y ≡ max (depth_of m (net k).a) (depth_of m (net k).b) = sym z.1 ∙ (marked.each k h).at_a ∙ ap (λ z. if z then depth_of m (net k).a else max (depth_of m (net k).a) (depth_of m (net k).b)) f in
+          let e : depth_of m (net k).a ≡ depth_of m q = ap (depth_of m) z.0 in omega arith)
+          (λ (z : ((net k).b ≡ q) × ((mark k).at_b ≡ y)).
+          let d : y ≡ max (depth_of m (net k).a) (depth_of m (net k).b) = sym z.1 ∙ (marked.each k h).at_b ∙ ap (λ z. if z then depth_of m (net k).b else max (depth_of m (net k).a) (depth_of m (net k).b)) f in
+          let e : depth_of m (net k).b ≡ depth_of m q = ap (depth_of m) z.0 in omega arith)
+          l
+
+  pub are_marks : AreMarks nets ms
+  are_marks =
+      record {
+        len = marked.len;
+        straight = λ k h. (by_split k h (is_split bs k) refl, level_straight k h (is_split bs k) refl);
+        whole = λ k h e.
+            let f : is_split bs k ≡ false = sym (marked.each k h).split ∙ e in
+            (marked.each k h).at_a ∙ ap (λ z. if z then depth_of m (net k).a else max (depth_of m (net k).a) (depth_of m (net k).b)) f
+            ∙ sym ((marked.each k h).at_b ∙ ap (λ z. if z then depth_of m (net k).b else max (depth_of m (net k).a) (depth_of m (net k).b)) f);
+        split = λ k h e. (marked.each k h).bent (sym (marked.each k h).split ∙ e);
+        order = λ j k p q x y jl kl sj sk lp lq pl ql e.
+            let left = left_level j p x jl (not_level j jl sj) lp pl in
+            let right = right_level k q y kl lq ql in
+            let same : depth m p.height ≡ depth m q.height = ap (depth m) e in omega arith;
+      }
+    where
+      by_split : (k : ℕ) → k < length nets → (b : Bool) → is_split bs k ≡ b → (mark k).straight ≡ true → IsLevelNet (net k)
+      by_split k h true f s = absurd (let bad : true ≡ false = sym s ∙ (marked.each k h).bent f in cc)
+      by_split k h false f s = ((marked.each k h).straight f).0 s
+
+      level_straight : (k : ℕ) → k < length nets → (b : Bool) → is_split bs k ≡ b → IsLevelNet (net k) → (mark k).straight ≡ true
+      level_straight k h true f v = absurd (depths.bent k h f v)
+      level_straight k h false f v = ((marked.each k h).straight f).1 v

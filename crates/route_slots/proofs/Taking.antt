@@ -1,0 +1,229 @@
+-- Pieces come to their slots one after the other.
+use Rattle.std.proofs.Common.{◌≡◌, ◌≢◌, ◌⊎◌, ⊎_elim, inl, inr, ℕ, ℤ, ◌+◌, ◌<◌, ◌≤◌, Bool, true, false, ap, sym, ◌∙◌, refl, subst, ◌<ℤ◌, ◌≤ℤ◌, List, length, set, get_or, arith}
+use Rattle.std.proofs.lemmas.Bool.{cases_lt}
+use Rattle.std.proofs.lemmas.List.{get_or-set_same, get_or-set_other, length-set}
+use Rattle.std.specs.BTreeSet.{BTreeSet, btree_set_len, Updates, IsLowerBound}
+use Rattle.std.proofs.lemmas.Int.{ints}
+use Rattle.route_slots.specs.declared.slotting.Piece.{Piece}
+use Rattle.route_slots.specs.declared.slotting.Row.{Row}
+use Rattle.route_slots.specs.Slotting.{Key, key_cmp, key_of, has_key, piece_at, IsReal, AreWaiting, AreSlots, End, has_end, Takes, fresh, reuse}
+use Rattle.route_slots.proofs.Keys.{same_key, taken_from, taken_other, least_level}
+
+-- the piece has its slot
+abbrev pub IsDone : List Piece → BTreeSet Key → ℕ → Type 0
+IsDone ps w i = IsReal ps i × (has_key w (key_of (piece_at ps i) i) ≡ false)
+
+pub record AreSlotted (ps : List Piece) (ss : List ℕ) (w : BTreeSet Key) (row : Row) : Type 0 where
+  pub len : length ss ≡ length ps
+  pub few : row.count + btree_set_len w ≤ length ps
+  pub from : (q : Key) → has_key w q ≡ true → (i : ℕ) × (i < length ps) × ((piece_at ps i).real ≡ true) × (q ≡ key_of (piece_at ps i) i)
+  pub below : (i : ℕ) → IsDone ps w i → get_or ss i 0 < row.count
+  pub used : (s : ℕ) → s < row.count → (i : ℕ) × IsDone ps w i × (get_or ss i 0 ≡ s)
+  pub order : (i j : ℕ) → IsDone ps w i → IsDone ps w j → (piece_at ps i).level < (piece_at ps j).level → get_or ss i 0 < get_or ss j 0
+  pub apart : (i j : ℕ) → IsDone ps w i → IsDone ps w j → i ≢ j → get_or ss i 0 ≡ get_or ss j 0
+      → ((piece_at ps i).high <ℤ (piece_at ps j).low) ⊎ ((piece_at ps j).high <ℤ (piece_at ps i).low)
+  pub ahead : (i j : ℕ) → IsDone ps w i → IsReal ps j → has_key w (key_of (piece_at ps j) j) ≡ true → (piece_at ps i).level ≤ (piece_at ps j).level
+  pub held : (h : ℤ) (s : ℕ) → has_end row.busy (h, s) ≡ true → (i : ℕ) × IsDone ps w i × (get_or ss i 0 ≡ s) × ((piece_at ps i).level ≡ row.level) × ((piece_at ps i).high ≡ h)
+  pub last : (h : ℤ) (s i : ℕ) → has_end row.busy (h, s) ≡ true → IsDone ps w i → get_or ss i 0 ≡ s → (piece_at ps i).high ≤ℤ h
+
+-- the slot that a piece takes fits it
+record Fits (ps : List Piece) (ss : List ℕ) (w : BTreeSet Key) (row new : Row) (x s : ℕ) : Type 0 where
+  behind : (j : ℕ) → IsDone ps w j → (piece_at ps j).level < (piece_at ps x).level → get_or ss j 0 < s
+  clear : (j : ℕ) → IsDone ps w j → get_or ss j 0 ≡ s → (piece_at ps j).high <ℤ (piece_at ps x).low
+  inside : s < new.count
+  more : (row.count ≤ new.count) × (new.count ≤ row.count + 1)
+  known : (r : ℕ) → r < new.count → (r ≡ s) ⊎ (r < row.count)
+  from : (h : ℤ) (r : ℕ) → has_end new.busy (h, r) ≡ true
+      → (((piece_at ps x).high ≡ h) × (s ≡ r)) ⊎ (((piece_at ps x).level ≡ row.level) × (has_end row.busy (h, r) ≡ true) × (r ≢ s))
+
+-- a slot has one end at most
+one_end : (ps : List Piece) (ss : List ℕ) (w : BTreeSet Key) (row : Row) → AreSlotted ps ss w row → (h h' : ℤ) (s : ℕ)
+    → has_end row.busy (h, s) ≡ true → has_end row.busy (h', s) ≡ true → h ≡ h'
+one_end ps ss w row t h h' s a b =
+    let u = t.held h s a in
+    let v = t.held h' s b in
+    let p = t.last h' s u.0 b u.1 u.2 in
+    let q = t.last h s v.0 a v.1 v.2 in
+    let e = u.4 in
+    let f = v.4 in
+    omega (arith, ints)
+
+fits : (ps : List Piece) (ss : List ℕ) (w : BTreeSet Key) (row new : Row) (x s : ℕ) → AreSlotted ps ss w row → Takes row new (piece_at ps x) s → Fits ps ss w row new x s
+fits ps ss w row new x s t (fresh e c from) =
+    record {
+      behind = λ j d l. let b = t.below j d in omega arith;
+      clear = λ j d same. absurd (let b = t.below j d in omega arith);
+      inside = omega arith;
+      more = (omega arith, omega arith);
+      known = λ r l. ⊎_elim (λ (lt : r < row.count). inr lt) (λ (ge : row.count ≤ r). inl (omega arith)) (cases_lt r row.count);
+      from = λ h r b. ⊎_elim
+          (λ (q : (h, r) ≡ ((piece_at ps x).high, s)). inl (sym (ap (λ (z : End). z.0) q), sym (ap (λ (z : End). z.1) q)))
+          (λ (o : ((piece_at ps x).level ≡ row.level) × (has_end row.busy (h, r) ≡ true)).
+          inr (o.0, o.1, λ same. let u = t.held h r o.1 in let l = t.below u.0 u.1 in let f = u.2 in omega arith))
+          (from (h, r) b);
+    }
+fits ps ss w row new x s t (reuse h lv there above c from) =
+    let u = t.held h s there in
+    let at = u.2 in
+    let in_row = t.below u.0 u.1 in
+    record {
+      behind = λ j d l.
+          let lu : (piece_at ps u.0).level ≡ (piece_at ps x).level = u.3 ∙ sym lv in
+          let o = t.order j u.0 d u.1 (omega arith) in omega arith;
+      clear = λ j d same. let below = t.last h s j there d same in omega (arith, ints);
+      inside = omega arith;
+      more = (omega arith, omega arith);
+      known = λ r l. inr (omega arith);
+      from = λ h' r b. ⊎_elim
+          (λ (q : (h', r) ≡ ((piece_at ps x).high, s)). inl (sym (ap (λ (z : End). z.0) q), sym (ap (λ (z : End). z.1) q)))
+          (λ (o : (has_end row.busy (h', r) ≡ true) × ((h', r) ≢ (h, s))).
+          inr (
+            lv,
+            o.0,
+            λ same.
+                let o' : has_end row.busy (h', s) ≡ true = subst (λ z. has_end row.busy (h', z) ≡ true) same o.0 in
+                let e : h' ≡ h = one_end ps ss w row t h' h s o' there in
+                let at_end : ℤ → ℕ → End = λ a b. (a, b) in
+                o.1 (ap (λ a. at_end a r) e ∙ ap (λ b. at_end h b) same),
+          ))
+          (from (h', r) b);
+    }
+
+module _ (ps : List Piece) (ss : List ℕ) (w v : BTreeSet Key) (row new : Row) (x s : ℕ) (t : AreSlotted ps ss w row) (real : IsReal ps x)
+    (there : has_key w (key_of (piece_at ps x) x) ≡ true) (least : IsLowerBound key_cmp w (key_of (piece_at ps x) x))
+    (takes : Updates key_cmp w v (key_of (piece_at ps x) x) false) (fewer : btree_set_len v + 1 ≡ btree_set_len w)
+    (taken : Takes row new (piece_at ps x) s) (level : new.level ≡ (piece_at ps x).level) (proper : (piece_at ps x).low ≤ℤ (piece_at ps x).high) where
+  abbrev key : Key
+  key = key_of (piece_at ps x) x
+
+  abbrev slots : List ℕ
+  slots = set ss x s
+
+  here : get_or slots x 0 ≡ s
+  here = get_or-set_same ss x s 0 (let len = t.len in let l = real.0 in omega arith)
+
+  other : (i : ℕ) → i ≢ x → get_or slots i 0 ≡ get_or ss i 0
+  other i ne = get_or-set_other ss x i s 0 ne
+
+  not_here : (i : ℕ) → IsDone ps w i → i ≢ x
+  not_here i d e =
+      let waits : has_key w (key_of (piece_at ps i) i) ≡ true = subst (λ z. has_key w (key_of (piece_at ps z) z) ≡ true) (sym e) there in
+      let bad : true ≡ false = sym waits ∙ d.1 in cc
+
+  done : (i : ℕ) → IsDone ps v i → (i ≡ x) ⊎ IsDone ps w i
+  done i d =
+      ⊎_elim
+      (λ e. inl (sym (ap (λ (q : Key). q.1.1) (same_key key (key_of (piece_at ps i) i) e))))
+      (λ e. inr (d.0, e))
+      (taken_other _ _ _ (takes.0 (key_of (piece_at ps i) i)) d.1)
+
+  done_here : IsDone ps v x
+  done_here = (real, takes.1)
+
+  done_still : (i : ℕ) → IsDone ps w i → IsDone ps v i
+  done_still i d = (d.0, still (has_key v (key_of (piece_at ps i) i)) refl)
+    where
+      still : (b : Bool) → has_key v (key_of (piece_at ps i) i) ≡ b → has_key v (key_of (piece_at ps i) i) ≡ false
+      still false e = e
+      still true e = absurd (let bad : true ≡ false = sym (taken_from _ _ _ (takes.0 (key_of (piece_at ps i) i)) e) ∙ d.1 in cc)
+
+  waited : (q : Key) → has_key v q ≡ true → has_key w q ≡ true
+  waited q h = taken_from _ _ _ (takes.0 q) h
+
+  fit : Fits ps ss w row new x s
+  fit = fits ps ss w row new x s t taken
+
+  at_x : (i : ℕ) → i ≡ x → get_or slots i 0 ≡ s
+  at_x i e = subst (λ z. get_or slots z 0 ≡ s) (sym e) here
+
+  at_old : (i : ℕ) → IsDone ps w i → get_or slots i 0 ≡ get_or ss i 0
+  at_old i d = other i (not_here i d)
+
+  level_x : (i : ℕ) → i ≡ x → (piece_at ps i).level ≡ (piece_at ps x).level
+  level_x i e = ap (λ z. (piece_at ps z).level) e
+
+  pub slotted_more : AreSlotted ps slots v new
+  slotted_more =
+      record {
+        len = length-set ss x s ∙ t.len;
+        few = let few = t.few in let more = fit.more.1 in omega arith;
+        from = λ q h. t.from q (waited q h);
+        below = λ i d. ⊎_elim
+            (λ (e : i ≡ x). let a = at_x i e in let l = fit.inside in omega arith)
+            (λ (o : IsDone ps w i). let a = at_old i o in let l = t.below i o in let m = fit.more.0 in omega arith)
+            (done i d);
+        used = λ r l. ⊎_elim
+            (λ (e : r ≡ s). (x, done_here, here ∙ sym e))
+            (λ (old : r < row.count). let u = t.used r old in (u.0, done_still u.0 u.1, at_old u.0 u.1 ∙ u.2))
+            (fit.known r l);
+        order = λ i j di dj l. ⊎_elim
+            (λ (ei : i ≡ x). ⊎_elim
+            (λ (ej : j ≡ x). let e = level_x i ei in let f = level_x j ej in absurd (omega arith))
+            (λ (oj : IsDone ps w j). let a = t.ahead j x oj real there in let e = level_x i ei in absurd (omega arith))
+            (done j dj))
+            (λ (oi : IsDone ps w i). ⊎_elim
+            (λ (ej : j ≡ x). let f = level_x j ej in let vi = at_old i oi in let vj = at_x j ej in let b = fit.behind i oi (omega arith) in omega arith)
+            (λ (oj : IsDone ps w j). let vi = at_old i oi in let vj = at_old j oj in let o = t.order i j oi oj l in omega arith)
+            (done j dj))
+            (done i di);
+        apart = λ i j di dj ne same. ⊎_elim
+            (λ (ei : i ≡ x). ⊎_elim
+            (λ (ej : j ≡ x). absurd (ne (ei ∙ sym ej)))
+            (λ (oj : IsDone ps w j). inr (subst (λ z. (piece_at ps j).high <ℤ (piece_at ps z).low) (sym ei) (fit.clear j oj (sym (at_old j oj) ∙ sym same ∙ at_x i ei))))
+            (done j dj))
+            (λ (oi : IsDone ps w i). ⊎_elim
+            (λ (ej : j ≡ x). inl (subst (λ z. (piece_at ps i).high <ℤ (piece_at ps z).low) (sym ej) (fit.clear i oi (sym (at_old i oi) ∙ same ∙ at_x j ej))))
+            (λ (oj : IsDone ps w j). t.apart i j oi oj ne (sym (at_old i oi) ∙ same ∙ at_old j oj))
+            (done j dj))
+            (done i di);
+        ahead = λ i j di rj h. ⊎_elim
+            (λ (ei : i ≡ x). let le = least_level key (key_of (piece_at ps j) j) (least (key_of (piece_at ps j) j) (waited (key_of (piece_at ps j) j) h)) in let e = level_x i ei in omega arith)
+            (λ (oi : IsDone ps w i). t.ahead i j oi rj (waited (key_of (piece_at ps j) j) h))
+            (done i di);
+        held = λ h r b. ⊎_elim
+            (λ (q : ((piece_at ps x).high ≡ h) × (s ≡ r)). (x, done_here, here ∙ q.1, sym level, q.0))
+            (λ (o : ((piece_at ps x).level ≡ row.level) × (has_end row.busy (h, r) ≡ true) × (r ≢ s)).
+            let u = t.held h r o.1 in (u.0, done_still u.0 u.1, at_old u.0 u.1 ∙ u.2, u.3 ∙ sym o.0 ∙ sym level, u.4))
+            (fit.from h r b);
+        last = λ h r i b di same. ⊎_elim
+            (λ (q : ((piece_at ps x).high ≡ h) × (s ≡ r)). ⊎_elim
+            (λ (ei : i ≡ x). let e : (piece_at ps i).high ≡ (piece_at ps x).high = ap (λ z. (piece_at ps z).high) ei in let f = q.0 in omega (arith, ints))
+            (λ (oi : IsDone ps w i). let c = fit.clear i oi (sym (at_old i oi) ∙ same ∙ sym q.1) in let f = q.0 in omega (arith, ints))
+            (done i di))
+            (λ (o : ((piece_at ps x).level ≡ row.level) × (has_end row.busy (h, r) ≡ true) × (r ≢ s)). ⊎_elim
+            (λ (ei : i ≡ x). absurd (o.2 (sym same ∙ at_x i ei)))
+            (λ (oi : IsDone ps w i). t.last h r i o.1 oi (sym (at_old i oi) ∙ same))
+            (done i di))
+            (fit.from h r b);
+      }
+
+-- when none waits, each piece has its slot
+pub all_slotted : (ps : List Piece) (ss : List ℕ) (w : BTreeSet Key) (row : Row) → AreSlotted ps ss w row → ((q : Key) → has_key w q ≡ false) → AreSlots ps ss row.count
+all_slotted ps ss w row t none =
+    let done : (i : ℕ) → IsReal ps i → IsDone ps w i = λ i r. (r, none (key_of (piece_at ps i) i)) in
+    record {
+      len = t.len;
+      below = λ i r. t.below i (done i r);
+      used = λ s l. let u = t.used s l in (u.0, u.1.0, u.2);
+      order = λ i j ri rj l. t.order i j (done i ri) (done j rj) l;
+      apart = λ i j ri rj ne same. t.apart i j (done i ri) (done j rj) ne same;
+    }
+
+-- at first each piece waits
+pub none_slotted : (ps : List Piece) (ss : List ℕ) (w : BTreeSet Key) (row : Row) → row.count ≡ 0 → ((q : End) → has_end row.busy q ≡ false)
+    → length ss ≡ length ps → AreWaiting ps (length ps) w → AreSlotted ps ss w row
+none_slotted ps ss w row zero_count empty len a =
+    let none : (i : ℕ) → IsDone ps w i → ⊥ = λ i d. let bad : true ≡ false = sym (a.each i d.0.0 d.0.1) ∙ d.1 in cc in
+    let no_end : (q : End) → has_end row.busy q ≡ true → ⊥ = λ q h. let bad : true ≡ false = sym h ∙ empty q in cc in
+    record {
+      len = len;
+      few = let few = a.few in omega arith;
+      from = a.from;
+      below = λ i d. absurd (none i d);
+      used = λ s l. absurd (omega arith);
+      order = λ i j d e l. absurd (none i d);
+      apart = λ i j d e ne same. absurd (none i d);
+      ahead = λ i j d r h. absurd (none i d);
+      held = λ h s b. absurd (no_end (h, s) b);
+      last = λ h s i b d e. absurd (no_end (h, s) b);
+    }

@@ -1,0 +1,78 @@
+-- What becomes of a net: no piece, one, or two, and at which levels.
+use Rattle.std.specs.Prelude.{◌≡◌, ◌⊎◌, ℕ, ◌+◌, ◌<◌, max, Bool, true, false, not, List, ℤ, pos, ◌+ℤ◌, ◌≤ℤ◌, length, slice_index, slice_index_or, if◌then◌else◌}
+use Rattle.std.specs.Int.{int_min, int_max}
+use Rattle.route_slots.specs.declared.Pin.{Pin}
+use Rattle.route_slots.specs.declared.Net.{Net}
+use Rattle.route_slots.specs.declared.NetRoute.{NetRoute}
+use Rattle.route_slots.specs.declared.NetRoute.TheVariants.{Straight, One, Two}
+use Rattle.route_slots.specs.declared.marks.Mark.{Mark}
+use Rattle.route_slots.specs.declared.slotting.Piece.{Piece}
+use Rattle.route_slots.specs.Pieces.{net_at, route_at}
+use Rattle.route_slots.specs.GapFree.{IsLevelNet}
+use Rattle.route_slots.specs.Slotting.{piece_at}
+
+abbrev pub mark_at : List Mark → ℕ → Mark
+mark_at ms k = slice_index_or ms k (record { straight = false; split = false; at_a = 0; at_b = 0 })
+
+-- the level of the net's piece at this pin
+abbrev pub LevelAt : Net → Mark → Pin → ℕ → Type 0
+LevelAt n m p l = ((n.a ≡ p) × (m.at_a ≡ l)) ⊎ ((n.b ≡ p) × (m.at_b ≡ l))
+
+-- Level nets are straight, a net that is not split has one level, and where a net has a pin on the left at the height of
+-- another's on the right, the former's piece has the lower level.
+pub record AreMarks (nets : List Net) (ms : List Mark) : Type 0 where
+  pub len : length ms ≡ length nets
+  pub straight : (k : ℕ) → k < length nets → ((mark_at ms k).straight ≡ true → IsLevelNet (net_at nets k)) × (IsLevelNet (net_at nets k) → (mark_at ms k).straight ≡ true)
+  pub whole : (k : ℕ) → k < length nets → (mark_at ms k).split ≡ false → (mark_at ms k).at_a ≡ (mark_at ms k).at_b
+  pub split : (k : ℕ) → k < length nets → (mark_at ms k).split ≡ true → (mark_at ms k).straight ≡ false
+  pub order : (j k : ℕ) (p q : Pin) (x y : ℕ) → j < length nets → k < length nets → (mark_at ms j).straight ≡ false → (mark_at ms k).straight ≡ false
+      → LevelAt (net_at nets j) (mark_at ms j) p x → LevelAt (net_at nets k) (mark_at ms k) q y
+      → p.on_left ≡ true → q.on_left ≡ false → p.height ≡ q.height → x < y
+
+-- the piece at the pin a leads to the other pin, or to the height between the two pieces
+abbrev pub other_end : Mark → Net → ℤ → ℤ
+other_end m n h = if m.split then h else n.b.height
+
+abbrev pub piece_a : Mark → Net → ℤ → Piece
+piece_a m n h =
+    record {
+      real = not m.straight;
+      level = m.at_a;
+      low = int_min n.a.height (other_end m n h);
+      high = int_max n.a.height (other_end m n h);
+    }
+
+abbrev pub piece_b : Mark → Net → ℤ → Piece
+piece_b m n h = record { real = m.split; level = m.at_b; low = int_min h n.b.height; high = int_max h n.b.height }
+
+-- the height between the pieces of the net with this number
+abbrev pub height_of : ℤ → ℕ → ℤ
+height_of top k = top +ℤ pos (k + 1)
+
+-- each net has two places in the list of pieces
+pub record ArePieces (nets : List Net) (ms : List Mark) (top : ℤ) (ps : List Piece) : Type 0 where
+  pub len : length ps ≡ length nets + length nets
+  pub at_a : (k : ℕ) → k < length nets → piece_at ps (k + k) ≡ piece_a (mark_at ms k) (net_at nets k) (height_of top k)
+  pub at_b : (k : ℕ) → k < length nets → piece_at ps (k + k + 1) ≡ piece_b (mark_at ms k) (net_at nets k) (height_of top k)
+
+-- the route of a net by its mark: the slots of its pieces and the height between them
+abbrev pub route_by : Mark → ℕ → ℤ → ℕ → NetRoute
+route_by m s h t = if m.straight then Straight else (if m.split then Two s h t else One s)
+
+pub record ArePlaced (nets : List Net) (ms : List Mark) (top : ℤ) (ss : List ℕ) (routes : List NetRoute) : Type 0 where
+  pub as_many : length routes ≡ length nets
+  pub routes_are : (k : ℕ) → k < length nets → route_at routes k ≡ route_by (mark_at ms k) (slice_index ss (k + k)) (height_of top k) (slice_index ss (k + k + 1))
+
+-- no height of a pin is above this, and that of some pin is not below it
+pub record IsTop (nets : List Net) (top : ℤ) : Type 0 where
+  pub above : (k : ℕ) → k < length nets → ((net_at nets k).a.height ≤ℤ top) × ((net_at nets k).b.height ≤ℤ top)
+  pub reached : 0 < length nets → (k : ℕ) × (k < length nets) × (top ≤ℤ int_max (net_at nets k).a.height (net_at nets k).b.height)
+
+-- The mark of a net: a whole net stands behind all that its pins on the right ask for, each piece of a split net behind what
+-- its own pin asks for.
+pub record IsMarkOf (n : Net) (da db : ℕ) (b : Bool) (m : Mark) : Type 0 where
+  pub split : m.split ≡ b
+  pub straight : b ≡ false → (m.straight ≡ true → IsLevelNet n) × (IsLevelNet n → m.straight ≡ true)
+  pub bent : b ≡ true → m.straight ≡ false
+  pub at_a : m.at_a ≡ (if b then da else max da db)
+  pub at_b : m.at_b ≡ (if b then db else max da db)

@@ -1,0 +1,74 @@
+-- Upright pieces by their levels and heights, and the slots that they stand in.
+use Rattle.std.specs.Prelude.{◌≡◌, ◌≢◌, ◌⊎◌, ℕ, ◌+◌, ◌<◌, ◌≤◌, Bool, true, false, List, ℤ, pos, ◌<ℤ◌, length, slice_index, slice_index_or}
+use Rattle.std.specs.Ordering.{int_cmp, nat_cmp, ordering_then}
+use Rattle.std.specs.declared.cmp.Ordering.{Ordering}
+use Rattle.std.specs.BTreeSet.{BTreeSet, contains, btree_set_len}
+use Rattle.route_slots.specs.declared.slotting.Piece.{Piece}
+use Rattle.route_slots.specs.declared.slotting.Row.{Row}
+
+abbrev pub piece_at : List Piece → ℕ → Piece
+piece_at ps i = slice_index_or ps i (record { real = false; level = 0; low = pos 0; high = pos 0 })
+
+abbrev pub IsReal : List Piece → ℕ → Type 0
+IsReal ps i = (i < length ps) × ((piece_at ps i).real ≡ true)
+
+-- Pieces of a lower level stand before those of a higher one, and pieces in one slot have no height in common.
+pub record AreSlots (ps : List Piece) (ss : List ℕ) (count : ℕ) : Type 0 where
+  pub len : length ss ≡ length ps
+  pub below : (i : ℕ) → IsReal ps i → slice_index ss i < count
+  pub used : (s : ℕ) → s < count → (i : ℕ) × IsReal ps i × (slice_index ss i ≡ s)
+  pub order : (i j : ℕ) → IsReal ps i → IsReal ps j → (piece_at ps i).level < (piece_at ps j).level → slice_index ss i < slice_index ss j
+  pub apart : (i j : ℕ) → IsReal ps i → IsReal ps j → i ≢ j → slice_index ss i ≡ slice_index ss j
+      → ((piece_at ps i).high <ℤ (piece_at ps j).low) ⊎ ((piece_at ps j).high <ℤ (piece_at ps i).low)
+
+-- the order in which pieces come to their slots: by level, then by their low ends
+abbrev pub Key : Type 0
+Key = ℕ × (ℤ × ℕ)
+
+abbrev pub key_cmp : Key → Key → Ordering
+key_cmp x y = ordering_then (nat_cmp x.0 y.0) (ordering_then (int_cmp x.1.0 y.1.0) (nat_cmp x.1.1 y.1.1))
+
+abbrev pub key_of : Piece → ℕ → Key
+key_of p i = (p.level, (p.low, i))
+
+abbrev pub has_key : BTreeSet Key → Key → Bool
+has_key w q = contains key_cmp w q
+
+-- the pieces below this number wait
+pub record AreWaiting (ps : List Piece) (n : ℕ) (w : BTreeSet Key) : Type 0 where
+  pub from : (q : Key) → has_key w q ≡ true → (i : ℕ) × (i < n) × ((piece_at ps i).real ≡ true) × (q ≡ key_of (piece_at ps i) i)
+  pub each : (i : ℕ) → i < n → (piece_at ps i).real ≡ true → has_key w (key_of (piece_at ps i) i) ≡ true
+  pub few : btree_set_len w ≤ n
+
+-- the slots of a level, by the ends of their last pieces
+abbrev pub End : Type 0
+End = ℤ × ℕ
+
+abbrev pub end_cmp : End → End → Ordering
+end_cmp x y = ordering_then (int_cmp x.0 y.0) (nat_cmp x.1 y.1)
+
+abbrev pub has_end : BTreeSet End → End → Bool
+has_end b q = contains end_cmp b q
+
+-- How a piece takes a slot: a new one, or one whose last piece ends above it.
+pub data Takes (old new : Row) (p : Piece) (s : ℕ) : Type 0 where
+  fresh : s ≡ old.count → new.count ≡ old.count + 1
+      → ((q : End) → has_end new.busy q ≡ true → (q ≡ (p.high, s)) ⊎ ((p.level ≡ old.level) × (has_end old.busy q ≡ true)))
+      → Takes old new p s
+  reuse : (h : ℤ) → p.level ≡ old.level → has_end old.busy (h, s) ≡ true → h <ℤ p.low → new.count ≡ old.count
+      → ((q : End) → has_end new.busy q ≡ true → (q ≡ (p.high, s)) ⊎ ((has_end old.busy q ≡ true) × (q ≢ (h, s))))
+      → Takes old new p s
+
+-- a slot of the row that is free above this height, taken out of the row
+pub record Frees (old new : Row) (low : ℤ) (s : ℕ) : Type 0 where
+  pub end : ℤ
+  pub there : has_end old.busy (end, s) ≡ true
+  pub above : end <ℤ low
+  pub level : new.level ≡ old.level
+  pub count : new.count ≡ old.count
+  pub from : (q : End) → has_end new.busy q ≡ true → (has_end old.busy q ≡ true) × (q ≢ (end, s))
+
+-- How a slot is picked from a row.
+pub data Picks (old new : Row) (p : Piece) (s : ℕ) : Type 0 where
+  added : s ≡ old.count → new.count ≡ old.count + 1 → new.busy ≡ old.busy → Picks old new p s
+  freed : Frees old new p.low s → Picks old new p s
