@@ -1,0 +1,39 @@
+use Rattle.std.proofs.Common.{◌≢◌, Bool, true, false, not, refl, rules}
+use Rattle.std.proofs.lemmas.Bool.{both_ways}
+use Rattle.elk_doc.specs.PortsKept.{an_end}
+use Rattle.check_ports.specs.FirstPorts.{SpotsDiffer}
+use Rattle.check_ports.proofs.ends.end_kept.Goals as goal
+
+-- the one other end
+the_other : (P : Bool → Type 0) (s t : Bool) → P (not s) → t ≢ s → P t
+the_other P true true h n = absurd (n refl)
+the_other P true false h n = h
+the_other P false true h n = h
+the_other P false false h n = absurd (n refl)
+
+not_itself : (s : Bool) → not s ≢ s
+not_itself true e = cc
+not_itself false e = cc
+
+pub returns-then-not-keeps_end : goal.returns-then-not-keeps_end
+returns-then-not-keeps_end c =
+    (λ t. absurd (search rules), λ h. absurd (both_ways c.keeps_end.result c.if-not-keeps_end.true (c.keeps_end.ensures.1 h.alone)))
+
+pub returns-then-not-ports_clear : goal.returns-then-not-ports_clear
+returns-then-not-ports_clear c =
+    (λ t. absurd (search rules), λ h. absurd (both_ways c.ports_clear.result c.if-not-ports_clear.true (c.ports_clear.ensures.1 h.ports)))
+
+pub returns-then-not-edges_clear : goal.returns-then-not-edges_clear
+returns-then-not-edges_clear c =
+    (λ t. absurd (search rules), λ h. absurd (both_ways c.edges_clear.result c.if-not-edges_clear.true (c.edges_clear.ensures.1 (λ f l t. h.lower f t l))))
+
+pub returns : goal.returns
+returns c = (
+  λ t. record {
+    alone = c.keeps_end.ensures.0 c.if-not-keeps_end.false;
+    ports = c.ports_clear.ensures.0 c.if-not-ports_clear.false;
+    lower = λ f u l. c.edges_clear.ensures.0 c.if-not-edges_clear.false f l u;
+    other = λ u n. the_other (λ x. SpotsDiffer c.args.doc.now c.args.placed.now c.args.node (an_end c.args.edge x) (an_end c.args.edge c.args.at_source)) c.args.at_source u (c.end_clear.ensures.0 t) n;
+  },
+  λ h. c.end_clear.ensures.1 (h.other (not c.args.at_source) (not_itself c.args.at_source)),
+)

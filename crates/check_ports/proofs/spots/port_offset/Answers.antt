@@ -1,0 +1,26 @@
+use Rattle.std.proofs.Common.{◌≡◌, ◌∙◌, ℤ, ◌+ℤ◌, ap, sym, arith, w64, to_z, of_z}
+use Rattle.std.proofs.lemmas.Int.{ints}
+use Rattle.elk_doc.specs.declared.shape.Point.{Point}
+use Rattle.elk_doc.specs.declared.shape.Side.{Side}
+use Rattle.elk_doc.specs.declared.document.Port.{Port}
+use Rattle.elk_doc.specs.Document.{node_of_port, port_at}
+use Rattle.elk_doc.specs.Drawing.{box_of, port_place}
+use Rattle.elk_doc.specs.PortsKept.{size_along}
+use Rattle.elk_doc.specs.Shapes.{half_of}
+use Rattle.elk_doc.specs.Sides.{side_of_port}
+use Rattle.elk_doc.specs.Sound.{along}
+use Rattle.check_ports.proofs.SpotLaws.{offset_of_middle}
+use Rattle.check_ports.proofs.spots.port_offset.Goals as goal
+
+pub returns : goal.returns
+returns c =
+    let d = c.args.doc.now in
+    let p = c.args.placed.now in
+    let k = c.args.port in
+    let side = side_of_port d p k in
+    let middle : Side → Point → Port → ℤ = λ s q r. along s q +ℤ half_of (size_along s r.size) in
+    let says : c.middle_along.result ≡ middle side (port_place p k) (port_at d k) =
+    c.middle_along.ensures ∙ ap (λ s. middle s c.port_place.result c.port.result.now) c.side_at-side.ensures ∙ ap (λ q. middle side q c.port.result.now) c.port_place.ensures ∙ ap (λ r. middle side (port_place p k) r) c.port.ensures.value
+    in
+    let same : to_z w64 (of_z w64 c.middle_along.result) ≡ c.middle_along.result = omega (arith, ints) in
+    same ∙ says ∙ sym (offset_of_middle side (box_of p (node_of_port d k)) (port_place p k) (port_at d k).size)

@@ -1,0 +1,325 @@
+//! Ends of edges at nodes that are kept.
+ghost use Rattle.std.specs.Prelude.{◌≡◌, ◌↔◌, ◌<◌, IsTrue, false, true, length, not};
+ghost use Rattle.elk_doc.specs.declared.document.End.TheVariants.{Node as AtNode};
+ghost use Rattle.elk_doc.specs.Fits.{Fits};
+ghost use Rattle.elk_doc.specs.Places.{section_end};
+ghost use Rattle.elk_doc.specs.PortsKept.{KeepsEnd, an_end};
+ghost use Rattle.elk_doc.specs.Sides.{end_of, side_of_end};
+ghost use Rattle.drawing_faults.specs.Faults.{IsFirst};
+ghost use Rattle.drawing_faults.specs.Shapes.{AreDocks, AreSides};
+ghost use Rattle.check_ports.specs.FirstPorts.{EdgeClear, EdgesClear, EndHolds, EndKept, EndsHold, PortClear, PortsClear, SpotsDiffer};
+ghost use Rattle.check_ports.specs.Spots.{IsRoomy};
+
+use crate::sides::is_on_side;
+use crate::spots::{are_apart, end_of, end_spot, is_roomy, lies_on, port_spot};
+use drawing_faults::is_edge_of;
+use elk_doc::document::{Doc, End};
+use elk_doc::drawing::Placed;
+use elk_doc::shape::{Dock, Point, Side};
+
+// The start or the end of an edge's section.
+fn section_end(doc: &Doc, placed: &Placed, edge: u32, at_source: bool) -> Point
+    requires edge_in { edge < length doc.now.edges }
+    requires fits { Fits doc.now placed.now }
+    ensures { result ≡ section_end placed.now edge at_source }
+{
+    let section = placed.section(edge);
+    if at_source {
+        section.start
+    } else {
+        section.end
+    }
+}
+
+// Whether an end at a node lies on its side.
+fn keeps_end(
+    doc: &Doc,
+    placed: &Placed,
+    sources: &[Dock],
+    targets: &[Dock],
+    node: u32,
+    edge: u32,
+    at_source: bool,
+) -> bool
+    requires node_in { node < length doc.now.nodes }
+    requires edge_in { edge < length doc.now.edges }
+    requires at_node { end_of doc.now edge at_source ≡ AtNode node }
+    requires fits { Fits doc.now placed.now }
+    requires sources { AreDocks doc.now placed.now true sources.now }
+    requires targets { AreDocks doc.now placed.now false targets.now }
+    ensures { IsTrue result ↔ KeepsEnd doc.now placed.now node edge at_source }
+{
+    let outer = placed.box_of(node);
+    let spot = end_spot(doc, placed, sources, targets, edge, at_source);
+    let point = section_end(doc, placed, edge, at_source);
+    if !is_on_side(spot.side, outer, point) {
+        return false;
+    }
+    lies_on(true, outer, spot)
+}
+
+// Whether a port, if it is one of a node, keeps apart from an end at this node.
+fn port_clear(
+    doc: &Doc,
+    placed: &Placed,
+    sides: &[Side],
+    sources: &[Dock],
+    targets: &[Dock],
+    roomy: bool,
+    node: u32,
+    edge: u32,
+    at_source: bool,
+    port: u32,
+) -> bool
+    requires edge_in { edge < length doc.now.edges }
+    requires port_in { port < length doc.now.ports }
+    requires at_node { end_of doc.now edge at_source ≡ AtNode node }
+    requires fits { Fits doc.now placed.now }
+    requires sides { AreSides doc.now placed.now sides.now }
+    requires sources { AreDocks doc.now placed.now true sources.now }
+    requires targets { AreDocks doc.now placed.now false targets.now }
+    requires roomy { IsTrue roomy ↔ IsRoomy doc.now placed.now node (side_of_end doc.now placed.now edge at_source) }
+    ensures { IsTrue result ↔ PortClear doc.now placed.now node edge at_source port }
+{
+    if doc.port(port).node != node {
+        return true;
+    }
+    let first = port_spot(doc, placed, sides, port);
+    let second = end_spot(doc, placed, sources, targets, edge, at_source);
+    are_apart(roomy, first, second)
+}
+
+// Whether all ports of a node keep apart from an end at it.
+fn ports_clear(
+    doc: &Doc,
+    placed: &Placed,
+    sides: &[Side],
+    sources: &[Dock],
+    targets: &[Dock],
+    roomy: bool,
+    node: u32,
+    edge: u32,
+    at_source: bool,
+) -> bool
+    requires edge_in { edge < length doc.now.edges }
+    requires at_node { end_of doc.now edge at_source ≡ AtNode node }
+    requires fits { Fits doc.now placed.now }
+    requires sides { AreSides doc.now placed.now sides.now }
+    requires sources { AreDocks doc.now placed.now true sources.now }
+    requires targets { AreDocks doc.now placed.now false targets.now }
+    requires roomy { IsTrue roomy ↔ IsRoomy doc.now placed.now node (side_of_end doc.now placed.now edge at_source) }
+    ensures { IsTrue result ↔ PortsClear doc.now placed.now node edge at_source }
+{
+    for port in 0..doc.ports().len() {
+        let clear = port_clear(
+            doc,
+            placed,
+            sides,
+            sources,
+            targets,
+            roomy,
+            node,
+            edge,
+            at_source,
+            port as u32,
+        );
+        if !clear {
+            return false;
+        }
+    }
+    true
+}
+
+// Whether an end of an edge keeps apart from an end at a node.
+fn end_clear(
+    doc: &Doc,
+    placed: &Placed,
+    sources: &[Dock],
+    targets: &[Dock],
+    roomy: bool,
+    _node: u32,
+    edge: u32,
+    at_source: bool,
+    other: u32,
+    other_source: bool,
+) -> bool
+    requires edge_in { edge < length doc.now.edges }
+    requires other_in { other < length doc.now.edges }
+    requires at_node { end_of doc.now edge at_source ≡ AtNode _node }
+    requires sources { AreDocks doc.now placed.now true sources.now }
+    requires targets { AreDocks doc.now placed.now false targets.now }
+    requires roomy { IsTrue roomy ↔ IsRoomy doc.now placed.now _node (side_of_end doc.now placed.now edge at_source) }
+    ensures { IsTrue result ↔ SpotsDiffer doc.now placed.now _node (an_end other other_source) (an_end edge at_source) }
+{
+    let first = end_spot(doc, placed, sources, targets, other, other_source);
+    let second = end_spot(doc, placed, sources, targets, edge, at_source);
+    are_apart(roomy, first, second)
+}
+
+// Whether both ends of an edge keep apart from an end at a node.
+fn edge_clear(
+    doc: &Doc,
+    placed: &Placed,
+    sources: &[Dock],
+    targets: &[Dock],
+    roomy: bool,
+    node: u32,
+    edge: u32,
+    at_source: bool,
+    other: u32,
+) -> bool
+    requires edge_in { edge < length doc.now.edges }
+    requires other_in { other < length doc.now.edges }
+    requires at_node { end_of doc.now edge at_source ≡ AtNode node }
+    requires sources { AreDocks doc.now placed.now true sources.now }
+    requires targets { AreDocks doc.now placed.now false targets.now }
+    requires roomy { IsTrue roomy ↔ IsRoomy doc.now placed.now node (side_of_end doc.now placed.now edge at_source) }
+    ensures { IsTrue result ↔ EdgeClear doc.now placed.now node edge at_source other }
+{
+    if !end_clear(
+        doc, placed, sources, targets, roomy, node, edge, at_source, other, true,
+    ) {
+        return false;
+    }
+    end_clear(
+        doc, placed, sources, targets, roomy, node, edge, at_source, other, false,
+    )
+}
+
+// Whether all ends of edges of lower numbers keep apart from an end at a node.
+fn edges_clear(
+    doc: &Doc,
+    placed: &Placed,
+    sources: &[Dock],
+    targets: &[Dock],
+    roomy: bool,
+    node: u32,
+    edge: u32,
+    at_source: bool,
+) -> bool
+    requires edge_in { edge < length doc.now.edges }
+    requires at_node { end_of doc.now edge at_source ≡ AtNode node }
+    requires sources { AreDocks doc.now placed.now true sources.now }
+    requires targets { AreDocks doc.now placed.now false targets.now }
+    requires roomy { IsTrue roomy ↔ IsRoomy doc.now placed.now node (side_of_end doc.now placed.now edge at_source) }
+    ensures { IsTrue result ↔ EdgesClear doc.now placed.now node edge at_source }
+{
+    for other in 0..edge {
+        if !edge_clear(
+            doc, placed, sources, targets, roomy, node, edge, at_source, other,
+        ) {
+            return false;
+        }
+    }
+    true
+}
+
+// Whether an end at a node obeys the constraints of the node, alone and with ports, lower edges and the edge's other end.
+fn end_kept(
+    doc: &Doc,
+    placed: &Placed,
+    sides: &[Side],
+    sources: &[Dock],
+    targets: &[Dock],
+    node: u32,
+    edge: u32,
+    at_source: bool,
+) -> bool
+    requires node_in { node < length doc.now.nodes }
+    requires edge_in { edge < length doc.now.edges }
+    requires at_node { end_of doc.now edge at_source ≡ AtNode node }
+    requires fits { Fits doc.now placed.now }
+    requires sides { AreSides doc.now placed.now sides.now }
+    requires sources { AreDocks doc.now placed.now true sources.now }
+    requires targets { AreDocks doc.now placed.now false targets.now }
+    ensures { IsTrue result ↔ EndKept doc.now placed.now node edge at_source }
+{
+    let spot = end_spot(doc, placed, sources, targets, edge, at_source);
+    let roomy = is_roomy(doc, placed, sides, sources, targets, node, spot.side);
+    if !keeps_end(doc, placed, sources, targets, node, edge, at_source) {
+        return false;
+    }
+    if !ports_clear(
+        doc, placed, sides, sources, targets, roomy, node, edge, at_source,
+    ) {
+        return false;
+    }
+    if !edges_clear(doc, placed, sources, targets, roomy, node, edge, at_source) {
+        return false;
+    }
+    end_clear(
+        doc, placed, sources, targets, roomy, node, edge, at_source, edge, !at_source,
+    )
+}
+
+// Whether an end of an edge, if it stands at a node, is kept.
+fn end_holds(
+    doc: &Doc,
+    placed: &Placed,
+    sides: &[Side],
+    sources: &[Dock],
+    targets: &[Dock],
+    edge: u32,
+    at_source: bool,
+) -> bool
+    requires edge_in { edge < length doc.now.edges }
+    requires fits { Fits doc.now placed.now }
+    requires sides { AreSides doc.now placed.now sides.now }
+    requires sources { AreDocks doc.now placed.now true sources.now }
+    requires targets { AreDocks doc.now placed.now false targets.now }
+    ensures { IsTrue result ↔ EndHolds doc.now placed.now edge at_source }
+{
+    match end_of(doc, edge, at_source) {
+        End::Port(_) => true,
+        End::Node(node) => { end_kept(doc, placed, sides, sources, targets, node, edge, at_source) }
+    }
+}
+
+// Whether the ends of an edge, if it belongs to the level, are kept where they stand at nodes.
+fn ends_hold(
+    doc: &Doc,
+    placed: &Placed,
+    sides: &[Side],
+    sources: &[Dock],
+    targets: &[Dock],
+    node: u32,
+    edge: u32,
+) -> bool
+    requires edge_in { edge < length doc.now.edges }
+    requires fits { Fits doc.now placed.now }
+    requires sides { AreSides doc.now placed.now sides.now }
+    requires sources { AreDocks doc.now placed.now true sources.now }
+    requires targets { AreDocks doc.now placed.now false targets.now }
+    ensures { IsTrue result ↔ EndsHold doc.now placed.now node edge }
+{
+    if !is_edge_of(doc, node, edge) {
+        return true;
+    }
+    if !end_holds(doc, placed, sides, sources, targets, edge, true) {
+        return false;
+    }
+    end_holds(doc, placed, sides, sources, targets, edge, false)
+}
+
+// The first edge of the level with an end at a node that is not kept.
+pub(crate) fn first_edge(
+    doc: &Doc,
+    placed: &Placed,
+    sides: &[Side],
+    sources: &[Dock],
+    targets: &[Dock],
+    node: u32,
+) -> Option<u32>
+    requires fits { Fits doc.now placed.now }
+    requires sides { AreSides doc.now placed.now sides.now }
+    requires sources { AreDocks doc.now placed.now true sources.now }
+    requires targets { AreDocks doc.now placed.now false targets.now }
+    ensures { IsFirst (EndsHold doc.now placed.now node) result }
+{
+    for edge in 0..doc.edges().len() {
+        if !ends_hold(doc, placed, sides, sources, targets, node, edge as u32) {
+            return Some(edge as u32);
+        }
+    }
+    None
+}

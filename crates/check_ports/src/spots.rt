@@ -1,0 +1,323 @@
+//! Ports and ends of edges as they stand on the sides of their nodes.
+ghost use Rattle.std.specs.Prelude.{◌≡◌, ◌↔◌, ◌≤◌, ◌<◌, ◌^◌, ◌+ℤ◌, ◌≤ℤ◌, IsTrue, false, true, length, pos};
+ghost use Rattle.elk_doc.specs.Document.{node_of_port};
+ghost use Rattle.elk_doc.specs.Fits.{Fits};
+ghost use Rattle.elk_doc.specs.Numbers.{count_below};
+ghost use Rattle.elk_doc.specs.Places.{dock_of};
+ghost use Rattle.elk_doc.specs.PortsKept.{is_at_node, is_side, is_spread_end, is_spread_port, port_offset, size_along};
+ghost use Rattle.elk_doc.specs.Shapes.{half_of};
+ghost use Rattle.elk_doc.specs.Sides.{end_of};
+ghost use Rattle.elk_doc.specs.Sound.{IsEndIn, IsPlaceWithin, IsSoundSize, along};
+ghost use Rattle.drawing_faults.specs.Shapes.{AreDocks, AreSides};
+ghost use Rattle.check_ports.specs.Spots.{IsRoomy, KeepApart, LiesOn, end_spot, is_implicit, port_spot};
+
+use crate::sides::{along, is_pinned, side_length, size_along};
+use drawing_faults::{dock_of, side_at};
+use elk_doc::document::{Doc, End};
+use elk_doc::drawing::Placed;
+use elk_doc::shape::{Dock, Point, Rect, Side, Size};
+
+// A port or an end of an edge on a side of its node.
+#[derive(Clone, Copy)]
+pub(crate) struct SideSpot {
+    pub node: u32,
+    pub side: Side,
+    pub offset: i64,
+    pub spread: bool,
+}
+
+// The half of a length, rounded down.
+fn half_of(length: i64) -> i64
+    requires { pos 0 ≤ℤ length }
+    ensures value { result ≡ half_of length }
+    ensures least { pos 0 ≤ℤ result }
+    ensures most { result ≤ℤ length }
+{
+    (length as u64 / 2) as i64
+}
+
+// The coordinate of the middle of a port along a side.
+pub(crate) fn middle_along(side: Side, place: Point, size: Size) -> i64
+    requires near { IsPlaceWithin (2 ^ 53) place }
+    requires small { IsSoundSize size }
+    ensures { result ≡ along side place +ℤ half_of (size_along side size) }
+{
+    match side {
+        Side::North => place.x + half_of(size.width),
+        Side::East => place.y + half_of(size.height),
+        Side::South => place.x + half_of(size.width),
+        Side::West => place.y + half_of(size.height),
+    }
+}
+
+// The offset of a port's anchor along its side.
+pub(crate) fn port_offset(doc: &Doc, placed: &Placed, sides: &[Side], port: u32) -> i64
+    requires port_in { port < length doc.now.ports }
+    requires fits { Fits doc.now placed.now }
+    requires sides { AreSides doc.now placed.now sides.now }
+    ensures { result ≡ port_offset doc.now placed.now port }
+{
+    let side = side_at(doc, placed, sides, port);
+    middle_along(side, placed.port_place(port), doc.port(port).size)
+}
+
+// A port as it stands on a side of its node.
+pub(crate) fn port_spot(doc: &Doc, placed: &Placed, sides: &[Side], port: u32) -> SideSpot
+    requires port_in { port < length doc.now.ports }
+    requires fits { Fits doc.now placed.now }
+    requires sides { AreSides doc.now placed.now sides.now }
+    ensures { result ≡ port_spot doc.now placed.now port }
+{
+    let offset = port_offset(doc, placed, sides, port);
+    SideSpot {
+        node: doc.port(port).node,
+        side: side_at(doc, placed, sides, port),
+        offset,
+        spread: !is_pinned(doc, port),
+    }
+}
+
+// An end of an edge.
+pub(crate) fn end_of(doc: &Doc, edge: u32, at_source: bool) -> End
+    requires { edge < length doc.now.edges }
+    ensures value { result ≡ end_of doc.now edge at_source }
+    ensures inside { IsEndIn doc.now result }
+{
+    let found = doc.edge(edge);
+    if at_source {
+        found.source
+    } else {
+        found.target
+    }
+}
+
+// The dock of an edge at an end, of the lists of all.
+fn dock_for(
+    doc: &Doc,
+    placed: &Placed,
+    sources: &[Dock],
+    targets: &[Dock],
+    edge: u32,
+    at_source: bool,
+) -> Dock
+    requires edge_in { edge < length doc.now.edges }
+    requires sources { AreDocks doc.now placed.now true sources.now }
+    requires targets { AreDocks doc.now placed.now false targets.now }
+    ensures { result ≡ dock_of doc.now placed.now edge at_source }
+{
+    if at_source {
+        dock_of(doc, placed, sources, edge, true)
+    } else {
+        dock_of(doc, placed, targets, edge, false)
+    }
+}
+
+// Whether an end stands at a node itself.
+fn is_implicit(end: End) -> bool
+    ensures { result ≡ is_implicit end }
+{
+    match end {
+        End::Node(_) => true,
+        End::Port(_) => false,
+    }
+}
+
+// An end of an edge as it stands on a side of its node.
+pub(crate) fn end_spot(
+    doc: &Doc,
+    placed: &Placed,
+    sources: &[Dock],
+    targets: &[Dock],
+    edge: u32,
+    at_source: bool,
+) -> SideSpot
+    requires edge_in { edge < length doc.now.edges }
+    requires sources { AreDocks doc.now placed.now true sources.now }
+    requires targets { AreDocks doc.now placed.now false targets.now }
+    ensures { result ≡ end_spot doc.now placed.now edge at_source }
+{
+    let dock = dock_for(doc, placed, sources, targets, edge, at_source);
+    SideSpot {
+        node: dock.node,
+        side: dock.side,
+        offset: dock.offset,
+        spread: is_implicit(end_of(doc, edge, at_source)),
+    }
+}
+
+// Whether two sides are one.
+pub(crate) fn is_side(side: Side, other: Side) -> bool
+    ensures { result ≡ is_side side other }
+{
+    match side {
+        Side::North => match other {
+            Side::North => true,
+            Side::East => false,
+            Side::South => false,
+            Side::West => false,
+        },
+        Side::East => match other {
+            Side::North => false,
+            Side::East => true,
+            Side::South => false,
+            Side::West => false,
+        },
+        Side::South => match other {
+            Side::North => false,
+            Side::East => false,
+            Side::South => true,
+            Side::West => false,
+        },
+        Side::West => match other {
+            Side::North => false,
+            Side::East => false,
+            Side::South => false,
+            Side::West => true,
+        },
+    }
+}
+
+// Whether an end stands at this node itself.
+fn is_at_node(end: End, node: u32) -> bool
+    ensures { result ≡ is_at_node end node }
+{
+    match end {
+        End::Node(other) => other == node,
+        End::Port(_) => false,
+    }
+}
+
+// Whether a port is a spread spot on a side of a node.
+fn is_spread_port(
+    doc: &Doc,
+    placed: &Placed,
+    sides: &[Side],
+    node: u32,
+    side: Side,
+    port: u32,
+) -> bool
+    requires port_in { port < length doc.now.ports }
+    requires sides { AreSides doc.now placed.now sides.now }
+    ensures { result ≡ is_spread_port doc.now placed.now node side port }
+{
+    let of_node = doc.port(port).node == node;
+    let free = !is_pinned(doc, port);
+    let on_side = is_side(side_at(doc, placed, sides, port), side);
+    of_node && (free && on_side)
+}
+
+// Whether an end of an edge is a spread spot on a side of a node.
+fn is_spread_end(
+    doc: &Doc,
+    placed: &Placed,
+    docks: &[Dock],
+    node: u32,
+    side: Side,
+    at_source: bool,
+    edge: u32,
+) -> bool
+    requires edge_in { edge < length doc.now.edges }
+    requires docks { AreDocks doc.now placed.now at_source docks.now }
+    ensures { result ≡ is_spread_end doc.now placed.now node side at_source edge }
+{
+    let of_node = is_at_node(end_of(doc, edge, at_source), node);
+    let on_side = is_side(dock_of(doc, placed, docks, edge, at_source).side, side);
+    of_node && on_side
+}
+
+// How many ports are spread spots on a side of a node.
+fn port_count(doc: &Doc, placed: &Placed, sides: &[Side], node: u32, side: Side) -> usize
+    requires sides { AreSides doc.now placed.now sides.now }
+    ensures value { result ≡ count_below (is_spread_port doc.now placed.now node side) (length doc.now.ports) }
+    ensures few { result ≤ length doc.now.ports }
+{
+    let mut count = 0;
+    for port in 0..doc.ports().len() {
+        if is_spread_port(doc, placed, sides, node, side, port as u32) {
+            count += 1;
+        }
+    }
+    count
+}
+
+// How many ends of edges, at their sources or at their targets, are spread spots on a side of a node.
+fn end_count(
+    doc: &Doc,
+    placed: &Placed,
+    docks: &[Dock],
+    node: u32,
+    side: Side,
+    at_source: bool,
+) -> usize
+    requires docks { AreDocks doc.now placed.now at_source docks.now }
+    ensures value { result ≡ count_below (is_spread_end doc.now placed.now node side at_source) (length doc.now.edges) }
+    ensures few { result ≤ length doc.now.edges }
+{
+    let mut count = 0;
+    for edge in 0..doc.edges().len() {
+        if is_spread_end(doc, placed, docks, node, side, at_source, edge as u32) {
+            count += 1;
+        }
+    }
+    count
+}
+
+// Whether a side of a node is longer than the number of its spread spots.
+pub(crate) fn is_roomy(
+    doc: &Doc,
+    placed: &Placed,
+    sides: &[Side],
+    sources: &[Dock],
+    targets: &[Dock],
+    node: u32,
+    side: Side,
+) -> bool
+    requires node_in { node < length doc.now.nodes }
+    requires fits { Fits doc.now placed.now }
+    requires sides { AreSides doc.now placed.now sides.now }
+    requires sources { AreDocks doc.now placed.now true sources.now }
+    requires targets { AreDocks doc.now placed.now false targets.now }
+    ensures { IsTrue result ↔ IsRoomy doc.now placed.now node side }
+{
+    let _node = doc.node(node);
+    let ports = port_count(doc, placed, sides, node, side);
+    let leaving = end_count(doc, placed, sources, node, side, true);
+    let entering = end_count(doc, placed, targets, node, side, false);
+    let count = ports + leaving + entering;
+    (count as i64) < side_length(side, placed.box_of(node))
+}
+
+// Whether two spots, if both are spread ones of one side with room, have different offsets.
+pub(crate) fn are_apart(roomy: bool, one: SideSpot, other: SideSpot) -> bool
+    ensures { IsTrue result ↔ KeepApart roomy one other }
+{
+    if !roomy {
+        return true;
+    }
+    if !one.spread {
+        return true;
+    }
+    if !other.spread {
+        return true;
+    }
+    if one.node != other.node {
+        return true;
+    }
+    if !is_side(one.side, other.side) {
+        return true;
+    }
+    one.offset != other.offset
+}
+
+// Whether the offset of a spot, if this is asked, lies on its side of a rectangle.
+pub(crate) fn lies_on(asked: bool, outer: Rect, spot: SideSpot) -> bool
+    ensures { IsTrue result ↔ LiesOn asked outer spot }
+{
+    if !asked {
+        return true;
+    }
+    if spot.offset < 0 {
+        return false;
+    }
+    spot.offset <= side_length(spot.side, outer)
+}

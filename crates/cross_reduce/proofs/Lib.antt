@@ -1,0 +1,14 @@
+pub mod Sums
+pub mod RowLemmas
+pub mod ExchangeLemmas
+pub mod PairLemmas
+pub mod CrossingLemmas
+pub mod PlaceLemmas
+pub mod WindowLemmas
+pub mod FanLemmas
+pub mod StateLemmas
+pub mod MeanLemmas
+pub mod SweepLemmas
+pub mod SweepLaws
+pub mod ReduceLemmas
+pub mod ExampleLemmas

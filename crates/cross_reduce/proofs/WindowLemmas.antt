@@ -1,0 +1,109 @@
+-- The links that one crosses stand together in the order by gap and tail key.
+use Rattle.std.proofs.Common.{◌≡◌, ◌≢◌, ℕ, ◌+◌, ◌-◌, ◌*◌, ◌<◌, ◌≤◌, List, length, get_or, take, drop, map, Bool, true, false, ◌&&◌, refl, arith, sym, ◌∙◌, ap, subst, inl, inr, ltb, eqb, eq-eqb}
+use Rattle.std.proofs.lemmas.Bool.{cases_eq, cases_lt}
+use Rattle.std.specs.List.{All, count_by}
+use Rattle.std.specs.List.Sorted.{IsPermutation}
+use Rattle.std.proofs.lemmas.List.{get_or-drop, get_or-take, length-drop, length-take, drop-map, take-map}
+use Rattle.std.proofs.lemmas.List.Elements.{All-get_or, All-map, All-weaker}
+use Rattle.std.proofs.lemmas.List.Sorted.{length_permutation, All-permutation}
+use Rattle.elk_layers.specs.Layered.{Plain, IsSound, IsSoundLink}
+use Rattle.elk_layers.specs.Crossings.{crossings}
+use Rattle.cross_reduce.specs.declared.counting.Pin.{Pin}
+use Rattle.cross_reduce.specs.Places.{ArePlaces, FitPlaces}
+use Rattle.cross_reduce.specs.Pins.{pin_at, pin_of, pin_from, pins_of, start_of, is_under, crossed, HasSmallTail}
+use Rattle.cross_reduce.proofs.ExchangeLemmas.{same_no}
+use Rattle.cross_reduce.proofs.CrossingLemmas.{count_drop, count_take, count_same, crossed_is, crossed_permuted}
+use Rattle.cross_reduce.proofs.PlaceLemmas.{map_same, links_sound}
+
+less_yes : (a b : ℕ) → a < b → ltb a b ≡ true
+less_yes a b h = grind (arith, h)
+
+less_no : (a b : ℕ) → b ≤ a → ltb a b ≡ false
+less_no a b h = grind (arith, h)
+
+pub less_from : (a b : ℕ) → ltb a b ≡ true → a < b
+less_from a b h = grind (arith, h)
+
+pub not_less_from : (a b : ℕ) → ltb a b ≡ false → b ≤ a
+not_less_from a b h = grind (arith, h)
+
+and_never : (g h : Bool) → (g && (false && h)) ≡ false
+and_never true h = refl
+and_never false h = refl
+
+other_gap : (b a : Pin) → b.gap ≢ a.gap → is_under b a ≡ false
+other_gap b a n = rw (same_no b.gap a.gap n) refl
+
+not_above : (b a : Pin) → a.tail ≤ b.tail → is_under b a ≡ false
+not_above b a h = rw (less_no b.tail a.tail h) (and_never (eqb b.gap a.gap) (ltb a.head b.head))
+
+earlier : (b a : Pin) → start_of b < a.gap * 4294967296 → is_under b a ≡ false
+earlier b a h = other_gap b a (λ e. let f : b.gap * 4294967296 ≡ a.gap * 4294967296 = ap (λ g. g * 4294967296) e in omega (arith, h, f))
+
+later : (b a : Pin) → start_of a ≤ start_of b → is_under b a ≡ false
+later b a h =
+    elim (cases_eq b.gap a.gap) [
+      | inl e ↦ not_above b a (let f : b.gap * 4294967296 ≡ a.gap * 4294967296 = ap (λ g. g * 4294967296) e in omega (arith, h, f))
+      | inr n ↦ other_gap b a n
+    ]
+
+within : (b a : Pin) → HasSmallTail b → HasSmallTail a → a.gap * 4294967296 ≤ start_of b → start_of b < start_of a → is_under b a ≡ ltb a.head b.head
+within b a hb ha low high =
+    let same : b.gap ≡ a.gap = omega (arith, hb, ha, low, high) in
+    let less : b.tail < a.tail = omega (arith, same, high) in
+    rw (eq-eqb b.gap a.gap same, less_yes b.tail a.tail less) refl
+
+pub window : (pins : List Pin) (pin : Pin) (first end : ℕ) → All HasSmallTail pins → HasSmallTail pin → end ≤ length pins
+    → ((j : ℕ) → j < first → start_of (pin_at pins j) < pin.gap * 4294967296)
+    → ((j : ℕ) → first ≤ j → j < length pins → pin.gap * 4294967296 ≤ start_of (pin_at pins j))
+    → ((j : ℕ) → j < end → start_of (pin_at pins j) < start_of pin)
+    → ((j : ℕ) → end ≤ j → j < length pins → start_of pin ≤ start_of (pin_at pins j))
+    → count_by (λ x. ltb pin.head x) (take (end - first) (drop first (map (λ (p : Pin). p.head) pins))) ≡ count_by (λ b. is_under b pin) pins
+window pins pin first end all small bound before from below behind =
+    let d : Pin = record { gap = 0; tail = 0; head = 0 } in
+    let test : Pin → Bool = λ b. is_under b pin in
+    let one : count_by (λ b. is_under b pin) pins ≡ count_by (λ b. is_under b pin) (drop first pins) =
+    count_drop (λ b. is_under b pin) d first pins (λ j less l. earlier (get_or pins j d) pin (before j less))
+    in
+    let two : count_by (λ b. is_under b pin) (drop first pins) ≡ count_by (λ b. is_under b pin) (take (end - first) (drop first pins)) =
+    count_take (λ b. is_under b pin) d (end - first) (drop first pins)
+    (λ j less l. subst (λ (x : Pin). is_under x pin ≡ false) (sym (get_or-drop first pins j d))
+    (later (get_or pins (first + j) d) pin (behind (first + j) (omega (arith, less)) (omega (arith, l, length-drop first pins)))))
+    in
+    let three : count_by (λ b. is_under b pin) (take (end - first) (drop first pins)) ≡ count_by (λ x. ltb pin.head x) (map (λ (p : Pin). p.head) (take (end - first) (drop first pins))) =
+    count_same (λ b. is_under b pin) (λ x. ltb pin.head x) (λ (p : Pin). p.head) d (take (end - first) (drop first pins))
+    (λ j l. let short : j < end - first = omega (arith, l, length-take (end - first) (drop first pins)) in
+    let inside : first + j < length pins = omega (arith, short, bound) in
+    subst (λ (x : Pin). is_under x pin ≡ ltb pin.head x.head) (sym (get_or-take (end - first) (drop first pins) j d short ∙ get_or-drop first pins j d))
+    (within (get_or pins (first + j) d) pin (All-get_or HasSmallTail pins (first + j) d inside all) small (from (first + j) (omega arith) inside) (below (first + j) (omega (arith, short)))))
+    in
+    sym (one ∙ two ∙ three ∙ ap (count_by (λ x. ltb pin.head x)) (sym (take-map (λ (p : Pin). p.head) (end - first) (drop first pins)) ∙ ap (take (end - first)) (sym (drop-map (λ (p : Pin). p.head) first pins))))
+
+pub first_below_end : (pins : List Pin) (pin : Pin) (first end : ℕ) → first ≤ length pins
+    → ((j : ℕ) → j < first → start_of (pin_at pins j) < pin.gap * 4294967296)
+    → ((j : ℕ) → end ≤ j → j < length pins → start_of pin ≤ start_of (pin_at pins j)) → first ≤ end
+first_below_end pins pin first end bound before behind =
+    elim (cases_lt end first) [
+      | inl l ↦ absurd (let a = before end l in let b = behind end (omega arith) (omega (arith, l, bound)) in omega (arith, a, b))
+      | inr g ↦ g
+    ]
+
+pub pins_are : (l : Plain) (rows : List (List ℕ)) (place : List ℕ) → IsSound l → ArePlaces l rows place → map (pin_from l place) l.links ≡ pins_of l rows
+pins_are l rows place sound s =
+    map_same (IsSoundLink l) (pin_from l place) (pin_of l rows) l.links (links_sound l sound) (λ x k. rw (s.place_is x.tail k.tail, s.place_is x.head k.head) refl)
+
+pub pins_fit : (l : Plain) (place : List ℕ) (pins : List Pin) → IsSound l → FitPlaces l place → IsPermutation (map (pin_from l place) l.links) pins → All HasSmallTail pins
+pins_fit l place pins sound fit p =
+    All-permutation HasSmallTail (map (pin_from l place) l.links) pins p
+    (All-map HasSmallTail (pin_from l place) l.links (All-weaker (IsSoundLink l) (λ x. HasSmallTail (pin_from l place x))
+    (λ x k. let a = fit.small x.tail k.tail in omega (arith, a, k.tail_rank)) l.links (links_sound l sound)))
+
+pub crossed_sorted : (l : Plain) (rows : List (List ℕ)) (place : List ℕ) (pins : List Pin) → IsSound l → ArePlaces l rows place → IsPermutation (map (pin_from l place) l.links) pins → crossed pins ≡ crossings l rows
+crossed_sorted l rows place pins sound s p =
+    crossed_permuted (map (pin_from l place) l.links) pins p ∙ ap crossed (pins_are l rows place sound s) ∙ crossed_is l rows
+
+pub few_pins : (l : Plain) (place : List ℕ) (pins : List Pin) → IsSound l → IsPermutation (map (pin_from l place) l.links) pins → length pins ≤ 16777216
+few_pins l place pins sound p =
+    let a = length_permutation (map (pin_from l place) l.links) pins p in
+    let b = Rattle.std.proofs.lemmas.List.length-map l.links (pin_from l place) in
+    omega (arith, a, b, sound.few_links)

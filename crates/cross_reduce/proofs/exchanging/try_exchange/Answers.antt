@@ -1,0 +1,45 @@
+use Rattle.std.proofs.Common.{◌+◌, ◌<◌, arith, refl, subst, sym}
+use Rattle.elk_layers.specs.Layered.{plain, rows_of}
+use Rattle.elk_layers.specs.Crossings.{crossings}
+use Rattle.cross_reduce.specs.Fans.{fan_lists}
+use Rattle.cross_reduce.proofs.RowLemmas.{row_of}
+use Rattle.cross_reduce.proofs.StateLemmas.{left_fits, right_fits, same_exchanged, try_then, try_else}
+use Rattle.cross_reduce.proofs.exchanging.try_exchange.Goals as goal
+
+pub is_better-requires-clause-upper_left_fits : goal.is_better-requires-clause-upper_left_fits
+is_better-requires-clause-upper_left_fits c =
+    let row = row_of (plain c.args.layered.now) (rows_of c.args.state.now.order) c.args.r c.requires.state.are_rows c.requires.row in
+    rw (c.as_slice-place.ensures.value, c.neighbours-upper.ensures.upper) (left_fits (plain c.args.layered.now) (rows_of c.args.state.now.order) c.args.state.now.place.items (fan_lists c.args.state.now.left) (fan_lists c.args.state.now.right) c.requires.state _ (row.in_range c.args.i (omega (arith, c.requires.place))))
+
+pub is_better-requires-clause-upper_right_fits : goal.is_better-requires-clause-upper_right_fits
+is_better-requires-clause-upper_right_fits c =
+    let row = row_of (plain c.args.layered.now) (rows_of c.args.state.now.order) c.args.r c.requires.state.are_rows c.requires.row in
+    rw (c.as_slice-place.ensures.value, c.neighbours-upper.ensures.upper) (right_fits (plain c.args.layered.now) (rows_of c.args.state.now.order) c.args.state.now.place.items (fan_lists c.args.state.now.left) (fan_lists c.args.state.now.right) c.requires.state _ (row.in_range c.args.i (omega (arith, c.requires.place))))
+
+pub is_better-requires-clause-lower_left_fits : goal.is_better-requires-clause-lower_left_fits
+is_better-requires-clause-lower_left_fits c =
+    let row = row_of (plain c.args.layered.now) (rows_of c.args.state.now.order) c.args.r c.requires.state.are_rows c.requires.row in
+    rw (c.as_slice-place.ensures.value, c.neighbours-upper.ensures.lower) (left_fits (plain c.args.layered.now) (rows_of c.args.state.now.order) c.args.state.now.place.items (fan_lists c.args.state.now.left) (fan_lists c.args.state.now.right) c.requires.state _ (row.in_range (c.args.i + 1) c.requires.place))
+
+pub is_better-requires-clause-lower_right_fits : goal.is_better-requires-clause-lower_right_fits
+is_better-requires-clause-lower_right_fits c =
+    let row = row_of (plain c.args.layered.now) (rows_of c.args.state.now.order) c.args.r c.requires.state.are_rows c.requires.row in
+    rw (c.as_slice-place.ensures.value, c.neighbours-upper.ensures.lower) (right_fits (plain c.args.layered.now) (rows_of c.args.state.now.order) c.args.state.now.place.items (fan_lists c.args.state.now.left) (fan_lists c.args.state.now.right) c.requires.state _ (row.in_range (c.args.i + 1) c.requires.place))
+
+pub returns-then-better-clause-same : goal.returns-then-better-clause-same
+returns-then-better-clause-same c = rw c.exchange.ensures.rows (same_exchanged (rows_of c.args.state.now.order) c.args.r c.args.i c.requires.row c.requires.place)
+
+pub returns-then-better-clause-tried : goal.returns-then-better-clause-tried
+returns-then-better-clause-tried c =
+    rw c.if-better.true
+    (subst (λ rows. crossings (plain c.args.layered.now) rows < crossings (plain c.args.layered.now) (rows_of c.args.state.now.order)) (sym c.exchange.ensures.rows)
+    (try_then (plain c.args.layered.now) (rows_of c.args.state.now.order) c.args.state.now.place.items (fan_lists c.args.state.now.left) (fan_lists c.args.state.now.right) c.args.r c.args.i c.in_ok-better.better c.requires.state c.requires.row c.requires.place
+    (rw (c.as_slice-place.ensures.value, c.neighbours-upper.ensures.upper, c.neighbours-upper.ensures.lower) at c.in_ok-better.ensures) c.if-better.true))
+
+pub returns-else-better-clause-tried : goal.returns-else-better-clause-tried
+returns-else-better-clause-tried c =
+    rw c.if-better.false (
+      refl,
+      try_else (plain c.args.layered.now) (rows_of c.args.state.now.order) c.args.state.now.place.items (fan_lists c.args.state.now.left) (fan_lists c.args.state.now.right) c.args.r c.args.i c.in_ok-better.better c.requires.state c.requires.row c.requires.place
+          (rw (c.as_slice-place.ensures.value, c.neighbours-upper.ensures.upper, c.neighbours-upper.ensures.lower) at c.in_ok-better.ensures) c.if-better.false,
+    )

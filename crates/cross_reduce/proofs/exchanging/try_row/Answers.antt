@@ -1,0 +1,28 @@
+use Rattle.std.proofs.Common.{◌+◌, ◌-◌, ◌<◌, ℕ, arith, inl, inr, subst, sym}
+use Rattle.std.proofs.lemmas.Bool.{cases_eq}
+use Rattle.std.proofs.lemmas.List.Sorted.{length_permutation}
+use Rattle.elk_layers.specs.Layered.{plain, rows_of, row_at}
+use Rattle.cross_reduce.specs.Exchanges.{IsNoBetter}
+use Rattle.cross_reduce.proofs.StateLemmas.{same_trans, tried_more}
+use Rattle.cross_reduce.proofs.exchanging.try_row.Goals as goal
+
+pub try_exchange-requires-clause-place : goal.try_exchange-requires-clause-place
+try_exchange-requires-clause-place c =
+    let e = length_permutation (row_at (rows_of c.args.state.now.order) c.args.r) (row_at (rows_of c.loop-i.state.order) c.args.r) (c.loop-i.invariant.same.permuted c.args.r c.requires.row) in
+    omega (arith, e, c.loop-i-test.true, c.loop-i.auto.i, c.row_len-len.ensures)
+
+pub loop-i-preserved : goal.loop-i-preserved
+loop-i-preserved c =
+    record {
+      state = c.in_ok-now.ensures.state;
+      same = same_trans (rows_of c.args.state.now.order) (rows_of c.loop-i.state.order) (rows_of c.try_exchange.new.state.order) c.loop-i.invariant.same c.in_ok-now.ensures.same;
+      tried = rw c.either-changed.ensures
+          (tried_more (plain c.args.layered.now) (rows_of c.args.state.now.order) (rows_of c.loop-i.state.order) (rows_of c.try_exchange.new.state.order) c.loop-i.changed c.in_ok-now.now
+          ((k : ℕ) → k + 1 < c.loop-i.i → IsNoBetter (plain c.args.layered.now) (rows_of c.args.state.now.order) c.args.r k)
+          ((k : ℕ) → k + 1 < c.loop-i.i + 1 → IsNoBetter (plain c.args.layered.now) (rows_of c.args.state.now.order) c.args.r k)
+          (λ rows. IsNoBetter (plain c.args.layered.now) rows c.args.r (c.loop-i.i - 1)) c.loop-i.invariant.tried c.in_ok-now.ensures.tried
+          (λ before here k h. elim (cases_eq k (c.loop-i.i - 1)) [
+            | inl e ↦ subst (λ (x : ℕ). IsNoBetter (plain c.args.layered.now) (rows_of c.args.state.now.order) c.args.r x) (sym e) here
+            | inr n ↦ before k (omega (arith, h, n))
+          ]));
+    }

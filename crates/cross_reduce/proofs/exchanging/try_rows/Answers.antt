@@ -1,0 +1,22 @@
+use Rattle.std.proofs.Common.{◌+◌, ◌<◌, ℕ, arith, inl, inr, subst, sym}
+use Rattle.std.proofs.lemmas.Bool.{cases_eq}
+use Rattle.elk_layers.specs.Layered.{plain, rows_of}
+use Rattle.cross_reduce.specs.Exchanges.{NoneInRow}
+use Rattle.cross_reduce.proofs.StateLemmas.{same_trans, tried_more}
+use Rattle.cross_reduce.proofs.exchanging.try_rows.Goals as goal
+
+pub loop-r-preserved : goal.loop-r-preserved
+loop-r-preserved c =
+    record {
+      state = c.in_ok-now.ensures.state;
+      same = same_trans (rows_of c.args.state.now.order) (rows_of c.loop-r.state.order) (rows_of c.try_row.new.state.order) c.loop-r.invariant.same c.in_ok-now.ensures.same;
+      tried = rw c.either-changed.ensures
+          (tried_more (plain c.args.layered.now) (rows_of c.args.state.now.order) (rows_of c.loop-r.state.order) (rows_of c.try_row.new.state.order) c.loop-r.changed c.in_ok-now.now
+          ((g : ℕ) → g < c.loop-r.r → NoneInRow (plain c.args.layered.now) (rows_of c.args.state.now.order) g)
+          ((g : ℕ) → g < c.loop-r.r + 1 → NoneInRow (plain c.args.layered.now) (rows_of c.args.state.now.order) g)
+          (λ rows. NoneInRow (plain c.args.layered.now) rows c.loop-r.r) c.loop-r.invariant.tried c.in_ok-now.ensures.tried
+          (λ before here g h. elim (cases_eq g c.loop-r.r) [
+            | inl e ↦ subst (λ (x : ℕ). NoneInRow (plain c.args.layered.now) (rows_of c.args.state.now.order) x) (sym e) here
+            | inr n ↦ before g (omega (arith, h, n))
+          ]));
+    }

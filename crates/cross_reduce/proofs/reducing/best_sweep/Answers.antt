@@ -1,0 +1,13 @@
+use Rattle.std.proofs.Common.{List, ℕ}
+use Rattle.elk_layers.specs.Layered.{rows_of}
+use Rattle.cross_reduce.proofs.StateLemmas.{same_refl, same_trans}
+use Rattle.cross_reduce.proofs.reducing.best_sweep.Goals as goal
+
+pub returns-clause-same_rows : goal.returns-clause-same_rows
+returns-clause-same_rows c =
+    let start : List (List ℕ) = rows_of c.args.start.order in
+    let two : List (List ℕ) = rows_of c.in_ok-one.two in
+    let best = c.in_ok-best.ensures.same start (same_refl start) c.in_ok-one.ensures.one_same in
+    let best_2 = c.in_ok-best-2.ensures.same start best c.in_ok-one.ensures.two_same in
+    let best_3 = c.in_ok-best-3.ensures.same start best_2 (same_trans start two (rows_of c.in_ok-three.three) c.in_ok-one.ensures.two_same c.in_ok-three.ensures.one_same) in
+    c.in_ok-best-4.ensures.same start best_3 (same_trans start two (rows_of c.in_ok-three.four) c.in_ok-one.ensures.two_same c.in_ok-three.ensures.two_same)

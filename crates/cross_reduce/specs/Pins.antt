@@ -1,0 +1,36 @@
+-- Links by their gap and the keys of their ends, and which of them cross.
+use Rattle.std.specs.Prelude.{ℕ, ◌+◌, ◌*◌, ◌<◌, ◌==◌, List, map, slice_index, slice_index_or, Bool, ◌&&◌, nat_lt}
+use Rattle.std.specs.List.{sum_by, count_by}
+use Rattle.elk_layers.specs.declared.units.Link.{Link}
+use Rattle.elk_layers.specs.Layered.{Plain, gap_of, tail_key, head_key}
+use Rattle.cross_reduce.specs.declared.counting.Pin.{Pin}
+
+abbrev pub pin_at : List Pin → ℕ → Pin
+pin_at pins j = slice_index_or pins j (record { gap = 0; tail = 0; head = 0 })
+
+abbrev pub pin_of : Plain → List (List ℕ) → Link → Pin
+pin_of layered rows l = record { gap = gap_of layered l; tail = tail_key layered rows l; head = head_key layered rows l }
+
+-- the same, where a list has the places
+abbrev pub pin_from : Plain → List ℕ → Link → Pin
+pin_from layered place l =
+    record { gap = gap_of layered l; tail = slice_index place l.tail * 65536 + l.tail_rank; head = slice_index place l.head * 65536 + l.head_rank }
+
+abbrev pub pins_of : Plain → List (List ℕ) → List Pin
+pins_of layered rows = map (pin_of layered rows) layered.links
+
+-- where a link begins: by gap, and in it by tail key
+abbrev pub start_of : Pin → ℕ
+start_of p = p.gap * 4294967296 + p.tail
+
+-- the first begins above the second in the same gap, and ends below it
+abbrev pub is_under : Pin → Pin → Bool
+is_under b a = (b.gap == a.gap) && (nat_lt b.tail a.tail && nat_lt a.head b.head)
+
+-- the pairs of links of which one begins above the other and ends below it
+abbrev pub crossed : List Pin → ℕ
+crossed pins = sum_by (λ a. count_by (λ b. is_under b a) pins) pins
+
+-- the key of the tail has 32 bits
+abbrev pub HasSmallTail : Pin → Type 0
+HasSmallTail p = p.tail < 4294967296

@@ -1,0 +1,122 @@
+//! The crossings of an order, counted gap by gap.
+ghost use Rattle.std.specs.Prelude.{◌≡◌, ◌<◌, ◌^◌, ◌≤◌, ◌+◌, ◌*◌, ℕ, length, map, IfOk, count_by};
+ghost use Rattle.std.specs.List.{All};
+ghost use Rattle.std.specs.List.Sorted.{IsNonDecreasingBy, IsPermutation};
+ghost use Rattle.elk_layers.specs.Layered.{plain, rows_of, IsSound, IsSoundLink, AreRows};
+ghost use Rattle.elk_layers.specs.Crossings as spec;
+ghost use Rattle.cross_reduce.specs.Places.{ArePlaces, FitPlaces};
+ghost use Rattle.cross_reduce.specs.Pins.{pin_of, pin_at, start_of, is_under, crossed, pin_from, HasSmallTail};
+
+use crate::places::places;
+use elk_layers::{Layered, Link, Order};
+use lane_count::count_above;
+use std::alloc::{AllocError, Global};
+
+/// A link by its gap and the keys of its ends.
+#[derive(Clone, Copy)]
+struct Pin {
+    gap: u32,
+    tail: u32,
+    head: u32,
+}
+
+/// Where a link begins: by gap, and in it by tail key.
+fn start(pin: &Pin) -> u64
+    ensures { result ≡ start_of pin.now }
+{
+    pin.gap as u64 * 4294967296 + pin.tail as u64
+}
+
+/// A link's gap and keys.
+fn pin_for(layered: &Layered, place: &[u32], link: Link) -> Pin
+    requires places { FitPlaces (plain layered.now) place.now }
+    requires link { IsSoundLink (plain layered.now) link }
+    ensures { result ≡ pin_from (plain layered.now) place.now link }
+{
+    let units = layered.units.as_slice();
+    Pin {
+        gap: units[link.tail as usize].layer,
+        tail: place[link.tail as usize] * 65536 + link.tail_rank,
+        head: place[link.head as usize] * 65536 + link.head_rank,
+    }
+}
+
+/// All links, from gap to gap, and in a gap by tail key.
+fn sorted_pins(alloc: Global, layered: &Layered, place: &[u32]) -> Result<Vec<Pin>, AllocError>
+    requires sound { IsSound (plain layered.now) }
+    requires places { FitPlaces (plain layered.now) place.now }
+    ensures permutation { IfOk result (λ v. IsPermutation (map (pin_from (plain layered.now) place.now) (plain layered.now).links) v.items) }
+    ensures sorted { IfOk result (λ v. IsNonDecreasingBy start_of v.items) }
+    ensures fits { IfOk result (λ v. All HasSmallTail v.items) }
+{
+    let mut pins = Vec::with_capacity(alloc, layered.links.len())?;
+    for link in layered.links.as_slice() {
+        pins.push(pin_for(layered, place, *link))?;
+    }
+    pins.sort_by_key(|p| start(p))?;
+    Ok(pins)
+}
+
+/// The head keys, in the same order.
+fn head_keys(alloc: Global, pins: &[Pin]) -> Result<Vec<u32>, AllocError>
+    ensures { IfOk result (λ v. v.items ≡ map (λ (p : Pin). p.head) pins.now) }
+{
+    let mut heads = Vec::with_capacity(alloc, pins.len())?;
+    for pin in pins {
+        heads.push(pin.head)?;
+    }
+    Ok(heads)
+}
+
+/// How many links begin before a place.
+fn begin_before(pins: &[Pin], place: u64) -> usize
+    requires { IsNonDecreasingBy start_of pins.now }
+    ensures bound { result ≤ length pins.now }
+    ensures before { (j : ℕ) → j < result → start_of (pin_at pins.now j) < place }
+    ensures behind { (j : ℕ) → result ≤ j → j < length pins.now → place ≤ start_of (pin_at pins.now j) }
+{
+    pins.partition_point(|p| start(p) < place)
+}
+
+/// How many links begin above a link of their gap and end below it.
+fn crossed_by(pins: &[Pin], heads: &[u32], pin: Pin) -> u64
+    requires sorted { IsNonDecreasingBy start_of pins.now }
+    requires fits { All HasSmallTail pins.now }
+    requires pin_fits { HasSmallTail pin }
+    requires heads { heads.now ≡ map (λ (p : Pin). p.head) pins.now }
+    ensures { result ≡ count_by (λ b. is_under b pin) pins.now }
+{
+    let first = begin_before(pins, pin.gap as u64 * 4294967296);
+    let end = begin_before(pins, start(&pin));
+    count_above(&heads[first..end], pin.head)
+}
+
+/// The crossings among these links.
+fn crossed_links(pins: &[Pin], heads: &[u32]) -> u64
+    requires sorted { IsNonDecreasingBy start_of pins.now }
+    requires fits { All HasSmallTail pins.now }
+    requires heads { heads.now ≡ map (λ (p : Pin). p.head) pins.now }
+    requires few { length pins.now ≤ 2 ^ 24 }
+    ensures { result ≡ crossed pins.now }
+{
+    let mut total: u64 = 0;
+    for pin in pins {
+        total += crossed_by(pins, heads, *pin);
+    }
+    total
+}
+
+/// The number of pairs of links of one gap of which one begins further up and ends further down.
+///
+/// Both ends of the pairs are compared by their keys, so links that share a pin do not cross. The only
+/// error is want of memory.
+pub fn crossings(alloc: Global, layered: &Layered, order: &Order) -> Result<u64, AllocError>
+    requires sound { IsSound (plain layered.now) }
+    requires rows { AreRows (plain layered.now) (rows_of order.now) }
+    ensures { IfOk result (λ n. n ≡ spec.crossings (plain layered.now) (rows_of order.now)) }
+{
+    let place = places(alloc, layered, order)?;
+    let pins = sorted_pins(alloc, layered, place.as_slice())?;
+    let heads = head_keys(alloc, pins.as_slice())?;
+    Ok(crossed_links(pins.as_slice(), heads.as_slice()))
+}

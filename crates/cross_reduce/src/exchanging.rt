@@ -1,0 +1,249 @@
+//! Exchanges of neighbours, as long as one lowers the crossings.
+ghost use Rattle.std.specs.Prelude.{◌≡◌, ℕ, ◌<◌, ◌≤◌, ◌+◌, ◌^◌, ◌||◌, length, IfOk, OnOk, slice_index, nat_lt};
+ghost use Rattle.std.specs.List.{swap};
+ghost use Rattle.elk_layers.specs.Layered.{plain, rows_of, row_at, IsSound, AreRows};
+ghost use Rattle.elk_layers.specs.Crossings.{HasSameRows, NoBetterSwap};
+ghost use Rattle.elk_layers.specs.Crossings as crossing;
+ghost use Rattle.cross_reduce.specs.Fans.{far_keys, fan_lists, fan_at};
+ghost use Rattle.cross_reduce.specs.Fans as fan;
+ghost use Rattle.cross_reduce.specs.Exchanges.{FitKeys, IsState, IsTried, IsNoBetter, NoneInRow, crossed_above, crossed_between};
+
+use crate::fans::{Fans, Far, Towards, fans_towards};
+use crate::places::places;
+use elk_layers::{Layered, Order};
+use lane_count::count_above;
+use std::alloc::{AllocError, Global};
+
+/// The keys of far ends.
+fn keys(alloc: Global, fan: &[Far], place: &[u32]) -> Result<Vec<u32>, AllocError>
+    requires { FitKeys place.now fan.now }
+    ensures { IfOk result (λ v. v.items ≡ far_keys place.now fan.now) }
+{
+    let mut keys: Vec<u32> = Vec::with_capacity(alloc, fan.len())?;
+    for far in fan {
+        keys.push(place[far.unit as usize] * 65536 + far.rank)?;
+    }
+    Ok(keys)
+}
+
+/// How many pairs of a key of the one list and a key of the other descend.
+fn descents(upper: &[u32], lower: &[u32]) -> u64
+    requires upper { length upper.now ≤ 2 ^ 24 }
+    requires lower { length lower.now ≤ 2 ^ 24 }
+    ensures value { result ≡ fan.descents upper.now lower.now }
+    ensures bound { result ≤ 2 ^ 48 }
+{
+    let mut total: u64 = 0;
+    for key in lower {
+        total += count_above(upper, *key);
+    }
+    total
+}
+
+/// The crossings of the links of two neighbours to one side, as they stand and exchanged.
+fn both_ways(
+    alloc: Global,
+    upper: &[Far],
+    lower: &[Far],
+    place: &[u32],
+) -> Result<(u64, u64), AllocError>
+    requires upper { FitKeys place.now upper.now }
+    requires lower { FitKeys place.now lower.now }
+    ensures now { IfOk result (λ v. v.0 ≡ crossed_above place.now upper.now lower.now) }
+    ensures exchanged { IfOk result (λ v. v.1 ≡ crossed_above place.now lower.now upper.now) }
+    ensures small { IfOk result (λ v. v.0 ≤ 2 ^ 48) }
+    ensures small_then { IfOk result (λ v. v.1 ≤ 2 ^ 48) }
+{
+    let above = keys(alloc, upper, place)?;
+    let below = keys(alloc, lower, place)?;
+    Ok((
+        descents(above.as_slice(), below.as_slice()),
+        descents(below.as_slice(), above.as_slice()),
+    ))
+}
+
+/// An order with what is kept along with it: the places, and the far ends of the links to both sides.
+#[derive(Drop)]
+struct State {
+    order: Order,
+    place: Vec<u32>,
+    left: Fans,
+    right: Fans,
+}
+
+/// Whether two neighbours have fewer crossings exchanged than as they stand.
+fn is_better(
+    alloc: Global,
+    place: &[u32],
+    left: &Fans,
+    right: &Fans,
+    upper: u32,
+    lower: u32,
+) -> Result<bool, AllocError>
+    requires upper_left { upper < length (fan_lists left.now) }
+    requires lower_left { lower < length (fan_lists left.now) }
+    requires upper_right { upper < length (fan_lists right.now) }
+    requires lower_right { lower < length (fan_lists right.now) }
+    requires upper_left_fits { FitKeys place.now (fan_at (fan_lists left.now) upper) }
+    requires lower_left_fits { FitKeys place.now (fan_at (fan_lists left.now) lower) }
+    requires upper_right_fits { FitKeys place.now (fan_at (fan_lists right.now) upper) }
+    requires lower_right_fits { FitKeys place.now (fan_at (fan_lists right.now) lower) }
+    ensures { IfOk result (λ b. b ≡ nat_lt (crossed_between place.now (fan_lists left.now) (fan_lists right.now) lower upper) (crossed_between place.now (fan_lists left.now) (fan_lists right.now) upper lower)) }
+{
+    let (left_now, left_then) = both_ways(alloc, left.at(upper), left.at(lower), place)?;
+    let (right_now, right_then) = both_ways(alloc, right.at(upper), right.at(lower), place)?;
+    Ok(left_then + right_then < left_now + right_now)
+}
+
+/// Two neighbours of a row, from the top.
+fn neighbours(order: &Order, r: usize, i: usize) -> (u32, u32)
+    requires row { r < length (rows_of order.now) }
+    requires place { i + 1 < length (row_at (rows_of order.now) r) }
+    ensures upper { result.0 ≡ slice_index (row_at (rows_of order.now) r) i }
+    ensures lower { result.1 ≡ slice_index (row_at (rows_of order.now) r) (i + 1) }
+{
+    let row = order.rows[r].as_slice();
+    (row[i], row[i + 1])
+}
+
+/// Exchanges two neighbours of a row.
+fn swap_in(order: &mut Order, r: usize, i: usize)
+    requires row { r < length (rows_of order.old) }
+    requires place { i + 1 < length (row_at (rows_of order.old) r) }
+    ensures { rows_of order.new ≡ crossing.exchanged (rows_of order.old) r i }
+{
+    swap_neighbours(&mut order.rows[r], i);
+}
+
+/// Exchanges two neighbours of a list.
+fn swap_neighbours(row: &mut Vec<u32>, i: usize)
+    requires { i + 1 < length row.old.items }
+    ensures { row.new.items ≡ swap row.old.items i (i + 1) }
+{
+    row.as_mut_slice().swap(i, i + 1);
+}
+
+/// Exchanges two neighbours.
+fn exchange(layered: &Layered, state: &mut State, r: usize, i: usize)
+    requires state { IsState (plain layered.now) (rows_of state.old.order) state.old.place.items (fan_lists state.old.left) (fan_lists state.old.right) }
+    requires row { r < length (rows_of state.old.order) }
+    requires place { i + 1 < length (row_at (rows_of state.old.order) r) }
+    ensures rows { rows_of state.new.order ≡ crossing.exchanged (rows_of state.old.order) r i }
+    ensures state { IsState (plain layered.now) (rows_of state.new.order) state.new.place.items (fan_lists state.new.left) (fan_lists state.new.right) }
+{
+    let (upper, lower) = neighbours(&state.order, r, i);
+    swap_in(&mut state.order, r, i);
+    state.place[upper as usize] = (i + 1) as u32;
+    state.place[lower as usize] = i as u32;
+}
+
+/// Exchanges two neighbours where that lowers the crossings.
+fn try_exchange(
+    alloc: Global,
+    layered: &Layered,
+    state: &mut State,
+    r: usize,
+    i: usize,
+) -> Result<bool, AllocError>
+    requires state { IsState (plain layered.now) (rows_of state.old.order) state.old.place.items (fan_lists state.old.left) (fan_lists state.old.right) }
+    requires row { r < length (rows_of state.old.order) }
+    requires place { i + 1 < length (row_at (rows_of state.old.order) r) }
+    ensures state { OnOk result (IsState (plain layered.now) (rows_of state.new.order) state.new.place.items (fan_lists state.new.left) (fan_lists state.new.right)) }
+    ensures same { OnOk result (HasSameRows (rows_of state.old.order) (rows_of state.new.order)) }
+    ensures tried { IfOk result (λ changed. IsTried (plain layered.now) (rows_of state.old.order) (rows_of state.new.order) changed (IsNoBetter (plain layered.now) (rows_of state.old.order) r i)) }
+{
+    let (upper, lower) = neighbours(&state.order, r, i);
+    let place = state.place.as_slice();
+    let better = is_better(alloc, place, &state.left, &state.right, upper, lower)?;
+    if better {
+        exchange(layered, state, r, i);
+    }
+    Ok(better)
+}
+
+/// Tries the neighbours of a row, from the top.
+fn try_row(
+    alloc: Global,
+    layered: &Layered,
+    state: &mut State,
+    r: usize,
+) -> Result<bool, AllocError>
+    requires state { IsState (plain layered.now) (rows_of state.old.order) state.old.place.items (fan_lists state.old.left) (fan_lists state.old.right) }
+    requires row { r < length (rows_of state.old.order) }
+    ensures state { OnOk result (IsState (plain layered.now) (rows_of state.new.order) state.new.place.items (fan_lists state.new.left) (fan_lists state.new.right)) }
+    ensures same { OnOk result (HasSameRows (rows_of state.old.order) (rows_of state.new.order)) }
+    ensures tried { IfOk result (λ changed. IsTried (plain layered.now) (rows_of state.old.order) (rows_of state.new.order) changed (NoneInRow (plain layered.now) (rows_of state.old.order) r)) }
+{
+    let mut changed = false;
+    let len = row_len(&state.order, r);
+    for i in 1..len {
+        let now = try_exchange(alloc, layered, state, r, i - 1)?;
+        changed = either(changed, now);
+    }
+    Ok(changed)
+}
+
+/// Whether one of two is true.
+fn either(one: bool, other: bool) -> bool
+    ensures { result ≡ (one || other) }
+{
+    one || other
+}
+
+/// The number of units in a row.
+fn row_len(order: &Order, r: usize) -> usize
+    requires { r < length (rows_of order.now) }
+    ensures { result ≡ length (row_at (rows_of order.now) r) }
+{
+    order.rows[r].len()
+}
+
+/// Tries the neighbours of each row.
+fn try_rows(alloc: Global, layered: &Layered, state: &mut State) -> Result<bool, AllocError>
+    requires { IsState (plain layered.now) (rows_of state.old.order) state.old.place.items (fan_lists state.old.left) (fan_lists state.old.right) }
+    ensures state { OnOk result (IsState (plain layered.now) (rows_of state.new.order) state.new.place.items (fan_lists state.new.left) (fan_lists state.new.right)) }
+    ensures same { OnOk result (HasSameRows (rows_of state.old.order) (rows_of state.new.order)) }
+    ensures tried { IfOk result (λ changed. IsTried (plain layered.now) (rows_of state.old.order) (rows_of state.new.order) changed (NoBetterSwap (plain layered.now) (rows_of state.old.order))) }
+{
+    let mut changed = false;
+    for r in 0..layered.layers as usize {
+        let now = try_row(alloc, layered, state, r)?;
+        changed = either(changed, now);
+    }
+    Ok(changed)
+}
+
+/// The order with its places and far ends.
+fn state_of(alloc: Global, layered: &Layered, order: Order) -> Result<State, AllocError>
+    requires sound { IsSound (plain layered.now) }
+    requires rows { AreRows (plain layered.now) (rows_of order) }
+    ensures order { IfOk result (λ state. rows_of state.order ≡ rows_of order) }
+    ensures state { IfOk result (λ state. IsState (plain layered.now) (rows_of state.order) state.place.items (fan_lists state.left) (fan_lists state.right)) }
+{
+    let links = layered.links.as_slice();
+    let place = places(alloc, layered, &order)?;
+    let left = fans_towards(alloc, Towards::Left, links, layered.units.len())?;
+    let right = fans_towards(alloc, Towards::Right, links, layered.units.len())?;
+    Ok(State {
+        order,
+        place,
+        left,
+        right,
+    })
+}
+
+/// Exchanges neighbours until no exchange lowers the crossings.
+pub(crate) fn exchanged(alloc: Global, layered: &Layered, order: Order) -> Result<Order, AllocError>
+    requires sound { IsSound (plain layered.now) }
+    requires rows { AreRows (plain layered.now) (rows_of order) }
+    ensures same { IfOk result (λ o. HasSameRows (rows_of order) (rows_of o)) }
+    ensures fewer { IfOk result (λ o. crossing.crossings (plain layered.now) (rows_of o) ≤ crossing.crossings (plain layered.now) (rows_of order)) }
+    ensures settled { IfOk result (λ o. NoBetterSwap (plain layered.now) (rows_of o)) }
+{
+    let mut state = state_of(alloc, layered, order)?;
+    let mut changed = true;
+    while changed {
+        changed = try_rows(alloc, layered, &mut state)?;
+    }
+    Ok(state.order)
+}

@@ -1,0 +1,108 @@
+//! The sweep orders of a start, the best of them, and the exchanges after it.
+ghost use Rattle.std.specs.Prelude.{◌≡◌, ◌≤◌, ℕ, List, IfOk};
+ghost use Rattle.std.specs.List.{All};
+ghost use Rattle.elk_layers.specs.Layered.{plain, rows_of, IsSound, AreRows};
+ghost use Rattle.elk_layers.specs.Crossings.{HasSameRows, NoBetterSwap};
+ghost use Rattle.elk_layers.specs.Crossings as spec;
+ghost use Rattle.elk_layers.specs.Sweeps.{sweep_orders, forward_sweep, backward_sweep};
+
+use crate::counting::crossings;
+use crate::exchanging::exchanged;
+use crate::sweeping::{backward, forward};
+use elk_layers::{Layered, Order};
+use std::alloc::{AllocError, Global};
+
+/// An order and its crossings.
+#[derive(Drop)]
+struct Counted {
+    order: Order,
+    crossings: u64,
+}
+
+/// An order with its crossings.
+fn with_count(alloc: Global, layered: &Layered, order: Order) -> Result<Counted, AllocError>
+    requires sound { IsSound (plain layered.now) }
+    requires rows { AreRows (plain layered.now) (rows_of order) }
+    ensures order { IfOk result (λ k. k.order ≡ order) }
+    ensures crossings { IfOk result (λ k. k.crossings ≡ spec.crossings (plain layered.now) (rows_of order)) }
+{
+    let crossings = crossings(alloc, layered, &order)?;
+    Ok(Counted { order, crossings })
+}
+
+/// The kept order, or the new one where it has fewer crossings.
+fn fewer(alloc: Global, layered: &Layered, kept: Counted, new: Order) -> Result<Counted, AllocError>
+    requires sound { IsSound (plain layered.now) }
+    requires kept_rows { AreRows (plain layered.now) (rows_of kept.order) }
+    requires new_rows { AreRows (plain layered.now) (rows_of new) }
+    requires counted { kept.crossings ≡ spec.crossings (plain layered.now) (rows_of kept.order) }
+    ensures counted { IfOk result (λ k. k.crossings ≡ spec.crossings (plain layered.now) (rows_of k.order)) }
+    ensures rows { IfOk result (λ k. AreRows (plain layered.now) (rows_of k.order)) }
+    ensures at_most_kept { IfOk result (λ k. spec.crossings (plain layered.now) (rows_of k.order) ≤ spec.crossings (plain layered.now) (rows_of kept.order)) }
+    ensures at_most_new { IfOk result (λ k. spec.crossings (plain layered.now) (rows_of k.order) ≤ spec.crossings (plain layered.now) (rows_of new)) }
+    ensures same { IfOk result (λ k. (start : List (List ℕ)) → HasSameRows start (rows_of kept.order) → HasSameRows start (rows_of new) → HasSameRows start (rows_of k.order)) }
+{
+    let new = with_count(alloc, layered, new)?;
+    if new.crossings < kept.crossings {
+        Ok(new)
+    } else {
+        Ok(kept)
+    }
+}
+
+/// The orders after a forward sweep, and after a backward sweep of that.
+fn two_sweeps(alloc: Global, layered: &Layered, order: &Order) -> Result<(Order, Order), AllocError>
+    requires sound { IsSound (plain layered.now) }
+    requires rows { AreRows (plain layered.now) (rows_of order.now) }
+    ensures one { IfOk result (λ v. rows_of v.0 ≡ forward_sweep (plain layered.now) (rows_of order.now)) }
+    ensures two { IfOk result (λ v. rows_of v.1 ≡ backward_sweep (plain layered.now) (forward_sweep (plain layered.now) (rows_of order.now))) }
+    ensures one_rows { IfOk result (λ v. AreRows (plain layered.now) (rows_of v.0)) }
+    ensures two_rows { IfOk result (λ v. AreRows (plain layered.now) (rows_of v.1)) }
+    ensures one_same { IfOk result (λ v. HasSameRows (rows_of order.now) (rows_of v.0)) }
+    ensures two_same { IfOk result (λ v. HasSameRows (rows_of order.now) (rows_of v.1)) }
+{
+    let one = forward(alloc, layered, order)?;
+    let (one, two) = backward(alloc, layered, one)?;
+    Ok((one, two))
+}
+
+/// The first of fewest crossings among an order and its four sweep orders.
+fn best_sweep(alloc: Global, layered: &Layered, start: Counted) -> Result<Order, AllocError>
+    requires sound { IsSound (plain layered.now) }
+    requires rows { AreRows (plain layered.now) (rows_of start.order) }
+    requires counted { start.crossings ≡ spec.crossings (plain layered.now) (rows_of start.order) }
+    ensures same_rows { IfOk result (λ o. HasSameRows (rows_of start.order) (rows_of o)) }
+    ensures no_more { IfOk result (λ o. spec.crossings (plain layered.now) (rows_of o) ≤ spec.crossings (plain layered.now) (rows_of start.order)) }
+    ensures sweeps { IfOk result (λ o. All (λ swept. spec.crossings (plain layered.now) (rows_of o) ≤ spec.crossings (plain layered.now) swept) (sweep_orders (plain layered.now) (rows_of start.order))) }
+{
+    let (one, two) = two_sweeps(alloc, layered, &start.order)?;
+    let (three, four) = two_sweeps(alloc, layered, &two)?;
+    let best = fewer(alloc, layered, start, one)?;
+    let best = fewer(alloc, layered, best, two)?;
+    let best = fewer(alloc, layered, best, three)?;
+    let best = fewer(alloc, layered, best, four)?;
+    Ok(best.order)
+}
+
+/// An order of the same rows with few crossings.
+///
+/// It has at most the crossings of the start, and of the orders after a forward sweep of it by the
+/// barycentre rule, after a backward sweep of that order, and once more so. No exchange of two neighbours
+/// of a row lowers its crossings. A start without crossings is given back. The only error is want of
+/// memory, which drops the start.
+pub fn reduce(alloc: Global, layered: &Layered, start: Order) -> Result<Order, AllocError>
+    requires sound { IsSound (plain layered.now) }
+    requires rows { AreRows (plain layered.now) (rows_of start) }
+    ensures same_rows { IfOk result (λ o. HasSameRows (rows_of start) (rows_of o)) }
+    ensures no_more { IfOk result (λ o. spec.crossings (plain layered.now) (rows_of o) ≤ spec.crossings (plain layered.now) (rows_of start)) }
+    ensures sweeps { IfOk result (λ o. All (λ swept. spec.crossings (plain layered.now) (rows_of o) ≤ spec.crossings (plain layered.now) swept) (sweep_orders (plain layered.now) (rows_of start))) }
+    ensures settled { IfOk result (λ o. NoBetterSwap (plain layered.now) (rows_of o)) }
+    ensures without_crossings { IfOk result (λ o. spec.crossings (plain layered.now) (rows_of start) ≡ 0 → rows_of o ≡ rows_of start) }
+{
+    let start = with_count(alloc, layered, start)?;
+    if start.crossings == 0 {
+        return Ok(start.order);
+    }
+    let swept = best_sweep(alloc, layered, start)?;
+    exchanged(alloc, layered, swept)
+}
