@@ -1,17 +1,14 @@
 -- How rows grow, box by box.
-use Rattle.std.proofs.Common.{◌≡◌, ◌⊎◌, ⊎_elim, inl, inr, refl, sym, ap, subst, ◌∙◌, ℕ, zero, suc, ◌+◌, ◌*◌, ◌^◌, ◌<◌, ◌≤◌, Bool, true, false, List, length, [], ◌∷◌, ◌++◌, ℤ, pos, ◌+ℤ◌, ◌≤ℤ◌, ◌<ℤ◌, arith, add-one}
+use Rattle.std.proofs.Common.{◌≡◌, ◌⊎◌, ⊎_elim, sym, ap, subst, ◌∙◌, ℕ, zero, suc, ◌+◌, ◌<◌, ◌≤◌, Bool, true, false, List, length, [], ◌∷◌, ◌++◌, ℤ, pos, ◌≤ℤ◌, ◌<ℤ◌, arith, add-one}
 use Rattle.std.specs.Prelude.{int_lt}
-use Rattle.std.specs.Ordering.{int_eq}
-use Rattle.std.specs.Int.{int_min, int_max}
-use Rattle.std.proofs.lemmas.Int.{ints, clamps, by_lt_z}
+use Rattle.std.proofs.lemmas.Int.{ints, clamps}
 use Rattle.std.proofs.lemmas.Bool.{cases_lt}
 use Rattle.elk_doc.specs.declared.shape.Point.{Point}
 use Rattle.elk_doc.specs.declared.shape.Size.{Size}
 use Rattle.box_pack.specs.declared.walk.Cursor.{Cursor}
 use Rattle.box_pack.specs.declared.walk.Strip.{Strip}
-use Rattle.box_pack.specs.declared.walk.Measured.{Measured}
-use Rattle.box_pack.specs.Boxes.{size_at, point_at, long_side, IsSize, AreSizes, EachSize}
-use Rattle.box_pack.specs.Walk.{reach, overflows, below, row_or, row_for, spot_for, behind, advance, before, spot, greatest_of, spot_right, spot_bottom, sooner, next_to, measured_to, grown, next_with, AreSpots, IsNear, IsStrip}
+use Rattle.box_pack.specs.Boxes.{size_at, point_at, IsSize, AreSizes, EachSize}
+use Rattle.box_pack.specs.Walk.{overflows, row_or, row_for, behind, advance, before, spot, greatest_of, next_to, measured_to, grown, next_with, AreSpots, IsNear, IsStrip}
 use Rattle.std.proofs.lemmas.List.{get_or_append_left}
 use Rattle.std.proofs.lemmas.List.Elements.{All-get_or}
 use Rattle.std.proofs.Math.Seq.{get_or-append_seam}

@@ -1,15 +1,14 @@
 -- Which limits change rows, and how long these then are.
-use Rattle.std.proofs.Common.{◌≡◌, ◌⊎◌, ⊎_elim, inl, inr, refl, sym, ap, subst, ◌∙◌, ℕ, zero, suc, ◌+◌, ◌*◌, ◌-◌, ◌^◌, ◌<◌, ◌≤◌, Bool, true, false, List, length, ℤ, pos, negsuc, ◌+ℤ◌, ◌≤ℤ◌, ◌<ℤ◌, arith}
+use Rattle.std.proofs.Common.{◌≡◌, ◌⊎◌, ⊎_elim, inl, inr, refl, sym, ap, subst, ◌∙◌, ℕ, zero, suc, ◌+◌, ◌^◌, ◌<◌, ◌≤◌, Bool, true, false, List, length, ℤ, pos, negsuc, ◌+ℤ◌, ◌≤ℤ◌, ◌<ℤ◌, arith}
 use Rattle.std.specs.Prelude.{int_lt}
-use Rattle.std.specs.Int.{int_min, int_max, int_gap}
+use Rattle.std.specs.Int.{int_max, int_gap}
 use Rattle.std.proofs.lemmas.Int.{ints, clamps, by_lt_z}
 use Rattle.std.proofs.lemmas.Bool.{cases_lt}
 use Rattle.elk_doc.specs.declared.shape.Point.{Point}
 use Rattle.elk_doc.specs.declared.shape.Size.{Size}
 use Rattle.box_pack.specs.declared.walk.Cursor.{Cursor}
-use Rattle.box_pack.specs.declared.walk.Strip.{Strip}
-use Rattle.box_pack.specs.Boxes.{size_at, point_at, long_side, IsSize, EachSize}
-use Rattle.box_pack.specs.Walk.{reach, overflows, row_or, row_for, spot_for, behind, advance, before, spot, greatest_of, spot_right, spot_bottom, sooner, next_to, measured_to, long_at, strip_of, IsLeastLimit, IsNear, IsStrip}
+use Rattle.box_pack.specs.Boxes.{size_at, long_side, IsSize, EachSize}
+use Rattle.box_pack.specs.Walk.{reach, row_or, behind, before, spot, greatest_of, spot_right, spot_bottom, sooner, next_to, long_at, strip_of, IsLeastLimit, IsNear, IsStrip}
 use Rattle.box_pack.proofs.Filling.{near_row, near_before, lt_yes, lt_no}
 use Rattle.box_pack.specs.declared.packing.Rows.{Rows}
 use Rattle.box_pack.specs.Packed.{AreRows}

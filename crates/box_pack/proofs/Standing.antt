@@ -1,16 +1,15 @@
 -- Rows that are filled box by box are the rows that the definition asks for, and the only ones.
-use Rattle.std.proofs.Common.{◌≡◌, ◌⊎◌, ⊎_elim, inl, inr, refl, sym, ap, subst, ◌∙◌, ℕ, zero, suc, ◌+◌, ◌*◌, ◌^◌, ◌<◌, ◌≤◌, Bool, true, false, List, length, ℤ, pos, ◌+ℤ◌, ◌≤ℤ◌, ◌<ℤ◌, arith, add-one}
+use Rattle.std.proofs.Common.{◌≡◌, ◌⊎◌, ⊎_elim, inl, inr, refl, sym, ap, subst, ◌∙◌, ℕ, zero, suc, ◌+◌, ◌<◌, ◌≤◌, Bool, true, false, List, length, ℤ, pos, ◌+ℤ◌, ◌≤ℤ◌, ◌<ℤ◌, arith}
 use Rattle.std.specs.Prelude.{int_lt}
-use Rattle.std.specs.Int.{int_min, int_max}
+use Rattle.std.specs.Int.{int_max}
 use Rattle.std.proofs.lemmas.Int.{ints, clamps, by_lt_z}
 use Rattle.std.proofs.lemmas.Bool.{cases_lt}
 use Rattle.elk_doc.specs.declared.shape.Point.{Point}
 use Rattle.elk_doc.specs.declared.shape.Size.{Size}
 use Rattle.box_pack.specs.declared.walk.Cursor.{Cursor}
 use Rattle.box_pack.specs.declared.walk.Strip.{Strip}
-use Rattle.box_pack.specs.Boxes.{size_at, point_at, right_of, bottom_of, reach_beside, long_side, IsSize, EachSize, IsTallest, IsPacked, IsGreatest, HasExtent}
-use Rattle.box_pack.specs.Walk.{reach, overflows, below, row_or, row_for, spot_for, behind, advance, before, spot, greatest_of, spot_right, spot_bottom, measured_to, long_at, strip_of, AreSpots, IsNear, IsStrip}
-use Rattle.box_pack.specs.declared.packing.Rows.{Rows}
+use Rattle.box_pack.specs.Boxes.{size_at, point_at, right_of, bottom_of, reach_beside, long_side, EachSize, IsTallest, IsPacked, IsGreatest, HasExtent}
+use Rattle.box_pack.specs.Walk.{reach, overflows, below, row_or, row_for, before, spot, greatest_of, spot_right, spot_bottom, measured_to, long_at, strip_of, AreSpots, IsNear, IsStrip}
 use Rattle.box_pack.specs.Packed.{AreRows}
 use Rattle.box_pack.proofs.Filling.{near_row, near_before, same_point, lt_yes, lt_no}
 

@@ -1,5 +1,5 @@
 -- Keys as the program reads them.
-use Rattle.std.proofs.Common.{◌≡◌, ℕ, List, [], ◌∷◌, ◌++◌, map, length, get_or, take, drop, zero, suc, ◌<◌, ◌+◌, arith, Option, Some, None, IsSome, is_some, refl, sym, ap, ◌∙◌}
+use Rattle.std.proofs.Common.{◌≡◌, ℕ, List, [], ◌∷◌, ◌++◌, length, get_or, take, drop, zero, suc, ◌<◌, ◌+◌, arith, Option, Some, None, is_some, refl, sym, ap}
 use Rattle.std.proofs.lemmas.List.{map-append, map_more, drop_more}
 use Rattle.graph_arena.specs.declared.keys.EdgeKey.{EdgeKey}
 use Rattle.graph_arena.specs.declared.keys.NodeKey.{NodeKey}

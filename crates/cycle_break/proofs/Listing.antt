@@ -1,5 +1,5 @@
 -- Which edges stay listed.
-use Rattle.std.proofs.Common.{◌≡◌, ◌≢◌, ◌⊎◌, ◌↔◌, ℕ, ◌+◌, ◌<◌, ◌≤◌, eq-eqb, nat_lt, cond, Bool, true, false, List, [], ◌∷◌, ◌++◌, length, get_or, Option, Some, None, IsSome, is_some, arith, refl, sym, ap, ◌∙◌, subst, inl, inr, ⊎_elim}
+use Rattle.std.proofs.Common.{◌≡◌, ◌≢◌, ◌⊎◌, ◌↔◌, ℕ, ◌+◌, ◌<◌, ◌≤◌, eq-eqb, true, List, [], ◌∷◌, ◌++◌, get_or, Option, Some, None, IsSome, is_some, arith, refl, sym, ap, ◌∙◌, subst, inl, inr, ⊎_elim}
 use Rattle.std.proofs.lemmas.Bool.{cases_eq}
 use Rattle.std.proofs.lemmas.Bool.Decides.{nat_tests}
 use borrow.Author.Tests.{ltb-true}
@@ -8,8 +8,8 @@ use Rattle.graph_arena.specs.Changes.{RemovesEdge, AddsEdge, IsSame}
 use Rattle.graph_arena.specs.Paths.{Reaches}
 use Rattle.graph_arena.specs.Paths.Reaches.{stay, go}
 use Rattle.cycle_break.specs.Ways.{Step}
-use Rattle.cycle_break.specs.Reversed.{IsReversed, UnlistedStep, FreeStep, Settled, before, places_before}
-use Rattle.cycle_break.proofs.Lists.{eqb_other, occurs-append, occurs_one, occurs_none}
+use Rattle.cycle_break.specs.Reversed.{IsReversed, UnlistedStep, Settled, before, places_before}
+use Rattle.cycle_break.proofs.Lists.{occurs-append, occurs_one, occurs_none}
 
 abbrev ends_of : ℕ → ℕ → Ends
 ends_of a b = record { tail = a; head = b }

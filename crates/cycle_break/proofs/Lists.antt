@@ -1,10 +1,10 @@
 -- Keys in lists, and where they stand first.
-use Rattle.std.proofs.Common.{◌≡◌, ◌≢◌, ◌⊎◌, ℕ, zero, suc, ◌+◌, ◌<◌, ◌≤◌, eqb, eq-eqb, cond, not, Bool, true, false, List, [], ◌∷◌, ◌++◌, length, map, get_or, set, filter, replicate, count_by, Option, Some, None, IsSome, is_some, arith, refl, sym, ap, ◌∙◌, subst, inl, inr}
+use Rattle.std.proofs.Common.{◌≡◌, ◌≢◌, ℕ, zero, suc, ◌+◌, ◌<◌, eqb, eq-eqb, cond, false, List, [], ◌∷◌, ◌++◌, length, get_or, set, replicate, count_by, Option, Some, None, arith, refl, ap, inl, inr}
 use Rattle.std.specs.Option.{is_none}
 use Rattle.std.proofs.lemmas.Bool.{cases_eq}
 use Rattle.std.proofs.lemmas.Bool.Decides.{nat_tests}
 use Rattle.std.proofs.lemmas.List.Sums.{sum_by-cons}
-use Rattle.graph_arena.specs.Graph.{Graph, Ends, ends_at, lists_at, out_list, in_list, front, occurs, if_end, tail_in, head_in, IsNode, IsEdge, IsIncidence}
+use Rattle.graph_arena.specs.Graph.{Graph, Ends, ends_at, out_list, in_list, front, occurs, if_end, tail_in, head_in, IsIncidence}
 use Rattle.graph_arena.specs.Changes.{without}
 use Rattle.cycle_break.specs.Order.{place}
 

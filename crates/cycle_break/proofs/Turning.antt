@@ -1,8 +1,8 @@
 -- Edges are turned round one after the other.
-use Rattle.std.proofs.Common.{◌≡◌, ◌≢◌, ◌⊎◌, ◌↔◌, ℕ, zero, suc, length, take, get_or, ◌+◌, ◌<◌, ◌≤◌, eqb, eq-eqb, nat_eq, cond, Bool, true, false, List, [], ◌∷◌, ◌++◌, filter, Option, Some, None, IsSome, is_some, arith, refl, sym, ap, ◌∙◌, subst, inl, inr, ⊎_elim}
+use Rattle.std.proofs.Common.{◌≡◌, ◌≢◌, ℕ, zero, suc, length, take, get_or, ◌+◌, ◌<◌, ◌≤◌, eq-eqb, nat_eq, cond, Bool, false, List, [], ◌∷◌, ◌++◌, filter, Option, Some, None, IsSome, arith, refl, sym, ap, ◌∙◌, subst, inl, inr}
 use Rattle.std.proofs.lemmas.Bool.{cases_eq, cases_Bool}
 use Rattle.std.proofs.lemmas.List.{length-map, take-map}
-use Rattle.graph_arena.specs.Graph.{Graph, Ends, ends_at, out_list, in_list, occurs, IsNode}
+use Rattle.graph_arena.specs.Graph.{Graph, Ends, ends_at, out_list, in_list, occurs}
 use Rattle.graph_arena.specs.Changes.{Reverses, without}
 use Rattle.graph_arena.specs.declared.keys.EdgeKey.{EdgeKey}
 use Rattle.cycle_break.specs.Ways.{edge_keys}

@@ -1,5 +1,5 @@
 -- The frame of a direction.
-use Rattle.std.proofs.Common.{◌≡◌, ◌≢◌, ◌⊎◌, ⊎_elim, ◌↔◌, ℤ, pos, neg_ℤ, ◌+ℤ◌, ◌≤ℤ◌, inl, inr, refl, sym, ap, ◌∙◌, arith}
+use Rattle.std.proofs.Common.{◌≡◌, ◌⊎◌, ⊎_elim, ◌↔◌, ℤ, neg_ℤ, ◌+ℤ◌, inl, inr, refl, ap, arith}
 use Rattle.std.proofs.lemmas.Int.{ints, clamps}
 use Rattle.elk_doc.specs.declared.shape.Point.{Point}
 use Rattle.elk_doc.specs.declared.shape.Rect.{Rect}
@@ -7,7 +7,7 @@ use Rattle.elk_doc.specs.declared.shape.Side.{Side}
 use Rattle.elk_doc.specs.declared.shape.Side.TheVariants.{North, East, South, West}
 use Rattle.elk_doc.specs.declared.document.Direction.{Direction}
 use Rattle.elk_doc.specs.declared.document.Direction.TheVariants.{Right, Left, Down, Up}
-use Rattle.elk_doc.specs.Shapes.{turned, point_rect, Holds, right_of, bottom_of}
+use Rattle.elk_doc.specs.Shapes.{turned, point_rect, Holds}
 use Rattle.elk_doc.specs.Segments.{MeetsRect, EntersRect, MeetsSpan, EntersSpan}
 use Rattle.elk_doc.specs.Route.{IsStep, IsTurn, LeavesOutward}
 use Rattle.elk_doc.proofs.SegmentBounds.{MeetsRect-spans, spans-MeetsRect, EntersRect-spans, spans-EntersRect}

@@ -1,7 +1,6 @@
-use Rattle.std.proofs.Common.{◌≡◌, ℕ, ◌+◌, ◌<◌, ◌≤◌, refl, length, arith, rules, List, ◌++◌, [], ◌∷◌}
-use Rattle.elk_doc.specs.declared.shape.Point.{Point}
-use Rattle.box_pack.specs.Boxes.{size_at, IsSize}
-use Rattle.box_pack.specs.Walk.{before, IsNear, spot, AreSpots}
+use Rattle.std.proofs.Common.{◌≡◌, ◌+◌, refl, arith, rules, ◌++◌, [], ◌∷◌}
+use Rattle.box_pack.specs.Boxes.{size_at}
+use Rattle.box_pack.specs.Walk.{before}
 use Rattle.box_pack.proofs.Filling.{at_near, row_near, step_before, push_spot}
 use Rattle.box_pack.proofs.packing.places.Goals as goal
 

@@ -1,10 +1,10 @@
-use Rattle.std.proofs.Common.{◌≡◌, ◌∙◌, ap, refl, ◌<◌, ◌+◌, length, ℤ, pos, ◌<ℤ◌, ◌≤ℤ◌, rules, w64, to_z, of_z, FitsSigned, true}
+use Rattle.std.proofs.Common.{◌≡◌, ◌∙◌, ap, refl, ◌<◌, length, ℤ, pos, ◌<ℤ◌, ◌≤ℤ◌, rules, w64, to_z, of_z, FitsSigned}
 use Rattle.std.specs.Int.{int_gap}
 use Rattle.std.proofs.lemmas.Int.{to_z-of_z}
 use Rattle.box_pack.specs.declared.walk.Measured.{Measured}
 use Rattle.box_pack.specs.Boxes.{long_side}
 use Rattle.box_pack.specs.Walk.{measured_to, strip_of, long_at}
-use Rattle.box_pack.proofs.Limiting.{AreBoxes, IsWalked, next_at, over_far, not_far, walked_first, walked_on, walked_better, walked_all, walk_falls, walk_low, le_refl, lt_le}
+use Rattle.box_pack.proofs.Limiting.{AreBoxes, IsWalked, over_far, not_far, walked_first, walked_on, walked_better, walked_all, walk_falls, walk_low, le_refl, lt_le}
 use Rattle.box_pack.proofs.squarest.least_limit.Goals as goal
 
 pub limits-init : goal.limits-init

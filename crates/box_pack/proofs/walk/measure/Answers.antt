@@ -1,7 +1,7 @@
-use Rattle.std.proofs.Common.{◌≤◌, refl, arith, w64, FitsSigned, rules, add-one}
-use Rattle.std.proofs.lemmas.Int.{ints, to_z-of_z}
-use Rattle.box_pack.specs.Boxes.{size_at, IsSize}
-use Rattle.box_pack.specs.Walk.{before, greatest_of, next_to, IsNear}
+use Rattle.std.proofs.Common.{refl, arith, w64, FitsSigned, rules}
+use Rattle.std.proofs.lemmas.Int.{to_z-of_z}
+use Rattle.box_pack.specs.Boxes.{size_at}
+use Rattle.box_pack.specs.Walk.{before, greatest_of, next_to}
 use Rattle.box_pack.proofs.Filling.{at_near, row_near, step_before, step_width, step_next}
 use Rattle.box_pack.proofs.walk.measure.Goals as goal
 

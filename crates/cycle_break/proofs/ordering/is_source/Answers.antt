@@ -1,4 +1,4 @@
-use Rattle.std.proofs.Common.{◌≡◌, Bool, true, false, not, refl, sym, ap, ◌∙◌}
+use Rattle.std.proofs.Common.{◌≡◌, Bool, true, false, not, sym, ap, ◌∙◌}
 use Rattle.cycle_break.proofs.Keys.{key_is}
 use Rattle.cycle_break.proofs.ordering.is_source.Goals as goal
 

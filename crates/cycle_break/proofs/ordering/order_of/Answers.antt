@@ -1,7 +1,6 @@
-use Rattle.std.proofs.Common.{rules, ◌≡◌, ◌<◌, ◌≤◌, ◌-◌, ℕ, List, [], ◌∷◌, ◌++◌, arith, length, sym, ap, ◌∙◌, subst}
+use Rattle.std.proofs.Common.{rules, ◌≡◌, ◌≤◌, ◌-◌, ℕ, List, [], ◌∷◌, ◌++◌, arith, length, sym, ap, ◌∙◌, subst}
 use Rattle.std.proofs.lemmas.List.{length-map, length-append}
 use Rattle.graph_arena.specs.declared.keys.NodeKey.{NodeKey}
-use Rattle.graph_arena.specs.Graph.{Graph}
 use Rattle.cycle_break.specs.Ways.{node_keys}
 use Rattle.cycle_break.specs.Search.{Sorted}
 use Rattle.cycle_break.proofs.Keys.{node_push}

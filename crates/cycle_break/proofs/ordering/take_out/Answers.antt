@@ -1,6 +1,5 @@
-use Rattle.std.proofs.Common.{◌≡◌, ◌<◌, ◌↔◌, not, ℕ, true, false, Option, Some, None, IsSome, is_some, sym, ap, ◌∙◌, subst, length, refl, List, ◌++◌, ◌∷◌, []}
+use Rattle.std.proofs.Common.{◌≡◌, ℕ, true, false, Option, Some, None, IsSome, sym, ap, ◌∙◌, subst, refl, List}
 use Rattle.std.specs.Option.{is_none}
-use Rattle.graph_arena.specs.Graph.{Graph, IsEdge, IsNode, front, out_list, in_list}
 use Rattle.cycle_break.specs.Ways.{node_keys}
 use Rattle.cycle_break.specs.Search.{Sorted}
 use Rattle.cycle_break.proofs.Keys.{key_some, key_none, node_push}

@@ -1,5 +1,5 @@
-use Rattle.std.proofs.Common.{◌≡◌, ◌≢◌, ◌+◌, ◌<◌, ℕ, List, Some, true, false, arith, rules, is_some, sym, ap, ◌∙◌, subst}
-use Rattle.graph_arena.specs.Graph.{Graph, Ends, ends_at, IsEdge}
+use Rattle.std.proofs.Common.{◌≡◌, ◌≢◌, ◌+◌, ℕ, List, true, false, arith, rules, is_some, sym, ap, ◌∙◌, subst}
+use Rattle.graph_arena.specs.Graph.{Graph, IsEdge}
 use Rattle.cycle_break.specs.Ways.{edge_keys}
 use Rattle.cycle_break.specs.Reversed.{before}
 use Rattle.cycle_break.proofs.Keys.{edge_push}

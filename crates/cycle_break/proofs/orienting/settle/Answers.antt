@@ -1,4 +1,4 @@
-use Rattle.std.proofs.Common.{◌≡◌, ◌<◌, ◌+◌, ℕ, List, length, drop, get_or, Bool, true, false, rules, sym, ap, ◌∙◌, subst}
+use Rattle.std.proofs.Common.{◌<◌, ◌+◌, ℕ, List, length, drop, get_or, rules, sym, ap, ◌∙◌, subst}
 use Rattle.cycle_break.specs.Ways.{edge_keys}
 use Rattle.cycle_break.specs.Reversed.{Settled}
 use Rattle.cycle_break.proofs.Keys.{keys_rest, edge_push}

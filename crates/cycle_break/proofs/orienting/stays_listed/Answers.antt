@@ -1,4 +1,4 @@
-use Rattle.std.proofs.Common.{◌≡◌, ℕ, List, rules}
+use Rattle.std.proofs.Common.{rules}
 use Rattle.graph_arena.specs.Paths.{Reaches}
 use Rattle.cycle_break.specs.Ways.{Step, Leads, edge_keys}
 use Rattle.cycle_break.proofs.Reaching.{leads_reach}

@@ -1,5 +1,4 @@
-use Rattle.std.proofs.Common.{◌≡◌, ◌<◌, ℕ, length, take, get_or, is_some, IsSome, rules, sym, ap, ◌∙◌}
-use Rattle.graph_arena.specs.Graph.{ends_at}
+use Rattle.std.proofs.Common.{◌<◌, length, take, get_or, is_some, rules, ap, ◌∙◌}
 use Rattle.cycle_break.specs.Ways.{edge_keys}
 use Rattle.cycle_break.proofs.Keys.{keys_more}
 use Rattle.cycle_break.proofs.Turning.{key_new, key_there, turns_next}

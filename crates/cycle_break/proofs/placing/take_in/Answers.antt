@@ -1,4 +1,3 @@
-use Rattle.std.proofs.Common.{◌∙◌}
 use Rattle.cycle_break.proofs.Keys.{key_some}
 use Rattle.cycle_break.proofs.Reaching.{in_edge, first_in_live}
 use Rattle.cycle_break.proofs.placing.take_in.Goals as goal

@@ -1,5 +1,4 @@
-use Rattle.std.proofs.Common.{◌≡◌, ◌<◌, ℕ, List, Option, Some, None, arith, rules, sym, ap, ◌∙◌, subst}
-use Rattle.graph_arena.specs.Graph.{Graph}
+use Rattle.std.proofs.Common.{◌≡◌, ◌<◌, ℕ, List, Option, None, arith, rules, sym, ap, ◌∙◌, subst}
 use Rattle.cycle_break.specs.declared.searching.Via.{Via}
 use Rattle.cycle_break.specs.Ways.{Leads, edge_keys}
 use Rattle.cycle_break.specs.Search.{WayOn, IsLinked, reached_at}

@@ -1,9 +1,8 @@
-use Rattle.std.proofs.Common.{◌≡◌, ◌≢◌, ◌<◌, ◌+◌, ℕ, true, false, arith, length, set, count_by, get_or, Some, None, Option, IsSome, is_some, refl, sym, ap, ◌∙◌, subst, List, [], ◌∷◌, ◌++◌}
+use Rattle.std.proofs.Common.{◌≡◌, ◌+◌, ℕ, true, false, arith, length, set, count_by, Some, None, Option, IsSome, refl, sym, ap, ◌∙◌, subst, List, [], ◌∷◌, ◌++◌}
 use Rattle.std.specs.Option.{is_none}
-use Rattle.std.proofs.lemmas.List.{length-append}
-use Rattle.graph_arena.specs.Graph.{Graph, front, in_list}
+use Rattle.graph_arena.specs.Graph.{front, in_list}
 use Rattle.cycle_break.specs.declared.searching.Reached.{Reached}
-use Rattle.cycle_break.specs.Search.{IsReady, Searched, reached_at, place_of}
+use Rattle.cycle_break.specs.Search.{IsReady, Searched, reached_at}
 use Rattle.cycle_break.proofs.Keys.{key_some, key_none}
 use Rattle.cycle_break.proofs.Lists.{one_less}
 use Rattle.cycle_break.proofs.Reaching.{in_edge, first_in_live, ready_still, ready_more, search_keeps, search_reaches, searched_next, old_entry, longer}

@@ -1,5 +1,4 @@
-use Rattle.std.proofs.Common.{◌≡◌, ◌<◌, ℕ, List, length, arith, Option, Some, None, IsSome, is_some, rules, refl, sym, ap, ◌∙◌, subst}
-use Rattle.graph_arena.specs.Graph.{Graph}
+use Rattle.std.proofs.Common.{◌≡◌, ◌<◌, ℕ, List, length, arith, Some, None, IsSome, rules, sym, ap, ◌∙◌, subst}
 use Rattle.cycle_break.specs.Ways.{Leads, edge_keys}
 use Rattle.cycle_break.specs.Search.{place_of, reached_at, WayOn}
 use Rattle.cycle_break.specs.declared.searching.Reached.{Reached}

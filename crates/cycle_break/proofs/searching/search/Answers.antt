@@ -1,6 +1,4 @@
-use Rattle.std.proofs.Common.{◌≡◌, ◌≤◌, ◌<◌, ℕ, Some, None, arith, rules, length, refl, sym, ap, ◌∙◌, subst}
-use Rattle.cycle_break.specs.declared.searching.Reached.{Reached}
-use Rattle.cycle_break.specs.Search.{IsReady, Searched}
+use Rattle.std.proofs.Common.{◌≤◌, None, rules, length, refl}
 use Rattle.cycle_break.proofs.Reaching.{search_started, all_seen}
 use Rattle.cycle_break.proofs.searching.search.Goals as goal
 
