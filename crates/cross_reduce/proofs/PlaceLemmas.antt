@@ -27,8 +27,8 @@ notes_more old row i new all once h s =
       kept = λ u apart. get_or-set_other new at u i 0 (λ e. apart i (omega arith) (sym e)) ∙ s.kept u (λ j less. apart j (omega (arith, less)));
     }
 
-pub notes_start : (old row : List ℕ) → NotesFirst old row 0 old
-notes_start old row = record { as_long = refl; noted = λ i h. absurd (omega (arith, h)); kept = λ u h. refl }
+pub notes_start : (old us : List ℕ) → NotesFirst old us 0 old
+notes_start old us = record { as_long = refl; noted = λ i h. absurd (omega (arith, h)); kept = λ u h. refl }
 
 -- the places of the units of the first layers
 pub record PlacedBelow (l : Plain) (rows : List (List ℕ)) (r : ℕ) (place : List ℕ) : Type 0 where
