@@ -1,1 +1,2 @@
 pub mod TurningLaws
+pub mod FrameLaws

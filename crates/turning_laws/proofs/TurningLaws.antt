@@ -1,5 +1,5 @@
 -- The frame of a direction.
-use Rattle.std.proofs.Common.{◌≡◌, ◌⊎◌, ⊎_elim, ◌↔◌, ℤ, neg_ℤ, ◌+ℤ◌, inl, inr, refl, ap, arith}
+use Rattle.std.proofs.Common.{◌≡◌, ⊎_elim, ◌↔◌, ℤ, neg_ℤ, ◌+ℤ◌, inl, inr, refl, ap, arith}
 use Rattle.std.proofs.lemmas.Int.{ints, clamps}
 use Rattle.elk_doc.specs.declared.shape.Point.{Point}
 use Rattle.elk_doc.specs.declared.shape.Rect.{Rect}

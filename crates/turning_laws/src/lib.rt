@@ -3,4 +3,6 @@
 
 mod laws;
 
-pub use laws::{boxes_turn, routes_turn, sides_turn};
+pub use laws::{
+    boxes_turn, distances_turn, docks_turn, drawn_routes_turn, routes_turn, sides_turn, turns_back,
+};
