@@ -1,0 +1,5 @@
+pub mod Below
+pub mod RoundTripLaws
+pub mod ParallelLaws
+pub mod BoxLaws
+pub mod SplitLaws

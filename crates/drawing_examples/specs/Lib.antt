@@ -1,0 +1,4 @@
+pub mod RoundTrip
+pub mod SplitLevel
+pub mod BoxLevel
+pub mod ParallelEdges
