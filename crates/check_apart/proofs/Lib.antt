@@ -1,3 +1,4 @@
+pub mod BreakLaws
 pub mod ChildLaws
 pub mod NameLaws
 pub mod NumberingLaws

@@ -13,7 +13,7 @@ use Rattle.elk_doc.specs.Places.{outline_of}
 use Rattle.elk_doc.specs.Numbers.{count_below}
 use Rattle.elk_doc.specs.Shapes.{turned, point_rect}
 use Rattle.elk_doc.specs.Content.{EachShapeOf, IsLeftBy, IsAboveBy}
-use Rattle.elk_doc.specs.Apart.{InOnePart, LayersApart, PartsApart, BoxesApart}
+use Rattle.elk_doc.specs.Apart.{Apart, InOnePart, LayersApart, PartsApart, BoxesApart}
 use Rattle.drawing_faults.specs.declared.fault.Fault.{Fault}
 use Rattle.drawing_faults.specs.declared.fault.Place.TheVariants.{Node}
 use Rattle.drawing_faults.specs.Faults.{fault_at, lone_fault, FailsFirst, FailsFirstAt}
@@ -78,6 +78,11 @@ abbrev pub FirstApart : Document → Placed → ℕ → LevelOptions → Certifi
 FirstApart d p n o c x =
     FirstPart d n o c x ⊎ (((a : ℕ) → PartHolds d n o c a) × (FirstPair (LayersHold d p n o c) x ⊎ (((a b : ℕ) → LayersHold d p n o c a b) × (FirstPair (PartsHold d p n o c) x ⊎ (((a b : ℕ) → PartsHold d p n o c a b) × FirstPair (BoxesHold d p n o) x)))))
 
+-- a fault that is named breaks Apart
+abbrev pub FaultBreaksApart : Type 0
+FaultBreaksApart =
+    (d : Document) (p : Placed) (n : ℕ) (o : LevelOptions) (c : Certificate) (x : Fault) → FirstApart d p n o c x → Apart d p n o c → ⊥
+
 -- whether a node is a child that names its part, and the number of the part of this name: how many such names are lower
 abbrev pub is_leader : Document → ℕ → List ℕ → ℕ → Bool
 is_leader d n names v = is_child d n v && (name_of names v == v)
@@ -113,6 +118,10 @@ PartBeyond d p n o c across r j =
 abbrev pub PartsBeyond : Document → Placed → ℕ → LevelOptions → Certificate → Bool → ℕ → ℕ → Type 0
 PartsBeyond d p n o c across i j =
     EachShapeOf d p n (λ a. part_in d n c a ≡ i) (λ r. PartBeyond d p n o c across r j)
+
+-- all of part j lies right of all of part i, or below it
+abbrev pub PartsClear : Document → Placed → ℕ → LevelOptions → Certificate → ℕ → ℕ → Type 0
+PartsClear d p n o c i j = PartsBeyond d p n o c true i j ⊎ PartsBeyond d p n o c false i j
 
 -- what each child and each edge owes to a rectangle in front of part j
 abbrev pub OutlineBeyond : Document → Placed → ℕ → LevelOptions → Certificate → Bool → Rect → ℕ → ℕ → Type 0

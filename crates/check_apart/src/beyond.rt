@@ -8,7 +8,7 @@ ghost use Rattle.elk_doc.specs.Sound.{IsSound};
 ghost use Rattle.drawing_faults.specs.Faults.{IsFirst};
 ghost use Rattle.drawing_faults.specs.Shapes.{AreOutlines};
 ghost use Rattle.check_apart.specs.Names.{AreNames};
-ghost use Rattle.check_apart.specs.FirstApart.{AreParts, FirstPair, IsBeyond, IsLeastOfPart, OutlineBeyond, OutlineClear, PartBeyond, PartHolds, PartsBeyond, PartsHold, RouteBeyond, RouteClear, SectionBeyond, SectionClear};
+ghost use Rattle.check_apart.specs.FirstApart.{AreParts, FirstPair, IsBeyond, IsLeastOfPart, OutlineBeyond, OutlineClear, PartBeyond, PartHolds, PartsBeyond, PartsClear, PartsHold, RouteBeyond, RouteClear, SectionBeyond, SectionClear};
 
 use crate::distances::is_beyond;
 use crate::parts::is_leader;
@@ -482,6 +482,51 @@ fn is_part_beyond(
     )
 }
 
+// Whether one part lies left of another or above it.
+fn parts_clear(
+    doc: &Doc,
+    placed: &Placed,
+    outlines: &[Rect],
+    parts: &[u32],
+    node: u32,
+    options: &LevelOptions,
+    certificate: &Certificate,
+    i: u32,
+    j: u32,
+) -> bool
+    requires fits { Fits doc.now placed.now }
+    requires outlines { AreOutlines doc.now placed.now outlines.now }
+    requires parts { AreParts doc.now node certificate.now parts.now }
+    ensures { IsTrue result ↔ PartsClear doc.now placed.now node options.now certificate.now i j }
+{
+    if is_part_beyond(
+        doc,
+        placed,
+        outlines,
+        parts,
+        node,
+        options,
+        certificate,
+        true,
+        i,
+        j,
+    ) {
+        return true;
+    }
+    is_part_beyond(
+        doc,
+        placed,
+        outlines,
+        parts,
+        node,
+        options,
+        certificate,
+        false,
+        i,
+        j,
+    )
+}
+
 // Whether one of two parts lies left of the other or above it.
 fn parts_apart(
     doc: &Doc,
@@ -499,7 +544,7 @@ fn parts_apart(
     requires parts { AreParts doc.now node certificate.now parts.now }
     ensures { IsTrue result ↔ PartsApart doc.now placed.now node options.now certificate.now i j }
 {
-    if is_part_beyond(
+    if parts_clear(
         doc,
         placed,
         outlines,
@@ -507,13 +552,12 @@ fn parts_apart(
         node,
         options,
         certificate,
-        true,
         i,
         j,
     ) {
         return true;
     }
-    if is_part_beyond(
+    parts_clear(
         doc,
         placed,
         outlines,
@@ -521,35 +565,6 @@ fn parts_apart(
         node,
         options,
         certificate,
-        false,
-        i,
-        j,
-    ) {
-        return true;
-    }
-    if is_part_beyond(
-        doc,
-        placed,
-        outlines,
-        parts,
-        node,
-        options,
-        certificate,
-        true,
-        j,
-        i,
-    ) {
-        return true;
-    }
-    is_part_beyond(
-        doc,
-        placed,
-        outlines,
-        parts,
-        node,
-        options,
-        certificate,
-        false,
         j,
         i,
     )

@@ -5,8 +5,10 @@
 mod apart;
 mod beyond;
 mod distances;
+mod laws;
 mod names;
 mod pairs;
 mod parts;
 
 pub use apart::apart_fault;
+pub use laws::fault_breaks_apart;

@@ -10,7 +10,7 @@ use Rattle.elk_doc.specs.Drawing.{box_of, points_of, section_of}
 use Rattle.elk_doc.specs.Level.{IsChild, IsEdge}
 use Rattle.elk_doc.specs.Places.{outline_of}
 use Rattle.elk_doc.specs.Shapes.{point_rect}
-use Rattle.elk_doc.specs.Inside.{IsWithinPadding}
+use Rattle.elk_doc.specs.Inside.{Inside, IsWithinPadding}
 use Rattle.drawing_faults.specs.declared.fault.Fault.{Fault}
 use Rattle.drawing_faults.specs.declared.fault.Place.TheVariants.{Node, Edge}
 use Rattle.drawing_faults.specs.Faults.{lone_fault, FailsFirst}
@@ -31,3 +31,8 @@ PointsHold d p n o e = IsEdge d n e → PointsWithin (section_of p e) (box_of p 
 abbrev pub FirstInside : Document → Placed → ℕ → LevelOptions → Fault → Type 0
 FirstInside d p n o x =
     ((a : ℕ) × (x ≡ lone_fault (Node a)) × FailsFirst (OutlineHolds d p n o) a) ⊎ (((a : ℕ) → OutlineHolds d p n o a) × ((e : ℕ) × (x ≡ lone_fault (Edge e)) × FailsFirst (PointsHold d p n o) e))
+
+-- a fault that is named breaks Inside
+abbrev pub FaultBreaksInside : Type 0
+FaultBreaksInside =
+    (d : Document) (p : Placed) (n : ℕ) (o : LevelOptions) (x : Fault) → FirstInside d p n o x → Inside d p n o → ⊥

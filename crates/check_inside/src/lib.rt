@@ -2,5 +2,7 @@
 #![tactic(auto)]
 
 mod inside;
+mod laws;
 
 pub use inside::inside_fault;
+pub use laws::fault_breaks_inside;

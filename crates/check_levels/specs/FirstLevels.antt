@@ -3,8 +3,8 @@ use Rattle.std.specs.Prelude.{◌≡◌, ◌≢◌, ◌⊎◌, ℕ, ◌+◌, ◌
 use Rattle.elk_doc.specs.declared.drawing.Certificate.{Certificate}
 use Rattle.elk_doc.specs.declared.drawing.Placed.{Placed}
 use Rattle.elk_doc.specs.Document.{Document}
-use Rattle.elk_doc.specs.Level.{IsChild, IsEdge, is_edge_of, is_loop, source_node, target_node}
-use Rattle.elk_doc.specs.Drawing.{head_node, tail_node, flow_in, layer_in}
+use Rattle.elk_doc.specs.Level.{IsChild, IsEdge, is_edge_of, is_loop, place_of_child, source_node, target_node}
+use Rattle.elk_doc.specs.Drawing.{head_node, tail_node, flow_in, layer_in, part_in}
 use Rattle.elk_doc.specs.Numbers.{sum_below}
 use Rattle.elk_doc.specs.Paths.{Reaches}
 use Rattle.elk_doc.specs.Reversed.{UnlistedStep}
@@ -75,10 +75,17 @@ abbrev pub IsBalanced : Document → Placed → ℕ → Certificate → ℕ → 
 IsBalanced d p n c a =
     IsChild d n a → sum_below (enters_child d p n a) (flow_in d n c) (length d.edges) + sum_below (leaves_child d p n a) (weight_at d) (length d.edges) ≡ sum_below (leaves_child d p n a) (flow_in d n c) (length d.edges) + sum_below (enters_child d p n a) (weight_at d) (length d.edges)
 
--- the written layers of all nodes and the written flow of all edges, as those of a level, the oriented edges' ends, and
--- the edges' weights
+-- the numbers of a list that has one for each child of n, by node
+abbrev pub AreByChild : Document → ℕ → List ℕ → List ℕ → Type 0
+AreByChild d n values xs = Lists (λ child. slice_index values (place_of_child d n child)) (length d.nodes) xs
+
+-- the written layers and parts of all nodes and the written flow of all edges, as those of a level, the oriented edges'
+-- ends, and the edges' weights
 abbrev pub AreLayers : Document → ℕ → Certificate → List ℕ → Type 0
 AreLayers d n c xs = Lists (layer_in d n c) (length d.nodes) xs
+
+abbrev pub AreParts : Document → ℕ → Certificate → List ℕ → Type 0
+AreParts d n c xs = Lists (part_in d n c) (length d.nodes) xs
 
 abbrev pub AreFlows : Document → ℕ → Certificate → List ℕ → Type 0
 AreFlows d n c xs = Lists (flow_in d n c) (length d.edges) xs

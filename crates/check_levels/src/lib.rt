@@ -10,5 +10,5 @@ mod reversed;
 
 pub use flow::flow_fault;
 pub use layering::layering_fault;
-pub use lists::{flows, heads, layers, tails, weights};
+pub use lists::{flows, heads, layers, parts, tails, weights};
 pub use reversed::reversed_fault;

@@ -1,7 +1,7 @@
 //! What a drawing and a level's certificate have at each node or edge, each computed once.
 ghost use Rattle.std.specs.Prelude.{◌≡◌, ◌<◌, IfOk, length, slice_index};
 ghost use Rattle.elk_doc.specs.Fits.{Fits};
-ghost use Rattle.check_levels.specs.FirstLevels.{AreFlows, AreHeads, AreLayers, AreTails, AreWeights};
+ghost use Rattle.check_levels.specs.FirstLevels.{AreByChild, AreFlows, AreHeads, AreLayers, AreParts, AreTails, AreWeights};
 
 use drawing_faults::{head_node, is_child, is_edge_of, tail_node};
 use elk_doc::document::Doc;
@@ -64,6 +64,21 @@ fn flow_at(values: &[u64], place: usize) -> u64
     }
 }
 
+// The numbers of a list that has one for each child of a node, by node: at a child its own.
+fn by_child(alloc: Global, doc: &Doc, node: u32, values: &[u32]) -> Result<Vec<u32>, AllocError>
+    ensures { IfOk result (λ numbers. AreByChild doc.now node values.now numbers.items) }
+{
+    let mut numbers = Vec::new(alloc);
+    let mut place = 0;
+    for child in 0..doc.nodes().len() {
+        numbers.push(number_at(values, place))?;
+        if is_child(doc, node, child as u32) {
+            place += 1;
+        }
+    }
+    Ok(numbers)
+}
+
 /// The written layers, by node: at a child of the node its layer.
 pub fn layers(
     alloc: Global,
@@ -73,15 +88,19 @@ pub fn layers(
 ) -> Result<Vec<u32>, AllocError>
     ensures { IfOk result (λ layers. AreLayers doc.now node certificate.now layers.items) }
 {
-    let mut layers = Vec::new(alloc);
-    let mut place = 0;
-    for child in 0..doc.nodes().len() {
-        layers.push(number_at(certificate.layers.as_slice(), place))?;
-        if is_child(doc, node, child as u32) {
-            place += 1;
-        }
-    }
-    Ok(layers)
+    by_child(alloc, doc, node, certificate.layers.as_slice())
+}
+
+/// The written parts, by node: at a child of the node the number of its part.
+pub fn parts(
+    alloc: Global,
+    doc: &Doc,
+    node: u32,
+    certificate: &Certificate,
+) -> Result<Vec<u32>, AllocError>
+    ensures { IfOk result (λ parts. AreParts doc.now node certificate.now parts.items) }
+{
+    by_child(alloc, doc, node, certificate.parts.as_slice())
 }
 
 /// The written flow, by edge: at an edge of the node's level its flow.

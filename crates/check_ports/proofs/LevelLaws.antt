@@ -22,11 +22,11 @@ parent_number None n h = absurd cc
 parent_number (Some m) n h = eqb-true m n h
 
 -- an end at a child of n is one of an edge of n's level; no end stands at the root
-below_root : (d : Document) (e : ℕ) (t : Bool) → IsSound d → e < length d.edges → 0 < end_node d e t
+pub below_root : (d : Document) (e : ℕ) (t : Bool) → IsSound d → e < length d.edges → 0 < end_node d e t
 below_root d e true sound l = (sound.edges e l).source_below
 below_root d e false sound l = (sound.edges e l).target_below
 
-level_at_end : (d : Document) (e : ℕ) (t : Bool) → IsSound d → e < length d.edges → level_of_edge d e ≡ parent_of d (end_node d e t)
+pub level_at_end : (d : Document) (e : ℕ) (t : Bool) → IsSound d → e < length d.edges → level_of_edge d e ≡ parent_of d (end_node d e t)
 level_at_end d e true sound l = refl
 level_at_end d e false sound l = (sound.edges e l).siblings
 

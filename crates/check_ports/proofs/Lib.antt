@@ -1,2 +1,3 @@
 pub mod SpotLaws
 pub mod LevelLaws
+pub mod BreakLaws

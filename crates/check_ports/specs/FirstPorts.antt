@@ -8,7 +8,8 @@ use Rattle.elk_doc.specs.Document.{Document, node_at, node_of_port}
 use Rattle.elk_doc.specs.Drawing.{box_of}
 use Rattle.elk_doc.specs.Level.{IsChild, IsEdge}
 use Rattle.elk_doc.specs.Sides.{side_of_port, end_of}
-use Rattle.elk_doc.specs.PortsKept.{KeepsPort, KeepsEnd, ComesBefore, clockwise, port_offset, side_length, Spot, a_port, an_end, IsSpread, spread_count, spot_offset}
+use Rattle.elk_doc.specs.Sound.{IsSound}
+use Rattle.elk_doc.specs.PortsKept.{KeepsPort, KeepsEnd, ComesBefore, clockwise, port_offset, side_length, Spot, a_port, an_end, IsSpread, spread_count, spot_offset, PortsKept}
 use Rattle.drawing_faults.specs.declared.fault.Fault.{Fault}
 use Rattle.drawing_faults.specs.declared.fault.Place.TheVariants.{Port, Edge}
 use Rattle.drawing_faults.specs.Faults.{lone_fault, FailsFirst}
@@ -80,3 +81,8 @@ EndsHold d p n e =
 abbrev pub FirstPorts : Document → Placed → ℕ → Fault → Type 0
 FirstPorts d p n x =
     ((k : ℕ) × (x ≡ lone_fault (Port k)) × FailsFirst (PortHolds d p n) k) ⊎ (((k : ℕ) → PortHolds d p n k) × ((e : ℕ) × (x ≡ lone_fault (Edge e)) × FailsFirst (EndsHold d p n) e))
+
+-- a fault that is named breaks PortsKept
+abbrev pub FaultBreaksPorts : Type 0
+FaultBreaksPorts =
+    (d : Document) (p : Placed) (n : ℕ) (x : Fault) → IsSound d → FirstPorts d p n x → PortsKept d p n → ⊥

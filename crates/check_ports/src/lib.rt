@@ -3,9 +3,11 @@
 
 mod ends;
 mod kept;
+mod laws;
 mod order;
 mod ports;
 mod sides;
 mod spots;
 
 pub use kept::ports_fault;
+pub use laws::fault_breaks_ports;

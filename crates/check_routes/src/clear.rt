@@ -4,6 +4,7 @@ ghost use Rattle.elk_doc.specs.Clear.{Clear};
 ghost use Rattle.elk_doc.specs.Drawing.{section_of};
 ghost use Rattle.elk_doc.specs.Fits.{Fits};
 ghost use Rattle.elk_doc.specs.Level.{IsEdge, source_node, target_node};
+ghost use Rattle.elk_doc.specs.Places.{outline_of};
 ghost use Rattle.elk_doc.specs.Route.{Route};
 ghost use Rattle.drawing_faults.specs.Faults.{IsFirst};
 ghost use Rattle.drawing_faults.specs.Shapes.{AreOutlines};
@@ -55,6 +56,21 @@ fn is_end_node(doc: &Doc, edge: u32, node: u32) -> bool
     node_of(doc, doc.edge(edge).target) == node
 }
 
+// Whether the route of an edge keeps off the outline of a node.
+fn keeps_off_outline(doc: &Doc, placed: &Placed, outlines: &[Rect], edge: u32, child: u32) -> bool
+    requires edge_in { edge < length doc.now.edges }
+    requires child_in { child < length doc.now.nodes }
+    requires fits { Fits doc.now placed.now }
+    requires outlines { AreOutlines doc.now placed.now outlines.now }
+    requires parallel { AreParallel (section_of placed.now edge) }
+    ensures { IsTrue result ↔ KeepsOff (section_of placed.now edge) (outline_of doc.now placed.now child) }
+{
+    keeps_off(
+        placed.section(edge),
+        outline_at(doc, placed, outlines, child),
+    )
+}
+
 // Whether a route keeps out of a child: of its outline, and of the box of an end node.
 fn is_clear(doc: &Doc, placed: &Placed, outlines: &[Rect], edge: u32, child: u32) -> bool
     requires edge_in { edge < length doc.now.edges }
@@ -64,11 +80,10 @@ fn is_clear(doc: &Doc, placed: &Placed, outlines: &[Rect], edge: u32, child: u32
     requires parallel { AreParallel (section_of placed.now edge) }
     ensures { IsTrue result ↔ Clear doc.now placed.now edge child }
 {
-    let section = placed.section(edge);
     if is_end_node(doc, edge, child) {
-        keeps_out(section, placed.box_of(child))
+        keeps_out(placed.section(edge), placed.box_of(child))
     } else {
-        keeps_off(section, outline_at(doc, placed, outlines, child))
+        keeps_off_outline(doc, placed, outlines, edge, child)
     }
 }
 

@@ -1,17 +1,18 @@
 //! Orthogonal routes that leave both docks outward.
-ghost use Rattle.std.specs.Prelude.{◌≡◌, ◌↔◌, ℕ, ◌<◌, IsTrue, MatchOption, length};
+ghost use Rattle.std.specs.Prelude.{◌≡◌, ◌↔◌, ℕ, ◌<◌, IsTrue, MatchOption, false, length, true};
 ghost use Rattle.elk_doc.specs.Fits.{Fits};
 ghost use Rattle.elk_doc.specs.Route.{IsOrthogonal, IsPointLoop, IsStep, IsTurn, LeavesOutward, Route};
 ghost use Rattle.drawing_faults.specs.Faults.{IsFirst};
+ghost use Rattle.drawing_faults.specs.Shapes.{AreDocks, AreSides};
 ghost use Rattle.check_routes.specs.FirstRoutes.{FirstRoute, IsAnchored, LeavesBoth, RouteHolds};
 ghost use Rattle.check_routes.specs.Stretches.{AreSteps, AreTurns};
 
-use drawing_faults::{Fault, Place, is_edge_of, is_loop, point_at, point_count};
+use drawing_faults::{
+    Fault, Place, anchor_at, dock_of, is_edge_of, is_loop, point_at, point_count,
+};
 use elk_doc::document::Doc;
 use elk_doc::drawing::{Placed, Section};
-use elk_doc::places::{anchor, dock_at};
-use elk_doc::shape::{Point, Side};
-use elk_doc::sides::side_of_end;
+use elk_doc::shape::{Dock, Point, Side};
 
 // Whether two points differ in exactly one coordinate.
 fn is_step(a: Point, b: Point) -> bool
@@ -75,18 +76,20 @@ fn are_turns(section: &Section) -> bool
 }
 
 // Whether the route leaves its source outward, and its target, seen from the end.
-fn is_outward(doc: &Doc, placed: &Placed, edge: u32) -> bool
+fn is_outward(doc: &Doc, placed: &Placed, sources: &[Dock], targets: &[Dock], edge: u32) -> bool
     requires edge_in { edge < length doc.now.edges }
     requires fits { Fits doc.now placed.now }
+    requires sources { AreDocks doc.now placed.now true sources.now }
+    requires targets { AreDocks doc.now placed.now false targets.now }
     ensures { IsTrue result ↔ LeavesBoth doc.now placed.now edge }
 {
     let section = placed.section(edge);
     let count = point_count(section);
-    let from = side_of_end(doc, placed, edge, true);
+    let from = dock_of(doc, placed, sources, edge, true).side;
     if !leaves_outward(from, point_at(section, 0), point_at(section, 1)) {
         return false;
     }
-    let to = side_of_end(doc, placed, edge, false);
+    let to = dock_of(doc, placed, targets, edge, false).side;
     leaves_outward(
         to,
         point_at(section, count - 1),
@@ -95,9 +98,11 @@ fn is_outward(doc: &Doc, placed: &Placed, edge: u32) -> bool
 }
 
 // Whether the route consists of steps that turn, and leaves both ends outward.
-fn is_orthogonal(doc: &Doc, placed: &Placed, edge: u32) -> bool
+fn is_orthogonal(doc: &Doc, placed: &Placed, sources: &[Dock], targets: &[Dock], edge: u32) -> bool
     requires edge_in { edge < length doc.now.edges }
     requires fits { Fits doc.now placed.now }
+    requires sources { AreDocks doc.now placed.now true sources.now }
+    requires targets { AreDocks doc.now placed.now false targets.now }
     ensures { IsTrue result ↔ IsOrthogonal doc.now placed.now edge }
 {
     let section = placed.section(edge);
@@ -107,68 +112,103 @@ fn is_orthogonal(doc: &Doc, placed: &Placed, edge: u32) -> bool
     if !are_turns(section) {
         return false;
     }
-    is_outward(doc, placed, edge)
+    is_outward(doc, placed, sources, targets, edge)
 }
 
 // Whether an edge is a self-loop at one single dock.
-fn is_point_loop(doc: &Doc, placed: &Placed, edge: u32) -> bool
+fn is_point_loop(doc: &Doc, placed: &Placed, sources: &[Dock], targets: &[Dock], edge: u32) -> bool
     requires edge_in { edge < length doc.now.edges }
     requires fits { Fits doc.now placed.now }
+    requires sources { AreDocks doc.now placed.now true sources.now }
+    requires targets { AreDocks doc.now placed.now false targets.now }
     ensures { IsTrue result ↔ IsPointLoop doc.now placed.now edge }
 {
     if !is_loop(doc, edge) {
         return false;
     }
-    dock_at(doc, placed, edge, true) == dock_at(doc, placed, edge, false)
+    let source = dock_of(doc, placed, sources, edge, true);
+    source == dock_of(doc, placed, targets, edge, false)
 }
 
 // Whether the route begins and ends at its anchors.
-fn is_anchored(doc: &Doc, placed: &Placed, edge: u32) -> bool
+fn is_anchored(doc: &Doc, placed: &Placed, sides: &[Side], edge: u32) -> bool
     requires edge_in { edge < length doc.now.edges }
     requires fits { Fits doc.now placed.now }
+    requires sides { AreSides doc.now placed.now sides.now }
     ensures { IsTrue result ↔ IsAnchored doc.now placed.now edge }
 {
     let section = placed.section(edge);
-    if section.start != anchor(doc, placed, edge, true) {
+    if section.start != anchor_at(doc, placed, sides, edge, true) {
         return false;
     }
-    section.end == anchor(doc, placed, edge, false)
+    section.end == anchor_at(doc, placed, sides, edge, false)
 }
 
 // Whether a route leads from anchor to anchor as its docks ask.
-fn is_route(doc: &Doc, placed: &Placed, edge: u32) -> bool
+fn is_route(
+    doc: &Doc,
+    placed: &Placed,
+    sides: &[Side],
+    sources: &[Dock],
+    targets: &[Dock],
+    edge: u32,
+) -> bool
     requires edge_in { edge < length doc.now.edges }
     requires fits { Fits doc.now placed.now }
+    requires sides { AreSides doc.now placed.now sides.now }
+    requires sources { AreDocks doc.now placed.now true sources.now }
+    requires targets { AreDocks doc.now placed.now false targets.now }
     ensures { IsTrue result ↔ Route doc.now placed.now edge }
 {
-    if !is_anchored(doc, placed, edge) {
+    if !is_anchored(doc, placed, sides, edge) {
         return false;
     }
-    if is_point_loop(doc, placed, edge) {
+    if is_point_loop(doc, placed, sources, targets, edge) {
         return placed.section(edge).bends.as_slice().is_empty();
     }
-    is_orthogonal(doc, placed, edge)
+    is_orthogonal(doc, placed, sources, targets, edge)
 }
 
 // Whether an edge, if it belongs to the level of the node, has a good route.
-fn route_holds(doc: &Doc, placed: &Placed, node: u32, edge: u32) -> bool
+fn route_holds(
+    doc: &Doc,
+    placed: &Placed,
+    sides: &[Side],
+    sources: &[Dock],
+    targets: &[Dock],
+    node: u32,
+    edge: u32,
+) -> bool
     requires edge_in { edge < length doc.now.edges }
     requires fits { Fits doc.now placed.now }
+    requires sides { AreSides doc.now placed.now sides.now }
+    requires sources { AreDocks doc.now placed.now true sources.now }
+    requires targets { AreDocks doc.now placed.now false targets.now }
     ensures { IsTrue result ↔ RouteHolds doc.now placed.now node edge }
 {
     if !is_edge_of(doc, node, edge) {
         return true;
     }
-    is_route(doc, placed, edge)
+    is_route(doc, placed, sides, sources, targets, edge)
 }
 
 // The first edge of the level whose route fails.
-fn first_route(doc: &Doc, placed: &Placed, node: u32) -> Option<u32>
-    requires { Fits doc.now placed.now }
+fn first_route(
+    doc: &Doc,
+    placed: &Placed,
+    sides: &[Side],
+    sources: &[Dock],
+    targets: &[Dock],
+    node: u32,
+) -> Option<u32>
+    requires fits { Fits doc.now placed.now }
+    requires sides { AreSides doc.now placed.now sides.now }
+    requires sources { AreDocks doc.now placed.now true sources.now }
+    requires targets { AreDocks doc.now placed.now false targets.now }
     ensures { IsFirst (RouteHolds doc.now placed.now node) result }
 {
     for edge in 0..doc.edges().len() {
-        if !route_holds(doc, placed, node, edge as u32) {
+        if !route_holds(doc, placed, sides, sources, targets, node, edge as u32) {
             return Some(edge as u32);
         }
     }
@@ -176,13 +216,24 @@ fn first_route(doc: &Doc, placed: &Placed, node: u32) -> Option<u32>
 }
 
 /// The first edge of a node's level whose route does not lead orthogonally from anchor to anchor, outward from both docks.
-pub fn route_fault(doc: &Doc, placed: &Placed, node: u32) -> Option<Fault>
-    requires { Fits doc.now placed.now }
+/// The sides are those of all ports, the docks those of all edges at their sources and at their targets.
+pub fn route_fault(
+    doc: &Doc,
+    placed: &Placed,
+    sides: &[Side],
+    sources: &[Dock],
+    targets: &[Dock],
+    node: u32,
+) -> Option<Fault>
+    requires fits { Fits doc.now placed.now }
+    requires sides { AreSides doc.now placed.now sides.now }
+    requires sources { AreDocks doc.now placed.now true sources.now }
+    requires targets { AreDocks doc.now placed.now false targets.now }
     ensures { MatchOption result
         ((e : ℕ) → RouteHolds doc.now placed.now node e)
         (FirstRoute doc.now placed.now node) }
 {
-    match first_route(doc, placed, node) {
+    match first_route(doc, placed, sides, sources, targets, node) {
         Some(edge) => Some(Fault::lone(Place::Edge(edge))),
         None => None,
     }

@@ -1,12 +1,16 @@
 -- Lists of what a drawing has at each node, port or edge.
-use Rattle.std.specs.Prelude.{◌≡◌, ℕ, ◌<◌, Bool, List, length, slice_index_or}
+use Rattle.std.specs.Prelude.{◌≡◌, ℕ, ◌<◌, Bool, true, false, not, ◌&&◌, List, length, slice_index_or}
 use Rattle.elk_doc.specs.declared.shape.Rect.{Rect}
 use Rattle.elk_doc.specs.declared.shape.Side.{Side}
 use Rattle.elk_doc.specs.declared.shape.Dock.{Dock}
+use Rattle.elk_doc.specs.declared.document.End.{End}
 use Rattle.elk_doc.specs.declared.drawing.Placed.{Placed}
 use Rattle.elk_doc.specs.Document.{Document}
+use Rattle.elk_doc.specs.Drawing.{is_listed, head_end, tail_end}
+use Rattle.elk_doc.specs.Level.{is_loop}
+use Rattle.elk_doc.specs.Numbers.{any_below}
 use Rattle.elk_doc.specs.Places.{outline_of, dock_of}
-use Rattle.elk_doc.specs.Sides.{side_of_port}
+use Rattle.elk_doc.specs.Sides.{side_of_port, is_at_port}
 
 -- the list has the values of f at the numbers below n
 pub record Lists {T : Type 0} (f : ℕ → T) (n : ℕ) (xs : List T) : Type 0 where
@@ -22,3 +26,23 @@ AreSides d p sides = Lists (side_of_port d p) (length d.ports) sides
 
 abbrev pub AreDocks : Document → Placed → Bool → List Dock → Type 0
 AreDocks d p at_source docks = Lists (λ e. dock_of d p e at_source) (length d.edges) docks
+
+-- whether each edge is written as reversed
+abbrev pub AreListed : Document → Placed → List Bool → Type 0
+AreListed d p listed = Lists (is_listed d p) (length d.edges) listed
+
+-- the end at which an oriented edge enters, or at which it leaves
+abbrev pub oriented_end : Document → Placed → Bool → ℕ → End
+oriented_end d p true e = head_end d p e
+oriented_end d p false e = tail_end d p e
+
+-- whether the oriented edge e, which is no self-loop, enters the port k, or leaves it
+abbrev pub touches : Document → Placed → Bool → ℕ → ℕ → Bool
+touches d p at_head k e = is_at_port (oriented_end d p at_head e) k && not (is_loop d e)
+
+-- for each port, whether an edge below m enters it, or leaves it, and whether some edge does
+abbrev pub AreTouchedBelow : Document → Placed → Bool → ℕ → List Bool → Type 0
+AreTouchedBelow d p at_head m marks = Lists (λ k. any_below (touches d p at_head k) m) (length d.ports) marks
+
+abbrev pub AreTouched : Document → Placed → Bool → List Bool → Type 0
+AreTouched d p at_head marks = AreTouchedBelow d p at_head (length d.edges) marks

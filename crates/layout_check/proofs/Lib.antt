@@ -1,0 +1,3 @@
+pub mod BreakLaws
+pub mod DrawnLaws
+mod ExampleLaws

@@ -1,0 +1,10 @@
+use Rattle.std.proofs.lemmas.Result.{IfOk-weaker}
+use Rattle.layout_check.specs.declared.definition.Definition.TheVariants.{Reversed}
+use Rattle.layout_check.proofs.BreakLaws.{judged}
+use Rattle.layout_check.proofs.judge.reversed.Goals as goal
+
+pub returns : goal.returns
+returns c =
+    IfOk-weaker c.reversed_fault.result _ _
+    (λ fault found. judged Reversed c.args.doc.now c.args._placed.now c.args.node c.args._options.now c.args.certificate.now fault c.requires.sound found)
+    c.reversed_fault.ensures

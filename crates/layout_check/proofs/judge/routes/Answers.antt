@@ -1,0 +1,7 @@
+use Rattle.layout_check.specs.declared.definition.Definition.TheVariants.{Route}
+use Rattle.layout_check.proofs.BreakLaws.{judged}
+use Rattle.layout_check.proofs.judge.routes.Goals as goal
+
+pub returns : goal.returns
+returns c =
+    judged Route c.args.doc.now c.args.placed.now c.args.node c.args._options.now c.args._certificate.now _ c.requires.sound c.route_fault.ensures

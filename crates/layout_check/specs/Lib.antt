@@ -1,0 +1,4 @@
+pub mod Definitions
+pub mod Example
+pub mod Judged
+pub mod Verdicts

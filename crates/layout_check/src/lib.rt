@@ -1,0 +1,14 @@
+//! Whether a drawing obeys its document: yes, or the first definition of a good drawing that fails, and where.
+#![tactic(auto)]
+
+mod definition;
+mod judge;
+mod levels;
+mod shapes;
+#[cfg(test)]
+mod tests;
+mod verdict;
+
+pub use definition::Definition;
+pub use drawing_faults::Place;
+pub use verdict::{Verdict, check};
