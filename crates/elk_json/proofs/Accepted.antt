@@ -1,6 +1,6 @@
 -- The document of a list of elements that no rule refuses: its nodes by their places.
-use Rattle.std.proofs.Common.{◌≡◌, ℕ, zero, suc, ◌+◌, ◌<◌, ◌≤◌, ◌⊎◌, ⊎_elim, inl, inr, List, [], ◌∷◌, length, take, map, Bool, true, false, not, ◌&&◌, ◌||◌, Option, Some, None, refl, ap, sym, subst, ◌∙◌, arith, rules}
-use Rattle.std.specs.Prelude.{filter, slice_get, slice_index_or, option_map, unwrap_or, is_some, is_none, IsSome, IsNone, IsTrue, ◌==◌}
+use Rattle.std.proofs.Common.{◌≡◌, ℕ, zero, suc, ◌<◌, ◌≤◌, ⊎_elim, inl, inr, List, [], ◌∷◌, length, map, Bool, true, false, not, ◌&&◌, ◌||◌, Option, Some, None, refl, ap, sym, subst, ◌∙◌, arith, rules}
+use Rattle.std.specs.Prelude.{filter, slice_get, slice_index_or, option_map, unwrap_or, is_some, IsSome, IsNone, IsTrue}
 use Rattle.std.proofs.lemmas.Bool.{cases_eq, cases_Bool, eq-eqb}
 use Rattle.std.proofs.lemmas.List.{length-map}
 use Rattle.std.proofs.lemmas.Option.{slice_get-map, slice_get_within, slice_get-get_or, get_or_from_slice_get}
@@ -9,13 +9,12 @@ use Rattle.elk_doc.specs.declared.document.Node.{Node}
 use Rattle.elk_doc.specs.Document.{Document, document, no_node, node_at, parent_of}
 use Rattle.elk_doc.specs.Level.{is_child, is_number}
 use Rattle.elk_doc.specs.Sound.{IsTree, HasParent, ancestor}
-use Rattle.elk_options.specs.Reading.{level_of}
 use Rattle.elk_json.specs.declared.elements.Kind.TheVariants as kinds
 use Rattle.elk_json.specs.Elements.{Element}
-use Rattle.elk_json.specs.Members.{is_node, is_compound, has_children, options_at, options_data}
+use Rattle.elk_json.specs.Members.{is_node, is_compound, has_children}
 use Rattle.elk_json.specs.Document.{node_of, number_at, nodes_of, ports_of, edges_of}
-use Rattle.elk_json.proofs.Places.{number, IsAt, at_place, at_number, number_rises, number_less, place_less}
-use Rattle.elk_json.proofs.Tree.{IsRooted, IsPlaced, HasChild, Climbs}
+use Rattle.elk_json.proofs.Places.{number, at_place, at_number, number_rises, number_less, place_less}
+use Rattle.elk_json.proofs.Tree.{IsRooted, IsPlaced, Climbs}
 use Rattle.elk_json.proofs.NodeLaws.{compound_level, leaf_level, not_some}
 
 abbrev pub doc_of : List Element → Document

@@ -1,9 +1,8 @@
 -- What the rules that do not hold say where a document is built.
-use Rattle.std.proofs.Common.{◌≡◌, ℕ, suc, ◌+◌, ◌<◌, ◌≤◌, ◌^◌, ℤ, pos, neg_ℤ, List, [], ◌∷◌, length, take, get_or, Bool, true, false, cond, T, Option, Some, None, refl, ap, sym, subst, ◌∙◌, arith}
+use Rattle.std.proofs.Common.{◌≡◌, ℕ, suc, ◌+◌, ◌<◌, ◌≤◌, ◌^◌, ℤ, pos, neg_ℤ, List, [], ◌∷◌, length, get_or, Bool, true, false, cond, T, Option, Some, None, refl, ap, sym, subst, ◌∙◌, arith}
 use Rattle.std.specs.Prelude.{slice_get, find, filter, option_map, codes}
 use Rattle.std.proofs.lemmas.Bool.{and_from}
 use Rattle.std.proofs.lemmas.Int.{ints}
-use Rattle.std.proofs.lemmas.List.{take-map}
 use Rattle.serde_json.specs.Data.{Data}
 use Rattle.elk_doc.specs.Sound.{IsWithin, IsLength}
 use Rattle.std.proofs.lemmas.Option.{slice_get-map, slice_get_read}
@@ -34,13 +33,6 @@ seen_at es i e h is = slice_get-map seen es i ∙ ap (option_map seen) (slice_ge
 -- what no element of a list passes, the element that is read does not pass
 pub none_read : (test : spec.Element → Bool) (es : List Element) (i : ℕ) (e : Element) → find test (seen_list es) ≡ None → i < length es → e ≡ get_or es i e → test (seen e) ≡ false
 none_read test es i e none h is = none_found test (seen_list es) i (seen e) none (seen_at es i e h is)
-
-pub seen_take : (es : List Element) (n : ℕ) → seen_list (take n es) ≡ take n (seen_list es)
-seen_take es n = sym (take-map seen n es)
-
--- numbers before a place, by the elements before it
-pub number_front : (test : spec.Element → Bool) (es front : List Element) (n : ℕ) → front ≡ take n es → length (filter test (seen_list front)) ≡ length (filter test (take n (seen_list es)))
-number_front test es front n e = ap (λ xs. length (filter test xs)) (ap seen_list e ∙ seen_take es n)
 
 true_of : (b : Bool) → T b → b ≡ true
 true_of true h = refl

@@ -1,29 +1,28 @@
 -- The ends of edges that no rule refuses.
-use Rattle.std.proofs.Common.{◌≡◌, ◌≢◌, ℕ, zero, suc, ◌+◌, ◌<◌, ◌≤◌, ◌⊎◌, ⊎_elim, inl, inr, List, [], ◌∷◌, length, Bool, true, false, not, ◌&&◌, ◌||◌, ◌==◌, Option, Some, None, if◌then◌else◌, refl, ap, sym, subst, ◌∙◌, arith, rules}
-use Rattle.std.specs.Prelude.{slice_get, option_map, option_and_then, unwrap_or, is_some, nat_eq, codes, map, filter}
+use Rattle.std.proofs.Common.{◌≡◌, ℕ, zero, suc, ◌+◌, ◌<◌, ◌⊎◌, ⊎_elim, inl, inr, List, [], ◌∷◌, length, Bool, true, false, not, ◌&&◌, ◌||◌, ◌==◌, Option, Some, None, if◌then◌else◌, refl, ap, sym, subst, ◌∙◌, arith}
+use Rattle.std.specs.Prelude.{slice_get, option_map, option_and_then, unwrap_or, is_some, nat_eq, codes, filter}
 use Rattle.std.specs.Option.{option_map_or, option_eq}
-use Rattle.std.specs.List.{list_all, list_any}
-use Rattle.std.proofs.lemmas.Bool.{cases_Bool, and_parts, and_cases, eqb-true, eqb-false, eq-eqb, not-false, not-true, ltb-true}
+use Rattle.std.specs.List.{list_all}
+use Rattle.std.proofs.lemmas.Bool.{cases_Bool, and_parts, not-false, not-true}
 use Rattle.std.proofs.lemmas.List.{length-map}
-use Rattle.std.proofs.lemmas.Option.{same_Some, none-some, slice_get_within}
+use Rattle.std.proofs.lemmas.Option.{same_Some, none-some}
 use Rattle.serde_json.specs.Data.{Data}
 use Rattle.serde_json.specs.Find.{get}
-use Rattle.elk_doc.specs.declared.document.End.{End}
 use Rattle.elk_doc.specs.declared.document.End.TheVariants as end
 use Rattle.elk_doc.specs.declared.document.Port.{Port}
-use Rattle.elk_doc.specs.Document.{Document, no_port, port_at, parent_of}
+use Rattle.elk_doc.specs.Document.{no_port, port_at}
 use Rattle.elk_doc.specs.Level.{node_of_end}
 use Rattle.elk_doc.specs.Sound.{IsEndIn}
 use Rattle.elk_json.specs.declared.elements.Kind.{Kind}
 use Rattle.elk_json.specs.declared.elements.Kind.TheVariants as kinds
 use Rattle.elk_json.specs.Elements.{Element, listed}
-use Rattle.elk_json.specs.Members.{is_node, is_port, is_edge, kind_is_node, kind_is_port, kind_is_edge, id_of, to_id}
+use Rattle.elk_json.specs.Members.{is_node, is_port, is_edge, kind_is_node, kind_is_port, kind_is_edge}
 use Rattle.elk_json.specs.Shape.{is_extended}
-use Rattle.elk_json.specs.Ends.{first_place, is_named, named, is_some_same_id, node_at, port_at_node, primitive_end, extended_end, element_at, source_of, target_of, has_known_ends, is_hyperedge, source_node, target_node, parent_of as owner_of, is_cross_level, level_of_edge}
-use Rattle.elk_json.specs.Document.{end_at, number_at, owner_number, port_of, ports_of, nodes_of}
+use Rattle.elk_json.specs.Ends.{first_place, is_named, named, node_at, port_at_node, primitive_end, extended_end, element_at, source_of, target_of, has_known_ends, is_hyperedge, source_node, target_node, parent_of as owner_of}
+use Rattle.elk_json.specs.Document.{end_at, number_at, port_of, ports_of}
 use Rattle.elk_json.proofs.Places.{number}
-use Rattle.elk_json.proofs.Tree.{IsRooted, IsPlaced}
-use Rattle.elk_json.proofs.Accepted.{doc_of, value_at, number_within, node_in, parent_number}
+use Rattle.elk_json.proofs.Tree.{IsRooted}
+use Rattle.elk_json.proofs.Accepted.{doc_of, value_at, number_within, node_in}
 
 -- ---- what a reference names
 

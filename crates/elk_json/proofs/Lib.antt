@@ -8,3 +8,5 @@ pub mod EndLaws
 pub mod PortLaws
 pub mod Soundness
 pub mod BuildLaws
+pub mod Counting
+pub mod Firsts

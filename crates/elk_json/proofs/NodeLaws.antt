@@ -1,22 +1,19 @@
 -- What the rules that do not hold say of a node.
-use Rattle.std.proofs.Common.{◌≡◌, ◌≢◌, ℕ, ◌<◌, ◌^◌, ℤ, pos, neg_ℤ, List, length, Bool, true, false, not, ◌&&◌, ◌||◌, Option, Some, None, if◌then◌else◌, refl, subst, sym, rules}
-use Rattle.std.specs.Prelude.{IsSome, IsNone, IfSome, IsTrue, IsFalse, codes}
+use Rattle.std.proofs.Common.{◌≡◌, ◌≢◌, ℕ, ◌<◌, ◌^◌, ℤ, pos, neg_ℤ, List, length, Bool, true, false, not, ◌&&◌, ◌||◌, Option, Some, None, if◌then◌else◌, refl, subst, rules}
+use Rattle.std.specs.Prelude.{IsSome, IsNone, IfSome, IsTrue, IsFalse}
 use Rattle.std.specs.Int.Signed.{le_z_yes}
 use Rattle.std.proofs.lemmas.Bool.{and_parts}
 use Rattle.serde_json.specs.Data.{Data}
-use Rattle.elk_doc.specs.declared.document.LevelOptions.{LevelOptions}
-use Rattle.elk_doc.specs.Document.{Document, no_size}
+use Rattle.elk_doc.specs.Document.{Document}
 use Rattle.elk_doc.specs.Level.{level_of_edge}
 use Rattle.elk_doc.specs.Sound.{IsWithin, IsSoundSize, IsSoundNode, IsSoundLevel}
 use Rattle.elk_options.specs.declared.names.OptionName.TheVariants as name
 use Rattle.elk_options.specs.declared.options.Role.{Role}
-use Rattle.elk_options.specs.declared.options.Role.TheVariants.{Level, Leaf}
-use Rattle.elk_options.specs.declared.options.Options.{Options}
 use Rattle.elk_options.specs.Reading.{options_of, level_of}
 use Rattle.elk_json.specs.Elements.{Element}
-use Rattle.elk_json.specs.Members.{is_node, is_port, is_compound, is_between, node_role, options_at, options_data, whole_at}
-use Rattle.elk_json.specs.Ranges.{is_size, is_near, is_far, has_good_size, has_good_place, is_out_of_range}
-use Rattle.elk_json.specs.Document.{node_of, node_size, size_of}
+use Rattle.elk_json.specs.Members.{is_node, is_compound, is_between, node_role, options_at, options_data}
+use Rattle.elk_json.specs.Ranges.{is_size, is_near, is_far, has_good_size, is_out_of_range}
+use Rattle.elk_json.specs.Document.{node_of, size_of}
 use Rattle.elk_options.proofs.OptionBounds.{holds, distance, twenty, sound_spacing, sound_padding}
 
 pub between_parts : (low high z : ℤ) → is_between low high z ≡ true → IsWithin low high z

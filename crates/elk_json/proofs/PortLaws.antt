@@ -1,22 +1,18 @@
 -- Ports that no rule refuses.
-use Rattle.std.proofs.Common.{◌≡◌, ℕ, List, inl, inr, ◌+◌, ◌-◌, ◌^◌, ◌<◌, ◌≤◌, ℤ, pos, neg_ℤ, ◌+ℤ◌, ◌≤ℤ◌, Bool, true, false, not, ◌&&◌, ◌||◌, Option, Some, None, if◌then◌else◌, refl, ap, sym, subst, ◌∙◌, arith, rules}
-use Rattle.std.specs.Prelude.{codes, is_some, is_none, IsSome, IsNone, IfSome, IsSomeAnd, int_lt, unwrap_or}
+use Rattle.std.proofs.Common.{◌≡◌, List, inl, inr, ◌-◌, ◌^◌, ℤ, pos, neg_ℤ, ◌+ℤ◌, Bool, true, false, not, ◌&&◌, ◌||◌, Option, Some, None, if◌then◌else◌, refl, ap, sym, subst, ◌∙◌, arith}
+use Rattle.std.specs.Prelude.{codes, is_some, is_none, IsSome, IsNone, IfSome, IsSomeAnd, int_lt}
 use Rattle.std.specs.Ordering.{int_eq}
 use Rattle.std.specs.Option.{option_map_or}
 use Rattle.std.proofs.lemmas.Bool.{and_parts, cases_Bool}
 use Rattle.std.proofs.lemmas.Bool.Decides.{Decides-int_eq}
 use Rattle.std.proofs.lemmas.Int.{ints}
 use Rattle.serde_json.specs.Data.{Data}
-use Rattle.elk_doc.specs.declared.shape.Point.{Point}
-use Rattle.elk_doc.specs.declared.shape.Size.{Size}
 use Rattle.elk_doc.specs.declared.shape.Side.{Side}
 use Rattle.elk_doc.specs.declared.shape.Side.TheVariants as side
-use Rattle.elk_doc.specs.declared.document.PortRule.{PortRule}
 use Rattle.elk_doc.specs.declared.document.PortRule.TheVariants as rule
 use Rattle.elk_doc.specs.declared.document.LevelOptions.{LevelOptions}
-use Rattle.elk_doc.specs.Document.{no_size}
 use Rattle.elk_doc.specs.Sides.{side_by_place, side_by_touch, side_from}
-use Rattle.elk_doc.specs.Sound.{IsWithin, IsPlaceWithin, IsOutside, IsSoundSize, IsSoundPort, along}
+use Rattle.elk_doc.specs.Sound.{IsWithin, IsPlaceWithin, IsOutside, IsSoundPort, along}
 use Rattle.elk_options.specs.declared.names.OptionName.TheVariants as name
 use Rattle.elk_options.specs.declared.options.Role.{Role}
 use Rattle.elk_options.specs.declared.options.Role.TheVariants.{Port}
@@ -24,11 +20,11 @@ use Rattle.elk_options.specs.declared.options.Options.{Options}
 use Rattle.elk_options.specs.Reading.{options_of, first_bad}
 use Rattle.elk_options.proofs.OptionBounds.{sound_index}
 use Rattle.elk_json.specs.Elements.{Element}
-use Rattle.elk_json.specs.Members.{is_node, is_port, is_edge, is_compound, is_at_compound, node_role, role_of, options_at, options_data, holder_options, holder_role, has_bad_option, holder_has_bad_option, whole_at}
+use Rattle.elk_json.specs.Members.{is_node, is_port, is_compound, is_at_compound, node_role, role_of, options_at, options_data, holder_options, holder_role, has_bad_option, holder_has_bad_option, whole_at}
 use Rattle.elk_json.specs.Ranges.{is_near, is_far, has_good_size, has_good_place, has_good_pin, is_at_fixed_pos, is_fixed_pos, is_out_of_range, along as along_data}
-use Rattle.elk_json.specs.Rules.{has_face_inside, lies_inside, is_side_inside, is_placed_inside, is_port_inside}
+use Rattle.elk_json.specs.Rules.{has_face_inside, lies_inside, is_side_inside, is_port_inside}
 use Rattle.elk_json.specs.Document.{node_of, port_of, node_size, size_of, place_of}
-use Rattle.elk_json.proofs.NodeLaws.{sound_size, near_within, far_within, leaf_level, compound_level, leaf_size, not_none, not_some}
+use Rattle.elk_json.proofs.NodeLaws.{sound_size, near_within, far_within, leaf_level, compound_level, not_none, not_some}
 
 -- ---- ranges
 

@@ -1,29 +1,26 @@
 -- The document of a value that no rule refuses is sound.
-use Rattle.std.proofs.Common.{◌≡◌, ◌≢◌, ℕ, zero, suc, ◌+◌, ◌<◌, ◌≤◌, ◌^◌, ◌⊎◌, ⊎_elim, inl, inr, List, [], ◌∷◌, length, Bool, true, false, not, ◌&&◌, ◌||◌, ◌==◌, Option, Some, None, if◌then◌else◌, refl, ap, sym, subst, ◌∙◌, arith, rules}
-use Rattle.std.specs.Prelude.{slice_get, slice_index_or, filter, find, map, max, is_none, is_some, option_map, IsSome, IsTrue, IfSome, nat_lt, nat_eq}
+use Rattle.std.proofs.Common.{◌≡◌, ◌≢◌, ℕ, zero, suc, ◌+◌, ◌<◌, ◌≤◌, ◌^◌, ◌⊎◌, ⊎_elim, List, [], ◌∷◌, length, Bool, true, false, not, ◌&&◌, ◌||◌, Option, Some, None, if◌then◌else◌, refl, ap, sym, subst, ◌∙◌, arith}
+use Rattle.std.specs.Prelude.{slice_get, filter, find, max, is_none, IsTrue, IfSome, nat_eq}
 use Rattle.std.specs.Option.{option_or, option_map_or, option_eq}
 use Rattle.std.specs.List.{list_any}
-use Rattle.std.proofs.lemmas.Bool.{cases_Bool, cases_eq, cases_lt, eqb-true, eqb-false, eq-eqb, ne_eqb, ltb-false, not-false}
+use Rattle.std.proofs.lemmas.Bool.{cases_lt, eqb-true, eqb-false, eq-eqb, ne_eqb, ltb-false, not-false}
 use Rattle.std.proofs.lemmas.List.{length-map}
 use Rattle.std.proofs.lemmas.Option.{none-some, same_Some}
 use Rattle.serde_json.specs.Data.{Data}
 use Rattle.elk_doc.specs.declared.document.Node.{Node}
 use Rattle.elk_doc.specs.declared.document.Port.{Port}
 use Rattle.elk_doc.specs.declared.document.Edge.{Edge}
-use Rattle.elk_doc.specs.declared.document.End.{End}
-use Rattle.elk_doc.specs.Document.{Document, no_edge, node_at, port_at, edge_at, parent_of, node_of_port}
+use Rattle.elk_doc.specs.Document.{no_edge, node_at, port_at, edge_at, parent_of, node_of_port}
 use Rattle.elk_doc.specs.Level.{node_of_end, source_node as doc_source, target_node as doc_target, level_of_edge as doc_level}
-use Rattle.elk_doc.specs.Sides.{given_side, side_from, side_by_place}
+use Rattle.elk_doc.specs.Sides.{side_from, side_by_place}
 use Rattle.elk_doc.specs.Sound.{IsSound, IsSoundNode, IsSoundPort, IsSoundLevel, IsSoundEdge, IsEndIn, HasLevels, HasPorts}
 use Rattle.elk_options.specs.declared.options.Role.{Role}
 use Rattle.elk_options.specs.declared.options.Role.TheVariants as role
-use Rattle.elk_options.specs.declared.options.Options.{Options}
 use Rattle.elk_options.specs.Reading.{options_of, level_of, weight_of}
 use Rattle.elk_options.proofs.OptionBounds.{sound_weight}
 use Rattle.elk_json.specs.declared.elements.Kind.{Kind}
 use Rattle.elk_json.specs.declared.elements.Kind.TheVariants as kinds
 use Rattle.elk_json.specs.declared.fault.Rule.{Rule}
-use Rattle.elk_json.specs.declared.fault.Refusal.{Refusal}
 use Rattle.elk_json.specs.Elements.{Element, elements}
 use Rattle.elk_json.specs.Members.{is_node, is_port, is_edge, kind_is_node, kind_is_port, kind_is_edge, is_compound, is_at_compound, has_children, has_bad_option, options_at, options_data, role_of}
 use Rattle.elk_json.specs.Ranges.{is_out_of_range, are_too_many, is_too_deep, levels}
@@ -32,9 +29,9 @@ use Rattle.elk_json.specs.Rules.{if_so, at as at_rule, first_at, is_badly_option
 use Rattle.elk_json.specs.Document.{node_of, port_of, edge_of, end_at, nodes_of, ports_of, edges_of}
 use Rattle.elk_json.proofs.Places.{number, number_rises, number_less, place_less, place_same, none_found}
 use Rattle.elk_json.proofs.Tree.{IsRooted, IsPlaced, rooted}
-use Rattle.elk_json.proofs.Accepted.{doc_of, Behind, behind, value_at, node_value, node_in, number_zero, Below, below_root, parent_number, sound_tree, root_level, parent_level, only_children, deep_enough, root_compound}
+use Rattle.elk_json.proofs.Accepted.{doc_of, Behind, behind, value_at, node_value, node_in, number_zero, below_root, parent_number, sound_tree, root_level, parent_level, only_children, deep_enough, root_compound}
 use Rattle.elk_json.proofs.NodeLaws.{sound_node, sound_level, compound_level}
-use Rattle.elk_json.proofs.EndLaws.{HasEnds, IsEnd, has_ends, source_stands, target_stands, owner_is, cross_by, past_first, port_value, port_in, port_node}
+use Rattle.elk_json.proofs.EndLaws.{HasEnds, has_ends, source_stands, target_stands, owner_is, cross_by, past_first, port_value, port_node}
 use Rattle.elk_json.proofs.PortLaws.{IsKept, IsFine, sound_port}
 
 -- ---- what it means that no rule refuses

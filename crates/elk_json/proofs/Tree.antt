@@ -1,5 +1,5 @@
 -- The elements of a value stand in the order of a tree.
-use Rattle.std.proofs.Common.{◌≡◌, ℕ, zero, suc, ◌+◌, ◌<◌, ◌≤◌, ◌⊎◌, ⊎_elim, inl, inr, List, [], ◌∷◌, ◌++◌, length, map, max, Bool, true, false, cond, Option, Some, None, Ordering, Less, Equal, Greater, is_eq, if◌then◌else◌, refl, ap, sym, subst, ◌∙◌, arith, append_assoc}
+use Rattle.std.proofs.Common.{◌≡◌, ℕ, zero, suc, ◌+◌, ◌<◌, ◌≤◌, ◌⊎◌, ⊎_elim, inl, inr, List, [], ◌∷◌, ◌++◌, length, map, Bool, true, false, Option, Some, None, Ordering, Less, Equal, Greater, is_eq, if◌then◌else◌, refl, ap, sym, subst, ◌∙◌, arith, append_assoc}
 use Rattle.std.specs.Prelude.{slice_get, bytes_eq, codes, nat_lt, nat_eq}
 use Rattle.std.specs.Option.{option_map_or, option_and_then}
 use Rattle.std.specs.Ordering.{nat_cmp, match_ordering}

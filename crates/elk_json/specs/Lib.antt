@@ -7,8 +7,12 @@ pub mod Members
 pub mod Shape
 pub mod Ranges
 pub mod Ends
+pub mod Marks
 pub mod Rules
 pub mod Document
+pub mod Counts
+pub mod Words
 pub mod Keyed
 pub mod Laws
 pub mod Keys
+pub mod Tables

@@ -17,7 +17,11 @@ use Rattle.elk_json.specs.Ends.{first_double, has_known_ends, is_hyperedge, is_c
 
 -- ---- values of options
 
--- the node's level is one of boxes, and has an edge
+-- the node's level is one of boxes
+abbrev pub has_boxes : Element → Bool
+has_boxes e = is_compound e && option_map_or (λ l. l.boxes) (options_at e).level false
+
+-- and has an edge
 unfoldable pub has_boxes_and_edges : List Element → ℕ → Element → Bool
 has_boxes_and_edges es place e =
     is_compound e && option_map_or (λ l. l.boxes) (options_at e).level false

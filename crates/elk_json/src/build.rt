@@ -1,15 +1,16 @@
 //! The parts of a document, each from its element.
-ghost use Rattle.std.specs.Prelude.{◌≡◌, ◌≤◌, length, take, codes, find, true, false, None, IfOk};
+ghost use Rattle.std.specs.Prelude.{◌≡◌, ◌≤◌, length, codes, find, true, false, None, IfOk, All};
 ghost use Rattle.serde_json.specs.View.{view};
-ghost use Rattle.elk_json.specs.Document.{edge_of as edge_spec, edges_of as edges_spec, end_at as end_spec, node_of as node_spec, node_size as node_size_spec, nodes_of as nodes_spec, number_at, owner_number as owner_number_spec, place_of as place_spec, port_of as port_spec, ports_of as ports_spec, size_of as size_spec, sure_id as sure_id_spec};
+ghost use Rattle.elk_json.specs.Document.{edge_of as edge_spec, edges_of as edges_spec, end_at as end_spec, node_of as node_spec, node_size as node_size_spec, nodes_of as nodes_spec, owner_number as owner_number_spec, place_of as place_spec, port_of as port_spec, ports_of as ports_spec, size_of as size_spec, sure_id as sure_id_spec};
 ghost use Rattle.elk_json.specs.Members.{has_bad_option, is_node, is_port, options_at, whole_at as whole_test};
 ghost use Rattle.elk_json.specs.Ranges.{is_far as far_test, is_out_of_range};
 ghost use Rattle.elk_json.specs.Seen.{seen, seen_list};
+ghost use Rattle.elk_json.specs.Words.{IsWord, IsWordIfAny};
 
 use crate::elements::{Element, Kind};
 use crate::ends::{is_node_there, source_of, target_of};
 use crate::ids::id_of;
-use crate::limits::{node_count, port_count};
+use crate::listed::{Listed, node_number, port_number};
 use crate::members::{is_compound, options_in, role_of, whole_at};
 use elk_doc::document::{Edge, End, Id, Node, Port};
 use elk_doc::shape::{Point, Size};
@@ -59,41 +60,14 @@ fn options_of(element: &Element<'_>) -> Options
     }
 }
 
-// The elements before a place.
-fn front_of<'e, 'a>(elements: &'e [Element<'a>], place: usize) -> &'e [Element<'a>]
-    ensures { result.now ≡ take place elements.now }
-{
-    if place < elements.len() {
-        &elements[..place]
-    } else {
-        elements
-    }
-}
-
-// The number of a node by its place.
-fn node_number(elements: &[Element<'_>], place: usize) -> u32
-    requires { length elements.now ≤ 8192 }
-    ensures { result ≡ number_at is_node (seen_list elements.now) place }
-{
-    node_count(front_of(elements, place)) as u32
-}
-
-// The number of a port by its place.
-fn port_number(elements: &[Element<'_>], place: usize) -> u32
-    requires { length elements.now ≤ 8192 }
-    ensures { result ≡ number_at is_port (seen_list elements.now) place }
-{
-    port_count(front_of(elements, place)) as u32
-}
-
 // The number of an element's owner.
-fn owner_number(elements: &[Element<'_>], element: &Element<'_>) -> Option<u32>
-    requires { length elements.now ≤ 8192 }
-    ensures { result ≡ owner_number_spec (seen_list elements.now) (seen element.now) }
+fn owner_number(list: &Listed<'_, '_>, element: &Element<'_>) -> Option<u32>
+    requires { length list.now.elements.now ≤ 8192 }
+    ensures { result ≡ owner_number_spec (seen_list list.now.elements.now) (seen element.now) }
 {
     match element.owner {
         None => None,
-        Some(place) => Some(node_number(elements, place)),
+        Some(place) => Some(node_number(list, place)),
     }
 }
 
@@ -115,7 +89,8 @@ fn node_size(element: &Element<'_>) -> Size
 
 // An id that is there by the rule on shapes.
 fn sure_id(alloc: Global, value: &Value) -> Result<Id, AllocError>
-    ensures { IfOk result (λ id. id ≡ sure_id_spec (view value.now)) }
+    ensures value { IfOk result (λ id. id ≡ sure_id_spec (view value.now)) }
+    ensures word { IfOk result IsWord }
 {
     match id_of(alloc, value)? {
         Some(id) => Ok(id),
@@ -123,44 +98,38 @@ fn sure_id(alloc: Global, value: &Value) -> Result<Id, AllocError>
     }
 }
 
-fn node_of(
-    alloc: Global,
-    elements: &[Element<'_>],
-    element: &Element<'_>,
-) -> Result<Node, AllocError>
-    requires few { length elements.now ≤ 8192 }
+fn node_of(alloc: Global, list: &Listed<'_, '_>, element: &Element<'_>) -> Result<Node, AllocError>
+    requires few { length list.now.elements.now ≤ 8192 }
     requires node { is_node (seen element.now) ≡ true }
     requires in_range { is_out_of_range (seen element.now) ≡ false }
     requires good { has_bad_option (seen element.now) ≡ false }
-    ensures { IfOk result (λ n. n ≡ node_spec (seen_list elements.now) (seen element.now)) }
+    ensures value { IfOk result (λ n. n ≡ node_spec (seen_list list.now.elements.now) (seen element.now)) }
+    ensures word { IfOk result (λ n. IsWordIfAny n.id) }
 {
     let id = id_of(alloc, element.value)?;
     let options = options_of(element);
     Ok(Node {
         id,
-        parent: owner_number(elements, element),
+        parent: owner_number(list, element),
         size: node_size(element),
         rule: options.rule,
         level: options.level,
     })
 }
 
-fn port_of(
-    alloc: Global,
-    elements: &[Element<'_>],
-    element: &Element<'_>,
-) -> Result<Port, AllocError>
-    requires few { length elements.now ≤ 8192 }
+fn port_of(alloc: Global, list: &Listed<'_, '_>, element: &Element<'_>) -> Result<Port, AllocError>
+    requires few { length list.now.elements.now ≤ 8192 }
     requires port { is_port (seen element.now) ≡ true }
     requires in_range { is_out_of_range (seen element.now) ≡ false }
     requires good { has_bad_option (seen element.now) ≡ false }
-    ensures { IfOk result (λ p. p ≡ port_spec (seen_list elements.now) (seen element.now)) }
+    ensures value { IfOk result (λ p. p ≡ port_spec (seen_list list.now.elements.now) (seen element.now)) }
+    ensures word { IfOk result (λ p. IsWord p.id) }
 {
     let id = sure_id(alloc, element.value)?;
     let options = options_of(element);
     Ok(Port {
         id,
-        node: owner_number(elements, element).unwrap_or(0),
+        node: owner_number(list, element).unwrap_or(0),
         size: size_of(element.value),
         place: place_of(element.value),
         side: options.side,
@@ -169,30 +138,27 @@ fn port_of(
 }
 
 // The node or port at a place, as the end of an edge.
-fn end_at(elements: &[Element<'_>], place: Option<usize>) -> End
-    requires { length elements.now ≤ 8192 }
-    ensures { result ≡ end_spec (seen_list elements.now) place }
+fn end_at(list: &Listed<'_, '_>, place: Option<usize>) -> End
+    requires { length list.now.elements.now ≤ 8192 }
+    ensures { result ≡ end_spec (seen_list list.now.elements.now) place }
 {
     let place = place.unwrap_or(0);
-    if is_node_there(elements, place) {
-        End::Node(node_number(elements, place))
+    if is_node_there(list, place) {
+        End::Node(node_number(list, place))
     } else {
-        End::Port(port_number(elements, place))
+        End::Port(port_number(list, place))
     }
 }
 
-fn edge_of(
-    alloc: Global,
-    elements: &[Element<'_>],
-    element: &Element<'_>,
-) -> Result<Edge, AllocError>
-    requires few { length elements.now ≤ 8192 }
+fn edge_of(alloc: Global, list: &Listed<'_, '_>, element: &Element<'_>) -> Result<Edge, AllocError>
+    requires few { length list.now.elements.now ≤ 8192 }
     requires good { has_bad_option (seen element.now) ≡ false }
-    ensures { IfOk result (λ e. e ≡ edge_spec (seen_list elements.now) (seen element.now)) }
+    ensures value { IfOk result (λ e. e ≡ edge_spec (seen_list list.now.elements.now) (seen element.now)) }
+    ensures word { IfOk result (λ e. IsWord e.id) }
 {
     let id = sure_id(alloc, element.value)?;
-    let source = end_at(elements, source_of(elements, element.value));
-    let target = end_at(elements, target_of(elements, element.value));
+    let source = end_at(list, source_of(list, element.value));
+    let target = end_at(list, target_of(list, element.value));
     Ok(Edge {
         id,
         source,
@@ -202,47 +168,50 @@ fn edge_of(
 }
 
 // The nodes of a document, in document order.
-pub(crate) fn nodes_of(alloc: Global, elements: &[Element<'_>]) -> Result<Vec<Node>, AllocError>
-    requires few { length elements.now ≤ 8192 }
-    requires in_range { find is_out_of_range (seen_list elements.now) ≡ None }
-    requires good { find has_bad_option (seen_list elements.now) ≡ None }
-    ensures { IfOk result (λ ns. ns.items ≡ nodes_spec (seen_list elements.now)) }
+pub(crate) fn nodes_of(alloc: Global, list: &Listed<'_, '_>) -> Result<Vec<Node>, AllocError>
+    requires few { length list.now.elements.now ≤ 8192 }
+    requires in_range { find is_out_of_range (seen_list list.now.elements.now) ≡ None }
+    requires good { find has_bad_option (seen_list list.now.elements.now) ≡ None }
+    ensures value { IfOk result (λ ns. ns.items ≡ nodes_spec (seen_list list.now.elements.now)) }
+    ensures words { IfOk result (λ ns. All (λ n. IsWordIfAny n.id) ns.items) }
 {
     let mut nodes = Vec::new(alloc);
-    for element in elements {
+    for element in list.elements {
         if element.kind == Kind::Node {
-            nodes.push(node_of(alloc, elements, element)?)?;
+            nodes.push(node_of(alloc, list, element)?)?;
         }
     }
     Ok(nodes)
 }
 
 // The ports of a document, in document order.
-pub(crate) fn ports_of(alloc: Global, elements: &[Element<'_>]) -> Result<Vec<Port>, AllocError>
-    requires few { length elements.now ≤ 8192 }
-    requires in_range { find is_out_of_range (seen_list elements.now) ≡ None }
-    requires good { find has_bad_option (seen_list elements.now) ≡ None }
-    ensures { IfOk result (λ ps. ps.items ≡ ports_spec (seen_list elements.now)) }
+pub(crate) fn ports_of(alloc: Global, list: &Listed<'_, '_>) -> Result<Vec<Port>, AllocError>
+    requires few { length list.now.elements.now ≤ 8192 }
+    requires in_range { find is_out_of_range (seen_list list.now.elements.now) ≡ None }
+    requires good { find has_bad_option (seen_list list.now.elements.now) ≡ None }
+    ensures value { IfOk result (λ ps. ps.items ≡ ports_spec (seen_list list.now.elements.now)) }
+    ensures words { IfOk result (λ ps. All (λ p. IsWord p.id) ps.items) }
 {
     let mut ports = Vec::new(alloc);
-    for element in elements {
+    for element in list.elements {
         if element.kind == Kind::Port {
-            ports.push(port_of(alloc, elements, element)?)?;
+            ports.push(port_of(alloc, list, element)?)?;
         }
     }
     Ok(ports)
 }
 
 // The edges of a document, in document order.
-pub(crate) fn edges_of(alloc: Global, elements: &[Element<'_>]) -> Result<Vec<Edge>, AllocError>
-    requires few { length elements.now ≤ 8192 }
-    requires good { find has_bad_option (seen_list elements.now) ≡ None }
-    ensures { IfOk result (λ es. es.items ≡ edges_spec (seen_list elements.now)) }
+pub(crate) fn edges_of(alloc: Global, list: &Listed<'_, '_>) -> Result<Vec<Edge>, AllocError>
+    requires few { length list.now.elements.now ≤ 8192 }
+    requires good { find has_bad_option (seen_list list.now.elements.now) ≡ None }
+    ensures value { IfOk result (λ es. es.items ≡ edges_spec (seen_list list.now.elements.now)) }
+    ensures words { IfOk result (λ es. All (λ e. IsWord e.id) es.items) }
 {
     let mut edges = Vec::new(alloc);
-    for element in elements {
+    for element in list.elements {
         if element.kind == Kind::Edge {
-            edges.push(edge_of(alloc, elements, element)?)?;
+            edges.push(edge_of(alloc, list, element)?)?;
         }
     }
     Ok(edges)

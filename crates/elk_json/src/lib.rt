@@ -13,10 +13,13 @@ mod ids;
 pub mod key;
 pub mod laws;
 mod limits;
+mod listed;
+mod marks;
 mod members;
 mod ranges;
 mod rules;
 mod shape;
+mod table;
 mod whole;
 
 pub use bytes::parse;

@@ -10,9 +10,8 @@ use crate::elements::{Element, Kind};
 use serde_json::Value;
 use serde_json::value::Map;
 
-pub(crate) fn node_count(elements: &[Element<'_>]) -> usize
-    ensures value { result ≡ length (filter is_node (seen_list elements.now)) }
-    ensures most { result ≤ length elements.now }
+fn node_count(elements: &[Element<'_>]) -> usize
+    ensures { result ≡ length (filter is_node (seen_list elements.now)) }
 {
     let mut count = 0;
     for element in elements {
@@ -23,9 +22,8 @@ pub(crate) fn node_count(elements: &[Element<'_>]) -> usize
     count
 }
 
-pub(crate) fn port_count(elements: &[Element<'_>]) -> usize
-    ensures value { result ≡ length (filter is_port (seen_list elements.now)) }
-    ensures most { result ≤ length elements.now }
+fn port_count(elements: &[Element<'_>]) -> usize
+    ensures { result ≡ length (filter is_port (seen_list elements.now)) }
 {
     let mut count = 0;
     for element in elements {
@@ -36,7 +34,7 @@ pub(crate) fn port_count(elements: &[Element<'_>]) -> usize
     count
 }
 
-pub(crate) fn edge_count(elements: &[Element<'_>]) -> usize
+fn edge_count(elements: &[Element<'_>]) -> usize
     ensures { result ≡ length (filter is_edge (seen_list elements.now)) }
 {
     let mut count = 0;

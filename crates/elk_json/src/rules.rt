@@ -1,20 +1,22 @@
 //! Which rule refuses a value, and where.
-ghost use Rattle.std.specs.Prelude.{◌≡◌, ◌+ℤ◌, int_lt, IfOk, Some, [], option_map, find, is_some, false, ◌&&◌, nat_eq};
-ghost use Rattle.std.specs.Option.{option_map_or, option_eq};
+ghost use Rattle.std.specs.Prelude.{◌≡◌, ◌+ℤ◌, int_lt, IfOk, Some, [], option_map, find, is_some, false, ◌&&◌, ◌||◌, ◌<◌, length};
+ghost use Rattle.std.specs.Option.{option_map_or, option_or};
 ghost use Rattle.std.specs.List.{list_any};
 ghost use Rattle.serde_json.specs.View.{view};
 ghost use Rattle.elk_options.specs.Reading.{first_bad};
 ghost use Rattle.elk_json.specs.Members.{is_edge, whole_at as whole_test, role_of as role_test, options_data, options_at, has_bad_option as bad_option_test, is_compound as compound_test};
-ghost use Rattle.elk_json.specs.Ends.{level_of_edge as level_place};
-ghost use Rattle.elk_json.specs.Rules.{first_at, has_boxes_and_edges as boxes_test, is_badly_optioned as badly_test, has_face_inside as face_test, lies_inside as lies_test, is_port_inside as inside_test, is_placed_inside as placed_inside_test, is_side_inside as side_inside_test, if_so, at, option_refusal as option_refusal_of, edge_refusal as edge_refusal_of, value_refusal as value_refusal_of, refused};
+ghost use Rattle.elk_json.specs.Marks.{AreMarks};
+ghost use Rattle.elk_json.specs.Rules.{first_at, has_boxes, is_badly_optioned as badly_test, has_face_inside as face_test, lies_inside as lies_test, is_port_inside as inside_test, is_placed_inside as placed_inside_test, is_side_inside as side_inside_test, if_so, at, option_refusal as option_refusal_of, edge_refusal as edge_refusal_of, value_refusal as value_refusal_of};
 ghost use Rattle.elk_json.specs.Elements.{elements as elements_spec};
 ghost use Rattle.elk_json.specs.Seen.{seen, seen_list};
 
 use crate::elements::{Element, Kind};
-use crate::ends::{first_cross_level, first_hyperedge, first_unknown, level_of_edge};
+use crate::ends::{first_cross_level, first_hyperedge, first_unknown};
 use crate::fault::{Refusal, Rule};
 use crate::ids::{first_double, id_of};
 use crate::limits::{are_too_many, is_too_deep};
+use crate::listed::Listed;
+use crate::marks::levels_with_edges;
 use crate::members::{is_at_compound, is_compound, node_role, options_in, role_of, whole_at};
 use crate::ranges::{first_out_of_range, is_fixed_pos};
 use crate::shape::has_bad_shape;
@@ -23,43 +25,62 @@ use elk_doc::shape::Side;
 use serde_json::Value;
 use std::alloc::{AllocError, Global};
 
-// An edge of the level of the node at the place.
-fn has_level_edge(elements: &[Element<'_>], place: usize) -> bool
-    ensures { result ≡ list_any (λ f. is_edge f && option_eq nat_eq (level_place (seen_list elements.now) f.value) (Some place)) (seen_list elements.now) }
-{
-    for element in elements {
-        if element.kind == Kind::Edge && level_of_edge(elements, element.value) == Some(place) {
-            return true;
-        }
-    }
-    false
-}
-
-#[tactic(auto, unfolding(crate::specs::Rules::is_badly_optioned, crate::specs::Rules::has_boxes_and_edges))]
-fn is_badly_optioned_node(elements: &[Element<'_>], place: usize, element: &Element<'_>) -> bool
-    ensures { result ≡ badly_test (seen_list elements.now) place (seen element.now) }
+#[tactic(auto, unfolding(crate::specs::Rules::has_boxes_and_edges))]
+fn is_badly_optioned(element: &Element<'_>, has_edge: bool) -> bool
+    ensures { result ≡ (bad_option_test (seen element.now)
+        || has_boxes (seen element.now) && has_edge) }
 {
     match options_in(element.value, role_of(element)) {
         Err(_) => true,
         Ok(options) => match options.level {
             None => false,
-            Some(level) => {
-                is_compound(element) && level.boxes && has_level_edge(elements, place)
-            }
+            Some(level) => is_compound(element) && level.boxes && has_edge,
         },
     }
 }
 
-// The first element with a bad value of an option.
-fn first_badly_optioned<'e, 'a>(elements: &'e [Element<'a>]) -> Option<&'e Element<'a>>
+// The same of the element at a place, by its mark.
+fn is_badly_marked(
+    elements: &[Element<'_>],
+    marks: &[bool],
+    place: usize,
+    element: &Element<'_>,
+) -> bool
+    requires within { place < length elements.now }
+    requires long { length marks.now ≡ length elements.now }
+    requires marked { AreMarks (seen_list elements.now) marks.now }
+    ensures { result ≡ badly_test (seen_list elements.now) place (seen element.now) }
+{
+    is_badly_optioned(element, marks[place])
+}
+
+// The first element with a bad value of an option, by whether the level of each place has an edge.
+fn first_badly_marked<'e, 'a>(
+    elements: &'e [Element<'a>],
+    marks: &[bool],
+) -> Option<&'e Element<'a>>
+    requires long { length marks.now ≡ length elements.now }
+    requires marked { AreMarks (seen_list elements.now) marks.now }
     ensures { option_map (λ e. seen e.now) result ≡ first_at (badly_test (seen_list elements.now)) 0 (seen_list elements.now) }
 {
     for (i, element) in elements.iter().enumerate() {
-        if is_badly_optioned_node(elements, i, element) {
+        if is_badly_marked(elements, marks, i, element) {
             return Some(element);
         }
     }
     None
+}
+
+// The first element with a bad value of an option.
+fn first_badly_optioned<'e, 'a>(
+    alloc: Global,
+    list: &Listed<'e, 'a>,
+) -> Result<Option<&'e Element<'a>>, AllocError>
+    ensures { IfOk result (λ found. option_map (λ e. seen e.now) found
+        ≡ first_at (badly_test (seen_list list.now.elements.now)) 0 (seen_list list.now.elements.now)) }
+{
+    let marks = levels_with_edges(alloc, list)?;
+    Ok(first_badly_marked(list.elements, marks.as_slice()))
 }
 
 // The sum of two of the port's numbers is below one of the node's.
@@ -165,27 +186,29 @@ fn refusal_if(rule: Rule, holds: bool) -> Option<Refusal>
 }
 
 #[tactic(auto, unfolding(crate::specs::Rules::option_refusal))]
-fn option_refusal(alloc: Global, elements: &[Element<'_>]) -> Result<Option<Refusal>, AllocError>
-    ensures { IfOk result (λ r. r ≡ option_refusal_of (seen_list elements.now)) }
+fn option_refusal(alloc: Global, list: &Listed<'_, '_>) -> Result<Option<Refusal>, AllocError>
+    ensures { IfOk result (λ r. r ≡ option_refusal_of (seen_list list.now.elements.now)) }
 {
-    let optioned = refusal_at(alloc, Rule::OptionValue, first_badly_optioned(elements))?;
-    let inside = refusal_at(alloc, Rule::PortInside, first_inside(elements))?;
+    let badly = first_badly_optioned(alloc, list)?;
+    let optioned = refusal_at(alloc, Rule::OptionValue, badly)?;
+    let inside = refusal_at(alloc, Rule::PortInside, first_inside(list.elements))?;
     Ok(optioned.or(inside))
 }
 
 #[tactic(auto, unfolding(crate::specs::Rules::edge_refusal))]
-fn edge_refusal(alloc: Global, elements: &[Element<'_>]) -> Result<Option<Refusal>, AllocError>
-    ensures { IfOk result (λ r. r ≡ edge_refusal_of (seen_list elements.now)) }
+fn edge_refusal(alloc: Global, list: &Listed<'_, '_>) -> Result<Option<Refusal>, AllocError>
+    ensures { IfOk result (λ r. r ≡ edge_refusal_of (seen_list list.now.elements.now)) }
 {
-    let double = refusal_at(alloc, Rule::DoubleId, first_double(elements))?;
-    let unknown = refusal_at(alloc, Rule::UnknownEnd, first_unknown(elements))?;
-    let hyperedge = refusal_at(alloc, Rule::Hyperedge, first_hyperedge(elements))?;
-    let cross = refusal_at(alloc, Rule::CrossLevel, first_cross_level(elements))?;
+    let double = refusal_at(alloc, Rule::DoubleId, first_double(list))?;
+    let unknown = refusal_at(alloc, Rule::UnknownEnd, first_unknown(list))?;
+    let hyperedge = refusal_at(alloc, Rule::Hyperedge, first_hyperedge(list))?;
+    let cross = refusal_at(alloc, Rule::CrossLevel, first_cross_level(list))?;
     Ok(double.or(unknown.or(hyperedge.or(cross))))
 }
 
+// The first rule on the whole value that refuses it, and its place, or none.
 #[tactic(auto, unfolding(crate::specs::Rules::value_refusal))]
-fn value_refusal(
+pub(crate) fn value_refusal(
     alloc: Global,
     value: &Value,
     elements: &[Element<'_>],
@@ -201,23 +224,16 @@ fn value_refusal(
     Ok(broken.or(shape.or(range.or(many.or(deep)))))
 }
 
-// The first rule that refuses the value with these elements, and its place, or none.
-#[tactic(auto, unfolding(crate::specs::Rules::refused))]
-pub(crate) fn refusal_in(
+// The first rule on ids, edges, options and ports that refuses the elements, and its place, or none.
+pub(crate) fn later_refusal(
     alloc: Global,
-    value: &Value,
-    elements: &[Element<'_>],
+    list: &Listed<'_, '_>,
 ) -> Result<Option<Refusal>, AllocError>
-    requires { seen_list elements.now ≡ elements_spec (view value.now) }
-    ensures { IfOk result (λ r. r ≡ refused (view value.now)) }
+    ensures { IfOk result (λ r. r ≡ option_or (edge_refusal_of (seen_list list.now.elements.now)) (option_refusal_of (seen_list list.now.elements.now))) }
 {
-    let whole = value_refusal(alloc, value, elements)?;
-    if whole.is_some() {
-        return Ok(whole);
-    }
-    let edges = edge_refusal(alloc, elements)?;
+    let edges = edge_refusal(alloc, list)?;
     if edges.is_some() {
         return Ok(edges);
     }
-    option_refusal(alloc, elements)
+    option_refusal(alloc, list)
 }

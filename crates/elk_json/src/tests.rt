@@ -113,6 +113,81 @@ fn ids_and_ends(rt: HostRuntime) -> Result<(), Fail> {
 }
 
 #[test]
+fn doubles_and_forms(rt: HostRuntime) -> Result<(), Fail> {
+    let rows = [
+        (
+            "{\"id\":\"e\",\"children\":[{\"id\":\"a\"}],\"edges\":[{\"id\":\"e\",\"source\":\"a\",\"target\":\"a\"}]}",
+            0,
+            "-",
+        ),
+        (
+            "{\"children\":[{\"id\":\"a\"}],\"edges\":[{\"id\":\"e\",\"source\":\"a\",\"target\":\"a\"},{\"id\":\"e\",\"source\":\"a\",\"target\":\"a\"}]}",
+            7,
+            "e",
+        ),
+        (
+            "{\"children\":[{\"id\":\"a\",\"ports\":[{\"id\":\"a\"}]}]}",
+            7,
+            "a",
+        ),
+        (
+            "{\"children\":[{\"id\":\"a\"},{\"id\":\"b\"},{\"id\":\"b\"},{\"id\":\"a\"}]}",
+            7,
+            "b",
+        ),
+        (
+            "{\"children\":[{\"id\":\"1\"}],\"edges\":[{\"id\":\"e\",\"source\":1,\"target\":\"1\"}]}",
+            8,
+            "e",
+        ),
+        (
+            "{\"children\":[{\"id\":1}],\"edges\":[{\"id\":\"e\",\"source\":1,\"target\":1}]}",
+            0,
+            "-",
+        ),
+        (
+            "{\"children\":[{\"id\":\"a\"}],\"edges\":[{\"id\":\"e\",\"sources\":[\"a\"],\"targets\":[\"a\"],\"source\":\"z\",\"target\":3}]}",
+            0,
+            "-",
+        ),
+        (
+            "{\"children\":[{\"id\":\"a\"}],\"edges\":[{\"id\":\"e\",\"sources\":[\"z\"],\"targets\":[\"a\"],\"source\":\"a\",\"target\":\"a\"}]}",
+            8,
+            "e",
+        ),
+        (
+            "{\"children\":[{\"id\":\"a\"}],\"edges\":[{\"id\":\"e\",\"sources\":[\"a\"],\"target\":\"a\"}]}",
+            3,
+            "-",
+        ),
+        (
+            "{\"children\":[{\"id\":\"a\"}],\"edges\":[{\"id\":\"e\",\"sources\":[],\"targets\":[\"a\"]}]}",
+            9,
+            "e",
+        ),
+        (
+            "{\"children\":[{\"id\":\"a\"}],\"edges\":[{\"id\":\"e\",\"source\":\"a\",\"sourcePort\":\"z\",\"target\":\"a\"}]}",
+            8,
+            "e",
+        ),
+        (
+            "{\"children\":[{\"id\":\"a\"}],\"edges\":[{\"id\":\"e\",\"source\":\"a\",\"target\":\"e\"}]}",
+            8,
+            "e",
+        ),
+        (
+            "{\"children\":[{\"id\":\"a\"}],\"children\":[{\"id\":\"b\"}],\"edges\":[{\"id\":\"e\",\"source\":\"a\",\"target\":\"b\"}]}",
+            8,
+            "e",
+        ),
+    ];
+    for (text, number, place) in rows {
+        assert!(rt; holds(&rt, text, number, place));
+    }
+    Ok(())
+}
+
+#[test]
 fn options_and_ports(rt: HostRuntime) -> Result<(), Fail> {
     let rows = [
         (

@@ -29,11 +29,11 @@ use Rattle.elk_write.proofs.Ready.{ReadyNode, ReadyPort, ReadyEdge, node_kind, p
 
 -- ---- no rule refuses
 
-or_left : (o r : Option Refusal) → option_or o r ≡ None → o ≡ None
+pub or_left : (o r : Option Refusal) → option_or o r ≡ None → o ≡ None
 or_left None r h = refl
 or_left (Some x) r h = absurd (cc)
 
-or_right : (o r : Option Refusal) → option_or o r ≡ None → r ≡ None
+pub or_right : (o r : Option Refusal) → option_or o r ≡ None → r ≡ None
 or_right None r h = h
 or_right (Some x) r h = absurd (cc)
 
@@ -41,7 +41,7 @@ so_false : (rule : Rule) (b : Bool) → if_so rule b ≡ None → b ≡ false
 so_false rule true h = absurd (cc)
 so_false rule false h = refl
 
-not_false : (b : Bool) → not b ≡ false → b ≡ true
+pub not_false : (b : Bool) → not b ≡ false → b ≡ true
 not_false true h = refl
 not_false false h = absurd (cc)
 
@@ -59,7 +59,7 @@ shaped_by d h = so_false rules.BadShape (has_bad_shape (elements d)) (or_left (i
 
 -- ---- each element is an object
 
-split_or : (a b : Bool) → (a || b) ≡ false → (a ≡ false) × (b ≡ false)
+pub split_or : (a b : Bool) → (a || b) ≡ false → (a ≡ false) × (b ≡ false)
 split_or true b h = absurd (cc)
 split_or false b h = (refl, h)
 
@@ -79,7 +79,7 @@ module _ (f test : Element → Bool) where
   passes [] n x h e = let bad : None ≡ Some x = e in absurd (cc)
   passes (y ∷ ys) n x h e = let both = split_or (f y) (list_any f ys) h in passes_if (test y) n y x ys refl both.0 (λ m. passes ys m x both.1) e
 
-node_object : (root : Bool) (d : Data) → is_good_node root d ≡ true → (ms : Members) × (d ≡ object ms)
+pub node_object : (root : Bool) (d : Data) → is_good_node root d ≡ true → (ms : Members) × (d ≡ object ms)
 node_object root null h = absurd (cc)
 node_object root (boolean b) h = absurd (cc)
 node_object root (number n) h = absurd (cc)
@@ -87,7 +87,7 @@ node_object root (string s) h = absurd (cc)
 node_object root (array ds) h = absurd (cc)
 node_object root (object ms) h = (ms, refl)
 
-port_object : (d : Data) → is_good_port d ≡ true → (ms : Members) × (d ≡ object ms)
+pub port_object : (d : Data) → is_good_port d ≡ true → (ms : Members) × (d ≡ object ms)
 port_object null h = absurd (cc)
 port_object (boolean b) h = absurd (cc)
 port_object (number n) h = absurd (cc)
@@ -95,7 +95,7 @@ port_object (string s) h = absurd (cc)
 port_object (array ds) h = absurd (cc)
 port_object (object ms) h = (ms, refl)
 
-edge_object : (d : Data) → is_good_edge d ≡ true → (ms : Members) × (d ≡ object ms)
+pub edge_object : (d : Data) → is_good_edge d ≡ true → (ms : Members) × (d ≡ object ms)
 edge_object null h = absurd (cc)
 edge_object (boolean b) h = absurd (cc)
 edge_object (number n) h = absurd (cc)

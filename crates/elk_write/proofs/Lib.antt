@@ -11,3 +11,17 @@ pub mod Ready
 pub mod Known
 pub mod Clean
 pub mod Law
+pub mod ItemLists
+pub mod Fitting
+pub mod Whole
+pub mod Growing
+pub mod Inherited
+pub mod Alike
+pub mod SameDocument
+pub mod Distinct
+pub mod Returned
+pub mod Again
+pub mod Moved
+pub mod Complete
+pub mod Back
+pub mod Refusing

@@ -5,3 +5,6 @@ pub mod Strip
 pub mod Numbers
 pub mod Written
 pub mod Answered
+pub mod Reading
+pub mod Placing
+pub mod ReadBack

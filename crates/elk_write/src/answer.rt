@@ -1,5 +1,5 @@
 // A value with the written members.
-ghost use Rattle.std.specs.Prelude.{◌≡◌, false, None, IfOk, option_map, option_and_then, slice_get};
+ghost use Rattle.std.specs.Prelude.{◌≡◌, ◌<◌, ◌^◌, false, None, All, IfOk, option_map, option_and_then, slice_get};
 ghost use Rattle.serde_json.specs.Data.{no_members};
 ghost use Rattle.serde_json.specs.View.{view, members_view, items_view};
 ghost use Rattle.elk_json.specs.Members.{has_children as children_test};
@@ -11,6 +11,7 @@ ghost use Rattle.elk_json.specs.Rules.{refused};
 ghost use Rattle.elk_write.specs.Keys.{is_node_key as node_key_test};
 ghost use Rattle.elk_write.specs.Numbers.{past_node, past_members, past_member, past_children};
 ghost use Rattle.elk_write.specs.Written.{is_split, IsPlacedBy};
+ghost use Rattle.elk_write.specs.ReadBack.{SaysBack, IsHeld, IsHeldLevel};
 ghost use Rattle.elk_write.specs.Answered.{with_place, with_size, with_layering, with_node, answer_node as node_answer, answer_into, answer_member as member_answer, answer_children as children_answer, parts_answer};
 
 use crate::marks::{layering_value, with_member};
@@ -24,7 +25,8 @@ use serde_json::value::Map;
 use std::alloc::{AllocError, Global};
 
 /// The value with the written members of the drawing: each node's and port's place, each compound node's size and layering,
-/// each edge's section. All else stays as it is.
+/// each edge's section. All else stays as it is. What is read of the answer by `placed_of` is the same drawing, and the same
+/// document but for the places of ports.
 pub fn answer_value(
     alloc: Global,
     value: &Value,
@@ -38,13 +40,53 @@ pub fn answer_value(
     ensures placed { IfOk result (λ w. IsPlacedBy (view value.now) doc.now placed.now (view w)) }
     ensures keyed { IfOk result (λ w. IsKeyed (view w)) }
     ensures whole { IfOk result (λ w. has_float (view w) ≡ false) }
+    ensures read_back { IfOk result (λ w. SaysBack doc.now placed.now (view w)) }
 {
+    levels_are_held(placed.levels.as_slice());
     let mut at = Numbers {
         node: 0,
         port: 0,
         edge: 0,
     };
     answer_node(alloc, value, doc, placed, true, &mut at)
+}
+
+// What the types of a certificate's numbers say of it.
+fn small_numbers_are_held(numbers: &[u32])
+    ensures { All (λ n. n < 2 ^ 32) numbers.now }
+{}
+
+fn large_numbers_are_held(numbers: &[u64])
+    ensures { All (λ n. n < 2 ^ 64) numbers.now }
+{}
+
+fn number_is_held(number: u64)
+    ensures { number < 2 ^ 64 }
+{}
+
+fn certificate_is_held(certificate: &Certificate)
+    ensures { IsHeld certificate.now }
+{
+    small_numbers_are_held(certificate.layers.as_slice());
+    small_numbers_are_held(certificate.parts.as_slice());
+    large_numbers_are_held(certificate.flow.as_slice());
+    number_is_held(certificate.span);
+}
+
+fn level_is_held(level: &Option<Certificate>)
+    ensures { IsHeldLevel level.now }
+{
+    if let Some(certificate) = level {
+        certificate_is_held(certificate);
+    }
+}
+
+fn levels_are_held(levels: &[Option<Certificate>])
+    ensures { All IsHeldLevel levels.now }
+{
+    for level in levels {
+        level_is_held(level);
+    }
 }
 
 fn has_children(value: &Value) -> bool

@@ -4,14 +4,20 @@
 
 mod answer;
 mod ids;
+mod levels;
 mod marks;
 mod numbers;
 mod parts;
+mod placing;
+mod reading;
 mod text;
 
 pub use answer::answer_value;
 pub use ids::id_text;
+pub use placing::placed_of;
 pub use text::text_of;
 
+#[cfg(test)]
+mod placing_tests;
 #[cfg(test)]
 mod tests;

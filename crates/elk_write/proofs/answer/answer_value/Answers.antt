@@ -1,4 +1,4 @@
-use Rattle.std.proofs.Common.{◌≡◌, false, subst, sym}
+use Rattle.std.proofs.Common.{◌≡◌, false, subst, sym, All}
 use Rattle.std.proofs.lemmas.Result.{IfOk-weaker}
 use Rattle.serde_json.specs.View.{view}
 use Rattle.serde_json.specs.Written.{has_float}
@@ -6,6 +6,8 @@ use Rattle.serde_json.specs.declared.value.Value.{Value}
 use Rattle.elk_json.specs.Keyed.{IsKeyed}
 use Rattle.elk_write.specs.Written.{IsPlacedBy}
 use Rattle.elk_write.proofs.Law.{answer_of, answer_placed, answer_whole}
+use Rattle.elk_write.specs.ReadBack.{SaysBack, IsHeldLevel, AreHeld}
+use Rattle.elk_write.proofs.Back.{says_back}
 use Rattle.elk_write.proofs.answer.answer_value.Goals as goal
 
 pub returns : goal.returns
@@ -14,9 +16,11 @@ returns c =
     let doc = c.args.doc.now in
     let p = c.args.placed.now in
     let r = c.requires in
+    let held : AreHeld p = subst (λ os. All IsHeldLevel os) c.as_slice.ensures.value c.levels_are_held.ensures in
     let is_answer = λ (w : Value). view w ≡ answer_of doc p v in
     record {
       placed = IfOk-weaker c.answer_node.result is_answer (λ w. IsPlacedBy v doc p (view w)) (λ w e. subst (IsPlacedBy v doc p) (sym e) (answer_placed doc p v r.keyed r.accepted r.document r.fits)) c.answer_node.ensures.written;
       keyed = IfOk-weaker c.answer_node.result is_answer (λ w. IsKeyed (view w)) (λ w e. subst IsKeyed (sym e) (answer_whole doc p v r.keyed r.accepted).1) c.answer_node.ensures.written;
+      read_back = IfOk-weaker c.answer_node.result is_answer (λ w. SaysBack doc p (view w)) (λ w e. subst (SaysBack doc p) (sym e) (says_back doc p v r.keyed r.accepted r.document r.fits held)) c.answer_node.ensures.written;
       whole = IfOk-weaker c.answer_node.result is_answer (λ w. has_float (view w) ≡ false) (λ w e. subst (λ d. has_float d ≡ false) (sym e) (answer_whole doc p v r.keyed r.accepted).0) c.answer_node.ensures.written;
     }

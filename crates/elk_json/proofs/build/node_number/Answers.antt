@@ -1,7 +1,0 @@
-use Rattle.std.proofs.Common.{◌∙◌}
-use Rattle.elk_json.specs.Members.{is_node}
-use Rattle.elk_json.proofs.BuildLaws.{number_front}
-use Rattle.elk_json.proofs.build.node_number.Goals as goal
-
-pub returns : goal.returns
-returns c = c.node_count.ensures.value ∙ number_front is_node c.args.elements.now c.front_of.result.now c.args.place c.front_of.ensures
