@@ -2,33 +2,40 @@
 use Rattle.std.specs.Prelude.{◌≡◌, ◌⊎◌, ℕ, ◌^◌, ◌<◌, List, [], length, ⊤, Option, Some, None}
 use Rattle.elk_json.specs.declared.fault.Refusal.{Refusal}
 use Rattle.elk_answer.specs.Answer as answer
-use Rattle.elk_engine.specs.declared.words.Command.{Command}
-use Rattle.elk_engine.specs.declared.words.Command.TheVariants.{Layout}
+use Rattle.elk_engine.specs.Check as check
+use Rattle.elk_words.specs.declared.Command.{Command}
+use Rattle.elk_words.specs.declared.Command.TheVariants.{Layout, Check}
 use Rattle.elk_engine.specs.Notes.{refused_note}
 
 -- the most bytes that it takes of its input
 abbrev pub limit : Command → ℕ
 limit Layout = 2 ^ 24
+limit Check = 2 ^ 28
 
 -- it reads its input, so that this holds where it is done
 abbrev pub Reads : Command → Type 0 → Type 0
 Reads Layout at_end = at_end
+Reads Check at_end = at_end
 
 -- it refuses this input with this note
 abbrev pub Refuses : Command → List ℕ → List ℕ → Type 0
 Refuses Layout input note = (r : Refusal) × answer.Refuses input r × (note ≡ refused_note r)
+Refuses Check input note = (r : Refusal) × check.Refuses input r × (note ≡ refused_note r)
 
 -- it answers this input by this status, 0 or 1, and this text
 abbrev pub Answers : Command → List ℕ → ℕ → List ℕ → Type 0
 Answers Layout input status text = (status ≡ 0) × answer.IsAnswer input text
+Answers Check input status text = check.IsJudged input status text
 
 -- the input is longer than it takes
 abbrev pub IsTooLong : Command → List ℕ → Type 0
 IsTooLong Layout input = limit Layout < length input
+IsTooLong Check input = limit Check < length input
 
 -- what it has written when it ends early, having taken these bytes
 abbrev pub Begun : Command → List ℕ → List ℕ → Type 0
 Begun Layout taken text = text ≡ []
+Begun Check taken text = text ≡ []
 
 -- ---- the same for all commands
 

@@ -1,5 +1,5 @@
 // What goes to the notes.
-ghost use Rattle.std.specs.Prelude.{◌≡◌, ◌⊎◌, ◌≤◌, ℕ, IfOk};
+ghost use Rattle.std.specs.Prelude.{◌≡◌, ◌⊎◌, ◌≤◌, ℕ, IfOk, option_map};
 ghost use Rattle.std.specs.Io.KnownBytes.{Appends};
 ghost use Rattle.elk_outer.specs.Causes.{Rose};
 ghost use Rattle.elk_outer.specs.Whole.{AppendsPart};
@@ -17,13 +17,13 @@ pub(crate) const READ_FAULT: &[u8] = b"read fault\n";
 
 pub(crate) const WRITE_FAULT: &[u8] = b"write fault\n";
 
-pub(crate) const USAGE: &[u8] = b"usage: elk layout\n";
+pub(crate) const USAGE: &[u8] = b"usage: elk layout\n       elk check\n";
 
 pub(crate) const OUT_OF_MEMORY: &[u8] = b"out of memory\n";
 
-// Where a refusal points: an id as JSON text, or `-`.
-fn place_text(alloc: Global, place: &Option<Id>) -> Result<Vec<u8>, AllocError>
-    ensures { IfOk result (λ text. text.items ≡ place_text place.now) }
+/// Where a refusal or a verdict points: an id as JSON text, or `-`.
+pub(crate) fn place_text(alloc: Global, place: Option<&Id>) -> Result<Vec<u8>, AllocError>
+    ensures { IfOk result (λ text. text.items ≡ place_text (option_map (λ id. id.now) place.entry)) }
 {
     match place {
         Some(id) => id_text(alloc, id),
@@ -37,7 +37,7 @@ pub(crate) fn refusal_note(alloc: Global, refusal: &Refusal) -> Result<Vec<u8>, 
 {
     let number = rule_number(refusal.rule);
     let name = rule_name(refusal.rule);
-    let place = place_text(alloc, &refusal.place)?;
+    let place = place_text(alloc, refusal.place.as_ref())?;
     let mut note = format!(in alloc; "refused {number} {name} ")?.into_bytes();
     note.extend_from_slice(&place)?;
     note.push(b'\n')?;

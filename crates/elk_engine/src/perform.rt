@@ -42,6 +42,7 @@ fn limit_of(command: Command) -> u64
 {
     match command {
         Command::Layout => 1 << 24,
+        Command::Check => 1 << 28,
     }
 }
 

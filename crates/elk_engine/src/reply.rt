@@ -1,10 +1,11 @@
 // What a command answers to its whole input.
 ghost use Rattle.std.specs.Prelude.{◌≡◌, ℕ, List, IfOk, OnOk, IfErr};
 ghost use Rattle.elk_engine.specs.Command.{Answers, Refuses};
-ghost use Rattle.elk_engine.specs.Reply.{IsCause};
+ghost use Rattle.elk_engine.specs.Reply.{IsCause, IsStop};
 
 use crate::Command;
 use crate::notes::refusal_note;
+use crate::verdict::verdict_on;
 use elk_answer::answer;
 use elk_json::DocFault;
 use std::alloc::Global;
@@ -23,6 +24,19 @@ pub(crate) enum Stop {
     Memory,
 }
 
+/// The stop at a document that isn't read.
+pub(crate) fn stopped(alloc: Global, fault: &DocFault) -> Stop
+    ensures { IsStop result fault.now }
+{
+    match fault {
+        DocFault::Refused(refusal) => match refusal_note(alloc, refusal) {
+            Ok(note) => Stop::Refused(note),
+            Err(_) => Stop::Memory,
+        },
+        DocFault::Memory => Stop::Memory,
+    }
+}
+
 /// The command's reply to its whole input.
 pub(crate) fn reply_to(alloc: Global, command: Command, bytes: &[u8]) -> Result<Reply, Stop>
     ensures answered { IfOk result (λ reply. Answers command bytes.now reply.status reply.text.items) }
@@ -32,11 +46,8 @@ pub(crate) fn reply_to(alloc: Global, command: Command, bytes: &[u8]) -> Result<
     match command {
         Command::Layout => match answer(alloc, bytes) {
             Ok(text) => Ok(Reply { status: 0, text }),
-            Err(DocFault::Refused(refusal)) => match refusal_note(alloc, &refusal) {
-                Ok(note) => Err(Stop::Refused(note)),
-                Err(_) => Err(Stop::Memory),
-            },
-            Err(DocFault::Memory) => Err(Stop::Memory),
+            Err(fault) => Err(stopped(alloc, &fault)),
         },
+        Command::Check => verdict_on(alloc, bytes),
     }
 }

@@ -16,6 +16,29 @@ const PAIR_ANSWER: &str =
 
 const DOUBLE: &str = "{\"id\":\"r\",\"children\":[{\"id\":\"a\"},{\"id\":\"a\"}]}";
 
+// An edge between two nodes, as a document and placed.
+const EDGE_INPUT: &str =
+    "{\"id\":\"r\",\"children\":[{\"id\":\"a\",\"width\":30,\"height\":30},{\"id\":\"b\",\"width\":30,\"height\":30}],\"edges\":[{\"id\":\"e\",\"sources\":[\"a\"],\"targets\":[\"b\"]}]}";
+
+const EDGE_PLACED: &str =
+    "{\"children\":[{\"height\":30,\"id\":\"a\",\"width\":30,\"x\":12,\"y\":12},{\"height\":30,\"id\":\"b\",\"width\":30,\"x\":62,\"y\":12}],\"edges\":[{\"id\":\"e\",\"sections\":[{\"endPoint\":{\"x\":62,\"y\":27},\"id\":\"e_s0\",\"startPoint\":{\"x\":42,\"y\":27}}],\"sources\":[\"a\"],\"targets\":[\"b\"]}],\"height\":54,\"id\":\"r\",\"layering\":{\"flow\":[1],\"layers\":[0,1],\"reversed\":[],\"span\":1},\"width\":104,\"x\":0,\"y\":0}";
+
+// The same with the columns one too near to each other.
+const COLUMNS_NEAR: &str =
+    "{\"children\":[{\"height\":30,\"id\":\"a\",\"width\":30,\"x\":12,\"y\":12},{\"height\":30,\"id\":\"b\",\"width\":30,\"x\":61,\"y\":12}],\"edges\":[{\"id\":\"e\",\"sections\":[{\"endPoint\":{\"x\":62,\"y\":27},\"id\":\"e_s0\",\"startPoint\":{\"x\":42,\"y\":27}}],\"sources\":[\"a\"],\"targets\":[\"b\"]}],\"height\":54,\"id\":\"r\",\"layering\":{\"flow\":[1],\"layers\":[0,1],\"reversed\":[],\"span\":1},\"width\":104,\"x\":0,\"y\":0}";
+
+// The same with a flow that proves nothing.
+const NO_FLOW: &str =
+    "{\"children\":[{\"height\":30,\"id\":\"a\",\"width\":30,\"x\":12,\"y\":12},{\"height\":30,\"id\":\"b\",\"width\":30,\"x\":62,\"y\":12}],\"edges\":[{\"id\":\"e\",\"sections\":[{\"endPoint\":{\"x\":62,\"y\":27},\"id\":\"e_s0\",\"startPoint\":{\"x\":42,\"y\":27}}],\"sources\":[\"a\"],\"targets\":[\"b\"]}],\"height\":54,\"id\":\"r\",\"layering\":{\"flow\":[0],\"layers\":[0,1],\"reversed\":[],\"span\":1},\"width\":104,\"x\":0,\"y\":0}";
+
+// The same without the start of the section.
+const NO_START: &str =
+    "{\"children\":[{\"height\":30,\"id\":\"a\",\"width\":30,\"x\":12,\"y\":12},{\"height\":30,\"id\":\"b\",\"width\":30,\"x\":62,\"y\":12}],\"edges\":[{\"id\":\"e\",\"sections\":[{\"endPoint\":{\"x\":62,\"y\":27},\"id\":\"e_s0\"}],\"sources\":[\"a\"],\"targets\":[\"b\"]}],\"height\":54,\"id\":\"r\",\"layering\":{\"flow\":[1],\"layers\":[0,1],\"reversed\":[],\"span\":1},\"width\":104,\"x\":0,\"y\":0}";
+
+// Two parallel edges, the second of which leaves along the side of its node.
+const ALONG_THE_SIDE: &str =
+    "{\"children\":[{\"height\":30,\"id\":\"a\",\"width\":30,\"x\":12,\"y\":12},{\"height\":30,\"id\":\"b\",\"width\":30,\"x\":62,\"y\":12}],\"edges\":[{\"id\":\"e\",\"sections\":[{\"endPoint\":{\"x\":62,\"y\":22},\"id\":\"e_s0\",\"startPoint\":{\"x\":42,\"y\":22}}],\"sources\":[\"a\"],\"targets\":[\"b\"]},{\"id\":\"f\",\"sections\":[{\"bendPoints\":[{\"x\":42,\"y\":22},{\"x\":62,\"y\":22}],\"endPoint\":{\"x\":62,\"y\":32},\"id\":\"f_s0\",\"startPoint\":{\"x\":42,\"y\":32}}],\"sources\":[\"a\"],\"targets\":[\"b\"]}],\"height\":54,\"id\":\"r\",\"layering\":{\"flow\":[1,1],\"layers\":[0,1],\"reversed\":[],\"span\":2},\"width\":104,\"x\":0,\"y\":0}";
+
 const NEVER: u64 = 99;
 
 // A run: the words, the input in pieces of ten bytes, the calls that fail, the room of `out`, and what is wanted.
@@ -31,7 +54,7 @@ struct Row {
     notes: &'static str,
 }
 
-const ROWS: [Row; 10] = [
+const ROWS: [Row; 22] = [
     Row {
         words: &["layout"],
         input: ROOT,
@@ -140,7 +163,139 @@ const ROWS: [Row; 10] = [
         room: 512,
         status: 5,
         out: "",
-        notes: "usage: elk layout\n",
+        notes: "usage: elk layout\n       elk check\n",
+    },
+    Row {
+        words: &["check"],
+        input: ROOT_ANSWER,
+        read_fails: NEVER,
+        out_fails: NEVER,
+        notes_fail: NEVER,
+        room: 512,
+        status: 0,
+        out: "yes\n",
+        notes: "",
+    },
+    Row {
+        words: &["--", "check"],
+        input: EDGE_PLACED,
+        read_fails: NEVER,
+        out_fails: NEVER,
+        notes_fail: NEVER,
+        room: 512,
+        status: 0,
+        out: "yes\n",
+        notes: "",
+    },
+    Row {
+        words: &["check"],
+        input: COLUMNS_NEAR,
+        read_fails: NEVER,
+        out_fails: NEVER,
+        notes_fail: NEVER,
+        room: 512,
+        status: 1,
+        out: "no 6 \"a\" \"b\"\n",
+        notes: "",
+    },
+    Row {
+        words: &["check"],
+        input: NO_FLOW,
+        read_fails: NEVER,
+        out_fails: NEVER,
+        notes_fail: NEVER,
+        room: 512,
+        status: 1,
+        out: "no 14 \"r\" -\n",
+        notes: "",
+    },
+    Row {
+        words: &["check"],
+        input: ALONG_THE_SIDE,
+        read_fails: NEVER,
+        out_fails: NEVER,
+        notes_fail: NEVER,
+        room: 512,
+        status: 1,
+        out: "no 9 \"f\" -\n",
+        notes: "",
+    },
+    Row {
+        words: &["check"],
+        input: EDGE_INPUT,
+        read_fails: NEVER,
+        out_fails: NEVER,
+        notes_fail: NEVER,
+        room: 512,
+        status: 2,
+        out: "",
+        notes: "refused 13 NotPlaced \"r\"\n",
+    },
+    Row {
+        words: &["check"],
+        input: NO_START,
+        read_fails: NEVER,
+        out_fails: NEVER,
+        notes_fail: NEVER,
+        room: 512,
+        status: 2,
+        out: "",
+        notes: "refused 13 NotPlaced \"e\"\n",
+    },
+    Row {
+        words: &["check"],
+        input: DOUBLE,
+        read_fails: NEVER,
+        out_fails: NEVER,
+        notes_fail: NEVER,
+        room: 512,
+        status: 2,
+        out: "",
+        notes: "refused 7 DoubleId \"a\"\n",
+    },
+    Row {
+        words: &["check"],
+        input: EDGE_PLACED,
+        read_fails: 1,
+        out_fails: NEVER,
+        notes_fail: NEVER,
+        room: 512,
+        status: 3,
+        out: "",
+        notes: "read fault\n",
+    },
+    Row {
+        words: &["check"],
+        input: COLUMNS_NEAR,
+        read_fails: NEVER,
+        out_fails: NEVER,
+        notes_fail: NEVER,
+        room: 4,
+        status: 4,
+        out: "no 6",
+        notes: "write fault\n",
+    },
+    Row {
+        words: &["layout"],
+        input: EDGE_INPUT,
+        read_fails: NEVER,
+        out_fails: NEVER,
+        notes_fail: NEVER,
+        room: 512,
+        status: 2,
+        out: "",
+        notes: "refused 14 NotBuilt -\n",
+    },
+    Row {
+        words: &["--help"],
+        input: "",
+        read_fails: 0,
+        out_fails: NEVER,
+        notes_fail: NEVER,
+        room: 512,
+        status: 5,
+        out: "",
+        notes: "usage: elk layout\n       elk check\n",
     },
 ];
 
