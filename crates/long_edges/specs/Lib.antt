@@ -1,0 +1,4 @@
+pub mod Chains
+pub mod Layers
+pub mod Spans
+pub mod Growing
