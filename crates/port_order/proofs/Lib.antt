@@ -1,0 +1,11 @@
+pub mod ChildLemmas
+pub mod SpreadLemmas
+pub mod MeanLemmas
+pub mod RankLemmas
+pub mod OrderLemmas
+pub mod ExampleLemmas
+pub mod StrictLemmas
+pub mod AgreeLemmas
+pub mod PlaceLemmas
+pub mod KeptLemmas
+pub mod TurnedLemmas

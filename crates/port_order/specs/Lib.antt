@@ -1,0 +1,9 @@
+pub mod Child
+pub mod Sides
+pub mod Conditions
+pub mod Places
+pub mod Order
+pub mod Ranks
+pub mod Examples
+pub mod Laws
+pub mod Turned

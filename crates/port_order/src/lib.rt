@@ -1,0 +1,22 @@
+//! Sides, orders and places of a child's ports and implicit ends, in the working frame: the frame in which the level's
+//! direction runs to the right.
+#![tactic(auto)]
+
+mod children;
+mod docks;
+mod laws;
+mod ordering;
+mod ranks;
+mod sides;
+mod spots;
+mod spreading;
+#[cfg(test)]
+mod tests;
+
+pub use children::{Child, ChildPort};
+pub use docks::dock_of;
+pub use laws::{fixed_orders_are_kept, offsets_rise, orders_agree, ports_stand, spots_are_ordered};
+pub use ordering::order_side;
+pub use sides::side_of;
+pub use spots::{Mean, Spot};
+pub use spreading::{spread, spread_at};
