@@ -1,28 +1,26 @@
 -- Levels from depths.
-use Rattle.std.proofs.Common.{◌≡◌, ◌∙◌, ⊎_elim, inl, inr, List, ℕ, ◌<◌, ◌≤◌, max, Bool, true, false, ℤ, length, refl, sym, ap, subst, arith, if◌then◌else◌}
-use Rattle.std.specs.BTreeMap.{BTreeMap}
+use Rattle.std.proofs.Common.{◌≡◌, ◌∙◌, ⊎_elim, inl, inr, List, [], ◌∷◌, ℕ, ◌<◌, ◌≤◌, max, Bool, true, false, ℤ, length, refl, sym, ap, subst, arith, if◌then◌else◌}
+use Rattle.std.proofs.lemmas.Bool.{cases_lt, false_from_ne_true}
 use Rattle.route_slots.specs.declared.Pin.{Pin}
 use Rattle.route_slots.specs.declared.Net.{Net}
+use Rattle.route_slots.proofs.Sides.{level_by}
 use Rattle.route_slots.specs.declared.marks.Mark.{Mark}
 use Rattle.route_slots.specs.Pieces.{net_at}
 use Rattle.route_slots.specs.GapFree.{HasPin, IsLevelNet}
-use Rattle.route_slots.specs.Depths.{depth, depth_of, is_split, AreDepths}
-use Rattle.route_slots.specs.Marks.{mark_at, LevelAt, IsMarkOf, AreMarks}
+use Rattle.route_slots.specs.Depths.{depth_of, is_split, AreDepths, AreHeld}
+use Rattle.route_slots.specs.Conflicts.{AreInConflict, LiesOnCycle, HasNoConflict}
+use Rattle.route_slots.specs.Marks.{mark_at, LevelAt, AreMarked, AreMarks, AreFlat}
 
-pub record AreMarked (nets : List Net) (bs : List Bool) (m : BTreeMap ℤ ℕ) (ms : List Mark) (n : ℕ) : Type 0 where
-  pub len : length ms ≡ n
-  pub each : (k : ℕ) → k < n → IsMarkOf (net_at nets k) (depth_of m (net_at nets k).a) (depth_of m (net_at nets k).b) (is_split bs k) (mark_at ms k)
+left_depth : (m : ℤ → ℕ) (p : Pin) → p.on_left ≡ true → depth_of m p ≡ 0
+left_depth m p e = ap (λ z. if z then 0 else m p.height) e
 
-left_depth : (m : BTreeMap ℤ ℕ) (p : Pin) → p.on_left ≡ true → depth_of m p ≡ 0
-left_depth m p e = ap (λ z. if z then 0 else depth m p.height) e
-
-right_depth : (m : BTreeMap ℤ ℕ) (p : Pin) → p.on_left ≡ false → depth_of m p ≡ depth m p.height
-right_depth m p e = ap (λ z. if z then 0 else depth m p.height) e
+right_depth : (m : ℤ → ℕ) (p : Pin) → p.on_left ≡ false → depth_of m p ≡ m p.height
+right_depth m p e = ap (λ z. if z then 0 else m p.height) e
 
 less_max : (x y z : ℕ) → x < z → y < z → max x y < z
 less_max x y z h k = omega arith
 
-module _ (nets : List Net) (bs : List Bool) (m : BTreeMap ℤ ℕ) (ms : List Mark) (depths : AreDepths nets bs m) (marked : AreMarked nets bs m ms (length nets)) where
+module _ (nets : List Net) (bs : List Bool) (m : ℤ → ℕ) (ms : List Mark) (depths : AreDepths nets bs m) (marked : AreMarked nets bs m ms (length nets)) where
   abbrev net : ℕ → Net
   net k = net_at nets k
 
@@ -39,7 +37,7 @@ module _ (nets : List Net) (bs : List Bool) (m : BTreeMap ℤ ℕ) (ms : List Ma
 
   -- a pin's depth is below that of any height that all pins of its piece are below
   pin_below : (k : ℕ) (p r : Pin) (z : ℕ) → k < length nets → (IsLevelNet (net k) → ⊥) → is_split bs k ≡ false → HasPin (net k) p → p.on_left ≡ true
-      → depth m p.height ≡ z → HasPin (net k) r → depth_of m r < z
+      → m p.height ≡ z → HasPin (net k) r → depth_of m r < z
   pin_below k p r z h bent e hp pl d hr = by_side r.on_left refl
     where
       by_side : (b : Bool) → r.on_left ≡ b → depth_of m r < z
@@ -47,13 +45,13 @@ module _ (nets : List Net) (bs : List Bool) (m : BTreeMap ℤ ℕ) (ms : List Ma
       by_side false f = let same = right_depth m r f in let rising = depths.rising k p r h bent e hp hr pl f in omega arith
 
   -- the piece at a pin on the left stands before the depth of its height
-  left_level : (k : ℕ) (p : Pin) (x : ℕ) → k < length nets → (IsLevelNet (net k) → ⊥) → LevelAt (net k) (mark k) p x → p.on_left ≡ true → x < depth m p.height
+  left_level : (k : ℕ) (p : Pin) (x : ℕ) → k < length nets → (IsLevelNet (net k) → ⊥) → LevelAt (net k) (mark k) p x → p.on_left ≡ true → x < m p.height
   left_level k p x h bent l pl = by_split (is_split bs k) refl
     where
       has : HasPin (net k) p
       has = ⊎_elim (λ y. inl y.0) (λ y. inr y.0) l
 
-      by_split : (b : Bool) → is_split bs k ≡ b → x < depth m p.height
+      by_split : (b : Bool) → is_split bs k ≡ b → x < m p.height
       by_split true f =
           let deep = depths.deep k p h bent has pl in
           let zero_depth = left_depth m p pl in
@@ -66,23 +64,23 @@ module _ (nets : List Net) (bs : List Bool) (m : BTreeMap ℤ ℕ) (ms : List Ma
           let e : depth_of m (net k).b ≡ depth_of m p = ap (depth_of m) y.0 in omega arith)
           l
       by_split false f =
-          let a = pin_below k p (net k).a (depth m p.height) h bent f has pl refl (inl refl) in
-          let b = pin_below k p (net k).b (depth m p.height) h bent f has pl refl (inr refl) in
-          let both = less_max (depth_of m (net k).a) (depth_of m (net k).b) (depth m p.height) a b in
+          let a = pin_below k p (net k).a (m p.height) h bent f has pl refl (inl refl) in
+          let b = pin_below k p (net k).b (m p.height) h bent f has pl refl (inr refl) in
+          let both = less_max (depth_of m (net k).a) (depth_of m (net k).b) (m p.height) a b in
           ⊎_elim
           (λ (y : ((net k).a ≡ p) × ((mark k).at_a ≡ x)).
           let d : x ≡ max (depth_of m (net k).a) (depth_of m (net k).b) = sym y.1 ∙ (marked.each k h).at_a ∙ ap (λ z. if z then depth_of m (net k).a else max (depth_of m (net k).a) (depth_of m (net k).b)) f in
-          subst (λ z. z < depth m p.height) (sym d) both)
+          subst (λ z. z < m p.height) (sym d) both)
           (λ (y : ((net k).b ≡ p) × ((mark k).at_b ≡ x)).
           let d : x ≡ max (depth_of m (net k).a) (depth_of m (net k).b) = sym y.1 ∙ (marked.each k h).at_b ∙ ap (λ z. if z then depth_of m (net k).b else max (depth_of m (net k).a) (depth_of m (net k).b)) f in
-          subst (λ z. z < depth m p.height) (sym d) both)
+          subst (λ z. z < m p.height) (sym d) both)
           l
 
   -- the piece at a pin on the right does not stand before the depth of its height
-  right_level : (k : ℕ) (q : Pin) (y : ℕ) → k < length nets → LevelAt (net k) (mark k) q y → q.on_left ≡ false → depth m q.height ≤ y
+  right_level : (k : ℕ) (q : Pin) (y : ℕ) → k < length nets → LevelAt (net k) (mark k) q y → q.on_left ≡ false → m q.height ≤ y
   right_level k q y h l ql = by_split (is_split bs k) refl
     where
-      by_split : (b : Bool) → is_split bs k ≡ b → depth m q.height ≤ y
+      by_split : (b : Bool) → is_split bs k ≡ b → m q.height ≤ y
       by_split true f =
           let same = right_depth m q ql in
           ⊎_elim
@@ -117,7 +115,7 @@ module _ (nets : List Net) (bs : List Bool) (m : BTreeMap ℤ ℕ) (ms : List Ma
         order = λ j k p q x y jl kl sj sk lp lq pl ql e.
             let left = left_level j p x jl (not_level j jl sj) lp pl in
             let right = right_level k q y kl lq ql in
-            let same : depth m p.height ≡ depth m q.height = ap (depth m) e in omega arith;
+            let same : m p.height ≡ m q.height = ap m e in omega arith;
       }
     where
       by_split : (k : ℕ) → k < length nets → (b : Bool) → is_split bs k ≡ b → (mark k).straight ≡ true → IsLevelNet (net k)
@@ -127,3 +125,56 @@ module _ (nets : List Net) (bs : List Bool) (m : BTreeMap ℤ ℕ) (ms : List Ma
       level_straight : (k : ℕ) → k < length nets → (b : Bool) → is_split bs k ≡ b → IsLevelNet (net k) → (mark k).straight ≡ true
       level_straight k h true f v = absurd (depths.bent k h f v)
       level_straight k h false f v = ((marked.each k h).straight f).1 v
+
+  module _ (held : AreHeld nets m) (cycles : (k : ℕ) → k < length nets → is_split bs k ≡ true → LiesOnCycle nets k) (none : HasNoConflict nets) where
+    some_conflict : (j : ℕ) (is : List ℕ) (k : ℕ) → AreInConflict nets j is k → ⊥
+    some_conflict j [] k c = none j k c
+    some_conflict j (i ∷ is) k c = none j i c.0
+
+    not_split : (k : ℕ) → k < length nets → is_split bs k ≡ false
+    not_split k h = false_from_ne_true (is_split bs k) (λ e. let on = cycles k h e in some_conflict k on.others k on.round)
+
+    -- a pin of a net that is not straight is not deep
+    not_deep : (k : ℕ) (p : Pin) → k < length nets → (IsLevelNet (net k) → ⊥) → HasPin (net k) p → depth_of m p ≡ 0
+    not_deep k p h bent has = by_side p.on_left refl
+      where
+        by_side : (b : Bool) → p.on_left ≡ b → depth_of m p ≡ 0
+        by_side true e = left_depth m p e
+        by_side false e =
+            right_depth m p e
+            ∙ ⊎_elim
+            (λ (z : m p.height < 1). omega arith)
+            (λ (deep : 1 ≤ m p.height).
+            let u = held p.height (omega arith) in
+            let at = u.2 in
+            absurd
+            (none u.0 k
+            (record {
+              j_in = u.1;
+              k_in = h;
+              two = λ same. bent (level_by (net k) at.pin p (subst (λ z. HasPin (net z) at.pin) same at.has_pin) has at.on_left e at.at_height);
+              j_bent = at.bent;
+              k_bent = bent;
+              left = at.pin;
+              right = p;
+              has_left = at.has_pin;
+              has_right = has;
+              on_left = at.on_left;
+              on_right = e;
+              one_height = at.at_height;
+            })))
+            (cases_lt (m p.height) 1)
+
+    -- without conflicts no net is split, and all pieces are at one level
+    pub are_flat : AreFlat nets ms
+    are_flat =
+        record {
+          split = λ k h. (marked.each k h).split ∙ not_split k h;
+          level = λ k h e.
+              let bent = not_level k h e in
+              let a = not_deep k (net k).a h bent (inl refl) in
+              let b = not_deep k (net k).b h bent (inr refl) in
+              let f = not_split k h in
+              let d : (mark k).at_a ≡ max (depth_of m (net k).a) (depth_of m (net k).b) = (marked.each k h).at_a ∙ ap (λ z. if z then depth_of m (net k).a else max (depth_of m (net k).a) (depth_of m (net k).b)) f in
+              omega arith;
+        }

@@ -6,4 +6,6 @@ pub mod Placing
 pub mod Raising
 pub mod Keys
 pub mod Taking
+pub mod Sides
+pub mod Cycling
 pub mod Leveling

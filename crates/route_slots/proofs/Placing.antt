@@ -1,6 +1,7 @@
 -- Nets keep apart whose pieces stand in slots by their levels.
-use Rattle.std.proofs.Common.{◌≡◌, ◌≢◌, ◌∙◌, ◌⊎◌, ⊎_elim, inl, inr, List, ℕ, zero, suc, ◌+◌, ◌<◌, ◌≤◌, Bool, true, false, not, ℤ, ◌≤ℤ◌, ◌<ℤ◌, length, refl, sym, ap, subst, arith, if◌then◌else◌, get_or}
-use Rattle.std.proofs.lemmas.Bool.{cases_lt}
+use Rattle.std.proofs.Common.{◌≡◌, ◌≢◌, ◌∙◌, ◌⊎◌, ⊎_elim, inl, inr, List, [], ◌∷◌, ◌++◌, map, ℕ, zero, suc, ◌+◌, ◌<◌, ◌≤◌, Bool, true, false, not, ℤ, ◌≤ℤ◌, ◌<ℤ◌, length, refl, sym, ap, subst, arith, if◌then◌else◌, get_or}
+use Rattle.std.proofs.lemmas.Bool.{cases_lt, false_from_ne_true}
+use Rattle.std.proofs.lemmas.List.{length_push, length-map, get_or-map}
 use Rattle.std.proofs.lemmas.Int.{ints, clamps}
 use Rattle.std.specs.Int.{int_min, int_max}
 use Rattle.route_slots.specs.declared.Pin.{Pin}
@@ -12,9 +13,11 @@ use Rattle.route_slots.specs.declared.slotting.Piece.{Piece}
 use Rattle.route_slots.specs.Pieces.{net_at, route_at}
 use Rattle.route_slots.specs.GapFree.{IsLevelNet, IsAtHeight, StandsIn, IsNearPins, IsFresh, GapFree}
 use Rattle.route_slots.specs.Standing.{StandsAt, IsUpright, AreApart}
-use Rattle.route_slots.specs.Slotting.{piece_at, IsReal, AreSlots}
-use Rattle.route_slots.specs.Marks.{mark_at, LevelAt, AreMarks, other_end, piece_a, piece_b, height_of, ArePieces, route_by, ArePlaced, IsTop}
+use Rattle.route_slots.specs.Slotting.{piece_at, IsReal, AreSlots, AreAtOneLevel, MeetInEach}
+use Rattle.route_slots.specs.Density.{Contains, MeetAt, IsDensity}
+use Rattle.route_slots.specs.Marks.{mark_at, LevelAt, AreMarks, other_end, piece_a, piece_b, height_of, ArePieces, route_by, ArePlaced, IsTop, AreFlat}
 use Rattle.route_slots.proofs.Free.{AreKept, free}
+use Rattle.route_slots.proofs.Lists.{each_pushed, few_below}
 
 -- a place in the list of pieces is one of the two of some net
 halved : (i n : ℕ) → i < n + n → (k : ℕ) × (k < n) × ((i ≡ k + k) ⊎ (i ≡ k + k + 1))
@@ -27,6 +30,10 @@ halved i (suc n) h =
     (λ (g : n + n + 1 ≤ i). (n, omega arith, inr (omega arith)))
     (cases_lt i (n + n + 1)))
     (cases_lt i (n + n))
+
+not_true : (b : Bool) → not b ≡ true → b ≡ false
+not_true true e = absurd (cc)
+not_true false e = refl
 
 abbrev Slot : Bool → Bool → ℕ → ℕ → ℕ → Type 0
 Slot straight split a b s = ((straight ≡ false) × (a ≡ s)) ⊎ ((split ≡ true) × (b ≡ s))
@@ -100,6 +107,9 @@ no_overlap low high low' high' o x =
 meet_at : (a b h : ℤ) → ((int_max a h <ℤ int_min h b) ⊎ (int_max h b <ℤ int_min a h)) → ⊥
 meet_at a b h x = ⊎_elim (λ l. let l' = l in omega (arith, ints, clamps)) (λ l. let l' = l in omega (arith, ints, clamps)) x
 
+both_contain : (low high low' high' h : ℤ) → low ≤ℤ h → h ≤ℤ high → low' ≤ℤ h → h ≤ℤ high' → (high <ℤ low') ⊎ (high' <ℤ low) → ⊥
+both_contain low high low' high' h a b c d x = ⊎_elim (λ l. let l' = l in omega (arith, ints)) (λ l. let l' = l in omega (arith, ints)) x
+
 min_max : (a b : ℤ) → int_min a b ≤ℤ int_max a b
 min_max a b = omega (arith, ints, clamps)
 
@@ -161,10 +171,6 @@ module _ (nets : List Net) (ms : List Mark) (top : ℤ) (ps : List Piece) (ss : 
       let at = halved w.0 (length nets) (omega arith) in
       (at.0, at.1, stands w.0 at.0 at.1 w.1 w.2 at.2)
     where
-      not_true : (b : Bool) → not b ≡ true → b ≡ false
-      not_true true e = absurd (cc)
-      not_true false e = refl
-
       stands : (i k : ℕ) → k < length nets → IsReal ps i → get_or ss i 0 ≡ s → (i ≡ k + k) ⊎ (i ≡ k + k + 1) → StandsIn (route_at routes k) s
       stands i k h r e x =
           subst (λ z. StandsIn z s) (sym (placed.routes_are k h))
@@ -299,3 +305,138 @@ module _ (nets : List Net) (ms : List Mark) (top : ℤ) (ps : List Piece) (ss : 
         fresh = fresh;
         free = free nets count routes kept;
       }
+
+  -- a net is split only where its mark says so
+  pub split_by_mark : (k s : ℕ) (h : ℤ) (t : ℕ) → k < length nets → route_at routes k ≡ Two s h t → (mark k).split ≡ true
+  split_by_mark k s h t l e = (two k s h t l e).1
+
+  -- where no net is split and all pieces are at one level
+  module _ (flat : AreFlat nets ms) where
+    -- a piece is that of a net that is not straight, and leads from pin to pin
+    abbrev WholePiece : ℕ → Type 0
+    WholePiece i =
+        (k : ℕ) × (k < length nets) × (i ≡ k + k) × ((mark k).straight ≡ false)
+        × ((piece_at ps i).level ≡ 0)
+        × ((piece_at ps i).low ≡ int_min (net k).a.height (net k).b.height)
+        × ((piece_at ps i).high ≡ int_max (net k).a.height (net k).b.height)
+
+    whole_end : (k : ℕ) → k < length nets → other_end (mark k) (net k) (height k) ≡ (net k).b.height
+    whole_end k h = ap (λ z. if z then height k else (net k).b.height) (flat.split k h)
+
+    whole_low : (k : ℕ) → k < length nets → (piece_at ps (k + k)).low ≡ int_min (net k).a.height (net k).b.height
+    whole_low k h = ap (λ z. z.low) (pieces.at_a k h) ∙ ap (int_min (net k).a.height) (whole_end k h)
+
+    whole_high : (k : ℕ) → k < length nets → (piece_at ps (k + k)).high ≡ int_max (net k).a.height (net k).b.height
+    whole_high k h = ap (λ z. z.high) (pieces.at_a k h) ∙ ap (int_max (net k).a.height) (whole_end k h)
+
+    whole_a : (k i : ℕ) → k < length nets → i ≡ k + k → (mark k).straight ≡ false → WholePiece i
+    whole_a k i h e real = (
+      k,
+      h,
+      e,
+      real,
+      ap (λ z. z.level) (ap (piece_at ps) e ∙ pieces.at_a k h) ∙ flat.level k h real,
+      ap (λ z. (piece_at ps z).low) e ∙ whole_low k h,
+      ap (λ z. (piece_at ps z).high) e ∙ whole_high k h,
+    )
+
+    whole_piece : (i : ℕ) → IsReal ps i → WholePiece i
+    whole_piece i r =
+        let len = pieces.len in
+        let i_in = r.0 in
+        let at = halved i (length nets) (omega arith) in
+        ⊎_elim
+        (λ (e : i ≡ at.0 + at.0). whole_a at.0 i at.1 e (not_true (mark at.0).straight (sym (ap (λ z. z.real) (pieces.at_a at.0 at.1)) ∙ subst (λ z. (piece_at ps z).real ≡ true) e r.1)))
+        (λ (e : i ≡ at.0 + at.0 + 1).
+        let split : (mark at.0).split ≡ true = sym (ap (λ z. z.real) (pieces.at_b at.0 at.1)) ∙ subst (λ z. (piece_at ps z).real ≡ true) e r.1 in
+        absurd (let bad : true ≡ false = sym split ∙ flat.split at.0 at.1 in cc))
+        at.2
+
+    one_level : AreAtOneLevel ps
+    one_level i j ri rj = (whole_piece i ri).4 ∙ sym (whole_piece j rj).4
+
+    -- the height that a piece contains in each slot
+    met : MeetInEach ps ss count
+    met = slots.met one_level
+
+    -- a net that contains it, and stands in this slot
+    abbrev InSlot : ℕ → ℕ → Type 0
+    InSlot s k = (k < length nets) × Contains (net k) met.height × (first k ≡ s)
+
+    in_slot : (s : ℕ) → s < count → (k : ℕ) × InSlot s k
+    in_slot s l =
+        let u = met.each s l in
+        let w = whole_piece u.0 u.1 in (
+          w.0,
+          (
+            w.1,
+            record {
+              bent = λ v. let straight = (marks.straight w.0 w.1).1 v in let bad : true ≡ false = sym straight ∙ w.3 in cc;
+              low = subst (λ z. z ≤ℤ met.height) w.5 u.3;
+              high = subst (λ z. met.height ≤ℤ z) w.6 u.4;
+            },
+            subst (λ z. get_or ss z 0 ≡ s) w.2 u.2,
+          ),
+        )
+
+    one_each : (n : ℕ) → n ≤ count → (ks : List ℕ) × (length ks ≡ n) × ((s : ℕ) → s < n → InSlot s (get_or ks s 0))
+    one_each zero l = ([], refl, λ s h. absurd (omega arith))
+    one_each (suc n) l =
+        let rest = one_each n (omega arith) in
+        let last = in_slot n (omega arith) in
+        let more = each_pushed ℕ 0 InSlot rest.0 (rest.0 ++ last.0 ∷ []) last.0 n rest.1 refl rest.2 last.1 in
+        let len = length_push rest.0 last.0 in
+        let was = rest.1 in
+        (rest.0 ++ last.0 ∷ [], omega arith, λ s h. more s (omega arith))
+
+    -- nets that contain one height stand in different slots
+    no_more : (h : ℤ) (ks : List ℕ) → MeetAt nets h ks → length ks ≤ count
+    no_more h ks m =
+        subst (λ z. z ≤ count) (length-map ks first)
+        (few_below (map first ks) count
+        (λ i l. let li = inside i l in subst (λ z. z < count) (sym (get_or-map first ks i 0 0 li)) (slots.below (get_or ks i 0 + get_or ks i 0) (real i li)))
+        (λ i j lt l e.
+        let lj = inside j l in
+        let li : i < length ks = omega arith in
+        meets i j lt lj (sym (get_or-map first ks i 0 0 li) ∙ e ∙ get_or-map first ks j 0 0 lj)))
+      where
+        inside : (i : ℕ) → i < length (map first ks) → i < length ks
+        inside i l = subst (λ z. i < z) (length-map ks first) l
+
+        bent : (i : ℕ) → i < length ks → (mark (get_or ks i 0)).straight ≡ false
+        bent i l = false_from_ne_true (mark (get_or ks i 0)).straight (λ e. (m.meet i l).bent ((marks.straight (get_or ks i 0) (m.nets_in i l)).0 e))
+
+        real : (i : ℕ) → i < length ks → IsReal ps (get_or ks i 0 + get_or ks i 0)
+        real i l = real_a (get_or ks i 0) (m.nets_in i l) (bent i l)
+
+        low : (i : ℕ) → i < length ks → (piece_at ps (get_or ks i 0 + get_or ks i 0)).low ≤ℤ h
+        low i l = subst (λ z. z ≤ℤ h) (sym (whole_low (get_or ks i 0) (m.nets_in i l))) (m.meet i l).low
+
+        high : (i : ℕ) → i < length ks → h ≤ℤ (piece_at ps (get_or ks i 0 + get_or ks i 0)).high
+        high i l = subst (λ z. h ≤ℤ z) (sym (whole_high (get_or ks i 0) (m.nets_in i l))) (m.meet i l).high
+
+        meets : (i j : ℕ) → i < j → j < length ks → first (get_or ks i 0) ≡ first (get_or ks j 0) → ⊥
+        meets i j lt lj same =
+            let li : i < length ks = omega arith in
+            let ne = m.distinct i j lt lj in
+            both_contain _ _ _ _ h (low i li) (high i li) (low j lj) (high j lj)
+            (slots.apart (get_or ks i 0 + get_or ks i 0) (get_or ks j 0 + get_or ks j 0) (real i li) (real j lj) (omega arith) same)
+
+    pub is_density : IsDensity nets count
+    is_density =
+        let ks = one_each count (omega arith) in
+        let len = ks.1 in
+        record {
+          height = met.height;
+          there = ks.0;
+          meet = record {
+            nets_in = λ i l. (ks.2 i (omega arith)).0;
+            meet = λ i l. (ks.2 i (omega arith)).1;
+            distinct = λ i j lt l e.
+                let a = (ks.2 i (omega arith)).2 in
+                let b = (ks.2 j (omega arith)).2 in
+                let same : first (get_or ks.0 i 0) ≡ first (get_or ks.0 j 0) = ap first e in omega arith;
+          };
+          as_many = ks.1;
+          most = no_more;
+        }

@@ -1,17 +1,24 @@
 -- Pieces come to their slots one after the other.
-use Rattle.std.proofs.Common.{◌≡◌, ◌≢◌, ◌⊎◌, ⊎_elim, inl, inr, ℕ, ℤ, ◌+◌, ◌<◌, ◌≤◌, Bool, true, false, ap, sym, ◌∙◌, refl, subst, ◌<ℤ◌, ◌≤ℤ◌, List, length, set, get_or, arith}
-use Rattle.std.proofs.lemmas.Bool.{cases_lt}
+use Rattle.std.proofs.Common.{◌≡◌, ◌≢◌, ◌⊎◌, ⊎_elim, inl, inr, ℕ, ℤ, pos, ◌+◌, ◌<◌, ◌≤◌, Bool, true, false, ap, sym, ◌∙◌, refl, subst, ◌<ℤ◌, ◌≤ℤ◌, List, length, set, get_or, arith}
+use Rattle.std.proofs.lemmas.Bool.{cases_lt, cases_eq}
 use Rattle.std.proofs.lemmas.List.{get_or-set_same, get_or-set_other, length-set}
 use Rattle.std.specs.BTreeSet.{BTreeSet, btree_set_len, Updates, IsLowerBound}
 use Rattle.std.proofs.lemmas.Int.{ints}
 use Rattle.route_slots.specs.declared.slotting.Piece.{Piece}
 use Rattle.route_slots.specs.declared.slotting.Row.{Row}
-use Rattle.route_slots.specs.Slotting.{Key, key_cmp, key_of, has_key, piece_at, IsReal, AreWaiting, AreSlots, End, has_end, Takes, fresh, reuse}
-use Rattle.route_slots.proofs.Keys.{same_key, taken_from, taken_other, least_level}
+use Rattle.route_slots.specs.Slotting.{Key, key_cmp, key_of, has_key, piece_at, IsReal, AreWaiting, AreAtOneLevel, AreSlots, End, has_end, Takes, fresh, reuse}
+use Rattle.route_slots.proofs.Keys.{same_key, taken_from, taken_other, least_level, least_low}
 
 -- the piece has its slot
 abbrev pub IsDone : List Piece → BTreeSet Key → ℕ → Type 0
 IsDone ps w i = IsReal ps i × (has_key w (key_of (piece_at ps i) i) ≡ false)
+
+-- at one level each slot has an end, and in each a piece that has its slot contains one height
+pub record MeetSoFar (ps : List Piece) (ss : List ℕ) (w : BTreeSet Key) (row : Row) : Type 0 where
+  pub levels : (i : ℕ) → IsDone ps w i → (piece_at ps i).level ≡ row.level
+  pub ends : (s : ℕ) → s < row.count → (h : ℤ) × (has_end row.busy (h, s) ≡ true)
+  pub height : ℤ
+  pub each : (s : ℕ) → s < row.count → (i : ℕ) × IsDone ps w i × (get_or ss i 0 ≡ s) × ((piece_at ps i).low ≤ℤ height) × (height ≤ℤ (piece_at ps i).high)
 
 pub record AreSlotted (ps : List Piece) (ss : List ℕ) (w : BTreeSet Key) (row : Row) : Type 0 where
   pub len : length ss ≡ length ps
@@ -23,6 +30,8 @@ pub record AreSlotted (ps : List Piece) (ss : List ℕ) (w : BTreeSet Key) (row 
   pub apart : (i j : ℕ) → IsDone ps w i → IsDone ps w j → i ≢ j → get_or ss i 0 ≡ get_or ss j 0
       → ((piece_at ps i).high <ℤ (piece_at ps j).low) ⊎ ((piece_at ps j).high <ℤ (piece_at ps i).low)
   pub ahead : (i j : ℕ) → IsDone ps w i → IsReal ps j → has_key w (key_of (piece_at ps j) j) ≡ true → (piece_at ps i).level ≤ (piece_at ps j).level
+  pub lows : (i j : ℕ) → IsDone ps w i → IsReal ps j → has_key w (key_of (piece_at ps j) j) ≡ true → (piece_at ps i).level ≡ (piece_at ps j).level → (piece_at ps i).low ≤ℤ (piece_at ps j).low
+  pub met : AreAtOneLevel ps → MeetSoFar ps ss w row
   pub held : (h : ℤ) (s : ℕ) → has_end row.busy (h, s) ≡ true → (i : ℕ) × IsDone ps w i × (get_or ss i 0 ≡ s) × ((piece_at ps i).level ≡ row.level) × ((piece_at ps i).high ≡ h)
   pub last : (h : ℤ) (s i : ℕ) → has_end row.busy (h, s) ≡ true → IsDone ps w i → get_or ss i 0 ≡ s → (piece_at ps i).high ≤ℤ h
 
@@ -49,7 +58,7 @@ one_end ps ss w row t h h' s a b =
     omega (arith, ints)
 
 fits : (ps : List Piece) (ss : List ℕ) (w : BTreeSet Key) (row new : Row) (x s : ℕ) → AreSlotted ps ss w row → Takes row new (piece_at ps x) s → Fits ps ss w row new x s
-fits ps ss w row new x s t (fresh e c from) =
+fits ps ss w row new x s t (fresh e c from full kept here) =
     record {
       behind = λ j d l. let b = t.below j d in omega arith;
       clear = λ j d same. absurd (let b = t.below j d in omega arith);
@@ -62,7 +71,7 @@ fits ps ss w row new x s t (fresh e c from) =
           inr (o.0, o.1, λ same. let u = t.held h r o.1 in let l = t.below u.0 u.1 in let f = u.2 in omega arith))
           (from (h, r) b);
     }
-fits ps ss w row new x s t (reuse h lv there above c from) =
+fits ps ss w row new x s t (reuse h lv there above c from kept here) =
     let u = t.held h s there in
     let at = u.2 in
     let in_row = t.below u.0 u.1 in
@@ -142,6 +151,49 @@ module _ (ps : List Piece) (ss : List ℕ) (w v : BTreeSet Key) (row new : Row) 
   level_x : (i : ℕ) → i ≡ x → (piece_at ps i).level ≡ (piece_at ps x).level
   level_x i e = ap (λ z. (piece_at ps z).level) e
 
+  -- where all pieces are at one level, the row's is that level as soon as a slot is taken
+  row_level : AreAtOneLevel ps → (r : ℕ) → r < row.count → (piece_at ps x).level ≡ row.level
+  row_level one r l = let u = t.used r l in one x u.0 real u.1.0 ∙ (t.met one).levels u.0 u.1
+
+  level_now : AreAtOneLevel ps → (i : ℕ) → IsDone ps v i → (piece_at ps i).level ≡ new.level
+  level_now one i d = one i x d.0 real ∙ sym level
+
+  met_more : Takes row new (piece_at ps x) s → AreAtOneLevel ps → MeetSoFar ps slots v new
+  met_more (fresh e c from full kept end_here) one =
+      let m = t.met one in
+      record {
+        levels = level_now one;
+        ends = λ r l. ⊎_elim
+            (λ (old : r < row.count). let end = m.ends r old in (end.0, kept (row_level one r old) (end.0, r) end.1))
+            (λ (ge : row.count ≤ r). let same : s ≡ r = omega arith in ((piece_at ps x).high, subst (λ z. has_end new.busy ((piece_at ps x).high, z) ≡ true) same end_here))
+            (cases_lt r row.count);
+        height = (piece_at ps x).low;
+        each = λ r l. ⊎_elim
+            (λ (old : r < row.count).
+            let end = m.ends r old in
+            let u = t.held end.0 r end.1 in
+            let ends_below = full (row_level one r old) (end.0, r) end.1 in (
+              u.0,
+              done_still u.0 u.1,
+              at_old u.0 u.1 ∙ u.2,
+              t.lows u.0 x u.1 real there (one u.0 x u.1.0 real),
+              subst (λ z. (piece_at ps x).low ≤ℤ z) (sym u.4) ends_below,
+            ))
+            (λ (ge : row.count ≤ r). let same : s ≡ r = omega arith in (x, done_here, here ∙ same, omega (arith, ints), proper))
+            (cases_lt r row.count);
+      }
+  met_more (reuse h lv was_there above c from kept end_here) one =
+      let m = t.met one in
+      record {
+        levels = level_now one;
+        ends = λ r l. ⊎_elim
+            (λ (same : r ≡ s). ((piece_at ps x).high, subst (λ z. has_end new.busy ((piece_at ps x).high, z) ≡ true) (sym same) end_here))
+            (λ (ne : r ≡ s → ⊥). let end = m.ends r (omega arith) in (end.0, kept (end.0, r) end.1 (λ both. ne (ap (λ (z : End). z.1) both))))
+            (cases_eq r s);
+        height = m.height;
+        each = λ r l. let u = m.each r (omega arith) in (u.0, done_still u.0 u.1, at_old u.0 u.1 ∙ u.2, u.3, u.4);
+      }
+
   pub slotted_more : AreSlotted ps slots v new
   slotted_more =
       record {
@@ -180,6 +232,13 @@ module _ (ps : List Piece) (ss : List ℕ) (w v : BTreeSet Key) (row new : Row) 
             (λ (ei : i ≡ x). let le = least_level key (key_of (piece_at ps j) j) (least (key_of (piece_at ps j) j) (waited (key_of (piece_at ps j) j) h)) in let e = level_x i ei in omega arith)
             (λ (oi : IsDone ps w i). t.ahead i j oi rj (waited (key_of (piece_at ps j) j) h))
             (done i di);
+        lows = λ i j di rj h same. ⊎_elim
+            (λ (ei : i ≡ x).
+            let le = least_low key (key_of (piece_at ps j) j) (least (key_of (piece_at ps j) j) (waited (key_of (piece_at ps j) j) h)) (sym (level_x i ei) ∙ same) in
+            subst (λ z. (piece_at ps z).low ≤ℤ (piece_at ps j).low) (sym ei) le)
+            (λ (oi : IsDone ps w i). t.lows i j oi rj (waited (key_of (piece_at ps j) j) h) same)
+            (done i di);
+        met = met_more taken;
         held = λ h r b. ⊎_elim
             (λ (q : ((piece_at ps x).high ≡ h) × (s ≡ r)). (x, done_here, here ∙ q.1, sym level, q.0))
             (λ (o : ((piece_at ps x).level ≡ row.level) × (has_end row.busy (h, r) ≡ true) × (r ≢ s)).
@@ -207,6 +266,7 @@ all_slotted ps ss w row t none =
       used = λ s l. let u = t.used s l in (u.0, u.1.0, u.2);
       order = λ i j ri rj l. t.order i j (done i ri) (done j rj) l;
       apart = λ i j ri rj ne same. t.apart i j (done i ri) (done j rj) ne same;
+      met = λ one. let m = t.met one in record { height = m.height; each = λ s l. let u = m.each s l in (u.0, u.1.0, u.2, u.3, u.4) };
     }
 
 -- at first each piece waits
@@ -224,6 +284,8 @@ none_slotted ps ss w row zero_count empty len a =
       order = λ i j d e l. absurd (none i d);
       apart = λ i j d e ne same. absurd (none i d);
       ahead = λ i j d r h. absurd (none i d);
+      lows = λ i j d r h same. absurd (none i d);
+      met = λ one. record { levels = λ i d. absurd (none i d); ends = λ s l. absurd (omega arith); height = pos 0; each = λ s l. absurd (omega arith) };
       held = λ h s b. absurd (no_end (h, s) b);
       last = λ h s i b d e. absurd (no_end (h, s) b);
     }

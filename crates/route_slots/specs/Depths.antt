@@ -1,42 +1,44 @@
 -- How far behind the first slots pieces with a pin on the right at some height stand.
-use Rattle.std.specs.Prelude.{◌≡◌, ◌≢◌, ℕ, ◌<◌, Bool, true, false, List, ℤ, length, slice_index_or, unwrap_or, if◌then◌else◌}
+use Rattle.std.specs.Prelude.{◌≡◌, ◌≢◌, ℕ, ◌+◌, ◌<◌, ◌^◌, Bool, true, false, List, ℤ, length, Option, Some, None, slice_index, slice_index_or, if◌then◌else◌}
 use Rattle.std.specs.Ordering.{int_cmp}
-use Rattle.std.specs.BTreeMap.{BTreeMap, get}
+use Rattle.std.specs.BTreeMap.{get}
 use Rattle.route_slots.specs.declared.Pin.{Pin}
 use Rattle.route_slots.specs.declared.Net.{Net}
+use Rattle.route_slots.specs.declared.depths.Depths.{Depths}
 use Rattle.route_slots.specs.Pieces.{net_at}
 use Rattle.route_slots.specs.GapFree.{HasPin, IsLevelNet}
+use Rattle.route_slots.specs.Numbers.{HasLeftAt}
+
+-- a height without a number has depth 0, and every other is deeper
+abbrev pub depth_by : List ℕ → Option ℕ → ℕ
+depth_by ds None = 0
+depth_by ds (Some x) = slice_index ds x + 1
 
 -- the depth of a height, 0 where no piece has a pin on the left there
-abbrev pub depth : BTreeMap ℤ ℕ → ℤ → ℕ
-depth m h = unwrap_or (get int_cmp m h) 0
+abbrev pub depth : Depths → ℤ → ℕ
+depth d h = depth_by d.depths.items (get int_cmp d.numbers h)
 
-abbrev pub depth_of : BTreeMap ℤ ℕ → Pin → ℕ
-depth_of m p = if p.on_left then 0 else depth m p.height
+abbrev pub depth_of : (ℤ → ℕ) → Pin → ℕ
+depth_of d p = if p.on_left then 0 else d p.height
 
 abbrev pub is_split : List Bool → ℕ → Bool
 is_split bs k = slice_index_or bs k false
 
 -- A height with a pin on the left is deep, and a net that is not split leads from a height on the right to a deeper one on
 -- the left.
-pub record AreDepths (nets : List Net) (bs : List Bool) (m : BTreeMap ℤ ℕ) : Type 0 where
+pub record AreDepths (nets : List Net) (bs : List Bool) (d : ℤ → ℕ) : Type 0 where
   pub len : length bs ≡ length nets
   pub sides : (k : ℕ) → k < length nets → is_split bs k ≡ true → (net_at nets k).a.on_left ≢ (net_at nets k).b.on_left
   pub bent : (k : ℕ) → k < length nets → is_split bs k ≡ true → IsLevelNet (net_at nets k) → ⊥
-  pub deep : (k : ℕ) (p : Pin) → k < length nets → (IsLevelNet (net_at nets k) → ⊥) → HasPin (net_at nets k) p → p.on_left ≡ true → 0 < depth m p.height
+  pub deep : (k : ℕ) (p : Pin) → k < length nets → (IsLevelNet (net_at nets k) → ⊥) → HasPin (net_at nets k) p → p.on_left ≡ true → 0 < d p.height
   pub rising : (k : ℕ) (p q : Pin) → k < length nets → (IsLevelNet (net_at nets k) → ⊥) → is_split bs k ≡ false
-      → HasPin (net_at nets k) p → HasPin (net_at nets k) q → p.on_left ≡ true → q.on_left ≡ false → depth m q.height < depth m p.height
+      → HasPin (net_at nets k) p → HasPin (net_at nets k) q → p.on_left ≡ true → q.on_left ≡ false → d q.height < d p.height
 
--- a pin on the right, at a height with a pin on the left
-pub record IsDeep (m : BTreeMap ℤ ℕ) (p : Pin) : Type 0 where
-  pub side : p.on_left ≡ false
-  pub there : 0 < depth m p.height
+-- only heights with a pin on the left are deep
+abbrev pub AreHeld : List Net → (ℤ → ℕ) → Type 0
+AreHeld nets d = (h : ℤ) → 0 < d h → (k : ℕ) × (k < length nets) × HasLeftAt (net_at nets k) h
 
-abbrev pub HoldsLefts : BTreeMap ℤ ℕ → Net → Type 0
-HoldsLefts m n = (p : Pin) → HasPin n p → p.on_left ≡ true → 0 < depth m p.height
-
--- a net is split where it leads from the left to a height on the right that has a pin on the left
-pub record IsSplitBy (m : BTreeMap ℤ ℕ) (n : Net) (b : Bool) : Type 0 where
-  pub sides : b ≡ true → n.a.on_left ≢ n.b.on_left
-  pub bent : b ≡ true → IsLevelNet n → ⊥
-  pub flat : b ≡ false → (IsLevelNet n → ⊥) → (p q : Pin) → HasPin n p → HasPin n q → p.on_left ≡ true → q.on_left ≡ false → depth m q.height ≡ 0
+-- each number has a depth
+pub record AreSized (d : Depths) : Type 0 where
+  pub inside : (h : ℤ) (x : ℕ) → get int_cmp d.numbers h ≡ Some x → x < length d.depths.items
+  pub small : (h : ℤ) (x : ℕ) → get int_cmp d.numbers h ≡ Some x → slice_index d.depths.items x + 1 < 2 ^ 32

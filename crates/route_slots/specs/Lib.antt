@@ -1,6 +1,9 @@
 pub mod Pieces
 pub mod GapFree
+pub mod Conflicts
+pub mod Density
 pub mod Standing
 pub mod Slotting
-pub mod Marks
+pub mod Numbers
 pub mod Depths
+pub mod Marks

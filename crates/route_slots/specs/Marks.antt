@@ -9,6 +9,7 @@ use Rattle.route_slots.specs.declared.marks.Mark.{Mark}
 use Rattle.route_slots.specs.declared.slotting.Piece.{Piece}
 use Rattle.route_slots.specs.Pieces.{net_at, route_at}
 use Rattle.route_slots.specs.GapFree.{IsLevelNet}
+use Rattle.route_slots.specs.Depths.{depth_of, is_split}
 use Rattle.route_slots.specs.Slotting.{piece_at}
 
 abbrev pub mark_at : List Mark → ℕ → Mark
@@ -76,3 +77,17 @@ pub record IsMarkOf (n : Net) (da db : ℕ) (b : Bool) (m : Mark) : Type 0 where
   pub bent : b ≡ true → m.straight ≡ false
   pub at_a : m.at_a ≡ (if b then da else max da db)
   pub at_b : m.at_b ≡ (if b then db else max da db)
+
+-- the marks of the first nets
+pub record AreMarked (nets : List Net) (bs : List Bool) (d : ℤ → ℕ) (ms : List Mark) (n : ℕ) : Type 0 where
+  pub len : length ms ≡ n
+  pub each : (k : ℕ) → k < n → IsMarkOf (net_at nets k) (depth_of d (net_at nets k).a) (depth_of d (net_at nets k).b) (is_split bs k) (mark_at ms k)
+
+-- no net is split, and all pieces are at one level
+pub record AreFlat (nets : List Net) (ms : List Mark) : Type 0 where
+  pub split : (k : ℕ) → k < length nets → (mark_at ms k).split ≡ false
+  pub level : (k : ℕ) → k < length nets → (mark_at ms k).straight ≡ false → (mark_at ms k).at_a ≡ 0
+
+-- a net is split only where its mark says so
+abbrev pub SplitsByMarks : List Net → List Mark → List NetRoute → Type 0
+SplitsByMarks nets ms routes = (k s : ℕ) (h : ℤ) (t : ℕ) → k < length nets → route_at routes k ≡ Two s h t → (mark_at ms k).split ≡ true

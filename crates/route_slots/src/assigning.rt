@@ -3,7 +3,9 @@ ghost use Rattle.std.specs.Prelude.{◌≡◌, ◌+◌, ◌<◌, ◌≤◌, ◌^
 ghost use Rattle.std.specs.List.{All};
 ghost use Rattle.std.specs.Int.{int_max};
 ghost use Rattle.route_slots.specs.GapFree.{IsNet, IsHeight, AreHeights, GapFree};
-ghost use Rattle.route_slots.specs.Marks.{AreMarks, IsTop, ArePieces, ArePlaced, piece_a, piece_b, other_end, height_of, route_by};
+ghost use Rattle.route_slots.specs.Conflicts.{HasNoConflict, SplitsOnCycles};
+ghost use Rattle.route_slots.specs.Density.{IsDensity};
+ghost use Rattle.route_slots.specs.Marks.{AreMarks, AreFlat, SplitsByMarks, IsTop, ArePieces, ArePlaced, piece_a, piece_b, other_end, height_of, route_by};
 
 use crate::depths::depths_of;
 use crate::marks::{Mark, marks_of};
@@ -162,7 +164,9 @@ fn place(alloc: Global, nets: &[Net], marks: &[Mark], top: Height) -> Result<Slo
     requires marks { AreMarks nets.now marks.now }
     requires top { IsTop nets.now top.value }
     requires range { IsHeight top.value }
-    ensures { IfOk result (λ slots. GapFree nets.now slots.count slots.routes.items) }
+    ensures free { IfOk result (λ slots. GapFree nets.now slots.count slots.routes.items) }
+    ensures splits { IfOk result (λ slots. SplitsByMarks nets.now marks.now slots.routes.items) }
+    ensures density { IfOk result (λ slots. AreFlat nets.now marks.now → IsDensity nets.now slots.count) }
 {
     let pieces = pieces_of(alloc, nets, marks, top)?;
     let standing = slots_of(alloc, pieces.as_slice())?;
@@ -176,14 +180,18 @@ fn place(alloc: Global, nets: &[Net], marks: &[Mark], top: Height) -> Result<Slo
 /// A route for each net: straight exactly where its pins are on both sides at one height, and otherwise by one slot or two.
 /// Pieces of two nets overlap only where the nets have a common pin.
 ///
-/// Nets are ordered by their conflicts at heights at which one has a pin on the left and another on the right.
+/// A net takes two slots only where it lies on a cycle of conflicts, and where no nets conflict there are as many slots as
+/// there are pieces at the height with the most. A net stands behind all that it has to stand behind by its conflicts, and
+/// nets at one depth take slots by their low ends.
 pub fn assign(alloc: Global, nets: &[Net]) -> Result<Slots, AllocError>
     requires few { length nets.now ≤ 2 ^ 24 }
     requires pins { All IsNet nets.now }
     requires heights { All AreHeights nets.now }
-    ensures { IfOk result (λ slots. GapFree nets.now slots.count slots.routes.items) }
+    ensures free { IfOk result (λ slots. GapFree nets.now slots.count slots.routes.items) }
+    ensures splits { IfOk result (λ slots. SplitsOnCycles nets.now slots.routes.items) }
+    ensures density { IfOk result (λ slots. HasNoConflict nets.now → IsDensity nets.now slots.count) }
 {
     let depths = depths_of(alloc, nets)?;
-    let marks = marks_of(alloc, nets, depths.splits.as_slice(), &depths.heights)?;
+    let marks = marks_of(alloc, nets, &depths)?;
     place(alloc, nets, marks.as_slice(), highest(nets))
 }

@@ -1,93 +1,104 @@
-//! How far behind the first slots a net with a pin on the right at some height stands.
-ghost use Rattle.std.specs.Prelude.{◌≡◌, ◌<◌, ◌↔◌, ℕ, ℤ, true, length, IsTrue, IfOk, OnOk};
-ghost use Rattle.route_slots.specs.Pieces.{net_at};
-ghost use Rattle.route_slots.specs.GapFree.{IsLevelNet};
-ghost use Rattle.route_slots.specs.Depths.{depth, AreDepths, HoldsLefts, IsDeep, IsSplitBy};
+//! How far behind the first slots a net with a pin on the right at some height stands, and which nets are split.
+ghost use Rattle.std.specs.Prelude.{◌≡◌, ◌<◌, ◌≤◌, ◌^◌, ℕ, true, length, IfOk, IfSome, IfNone, unwrap_or};
+ghost use Rattle.std.specs.Ordering.{int_cmp};
+ghost use Rattle.std.specs.BTreeMap.{get};
+ghost use Rattle.route_slots.specs.Conflicts.{LiesOnCycle};
+ghost use Rattle.route_slots.specs.Numbers.{AreSides, HasNoSides, IsLinkOf, AreLinks};
+ghost use Rattle.route_slots.specs.Depths.{depth, is_split, AreDepths, AreHeld, AreSized};
 
+use crate::heights::{Heights, heights_of};
 use crate::marks::is_level;
 use crate::{Net, Pin};
+use cycle_cuts::{Link, cut_cycles};
 use std::alloc::{AllocError, Global};
 use std::collections::BTreeMap;
 
-/// Which nets are split, and the depths of the heights at which nets have pins on the left.
+/// Which nets are split, and the depths of the heights at which nets have pins on the left, by the numbers of these.
 #[derive(Drop)]
 pub struct Depths {
     pub splits: Vec<bool>,
-    pub heights: BTreeMap<i64, u32>,
+    pub numbers: BTreeMap<i64, u32>,
+    pub depths: Vec<u32>,
 }
 
-// Adds the height of a pin on the left.
-fn insert_pin(heights: &mut BTreeMap<i64, u32>, pin: Pin) -> Result<(), AllocError>
-    ensures kept { OnOk result ((h : ℤ) → 0 < depth heights.old h → 0 < depth heights.new h) }
-    ensures added { OnOk result (pin.on_left ≡ true → 0 < depth heights.new pin.height) }
-{
-    if pin.on_left {
-        heights.insert(pin.height, 1)?;
-    }
-    Ok(())
+// The pins of a net that leads across the gap.
+#[derive(Clone, Copy)]
+struct Sides {
+    left: Pin,
+    right: Pin,
 }
 
-// Adds the heights of a net's pins on the left, unless it is straight.
-fn insert_net(heights: &mut BTreeMap<i64, u32>, net: Net) -> Result<(), AllocError>
-    ensures kept { OnOk result ((h : ℤ) → 0 < depth heights.old h → 0 < depth heights.new h) }
-    ensures added { OnOk result ((IsLevelNet net → ⊥) → HoldsLefts heights.new net) }
+// The pins of a net that leads across the gap and is not straight.
+fn sides_of(net: Net) -> Option<Sides>
+    ensures sides { IfSome result (λ sides. AreSides net sides.left sides.right) }
+    ensures none { IfNone result (HasNoSides net) }
 {
     if is_level(net) {
-        return Ok(());
-    }
-    insert_pin(heights, net.a)?;
-    insert_pin(heights, net.b)?;
-    Ok(())
-}
-
-// The heights of all pins on the left.
-fn heights_of(alloc: Global, nets: &[Net]) -> Result<BTreeMap<i64, u32>, AllocError>
-    ensures { IfOk result (λ heights. (k : ℕ) → k < length nets.now → (IsLevelNet (net_at nets.now k) → ⊥) → HoldsLefts heights (net_at nets.now k)) }
-{
-    let mut heights = BTreeMap::new(alloc);
-    'nets: for net in nets {
-        insert_net(&mut heights, *net)?;
-    }
-    Ok(heights)
-}
-
-// Whether this pin is on the right, at a height with a pin on the left.
-fn is_deep(heights: &BTreeMap<i64, u32>, pin: Pin) -> bool
-    ensures { IsTrue result ↔ IsDeep heights.now pin }
-{
-    if pin.on_left {
-        return false;
-    }
-    match heights.get(&pin.height) {
-        None => false,
-        Some(depth) => *depth > 0,
-    }
-}
-
-// Whether the net is to be split.
-fn is_split_net(heights: &BTreeMap<i64, u32>, net: Net) -> bool
-    ensures { IsSplitBy heights.now net result }
-{
-    if is_level(net) {
-        return false;
+        return None;
     }
     if net.a.on_left == net.b.on_left {
-        return false;
+        return None;
     }
-    if is_deep(heights, net.a) {
-        return true;
+    if net.a.on_left {
+        return Some(Sides {
+            left: net.a,
+            right: net.b,
+        });
     }
-    is_deep(heights, net.b)
+    Some(Sides {
+        left: net.b,
+        right: net.a,
+    })
 }
 
-/// The nets to be split, and the depths of all heights with pins on the left.
+// The number of a pin's height, or another where it has none.
+fn number_or(heights: &Heights, pin: Pin, other: u32) -> u32
+    ensures { result ≡ unwrap_or (get int_cmp heights.now.numbers pin.height) other }
+{
+    match heights.numbers.get(&pin.height) {
+        None => other,
+        Some(number) => *number,
+    }
+}
+
+// The net as a link between heights.
+fn link_of(heights: &Heights, net: Net) -> Link
+    ensures { IsLinkOf heights.now.numbers net result }
+{
+    match sides_of(net) {
+        None => Link { tail: 0, head: 1 },
+        Some(sides) => Link {
+            tail: number_or(heights, sides.left, 0),
+            head: number_or(heights, sides.right, 1),
+        },
+    }
+}
+
+// All nets as links.
+fn links_of(alloc: Global, heights: &Heights, nets: &[Net]) -> Result<Vec<Link>, AllocError>
+    ensures { IfOk result (λ links. AreLinks heights.now.numbers nets.now links.items (length nets.now)) }
+{
+    let mut links = Vec::new(alloc);
+    'nets: for net in nets {
+        links.push(link_of(heights, *net))?;
+    }
+    Ok(links)
+}
+
+/// The nets to be split, each of which lies on a cycle of conflicts, and the depths of all heights with pins on the left.
 pub fn depths_of(alloc: Global, nets: &[Net]) -> Result<Depths, AllocError>
-    ensures { IfOk result (λ depths. AreDepths nets.now depths.splits.items depths.heights) }
+    requires { length nets.now ≤ 2 ^ 24 }
+    ensures depths { IfOk result (λ depths. AreDepths nets.now depths.splits.items (depth depths)) }
+    ensures held { IfOk result (λ depths. AreHeld nets.now (depth depths)) }
+    ensures sized { IfOk result (λ depths. AreSized depths) }
+    ensures cycles { IfOk result (λ depths. (k : ℕ) → k < length nets.now → is_split depths.splits.items k ≡ true → LiesOnCycle nets.now k) }
 {
     let heights = heights_of(alloc, nets)?;
-    let mut splits = Vec::new(alloc);
-    'nets: for net in nets {
-        splits.push(is_split_net(&heights, *net))?;
-    }
-    Ok(Depths { splits, heights })
+    let links = links_of(alloc, &heights, nets)?;
+    let cuts = cut_cycles(alloc, heights.bound, links.as_slice())?;
+    Ok(Depths {
+        splits: cuts.cut,
+        numbers: heights.numbers,
+        depths: cuts.depths,
+    })
 }

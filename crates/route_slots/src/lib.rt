@@ -3,6 +3,7 @@
 
 mod assigning;
 mod depths;
+mod heights;
 pub mod laws;
 mod marks;
 mod slotting;

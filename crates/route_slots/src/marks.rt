@@ -1,12 +1,12 @@
 //! Which nets have a piece in a slot, which two, and at which levels.
-ghost use Rattle.std.specs.Prelude.{◌≡◌, ◌↔◌, IsTrue, IfOk};
+ghost use Rattle.std.specs.Prelude.{◌≡◌, ◌↔◌, length, IsTrue, IfOk};
 ghost use Rattle.route_slots.specs.GapFree.{IsLevelNet};
-ghost use Rattle.route_slots.specs.Depths.{depth_of, AreDepths};
-ghost use Rattle.route_slots.specs.Marks.{IsMarkOf, AreMarks};
+ghost use Rattle.route_slots.specs.Depths.{depth, depth_of, AreDepths, AreSized};
+ghost use Rattle.route_slots.specs.Marks.{IsMarkOf, AreMarked, AreMarks};
 
+use crate::depths::Depths;
 use crate::{Net, Pin};
 use std::alloc::{AllocError, Global};
-use std::collections::BTreeMap;
 
 /// What becomes of a net: it is straight, or it has one piece, or one at each pin; and the levels of its pieces.
 #[derive(Clone, Copy)]
@@ -28,15 +28,16 @@ pub fn is_level(net: Net) -> bool
 }
 
 // How far back a piece with this pin stands.
-fn depth_at(depths: &BTreeMap<i64, u32>, pin: Pin) -> u32
-    ensures { result ≡ depth_of depths.now pin }
+fn depth_at(depths: &Depths, pin: Pin) -> u32
+    requires { AreSized depths.now }
+    ensures { result ≡ depth_of (depth depths.now) pin }
 {
     if pin.on_left {
         return 0;
     }
-    match depths.get(&pin.height) {
+    match depths.numbers.get(&pin.height) {
         None => 0,
-        Some(depth) => *depth,
+        Some(number) => depths.depths[*number as usize] + 1,
     }
 }
 
@@ -62,14 +63,11 @@ fn mark_of(net: Net, depth_a: u32, depth_b: u32, split: bool) -> Mark
 }
 
 /// The marks of all nets.
-pub fn marks_of(
-    alloc: Global,
-    nets: &[Net],
-    splits: &[bool],
-    depths: &BTreeMap<i64, u32>,
-) -> Result<Vec<Mark>, AllocError>
-    requires { AreDepths nets.now splits.now depths.now }
-    ensures { IfOk result (λ marks. AreMarks nets.now marks.items) }
+pub fn marks_of(alloc: Global, nets: &[Net], depths: &Depths) -> Result<Vec<Mark>, AllocError>
+    requires depths { AreDepths nets.now depths.now.splits.items (depth depths.now) }
+    requires sized { AreSized depths.now }
+    ensures marks { IfOk result (λ marks. AreMarks nets.now marks.items) }
+    ensures marked { IfOk result (λ marks. AreMarked nets.now depths.now.splits.items (depth depths.now) marks.items (length nets.now)) }
 {
     let mut marks = Vec::new(alloc);
     'nets: for number in 0..nets.len() {
@@ -78,7 +76,7 @@ pub fn marks_of(
             net,
             depth_at(depths, net.a),
             depth_at(depths, net.b),
-            splits[number],
+            depths.splits[number],
         );
         marks.push(mark)?;
     }

@@ -1,7 +1,7 @@
 //! Slots for upright pieces.
 ghost use Rattle.std.specs.Prelude.{◌≡◌, ◌+◌, ◌<◌, ◌≤◌, ◌^◌, ◌⊎◌, ◌≤ℤ◌, ℕ, true, length, IfOk, OnOk, IfSome, IfNone};
 ghost use Rattle.std.specs.BTreeSet.{btree_set_len};
-ghost use Rattle.route_slots.specs.Slotting.{Key, key_of, has_key, AreWaiting, AreSlots, End, has_end, Takes, Picks, Frees, piece_at};
+ghost use Rattle.route_slots.specs.Slotting.{Key, key_of, has_key, AreWaiting, AreSlots, End, has_end, Takes, Picks, Frees, IsFull, piece_at};
 
 use std::alloc::{AllocError, Global};
 use std::collections::BTreeSet;
@@ -35,6 +35,7 @@ fn enter(row: &mut Row, level: u32)
     ensures level { row.new.level ≡ level }
     ensures count { row.new.count ≡ row.old.count }
     ensures from { (q : End) → has_end row.new.busy q ≡ true → (level ≡ row.old.level) × (has_end row.old.busy q ≡ true) }
+    ensures kept { level ≡ row.old.level → (q : End) → has_end row.old.busy q ≡ true → has_end row.new.busy q ≡ true }
 {
     if level != row.level {
         row.busy.clear();
@@ -46,6 +47,7 @@ fn enter(row: &mut Row, level: u32)
 fn pop_free(row: &mut Row, piece: Piece) -> Option<u32>
     ensures free { IfSome result (Frees row.old row.new piece.low) }
     ensures none { IfNone result (row.new ≡ row.old) }
+    ensures full { IfNone result (IsFull row.old piece.low) }
 {
     let end = match row.busy.first() {
         None => return None,
@@ -114,7 +116,7 @@ fn waiting_of(alloc: Global, pieces: &[Piece]) -> Result<BTreeSet<(u32, (i64, u3
 }
 
 /// A slot for each piece. Pieces of a lower level stand before those of a higher one, and pieces in one slot have no height
-/// in common.
+/// in common. Where all pieces are at one level, there are as few slots as there can be.
 ///
 /// At each level the pieces come by their low ends, and each takes the slot that ends first, if it ends above the piece. (The
 /// left-edge rule of Hashimoto and Stevens 1971.)

@@ -2,19 +2,23 @@
 use crate::{Net, NetRoute, Pin, assign};
 use std::test::Fail;
 
-#[test]
-fn pins_at_one_height_are_joined_straight(rt: HostRuntime) -> Result<(), Fail> {
-    let nets = [Net {
+// A net from the left to the right.
+fn net(left: i64, right: i64) -> Net {
+    Net {
         a: Pin {
             on_left: true,
-            height: 5,
+            height: left,
         },
         b: Pin {
             on_left: false,
-            height: 5,
+            height: right,
         },
-    }];
-    let slots = assign(rt.alloc(), &nets)?;
+    }
+}
+
+#[test]
+fn pins_at_one_height_are_joined_straight(rt: HostRuntime) -> Result<(), Fail> {
+    let slots = assign(rt.alloc(), &[net(5, 5)])?;
     assert_eq!(rt; slots.count, 0);
     assert_eq!(rt; slots.routes.len(), 1);
     assert!(rt; matches!(slots.routes[0], NetRoute::Straight));
@@ -23,29 +27,7 @@ fn pins_at_one_height_are_joined_straight(rt: HostRuntime) -> Result<(), Fail> {
 
 #[test]
 fn pieces_that_do_not_meet_share_a_slot(rt: HostRuntime) -> Result<(), Fail> {
-    let nets = [
-        Net {
-            a: Pin {
-                on_left: true,
-                height: 0,
-            },
-            b: Pin {
-                on_left: false,
-                height: 10,
-            },
-        },
-        Net {
-            a: Pin {
-                on_left: true,
-                height: 20,
-            },
-            b: Pin {
-                on_left: false,
-                height: 30,
-            },
-        },
-    ];
-    let slots = assign(rt.alloc(), &nets)?;
+    let slots = assign(rt.alloc(), &[net(0, 10), net(20, 30)])?;
     assert_eq!(rt; slots.count, 1);
     assert_eq!(rt; slots.routes.len(), 2);
     assert!(rt; matches!(slots.routes[0], NetRoute::One { slot: 0 }));
@@ -54,33 +36,41 @@ fn pieces_that_do_not_meet_share_a_slot(rt: HostRuntime) -> Result<(), Fail> {
 }
 
 #[test]
-fn a_cycle_of_conflicts_is_cut(rt: HostRuntime) -> Result<(), Fail> {
-    let nets = [
-        Net {
-            a: Pin {
-                on_left: true,
-                height: 1,
-            },
-            b: Pin {
-                on_left: false,
-                height: 2,
-            },
-        },
-        Net {
-            a: Pin {
-                on_left: true,
-                height: 2,
-            },
-            b: Pin {
-                on_left: false,
-                height: 1,
-            },
-        },
-    ];
-    let slots = assign(rt.alloc(), &nets)?;
+fn there_are_as_many_slots_as_pieces_meet(rt: HostRuntime) -> Result<(), Fail> {
+    let slots = assign(rt.alloc(), &[net(0, 10), net(5, 15), net(20, 30)])?;
+    assert_eq!(rt; slots.count, 2);
+    assert_eq!(rt; slots.routes.len(), 3);
+    for route in &slots.routes {
+        assert!(rt; matches!(route, NetRoute::One { .. }));
+    }
+    Ok(())
+}
+
+#[test]
+fn a_chain_of_conflicts_is_not_cut(rt: HostRuntime) -> Result<(), Fail> {
+    let slots = assign(rt.alloc(), &[net(0, 10), net(10, 20)])?;
     assert_eq!(rt; slots.routes.len(), 2);
-    let first = matches!(slots.routes[0], NetRoute::Two { .. });
-    let second = matches!(slots.routes[1], NetRoute::Two { .. });
-    assert!(rt; first || second);
+    match slots.routes[0] {
+        NetRoute::One { slot: later } => match slots.routes[1] {
+            NetRoute::One { slot } => assert!(rt; slot <= later),
+            _ => assert!(rt; false),
+        },
+        _ => assert!(rt; false),
+    }
+    Ok(())
+}
+
+#[test]
+fn a_cycle_of_conflicts_is_cut(rt: HostRuntime) -> Result<(), Fail> {
+    let slots = assign(rt.alloc(), &[net(1, 2), net(2, 1)])?;
+    assert_eq!(rt; slots.routes.len(), 2);
+    let mut split = 0;
+    for route in &slots.routes {
+        if let NetRoute::Two { height, .. } = route {
+            assert!(rt; *height != 1 && *height != 2);
+            split += 1;
+        }
+    }
+    assert!(rt; split > 0);
     Ok(())
 }

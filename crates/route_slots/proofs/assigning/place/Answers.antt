@@ -2,7 +2,7 @@ use Rattle.std.proofs.Common.{◌<◌, ◌≤ℤ◌, ◌∙◌, ℕ, List, sym, 
 use Rattle.route_slots.specs.declared.slotting.Piece.{Piece}
 use Rattle.route_slots.specs.Slotting.{piece_at, AreSlots}
 use Rattle.route_slots.specs.Marks.{ArePlaced}
-use Rattle.route_slots.proofs.Placing.{gap_free, all_proper}
+use Rattle.route_slots.proofs.Placing.{gap_free, all_proper, split_by_mark, is_density}
 use Rattle.route_slots.proofs.assigning.place.Goals as goal
 
 pub slots_of-requires-clause-few : goal.slots_of-requires-clause-few
@@ -20,8 +20,8 @@ pub routes_of-requires-clause-places : goal.routes_of-requires-clause-places
 routes_of-requires-clause-places c =
     ap length c.as_slice-2.ensures.value ∙ c.in_ok-standing.ensures.len ∙ ap length c.as_slice.ensures.value ∙ c.in_ok-pieces.ensures.len
 
-pub returns : goal.returns
-returns c =
+pub returns-clause-free : goal.returns-clause-free
+returns-clause-free c =
     let nets = c.args.nets.now in
     let ms = c.args.marks.now in
     let top = c.args.top.value in
@@ -30,6 +30,34 @@ returns c =
     let count = c.in_ok-standing.standing.count in
     let rs = c.in_ok-routes.routes.items in
     gap_free nets ms top ps ss count rs c.requires.marks c.in_ok-pieces.ensures
+    (subst (λ z. AreSlots z ss count) c.as_slice.ensures.value c.in_ok-standing.ensures)
+    c.requires.top
+    (subst (λ z. ArePlaced nets ms top z rs) c.as_slice-2.ensures.value c.in_ok-routes.ensures)
+
+pub returns-clause-splits : goal.returns-clause-splits
+returns-clause-splits c =
+    let nets = c.args.nets.now in
+    let ms = c.args.marks.now in
+    let top = c.args.top.value in
+    let ps = c.in_ok-pieces.pieces.items in
+    let ss = c.in_ok-standing.standing.slots.items in
+    let count = c.in_ok-standing.standing.count in
+    let rs = c.in_ok-routes.routes.items in
+    split_by_mark nets ms top ps ss count rs c.requires.marks c.in_ok-pieces.ensures
+    (subst (λ z. AreSlots z ss count) c.as_slice.ensures.value c.in_ok-standing.ensures)
+    c.requires.top
+    (subst (λ z. ArePlaced nets ms top z rs) c.as_slice-2.ensures.value c.in_ok-routes.ensures)
+
+pub returns-clause-density : goal.returns-clause-density
+returns-clause-density c =
+    let nets = c.args.nets.now in
+    let ms = c.args.marks.now in
+    let top = c.args.top.value in
+    let ps = c.in_ok-pieces.pieces.items in
+    let ss = c.in_ok-standing.standing.slots.items in
+    let count = c.in_ok-standing.standing.count in
+    let rs = c.in_ok-routes.routes.items in
+    is_density nets ms top ps ss count rs c.requires.marks c.in_ok-pieces.ensures
     (subst (λ z. AreSlots z ss count) c.as_slice.ensures.value c.in_ok-standing.ensures)
     c.requires.top
     (subst (λ z. ArePlaced nets ms top z rs) c.as_slice-2.ensures.value c.in_ok-routes.ensures)

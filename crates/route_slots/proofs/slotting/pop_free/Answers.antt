@@ -1,7 +1,8 @@
-use Rattle.std.proofs.Common.{◌≡◌, ◌∙◌, true, false, refl, sym, subst, ◌<ℤ◌, rules}
-use Rattle.std.specs.BTreeSet.{UpdatesBy}
+use Rattle.std.proofs.Common.{◌≡◌, ◌∙◌, ⊎_elim, true, false, refl, sym, subst, ◌<ℤ◌, ◌≤ℤ◌, arith, rules}
+use Rattle.std.specs.BTreeSet.{UpdatesBy, IsLowerBound}
+use Rattle.std.proofs.lemmas.Int.{ints}
 use Rattle.route_slots.specs.Slotting.{end_cmp, has_end}
-use Rattle.route_slots.proofs.Keys.{taken_from}
+use Rattle.route_slots.proofs.Keys.{taken_from, taken_kept, same_end, least_end}
 use Rattle.route_slots.proofs.slotting.pop_free.Goals as goal
 
 pub returns-clause-free : goal.returns-clause-free
@@ -19,4 +20,14 @@ returns-clause-free c =
         taken_from _ _ _ (u.0 q) h,
         λ e. let bad : true ≡ false = sym (subst (λ z. has_end c.remove-found.new.self z ≡ true) e h) ∙ u.1 in cc,
       );
+      kept = λ q h ne. ⊎_elim
+          (λ same. absurd (ne (sym (same_end c.in-Some.end.now q same))))
+          (λ still. still)
+          (taken_kept _ _ _ (u.0 q) h);
     }
+
+pub returns-then-end-piece-clause-full : goal.returns-then-end-piece-clause-full
+returns-then-end-piece-clause-full c =
+    let least : IsLowerBound end_cmp c.args.row.now.busy c.in-Some.end.now = search rules in
+    let past : c.args.piece.low ≤ℤ c.in-Some.end.now.0 = search rules in
+    λ q h. let le = least_end c.in-Some.end.now q (least q h) in omega (arith, ints)
