@@ -1,0 +1,5 @@
+pub mod Keys
+pub mod Marks
+pub mod Spokes
+pub mod Choosing
+pub mod Visits

@@ -1,0 +1,29 @@
+-- The links of all units, by unit, then by the key of the far end, then by number.
+use Rattle.std.specs.Prelude.{ℕ, ◌+◌, ◌*◌, ◌^◌, List, map, length, Bool, ◌&&◌, nat_le, nat_lt}
+use Rattle.std.specs.List.{range_with_len}
+use Rattle.std.specs.List.Sorted.{IsNonDecreasingBy, IsPermutation}
+use Rattle.elk_doc.specs.declared.document.Sweep.{Sweep}
+use Rattle.elk_layers.specs.Layered.{Plain, link_at}
+use Rattle.elk_layers.specs.Alignment.{near_end}
+use Rattle.alignment.specs.declared.spokes.Spoke.{Spoke}
+use Rattle.alignment.specs.Keys.{far_key_at}
+
+-- a link as it is sorted
+abbrev pub spoke_of : Plain → Sweep → List ℕ → ℕ → Spoke
+spoke_of l sweep place k =
+    record {
+      key = near_end sweep (link_at l.links k) * 2 ^ 80 + (far_key_at place sweep (link_at l.links k) * 2 ^ 32 + k);
+      number = k;
+    }
+
+abbrev pub numbers_of : List Spoke → List ℕ
+numbers_of spokes = map (λ (s : Spoke). s.number) spokes
+
+-- all links, sorted
+pub record AreSpokes (l : Plain) (sweep : Sweep) (place : List ℕ) (spokes : List Spoke) : Type 0 where
+  pub same : IsPermutation (map (spoke_of l sweep place) (range_with_len 0 (length l.links))) spokes
+  pub sorted : IsNonDecreasingBy (λ (s : Spoke). s.key) spokes
+
+-- a link of this unit
+abbrev pub is_of : ℕ → Spoke → Bool
+is_of unit spoke = nat_le (unit * 2 ^ 80) spoke.key && nat_lt spoke.key ((unit + 1) * 2 ^ 80)

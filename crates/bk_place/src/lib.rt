@@ -1,0 +1,15 @@
+//! The places of units by alignment.
+//!
+//! A sweep chooses links that are to be level, the units that they join form blocks, and the blocks get their
+//! least places; of the four sweeps the first that needs the least height is taken, as in Brandes and Köpf
+//! 2002.
+#![tactic(auto)]
+
+mod heights;
+mod placing;
+
+pub use alignment::{Alignment, align};
+pub use placing::place;
+
+#[cfg(test)]
+mod tests;

@@ -1,0 +1,104 @@
+//! The lines of one sweep, and of the first sweep of least height.
+ghost use Rattle.std.specs.Prelude.{◌≡◌, ℕ, ◌+◌, List, IfOk};
+ghost use Rattle.elk_layers.specs.Layered.{plain, rows_of, IsSound, AreRows, Plain};
+ghost use Rattle.elk_layers.specs.Lines.{AreLeastLines};
+ghost use Rattle.block_lines.specs.Constraints.{EndsWithinStack};
+ghost use Rattle.bk_place.specs.Placement.{AreLinesOf, IsFirstLowest, IsFirstAmong, rank_of};
+
+use crate::heights::extent;
+use alignment::align;
+use block_lines::place_links;
+use elk_doc::document::Sweep;
+use elk_layers::{Layered, Lines, Order};
+use std::alloc::{AllocError, Global};
+
+/// Lines with their height.
+#[derive(Drop)]
+struct Placed {
+    lines: Lines,
+    height: i64,
+}
+
+/// The least lines in which the links of a sweep are level.
+fn place_sweep(
+    alloc: Global,
+    layered: &Layered,
+    order: &Order,
+    sweep: Sweep,
+) -> Result<Lines, AllocError>
+    requires sound { IsSound (plain layered.now) }
+    requires rows { AreRows (plain layered.now) (rows_of order.now) }
+    ensures least { IfOk result (λ lines. AreLeastLines (plain layered.now) (rows_of order.now) sweep lines.top.items) }
+    ensures within { IfOk result (λ lines. EndsWithinStack (plain layered.now) lines.top.items) }
+{
+    let chosen = align(alloc, layered, order, sweep)?;
+    place_links(alloc, layered, order, chosen.links.as_slice())
+}
+
+/// The lines of a sweep with their height.
+fn measured(
+    alloc: Global,
+    layered: &Layered,
+    order: &Order,
+    sweep: Sweep,
+) -> Result<Placed, AllocError>
+    requires sound { IsSound (plain layered.now) }
+    requires rows { AreRows (plain layered.now) (rows_of order.now) }
+    ensures { IfOk result (λ p. IsFirstAmong (plain layered.now) (rows_of order.now) (rank_of sweep) (rank_of sweep + 1) p.lines.top.items p.height) }
+{
+    let lines = place_sweep(alloc, layered, order, sweep)?;
+    let height = extent(layered, &lines);
+    Ok(Placed { lines, height })
+}
+
+/// The second lines where they are lower, and else the first.
+fn lower(first: Placed, second: Placed) -> Placed
+    ensures { (l : Plain) (rows : List (List ℕ)) (a b c : ℕ) → IsFirstAmong l rows a b first.lines.top.items first.height → IsFirstAmong l rows b c second.lines.top.items second.height → IsFirstAmong l rows a c result.lines.top.items result.height }
+{
+    if second.height < first.height {
+        second
+    } else {
+        first
+    }
+}
+
+/// The lines of the first sweep of least height.
+fn place_lowest(alloc: Global, layered: &Layered, order: &Order) -> Result<Lines, AllocError>
+    requires sound { IsSound (plain layered.now) }
+    requires rows { AreRows (plain layered.now) (rows_of order.now) }
+    ensures first { IfOk result (λ lines. IsFirstLowest (plain layered.now) (rows_of order.now) lines.top.items) }
+    ensures within { IfOk result (λ lines. EndsWithinStack (plain layered.now) lines.top.items) }
+{
+    let left_up = measured(alloc, layered, order, Sweep::LeftUp)?;
+    let left_down = measured(alloc, layered, order, Sweep::LeftDown)?;
+    let left = lower(left_up, left_down);
+    let right_up = measured(alloc, layered, order, Sweep::RightUp)?;
+    let right_down = measured(alloc, layered, order, Sweep::RightDown)?;
+    let right = lower(right_up, right_down);
+    let lowest = lower(left, right);
+    Ok(lowest.lines)
+}
+
+/// The lines of the fixed sweep, or of the first of the four sweeps that needs the least height.
+///
+/// The links that the sweep chooses are level, all tops are at least 0, neighbours of a row keep their room,
+/// and the outlines of consecutive children of a row theirs; no lines that keep all of this have a lesser top
+/// anywhere. No unit ends below the sum of all heights and, per unit, of the greatest of the three spacings.
+/// Among sweeps of one height the order is that of `Sweep`. The only error is want of memory. (Placement by
+/// Brandes and Köpf 2002; the best of the four in place of their median.)
+pub fn place(
+    alloc: Global,
+    layered: &Layered,
+    order: &Order,
+    fixed: Option<Sweep>,
+) -> Result<Lines, AllocError>
+    requires sound { IsSound (plain layered.now) }
+    requires rows { AreRows (plain layered.now) (rows_of order.now) }
+    ensures lines { IfOk result (λ lines. AreLinesOf (plain layered.now) (rows_of order.now) fixed lines.top.items) }
+    ensures within { IfOk result (λ lines. EndsWithinStack (plain layered.now) lines.top.items) }
+{
+    match fixed {
+        Some(sweep) => place_sweep(alloc, layered, order, sweep),
+        None => place_lowest(alloc, layered, order),
+    }
+}

@@ -1,0 +1,16 @@
+pub mod WeavingLemmas
+pub mod SublistLemmas
+pub mod BlockLemmas
+pub mod LeastLemmas
+pub mod SumLemmas
+pub mod StackLemmas
+pub mod PhaseLemmas
+pub mod TopLemmas
+pub mod ChainLemmas
+pub mod RowLemmas
+pub mod WalkLemmas
+pub mod EntryLemmas
+pub mod JoinLemmas
+pub mod HeightSums
+pub mod JoiningLemmas
+pub mod PosedLemmas

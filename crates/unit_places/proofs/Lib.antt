@@ -1,0 +1,5 @@
+pub mod OccursLemmas
+pub mod PlaceLemmas
+pub mod RowLemmas
+pub mod FillLemmas
+pub mod ForkLemmas

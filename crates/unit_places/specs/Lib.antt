@@ -1,0 +1,4 @@
+pub mod Occurring
+pub mod Places
+pub mod Straight
+pub mod Examples
