@@ -1,0 +1,9 @@
+pub mod Level
+pub mod Lanes
+pub mod Nets
+pub mod Traces
+pub mod Units
+pub mod FromPlan
+pub mod Drawing
+pub mod Examples
+pub mod MoreExamples

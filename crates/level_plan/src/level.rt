@@ -1,0 +1,30 @@
+//! A level in the working frame.
+use elk_doc::document::{Placing, Spacing, Sweep};
+use elk_doc::list::Items;
+use port_order::Child;
+
+/// An end of an edge of a level: a child, by its number in the level, and one of its ports or none.
+#[derive(Clone, Copy)]
+pub struct Spoke {
+    pub child: u32,
+    pub port: Option<u32>,
+}
+
+/// An edge of a level, with its weight.
+#[derive(Clone, Copy)]
+pub struct LevelEdge {
+    pub source: Spoke,
+    pub target: Spoke,
+    pub weight: u32,
+}
+
+/// A level: its children and edges in document order, and its options, all lengths in whole document units and in the frame in
+/// which its direction runs to the right.
+#[derive(Drop)]
+pub struct LevelIn {
+    pub children: Items<Child>,
+    pub edges: Items<LevelEdge>,
+    pub spacing: Spacing,
+    pub fixed: Option<Sweep>,
+    pub placing: Placing,
+}

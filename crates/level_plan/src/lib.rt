@@ -1,0 +1,9 @@
+//! What the drawing of a level is, in the words of its plan: lanes at children, nets of gaps, traces, columns, and how boxes,
+//! ports and sections come from them.
+#![tactic(auto)]
+
+mod laws;
+mod level;
+
+pub use laws::examples;
+pub use level::{LevelEdge, LevelIn, Spoke};

@@ -1,0 +1,5 @@
+pub mod Zones
+pub mod NetPieces
+pub mod AtDocks
+pub mod Sharing
+pub mod Clearing
