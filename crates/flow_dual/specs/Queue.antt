@@ -62,6 +62,11 @@ pub record Offers (edges : List NetEdge) (layers : List ℤ) (flow : List ℕ) (
   pub offered : (k : ℕ) → k < i → end_of end (edge_at edges k) ≡ v → IsOpen set end (edge_at edges k) (slice_index flow k) → (t : Step) × Contains new t × (t.edge ≡ k)
   pub only : (t : Step) → Contains new t → Contains old t ⊎ ((t.edge < length edges) × (end_of end (edge_at edges t.edge) ≡ v) × IsStepFrom layers (edge_at edges t.edge) (slice_index flow t.edge) near end (nearness t))
 
+-- the steps from v over its edges at one end are added, and then those at the other
+abbrev pub OffersBoth : List NetEdge → List ℤ → List ℕ → (ℕ → Bool) → ℕ → ℕ → List Step → List Step → Type 0
+OffersBoth edges layers flow set v near old new =
+    (mid : List Step) × Offers edges layers flow set Tail v near (length edges) old mid × Offers edges layers flow set Head v near (length edges) mid new
+
 -- the end is the head, so the step goes back over the edge
 abbrev pub IsBack : End → Type 0
 IsBack Tail = ⊥

@@ -44,12 +44,14 @@ fn rise_cost(weight: u32, low: i64, high: i64) -> u128
     u128::from(weight) * (high - low) as u128
 }
 
-/// A state whose flow balances is a solution.
-fn finish(nodes: u32, edges: &[NetEdge], layer: Vec<i64>, flow: Vec<u64>) -> Solution
+/// A state whose flow balances is a solution: its cost is counted.
+pub fn finish(nodes: u32, edges: &[NetEdge], layer: Vec<i64>, flow: Vec<u64>) -> Solution
     requires few { length edges.now ≤ 2 ^ 24 }
     requires ends { EndsBelow nodes edges.now }
     requires done { IsDone nodes edges.now layer.items flow.items }
-    ensures { IsSolution nodes edges.now result.layer.items result.flow.items result.cost }
+    ensures solution { IsSolution nodes edges.now result.layer.items result.flow.items result.cost }
+    ensures layer { result.layer.items ≡ layer.items }
+    ensures flow { result.flow.items ≡ flow.items }
 {
     let cost = total_cost(edges, layer.as_slice());
     Solution { layer, flow, cost }

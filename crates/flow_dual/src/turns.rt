@@ -1,6 +1,6 @@
 //! The search from a node with a surplus to one that asks for more, nearest steps first.
 
-ghost use Rattle.std.specs.Prelude.{◌≡◌, ◌+◌, ◌*◌, ◌≤◌, ◌<◌, ◌^◌, ℕ, pos, ◌≤ℤ◌, ◌+ℤ◌, [], ◌∷◌, length, slice_index, set, IfOk};
+ghost use Rattle.std.specs.Prelude.{◌≡◌, ◌+◌, ◌*◌, ◌≤◌, ◌<◌, ◌^◌, ℕ, pos, ◌≤ℤ◌, ◌+ℤ◌, [], ◌∷◌, length, slice_index, set, IfOk, OnOk};
 ghost use Rattle.std.specs.BinaryHeap.{IsHeap, heap_items};
 ghost use Rattle.layering_laws.specs.Network.{EndsBelow, edge_at};
 ghost use Rattle.layering_laws.specs.Layering.{IsLayering, layer_of};
@@ -8,7 +8,7 @@ ghost use Rattle.layering_laws.specs.Links.{AreLinks};
 ghost use Rattle.layering_laws.specs.declared.links.End.TheVariants.{Tail, Head};
 ghost use Rattle.layering_laws.specs.Tight.{given, asked};
 ghost use Rattle.flow_dual.specs.State.{marked};
-ghost use Rattle.flow_dual.specs.Queue.{step_order};
+ghost use Rattle.flow_dual.specs.Queue.{step_order, OffersBoth};
 ghost use Rattle.flow_dual.specs.Rounds.{all_least, IsRound, unreached};
 ghost use Rattle.flow_dual.specs.Search.{Reaches};
 ghost use Rattle.flow_dual.specs.Searching.{IsSearching, IsSearched, TellsExcess, IsCleared, Begins};
@@ -77,6 +77,60 @@ fn begin(source: u32, room: u64, reached: &mut [bool], labels: &mut [Label], dis
     dist[source as usize] = 0;
 }
 
+/// Adds the steps from v over its edges at both ends.
+fn offer_both(
+    edges: &[NetEdge],
+    tails: &Links,
+    heads: &Links,
+    layer: &[i64],
+    flow: &[u64],
+    reached: &[bool],
+    v: u32,
+    near: u128,
+    turn: u32,
+    queue: &mut BinaryHeap<Step>,
+) -> Result<(), AllocError>
+    requires few { length edges.now ≤ 2 ^ 24 }
+    requires ends { EndsBelow (length layer.now) edges.now }
+    requires tails { AreLinks (length layer.now) edges.now Tail tails.now.first.items tails.now.next.items }
+    requires heads { AreLinks (length layer.now) edges.now Head heads.now.first.items heads.now.next.items }
+    requires layering { IsLayering edges.now layer.now }
+    requires from_zero { (v : ℕ) → v < length layer.now → pos 0 ≤ℤ layer_of layer.now v }
+    requires flow { length flow.now ≡ length edges.now }
+    requires marks { length reached.now ≡ length layer.now }
+    requires there { v < length layer.now }
+    requires low { near < 2 ^ 70 }
+    requires heap { IsHeap step_order (heap_items queue.old) }
+    ensures heap { IsHeap step_order (heap_items queue.new) }
+    ensures offers { OnOk result (OffersBoth edges.now layer.now flow.now (marked reached.now) v near (heap_items queue.old) (heap_items queue.new)) }
+{
+    offer(
+        edges,
+        tails,
+        End::Tail,
+        layer,
+        flow,
+        reached,
+        v,
+        near,
+        turn,
+        queue,
+    )?;
+    offer(
+        edges,
+        heads,
+        End::Head,
+        layer,
+        flow,
+        reached,
+        v,
+        near,
+        turn,
+        queue,
+    )?;
+    Ok(())
+}
+
 /// Searches from the source until a node that asks for more is reached.
 pub fn search(
     alloc: Global,
@@ -113,29 +167,8 @@ pub fn search(
     begin(source, room, reached, labels, dist);
     order.push(source)?;
     let mut queue: BinaryHeap<Step> = BinaryHeap::new(alloc);
-    offer(
-        edges,
-        tails,
-        End::Tail,
-        layer,
-        flow,
-        reached,
-        source,
-        0,
-        0,
-        &mut queue,
-    )?;
-    offer(
-        edges,
-        heads,
-        End::Head,
-        layer,
-        flow,
-        reached,
-        source,
-        0,
-        0,
-        &mut queue,
+    offer_both(
+        edges, tails, heads, layer, flow, reached, source, 0, 0, &mut queue,
     )?;
     let mut now: u128 = 0;
     let mut turn: u32 = 1;
@@ -156,29 +189,8 @@ pub fn search(
             if excess[v as usize] < 0 {
                 return Ok(Found { to: v, now });
             }
-            offer(
-                edges,
-                tails,
-                End::Tail,
-                layer,
-                flow,
-                reached,
-                v,
-                now,
-                turn,
-                &mut queue,
-            )?;
-            offer(
-                edges,
-                heads,
-                End::Head,
-                layer,
-                flow,
-                reached,
-                v,
-                now,
-                turn,
-                &mut queue,
+            offer_both(
+                edges, tails, heads, layer, flow, reached, v, now, turn, &mut queue,
             )?;
             turn += 1;
         } else {

@@ -7,8 +7,8 @@ use Rattle.flow_dual.proofs.turns.search.Goals as goal
 
 pub turns-init : goal.turns-init
 turns-init c = (
-  c.offer-2.ensures.heap,
-  search_begun (length c.args.layer.now) c.args.edges.now c.args.layer.now c.args.flow.now c.args.source c.args.room c.args.reached.now c.begin.new.reached c.args.labels.now c.begin.new.labels c.args.dist.now c.begin.new.dist c.requires.round c.requires.source c.requires.room c.requires.more c.requires.cleared c.requires.dist c.begin.ensures c.push.new.self.items (heap_items c.new-queue.result) (heap_items c.offer.new.queue) (heap_items c.offer-2.new.queue) (c.in_ok-push.ensures.items ∙ ap (λ xs. xs ++ c.args.source ∷ []) c.requires.order) c.new-queue.ensures.items c.in_ok-offer.ensures.offers c.in_ok-offer-2.ensures.offers,
+  c.offer_both.ensures.heap,
+  search_begun (length c.args.layer.now) c.args.edges.now c.args.layer.now c.args.flow.now c.args.source c.args.room c.args.reached.now c.begin.new.reached c.args.labels.now c.begin.new.labels c.args.dist.now c.begin.new.dist c.requires.round c.requires.source c.requires.room c.requires.more c.requires.cleared c.requires.dist c.begin.ensures c.push.new.self.items (heap_items c.new-queue.result) c.in_ok-offer_both.ensures.offers.0 (heap_items c.offer_both.new.queue) (c.in_ok-push.ensures.items ∙ ap (λ xs. xs ++ c.args.source ∷ []) c.requires.order) c.new-queue.ensures.items c.in_ok-offer_both.ensures.offers.1 c.in_ok-offer_both.ensures.offers.2,
 )
 
 pub next_step-requires : goal.next_step-requires
@@ -22,15 +22,15 @@ next_step-requires c =
 pub turns-preserved : goal.turns-preserved
 turns-preserved c =
     let enough = tells_enough (length c.args.layer.now) c.args.edges.now c.args.flow.now c.args.excess.now c.reach-v.result c.requires.tells (new_node (length c.args.layer.now) c.args.edges.now c.args.layer.now c.args.flow.now c.args.source c.turns.turn c.turns.now c.turns.reached c.turns.labels c.turns.dist c.turns.order.items (heap_items c.turns.queue) c.requires.ends refl c.requires.round.layering c.turns.invariant.1 c.in-Some.step (heap_items c.next_step.new.queue) c.in-Some.ensures.some c.reach-v.result c.reach-v.new.reached c.reach-v.new.labels c.reach-v.ensures).0 (let t = c.if-excess-v-lt0.false in omega (arith, ints, t)) in (
-      c.offer-in-Some-2.ensures.heap,
-      subst (λ xs. IsSearching (length c.args.layer.now) c.args.edges.now c.args.layer.now c.args.flow.now c.args.source (c.turns.turn + 1) c.in-Some.step.near.0 c.reach-v.new.reached c.reach-v.new.labels (set c.turns.dist c.reach-v.result c.in-Some.step.near.0) xs (heap_items c.offer-in-Some-2.new.queue)) (sym c.in_ok-push-2.ensures.items)
-          (more (length c.args.layer.now) c.args.edges.now c.args.layer.now c.args.flow.now c.args.source c.turns.turn c.turns.now c.turns.reached c.turns.labels c.turns.dist c.turns.order.items (heap_items c.turns.queue) c.requires.ends refl c.requires.round.layering c.turns.invariant.1 c.in-Some.step (heap_items c.next_step.new.queue) c.in-Some.ensures.some c.reach-v.result c.reach-v.new.reached c.reach-v.new.labels c.reach-v.ensures enough (heap_items c.offer-in-Some.new.queue) (heap_items c.offer-in-Some-2.new.queue) c.in_ok-offer-3.ensures.offers c.in_ok-offer-4.ensures.offers),
+      c.offer_both-in-Some.ensures.heap,
+      subst (λ xs. IsSearching (length c.args.layer.now) c.args.edges.now c.args.layer.now c.args.flow.now c.args.source (c.turns.turn + 1) c.in-Some.step.near.0 c.reach-v.new.reached c.reach-v.new.labels (set c.turns.dist c.reach-v.result c.in-Some.step.near.0) xs (heap_items c.offer_both-in-Some.new.queue)) (sym c.in_ok-push-2.ensures.items)
+          (more (length c.args.layer.now) c.args.edges.now c.args.layer.now c.args.flow.now c.args.source c.turns.turn c.turns.now c.turns.reached c.turns.labels c.turns.dist c.turns.order.items (heap_items c.turns.queue) c.requires.ends refl c.requires.round.layering c.turns.invariant.1 c.in-Some.step (heap_items c.next_step.new.queue) c.in-Some.ensures.some c.reach-v.result c.reach-v.new.reached c.reach-v.new.labels c.reach-v.ensures enough c.in_ok-offer_both-2.ensures.offers.0 (heap_items c.offer_both-in-Some.new.queue) c.in_ok-offer_both-2.ensures.offers.1 c.in_ok-offer_both-2.ensures.offers.2),
     )
 
 pub turns-smaller : goal.turns-smaller
 turns-smaller c =
     let enough = tells_enough (length c.args.layer.now) c.args.edges.now c.args.flow.now c.args.excess.now c.reach-v.result c.requires.tells (new_node (length c.args.layer.now) c.args.edges.now c.args.layer.now c.args.flow.now c.args.source c.turns.turn c.turns.now c.turns.reached c.turns.labels c.turns.dist c.turns.order.items (heap_items c.turns.queue) c.requires.ends refl c.requires.round.layering c.turns.invariant.1 c.in-Some.step (heap_items c.next_step.new.queue) c.in-Some.ensures.some c.reach-v.result c.reach-v.new.reached c.reach-v.new.labels c.reach-v.ensures).0 (let t = c.if-excess-v-lt0.false in omega (arith, ints, t)) in
-    let m = more (length c.args.layer.now) c.args.edges.now c.args.layer.now c.args.flow.now c.args.source c.turns.turn c.turns.now c.turns.reached c.turns.labels c.turns.dist c.turns.order.items (heap_items c.turns.queue) c.requires.ends refl c.requires.round.layering c.turns.invariant.1 c.in-Some.step (heap_items c.next_step.new.queue) c.in-Some.ensures.some c.reach-v.result c.reach-v.new.reached c.reach-v.new.labels c.reach-v.ensures enough (heap_items c.offer-in-Some.new.queue) (heap_items c.offer-in-Some-2.new.queue) c.in_ok-offer-3.ensures.offers c.in_ok-offer-4.ensures.offers in
+    let m = more (length c.args.layer.now) c.args.edges.now c.args.layer.now c.args.flow.now c.args.source c.turns.turn c.turns.now c.turns.reached c.turns.labels c.turns.dist c.turns.order.items (heap_items c.turns.queue) c.requires.ends refl c.requires.round.layering c.turns.invariant.1 c.in-Some.step (heap_items c.next_step.new.queue) c.in-Some.ensures.some c.reach-v.result c.reach-v.new.reached c.reach-v.new.labels c.reach-v.ensures enough c.in_ok-offer_both-2.ensures.offers.0 (heap_items c.offer_both-in-Some.new.queue) c.in_ok-offer_both-2.ensures.offers.1 c.in_ok-offer_both-2.ensures.offers.2 in
     let a = m.within.count in
     let b = c.turns.invariant.1.within.count in
     omega (arith, a, b)
@@ -44,17 +44,11 @@ returns-then-excess-v-lt0 c =
     subst (λ xs. IsSearched (length c.args.layer.now) c.args.edges.now c.args.layer.now c.args.flow.now c.args.source c.reach-v.result c.in-Some.step.near.0 c.reach-v.new.reached c.reach-v.new.labels (set c.turns.dist c.reach-v.result c.in-Some.step.near.0) xs) (sym c.in_ok-push-2.ensures.items)
     (found (length c.args.layer.now) c.args.edges.now c.args.layer.now c.args.flow.now c.args.source c.turns.turn c.turns.now c.turns.reached c.turns.labels c.turns.dist c.turns.order.items (heap_items c.turns.queue) c.requires.ends refl c.requires.round.layering c.turns.invariant.1 c.in-Some.step (heap_items c.next_step.new.queue) c.in-Some.ensures.some c.reach-v.result c.reach-v.new.reached c.reach-v.new.labels c.reach-v.ensures lacks)
 
-pub offer-requires-in-Some-clause-there : goal.offer-requires-in-Some-clause-there
-offer-requires-in-Some-clause-there c = (new_node (length c.args.layer.now) c.args.edges.now c.args.layer.now c.args.flow.now c.args.source c.turns.turn c.turns.now c.turns.reached c.turns.labels c.turns.dist c.turns.order.items (heap_items c.turns.queue) c.requires.ends refl c.requires.round.layering c.turns.invariant.1 c.in-Some.step (heap_items c.next_step.new.queue) c.in-Some.ensures.some c.reach-v.result c.reach-v.new.reached c.reach-v.new.labels c.reach-v.ensures).0
+pub offer_both-requires-in-Some-clause-there : goal.offer_both-requires-in-Some-clause-there
+offer_both-requires-in-Some-clause-there c = (new_node (length c.args.layer.now) c.args.edges.now c.args.layer.now c.args.flow.now c.args.source c.turns.turn c.turns.now c.turns.reached c.turns.labels c.turns.dist c.turns.order.items (heap_items c.turns.queue) c.requires.ends refl c.requires.round.layering c.turns.invariant.1 c.in-Some.step (heap_items c.next_step.new.queue) c.in-Some.ensures.some c.reach-v.result c.reach-v.new.reached c.reach-v.new.labels c.reach-v.ensures).0
 
-pub offer-requires-in-Some-clause-low : goal.offer-requires-in-Some-clause-low
-offer-requires-in-Some-clause-low c = small (length c.args.layer.now) c.args.edges.now c.args.layer.now c.args.flow.now c.args.source c.turns.turn c.turns.now c.turns.reached c.turns.labels c.turns.dist c.turns.order.items (heap_items c.turns.queue) c.requires.ends refl c.requires.round.layering c.turns.invariant.1 c.in-Some.step (heap_items c.next_step.new.queue) c.in-Some.ensures.some c.requires.least c.requires.source (c.requires.round.from_zero c.args.source c.requires.source)
-
-pub offer-requires-in-Some-2-clause-there : goal.offer-requires-in-Some-2-clause-there
-offer-requires-in-Some-2-clause-there c = (new_node (length c.args.layer.now) c.args.edges.now c.args.layer.now c.args.flow.now c.args.source c.turns.turn c.turns.now c.turns.reached c.turns.labels c.turns.dist c.turns.order.items (heap_items c.turns.queue) c.requires.ends refl c.requires.round.layering c.turns.invariant.1 c.in-Some.step (heap_items c.next_step.new.queue) c.in-Some.ensures.some c.reach-v.result c.reach-v.new.reached c.reach-v.new.labels c.reach-v.ensures).0
-
-pub offer-requires-in-Some-2-clause-low : goal.offer-requires-in-Some-2-clause-low
-offer-requires-in-Some-2-clause-low c = small (length c.args.layer.now) c.args.edges.now c.args.layer.now c.args.flow.now c.args.source c.turns.turn c.turns.now c.turns.reached c.turns.labels c.turns.dist c.turns.order.items (heap_items c.turns.queue) c.requires.ends refl c.requires.round.layering c.turns.invariant.1 c.in-Some.step (heap_items c.next_step.new.queue) c.in-Some.ensures.some c.requires.least c.requires.source (c.requires.round.from_zero c.args.source c.requires.source)
+pub offer_both-requires-in-Some-clause-low : goal.offer_both-requires-in-Some-clause-low
+offer_both-requires-in-Some-clause-low c = small (length c.args.layer.now) c.args.edges.now c.args.layer.now c.args.flow.now c.args.source c.turns.turn c.turns.now c.turns.reached c.turns.labels c.turns.dist c.turns.order.items (heap_items c.turns.queue) c.requires.ends refl c.requires.round.layering c.turns.invariant.1 c.in-Some.step (heap_items c.next_step.new.queue) c.in-Some.ensures.some c.requires.least c.requires.source (c.requires.round.from_zero c.args.source c.requires.source)
 
 pub returns-in_default : goal.returns-in_default
 returns-in_default c = absurd (some_step (length c.args.layer.now) c.args.edges.now c.args.layer.now c.args.flow.now c.args.source c.turns.turn c.turns.now c.turns.reached c.turns.labels c.turns.dist c.turns.order.items (heap_items c.turns.queue) c.requires.ends refl c.requires.round.layering c.turns.invariant.1 c.requires.source c.requires.more c.in_default.ensures.none)

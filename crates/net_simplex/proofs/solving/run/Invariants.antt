@@ -1,0 +1,13 @@
+use Rattle.std.proofs.Common.{◌-◌, ◌≤◌, length}
+use Rattle.net_simplex.specs.Kept.{IsKept}
+use Rattle.net_simplex.specs.Outcome.{Reaches}
+use Rattle.net_simplex.proofs.solving.run.Given as goal
+
+abbrev pub invariant-pivots : goal.invariant-pivots
+invariant-pivots l =
+    (l.made ≤ l.budget)
+    × IsKept (length l.initial.layers) l.edges l.tree l.layers l.order l.place l.parent
+    × Reaches (length l.initial.layers) l.edges l.made l.initial.tree l.initial.layers l.tree l.layers
+
+abbrev pub decreases-pivots : goal.decreases-pivots
+decreases-pivots l = l.budget - l.made

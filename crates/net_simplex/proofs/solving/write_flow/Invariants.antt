@@ -1,0 +1,9 @@
+use Rattle.std.proofs.Common.{◌≡◌, ℕ, ◌<◌, cond, length, get_or}
+use Rattle.layering_laws.specs.Layering.{layer_of, natural}
+use Rattle.layering_laws.specs.Linked.{is_marked}
+use Rattle.net_simplex.proofs.solving.write_flow.Given as goal
+
+abbrev pub invariant-loop-k : goal.invariant-loop-k
+invariant-loop-k l =
+    (length l.flow ≡ length l.tree)
+    × ((j : ℕ) → j < l.k → get_or l.flow j 0 ≡ cond (is_marked l.tree j) (natural (layer_of l.cut j)) 0)

@@ -1,0 +1,11 @@
+pub mod Tree
+pub mod Pivots
+pub mod Answer
+pub mod SixNodes
+pub mod Rooted
+pub mod Cuts
+pub mod Chosen
+pub mod Turning
+pub mod Grown
+pub mod Kept
+pub mod Outcome

@@ -1,0 +1,129 @@
+//! The chain of pivots: a tree edge of negative cut value leaves, and the edge of least slack that leads back enters.
+
+ghost use Rattle.std.specs.Prelude.{◌≡◌, ◌≢◌, ◌+◌, ◌<◌, ◌≤◌, ◌^◌, ℕ, pos, ◌≤ℤ◌, ◌<ℤ◌, ◌+ℤ◌, ◌-ℤ◌, true, false, ◌&&◌, int_lt, Some, None, length, set};
+ghost use Rattle.layering_laws.specs.Network.{IsNetwork};
+ghost use Rattle.layering_laws.specs.Layering.{layer_of};
+ghost use Rattle.layering_laws.specs.Linked.{is_marked};
+ghost use Rattle.net_simplex.specs.Pivots.{is_in, shifted, least_of, leaving_edge};
+ghost use Rattle.net_simplex.specs.Grown.{IsSmall};
+ghost use Rattle.net_simplex.specs.Kept.{IsKept, PivotsTo, kept_state};
+
+use crate::entering::entering;
+use crate::rooted::{child_of, mark_below};
+use crate::turning::turn;
+use layering_laws::NetEdge;
+
+fn is_negative(marked: bool, cut: i64) -> bool
+    ensures { result ≡ (marked && int_lt cut (pos 0)) }
+{
+    if marked {
+        return cut < 0;
+    }
+    false
+}
+
+/// The lowest-numbered tree edge of negative cut value.
+pub fn leaving(tree: &[bool], cut: &[i64]) -> Option<u32>
+    requires few { length tree.now ≤ 2 ^ 24 }
+    requires same { length cut.now ≡ length tree.now }
+    ensures { result ≡ least_of (λ k. is_marked tree.now k && int_lt (layer_of cut.now k) (pos 0)) (λ k. 0) (length tree.now) }
+{
+    for k in 0..tree.len() {
+        if is_negative(tree[k], cut[k]) {
+            return Some(k as u32);
+        }
+    }
+    None
+}
+
+fn moved(layer: i64, by: i64) -> i64
+    requires { IsSmall (layer +ℤ by) }
+    ensures { result ≡ layer +ℤ by }
+{
+    layer + by
+}
+
+/// Moves the marked nodes.
+fn shift(layers: &mut [i64], below: &[bool], by: i64)
+    requires marks { length below.now ≡ length layers.old }
+    requires small { (v : ℕ) → v < length layers.old → is_in below.now v ≡ true → IsSmall (layer_of layers.old v +ℤ by) }
+    ensures { layers.new ≡ shifted (is_in below.now) by layers.old }
+{
+    for v in 0..layers.len() {
+        if below[v] {
+            layers[v] = moved(layers[v], by);
+        }
+    }
+}
+
+/// By how much the part without the root moves: up where it is the head's, else down.
+fn move_by(root_in: bool, slack: i128) -> i64
+    requires from { pos 0 ≤ℤ slack }
+    requires to { slack <ℤ pos (2 ^ 63) }
+    ensures up { root_in ≡ true → result ≡ slack }
+    ensures down { root_in ≡ false → result ≡ pos 0 -ℤ slack }
+{
+    if root_in {
+        return slack as i64;
+    }
+    (-slack) as i64
+}
+
+fn lower_end(root_in: bool, e: NetEdge) -> u32
+    ensures up { root_in ≡ true → result ≡ e.tail }
+    ensures down { root_in ≡ false → result ≡ e.head }
+{
+    if root_in {
+        return e.tail;
+    }
+    e.head
+}
+
+fn exchange(tree: &mut [bool], out: u32, by: u32)
+    requires out { out < length tree.old }
+    requires by { by < length tree.old }
+    ensures { tree.new ≡ set (set tree.old out false) by true }
+{
+    tree[out as usize] = false;
+    tree[by as usize] = true;
+}
+
+/// One pivot: `out` leaves the tree.
+pub fn pivot(
+    edges: &[NetEdge],
+    out: u32,
+    tree: &mut [bool],
+    layers: &mut [i64],
+    order: &mut [u32],
+    place: &mut [u32],
+    parent: &mut [u32],
+    below: &mut [bool],
+    next: &mut [u32],
+    spot: &mut [u32],
+)
+    requires network { IsNetwork (length layers.old) edges.now }
+    requires kept { IsKept (length layers.old) edges.now tree.old layers.old order.old place.old parent.old }
+    requires leaves { leaving_edge (length layers.old) edges.now (kept_state tree.old layers.old) ≡ Some out }
+    requires below { length below.old ≡ length layers.old }
+    requires next { length next.old ≡ length layers.old }
+    requires spot { length spot.old ≡ length layers.old }
+    ensures kept { IsKept (length layers.old) edges.now tree.new layers.new order.new place.new parent.new }
+    ensures pivots { PivotsTo (length layers.old) edges.now tree.old layers.old tree.new layers.new }
+{
+    let e = edges[out as usize];
+    let child = child_of(parent, e, out);
+    let root_in = child == e.head;
+    mark_below(edges, tree, order, place, parent, child, below);
+    match entering(edges, layers, below, root_in) {
+        Some(choice) => {
+            let by = choice.edge;
+            let from = lower_end(root_in, edges[by as usize]);
+            shift(layers, below, move_by(root_in, choice.slack));
+            exchange(tree, out, by);
+            turn(
+                edges, tree, child, from, by, order, place, parent, below, next, spot,
+            );
+        }
+        None => {}
+    }
+}

@@ -1,0 +1,26 @@
+//! The edge of least slack among those that are looked at, ties by the number.
+
+ghost use Rattle.std.specs.Prelude.{◌≡◌};
+ghost use Rattle.net_simplex.specs.Chosen.{better_of};
+
+/// An edge and its slack.
+#[derive(Clone, Copy)]
+pub struct Choice {
+    pub edge: u32,
+    pub slack: i128,
+}
+
+/// The better of the best edge so far and one that comes after it.
+pub fn better(best: Option<Choice>, edge: u32, slack: i128) -> Option<Choice>
+    ensures { result ≡ better_of best edge slack }
+{
+    match best {
+        None => Some(Choice { edge, slack }),
+        Some(old) => {
+            if slack < old.slack {
+                return Some(Choice { edge, slack });
+            }
+            Some(old)
+        }
+    }
+}

@@ -1,0 +1,281 @@
+//! Layerings of least cost: the first tree, the chain of pivots up to the budget, and each layer lowered by the least.
+
+ghost use Rattle.std.specs.Prelude.{◌≡◌, ◌↔◌, false, replicate, ◌+◌, ◌<◌, ◌≤◌, ◌^◌, ℕ, cond, pos, ◌≤ℤ◌, ◌<ℤ◌, ◌+ℤ◌, ◌-ℤ◌, true, map, length, slice_index, IfOk, OnOk, IfSome, IfNone};
+ghost use Rattle.layering_laws.specs.Network.{IsNetwork};
+ghost use Rattle.layering_laws.specs.Layering.{layer_of, natural, IsLayering, IsSolution};
+ghost use Rattle.layering_laws.specs.Linked.{is_marked};
+ghost use Rattle.layering_laws.specs.Paths.{AreGreatestSums};
+ghost use Rattle.net_simplex.specs.Pivots.{lowered};
+ghost use Rattle.net_simplex.specs.Answer.{EndsInTime, RunsOut};
+ghost use Rattle.net_simplex.specs.Grown.{IsConnected, IsSmall};
+ghost use Rattle.net_simplex.specs.Kept.{IsKept};
+ghost use Rattle.net_simplex.specs.Outcome.{Leads, Outcome};
+ghost use Rattle.net_simplex.specs.declared.solving.Way.TheVariants.{Simplex, Flow};
+
+use crate::chain::{leaving, pivot};
+use crate::cuts::sum_cuts;
+use crate::growing::grow;
+use flow_dual::finish;
+use layering_laws::{NetEdge, Network, Solution, greatest_sums};
+use std::alloc::{AllocError, Global};
+
+/// How a layering was found: by pivots alone, or by the flow after the budget of pivots was spent.
+#[derive(Clone, Copy)]
+pub enum Way {
+    Simplex,
+    Flow,
+}
+
+/// A layering of least cost with the flow that proves it, the number of pivots that were made, and the way.
+#[derive(Drop)]
+pub struct Solved {
+    pub solution: Solution,
+    pub pivots: u64,
+    pub way: Way,
+}
+
+/// The sums as layers.
+fn as_layers(sums: &[u64], layers: &mut [i64])
+    requires same { length layers.old ≡ length sums.now }
+    requires fits { (v : ℕ) → v < length sums.now → slice_index sums.now v < 2 ^ 63 }
+    ensures { layers.new ≡ map pos sums.now }
+{
+    for v in 0..sums.len() {
+        layers[v] = sums[v] as i64;
+    }
+}
+
+fn least_of_all(layers: &[i64]) -> i64
+    requires some { 0 < length layers.now }
+    ensures no_more { (v : ℕ) → v < length layers.now → result ≤ℤ layer_of layers.now v }
+    ensures there { (v : ℕ) × (v < length layers.now) × (layer_of layers.now v ≡ result) }
+{
+    let mut least = layers[0];
+    for v in 1..layers.len() {
+        if layers[v] < least {
+            least = layers[v];
+        }
+    }
+    least
+}
+
+fn lowered_by(layer: i64, by: i64) -> i64
+    requires layer { IsSmall layer }
+    requires by { IsSmall by }
+    ensures { result ≡ layer -ℤ by }
+{
+    layer - by
+}
+
+/// Lowers each layer by the least one.
+fn lower(layers: &mut [i64])
+    requires some { 0 < length layers.old }
+    requires small { (v : ℕ) → v < length layers.old → IsSmall (layer_of layers.old v) }
+    ensures { layers.new ≡ lowered layers.old }
+{
+    let least = least_of_all(layers);
+    for v in 0..layers.len() {
+        layers[v] = lowered_by(layers[v], least);
+    }
+}
+
+fn amount(marked: bool, cut: i64) -> u64
+    requires { marked ≡ true → pos 0 ≤ℤ cut }
+    ensures { result ≡ cond marked (natural cut) 0 }
+{
+    if marked {
+        return cut as u64;
+    }
+    0
+}
+
+/// The cut values of the tree's edges as flow, 0 off the tree.
+fn write_flow(tree: &[bool], cut: &[i64], flow: &mut [u64])
+    requires cut { length cut.now ≡ length tree.now }
+    requires flow { length flow.old ≡ length tree.now }
+    requires from_zero { (k : ℕ) → k < length tree.now → is_marked tree.now k ≡ true → pos 0 ≤ℤ layer_of cut.now k }
+    ensures same { length flow.new ≡ length tree.now }
+    ensures is { (k : ℕ) → k < length tree.now → slice_index flow.new k ≡ cond (is_marked tree.now k) (natural (layer_of cut.now k)) 0 }
+{
+    for k in 0..tree.len() {
+        flow[k] = amount(tree[k], cut[k]);
+    }
+}
+
+/// Pivots until no cut value is negative, and gives their number. None where the budget is spent before.
+fn run(
+    edges: &[NetEdge],
+    budget: u64,
+    tree: &mut [bool],
+    layers: &mut [i64],
+    order: &mut [u32],
+    place: &mut [u32],
+    parent: &mut [u32],
+    below: &mut [bool],
+    next: &mut [u32],
+    spot: &mut [u32],
+    excess: &mut [i64],
+    cut: &mut [i64],
+) -> Option<u64>
+    requires network { IsNetwork (length layers.old) edges.now }
+    requires kept { IsKept (length layers.old) edges.now tree.old layers.old order.old place.old parent.old }
+    requires below { length below.old ≡ length layers.old }
+    requires next { length next.old ≡ length layers.old }
+    requires spot { length spot.old ≡ length layers.old }
+    requires excess { length excess.old ≡ length layers.old }
+    requires cut { length cut.old ≡ length edges.now }
+    ensures kept { IsKept (length layers.old) edges.now tree.new layers.new order.new place.new parent.new }
+    ensures leads { Leads (length layers.old) edges.now budget result tree.old layers.old tree.new layers.new cut.new }
+{
+    let mut made: u64 = 0;
+    'pivots: loop {
+        sum_cuts(edges, tree, order, place, parent, excess, cut);
+        match leaving(tree, cut) {
+            Some(out) => {
+                if made == budget {
+                    return None;
+                }
+                pivot(
+                    edges, out, tree, layers, order, place, parent, below, next, spot,
+                );
+                made += 1;
+            }
+            None => return Some(made),
+        }
+    }
+}
+
+/// The first tree, the chain, and its answer.
+fn run_on(
+    edges: &[NetEdge],
+    budget: u64,
+    layers: &mut [i64],
+    flow: &mut [u64],
+    tree: &mut [bool],
+    reached: &mut [bool],
+    order: &mut [u32],
+    place: &mut [u32],
+    parent: &mut [u32],
+    next: &mut [u32],
+    spot: &mut [u32],
+    excess: &mut [i64],
+    cut: &mut [i64],
+) -> Option<u64>
+    requires network { IsNetwork (length layers.old) edges.now }
+    requires some { 0 < length layers.old }
+    requires connected { IsConnected (length layers.old) edges.now }
+    requires greatest { AreGreatestSums (length layers.old) edges.now layers.old }
+    requires layering { IsLayering edges.now layers.old }
+    requires flow { length flow.old ≡ length edges.now }
+    requires tree { tree.old ≡ replicate (length edges.now) false }
+    requires reached { reached.old ≡ replicate (length layers.old) false }
+    requires order { length order.old ≡ length layers.old }
+    requires place { length place.old ≡ length layers.old }
+    requires parent { length parent.old ≡ length layers.old }
+    requires next { length next.old ≡ length layers.old }
+    requires spot { length spot.old ≡ length layers.old }
+    requires excess { length excess.old ≡ length layers.old }
+    requires cut { length cut.old ≡ length edges.now }
+    ensures { Outcome (length layers.old) edges.now budget result layers.new flow.new }
+{
+    grow(edges, tree, reached, layers, order, place, parent);
+    let ended = run(
+        edges, budget, tree, layers, order, place, parent, reached, next, spot, excess, cut,
+    );
+    match ended {
+        Some(pivots) => {
+            write_flow(tree, cut, flow);
+            lower(layers);
+            Some(pivots)
+        }
+        None => None,
+    }
+}
+
+/// Makes the lists that the chain wants, and runs it from these sums on.
+fn run_from(
+    alloc: Global,
+    edges: &[NetEdge],
+    sums: &[u64],
+    budget: u64,
+    layers: &mut [i64],
+    flow: &mut [u64],
+) -> Result<Option<u64>, AllocError>
+    requires network { IsNetwork (length layers.old) edges.now }
+    requires some { 0 < length layers.old }
+    requires connected { IsConnected (length layers.old) edges.now }
+    requires same { length layers.old ≡ length sums.now }
+    requires greatest { AreGreatestSums (length layers.old) edges.now (map pos sums.now) }
+    requires layering { IsLayering edges.now (map pos sums.now) }
+    requires flow { length flow.old ≡ length edges.now }
+    ensures { IfOk result (λ o. Outcome (length layers.old) edges.now budget o layers.new flow.new) }
+{
+    let nodes = layers.len();
+    let mut tree: Vec<bool> = vec![in alloc; false; edges.len()]?;
+    let mut reached: Vec<bool> = vec![in alloc; false; nodes]?;
+    let mut order: Vec<u32> = vec![in alloc; 0; nodes]?;
+    let mut place: Vec<u32> = vec![in alloc; 0; nodes]?;
+    let mut parent: Vec<u32> = vec![in alloc; 0; nodes]?;
+    let mut next: Vec<u32> = vec![in alloc; 0; nodes]?;
+    let mut spot: Vec<u32> = vec![in alloc; 0; nodes]?;
+    let mut excess: Vec<i64> = vec![in alloc; 0; nodes]?;
+    let mut cut: Vec<i64> = vec![in alloc; 0; edges.len()]?;
+    as_layers(sums, layers);
+    Ok(run_on(
+        edges,
+        budget,
+        layers,
+        flow,
+        tree.as_mut_slice(),
+        reached.as_mut_slice(),
+        order.as_mut_slice(),
+        place.as_mut_slice(),
+        parent.as_mut_slice(),
+        next.as_mut_slice(),
+        spot.as_mut_slice(),
+        excess.as_mut_slice(),
+        cut.as_mut_slice(),
+    ))
+}
+
+/// A layering of least cost of a connected network, and a flow that proves it, by network simplex: from a tree of tight
+/// edges on, a tree edge of negative cut value leaves and the edge of least slack that leads back enters, until no cut
+/// value is negative (Gansner, Koutsofios, North, Vo 1993). The lowest-numbered edge leaves, and ties go to the lowest
+/// number. Where a cut value is still negative after `budget` pivots, the primal-dual flow finds the layering.
+pub fn solve(alloc: Global, net: &Network, budget: u64) -> Result<Solved, AllocError>
+    requires network { IsNetwork net.now.nodes net.now.edges.items }
+    requires some { 0 < net.now.nodes }
+    requires connected { IsConnected net.now.nodes net.now.edges.items }
+    ensures solution { IfOk result (λ s. IsSolution net.now.nodes net.now.edges.items s.solution.layer.items s.solution.flow.items s.solution.cost) }
+    ensures by_pivots { IfOk result (λ s. s.way ≡ Simplex → EndsInTime net.now.nodes net.now.edges.items budget s.pivots s.solution.layer.items s.solution.flow.items) }
+    ensures by_flow { IfOk result (λ s. (s.way ≡ Flow) ↔ RunsOut net.now.nodes net.now.edges.items budget) }
+    ensures spent { IfOk result (λ s. s.way ≡ Flow → s.pivots ≡ budget) }
+{
+    let edges = net.edges.as_slice();
+    let sums = greatest_sums(alloc, net.nodes, edges)?;
+    let mut layers: Vec<i64> = vec![in alloc; 0; net.nodes as usize]?;
+    let mut flow: Vec<u64> = vec![in alloc; 0; edges.len()]?;
+    let ended = run_from(
+        alloc,
+        edges,
+        sums.as_slice(),
+        budget,
+        layers.as_mut_slice(),
+        flow.as_mut_slice(),
+    )?;
+    match ended {
+        Some(pivots) => Ok(Solved {
+            solution: finish(net.nodes, edges, layers, flow),
+            pivots,
+            way: Way::Simplex,
+        }),
+        None => {
+            let solution = flow_dual::solve(alloc, net)?;
+            Ok(Solved {
+                solution,
+                pivots: budget,
+                way: Way::Flow,
+            })
+        }
+    }
+}
