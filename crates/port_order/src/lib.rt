@@ -15,7 +15,10 @@ mod tests;
 
 pub use children::{Child, ChildPort};
 pub use docks::dock_of;
-pub use laws::{fixed_orders_are_kept, offsets_rise, orders_agree, ports_stand, spots_are_ordered};
+pub use laws::{
+    directions_turn, fixed_orders_are_kept, offsets_rise, orders_agree, ports_stand,
+    spots_are_ordered,
+};
 pub use ordering::order_side;
 pub use sides::side_of;
 pub use spots::{Mean, Spot};
