@@ -239,15 +239,16 @@ fn make_section(x: i64, y: i64, bends: Vec<Point>, end_x: i64, end_y: i64) -> Se
 fn make_sections(alloc: Global, change: Change) -> Result<Items<Section>, AllocError> {
     let from = pick(change, Change::MirroredInner, 62, 42);
     let to = pick(change, Change::MirroredInner, 42, inner_x(change));
-    let shared = pick(change, Change::SharedPiece, 10, 0);
+    let first_end = pick(change, Change::SharedPiece, 32, 22);
     let second = pick(change, Change::EndsTogether, 22, 32);
-    let outer_end = near_x(change, 135, 136) + pick(change, Change::PortInside, 1, 0);
+    let second_end = pick(change, Change::SharedPiece, 22, second);
+    let outer_end = near_x(change, 135, pick(change, Change::PortInside, 137, 136));
     let outer_start = pick(change, Change::EndOffLine, 115, 116);
     let mut sections = Vec::new(alloc);
     let one = first_bends(alloc, change)?;
-    sections.push(make_section(from, 22, one, to, 22 + shared))?;
+    sections.push(make_section(from, 22, one, to, first_end))?;
     let two = second_bends(alloc, change)?;
-    sections.push(make_section(from, second, two, to, second - shared))?;
+    sections.push(make_section(from, second, two, to, second_end))?;
     let three = outer_bends(alloc, change)?;
     sections.push(make_section(outer_start, 27, three, outer_end, 27))?;
     Ok(Items::from_vec(sections))
