@@ -1,17 +1,22 @@
 //! Small gaps.
+ghost use Rattle.route_slots.specs.GapFree.{IsNet, AreHeights};
+
 use crate::{Net, NetRoute, Pin, assign};
 use std::test::Fail;
 
 // A net from the left to the right.
-fn net(left: i64, right: i64) -> Net {
+fn net(left: u32, right: u32) -> Net
+    ensures pins { IsNet result }
+    ensures heights { AreHeights result }
+{
     Net {
         a: Pin {
             on_left: true,
-            height: left,
+            height: i64::from(left),
         },
         b: Pin {
             on_left: false,
-            height: right,
+            height: i64::from(right),
         },
     }
 }
@@ -64,13 +69,13 @@ fn a_chain_of_conflicts_is_not_cut(rt: HostRuntime) -> Result<(), Fail> {
 fn a_cycle_of_conflicts_is_cut(rt: HostRuntime) -> Result<(), Fail> {
     let slots = assign(rt.alloc(), &[net(1, 2), net(2, 1)])?;
     assert_eq!(rt; slots.routes.len(), 2);
-    let mut split = 0;
+    let mut split = false;
     for route in &slots.routes {
         if let NetRoute::Two { height, .. } = route {
             assert!(rt; *height != 1 && *height != 2);
-            split += 1;
+            split = true;
         }
     }
-    assert!(rt; split > 0);
+    assert!(rt; split);
     Ok(())
 }
