@@ -9,8 +9,6 @@ mod growing;
 mod laws;
 mod rooted;
 mod solving;
-#[cfg(test)]
-mod tests;
 mod turning;
 
 pub use laws::{
