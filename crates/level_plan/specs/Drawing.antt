@@ -47,6 +47,7 @@ stage l p o d =
     record {
       layers = p.layers;
       units = length p.layered.units;
+      children = length l.children;
       edges = length l.edges;
       gaps = d.gaps;
       col_left = λ r. (gap_in d.gaps r).right;

@@ -5,5 +5,7 @@ pub mod Traces
 pub mod Units
 pub mod FromPlan
 pub mod Drawing
+pub mod Conditions
+pub mod Table
 pub mod Examples
 pub mod MoreExamples

@@ -24,12 +24,15 @@ abbrev pub AreOrders : PlainLevel → PlainPlan → Orders → Type 0
 AreOrders l p o =
     (c : ℕ) (side : Side) → c < length l.children → IsOrderOfSide (child_at l c) side (spots l p c) (o c side)
 
--- a child's unit: one alone, in the child's layer, with room for its lanes above and below its outline
-pub record HasUnit (l : PlainLevel) (p : PlainPlan) (o : Orders) (layer c : ℕ) : Type 0 where
+-- a child's unit: one alone, in the child's layer
+pub record IsUnitOf (p : PlainPlan) (layer c : ℕ) : Type 0 where
   pub in_range : unit_of p c < length p.layered.units
   pub child : (unit_at p.layered.units (unit_of p c)).child ≡ Some c
   pub alone : (u : ℕ) → u < length p.layered.units → (unit_at p.layered.units u).child ≡ Some c → u ≡ unit_of p c
   pub layer_is : layer_of_child p c ≡ layer
+
+-- it has room for the child's lanes above and below its outline
+pub record HasRoom (l : PlainLevel) (p : PlainPlan) (o : Orders) (c : ℕ) : Type 0 where
   pub height : (unit_at p.layered.units (unit_of p c)).height ≡ unit_height l p o c
   pub top : (unit_at p.layered.units (unit_of p c)).body_top ≡ body_top l p o c
   pub body : (unit_at p.layered.units (unit_of p c)).body_height ≡ (outline l p o c).height
@@ -54,6 +57,19 @@ pub record HasChain (l : PlainLevel) (p : PlainPlan) (e : ℕ) : Type 0 where
   pub to : (link_at p.layered.links (chain_at p e (length (chain p e) - 1))).head ≡ unit_of p (spoke l (head_end p e)).child
   pub joined : (i : ℕ) → i + 1 < length (chain p e) → (link_at p.layered.links (chain_at p e i)).head ≡ (link_at p.layered.links (chain_at p e (i + 1))).tail
   pub lanes : (i : ℕ) → i + 1 < length (chain p e) → IsLaneUnit p (link_at p.layered.links (chain_at p e i)).head
+
+-- each link is one of the chain of an edge that is no self-loop
+pub record IsLinkOf (l : PlainLevel) (p : PlainPlan) (k : ℕ) : Type 0 where
+  pub edge_in : (link_at p.layered.links k).edge < length l.edges
+  pub no_loop : IsFalse (is_loop l (link_at p.layered.links k).edge)
+
+-- Units and links are those of the level, whatever their heights, pins and ranks: a unit for each child, in the layer that is
+-- listed for it, lanes, and a chain for each edge that is no self-loop.
+pub record AreLinked (l : PlainLevel) (p : PlainPlan) (layers : List ℕ) : Type 0 where
+  pub children : (c : ℕ) → c < length l.children → IsUnitOf p (slice_index_or layers c 0) c
+  pub units : (u : ℕ) → u < length p.layered.units → (IsLaneUnit p u) ⊎ ((c : ℕ) × (c < length l.children) × (u ≡ unit_of p c))
+  pub chains : (e : ℕ) → e < length l.edges → IsFalse (is_loop l e) → HasChain l p e
+  pub links : (k : ℕ) → k < length p.layered.links → IsLinkOf l p k
 
 -- the ports of a child on a link's side: under fixed positions the pinned ones
 abbrev pub link_side : PlainPlan → End → Side
@@ -120,10 +136,8 @@ tail_rank l p o k = cond (is_child p.layered (link_at p.layered.links k).tail) (
 abbrev pub head_rank : PlainLevel → PlainPlan → Orders → ℕ → ℕ
 head_rank l p o k = cond (is_child p.layered (link_at p.layered.links k).head) (rank_of_end l p o (head_end p (link_at p.layered.links k).edge)) 0
 
--- the pins and ranks of a link's ends; each link is one of the chain of an edge that is no self-loop
-pub record IsLink (l : PlainLevel) (p : PlainPlan) (o : Orders) (k : ℕ) : Type 0 where
-  pub edge_in : (link_at p.layered.links k).edge < length l.edges
-  pub no_loop : IsFalse (is_loop l (link_at p.layered.links k).edge)
+-- the pins and ranks of a link's ends
+pub record HasPins (l : PlainLevel) (p : PlainPlan) (o : Orders) (k : ℕ) : Type 0 where
   pub tail_at : (link_at p.layered.links k).tail_at ≡ below_top l p o (tail_line l p o k)
   pub head_at : (link_at p.layered.links k).head_at ≡ below_top l p o (head_line l p o k)
   pub tail_rank_is : (link_at p.layered.links k).tail_rank ≡ tail_rank l p o k
@@ -132,10 +146,9 @@ pub record IsLink (l : PlainLevel) (p : PlainPlan) (o : Orders) (k : ℕ) : Type
 -- Units, links, pins and ranks are those of the level, under the orders of its sides.
 pub record AreUnits (l : PlainLevel) (p : PlainPlan) (o : Orders) (layers : List ℕ) : Type 0 where
   pub orders : AreOrders l p o
-  pub children : (c : ℕ) → c < length l.children → HasUnit l p o (slice_index_or layers c 0) c
-  pub units : (u : ℕ) → u < length p.layered.units → (IsLaneUnit p u) ⊎ ((c : ℕ) × (c < length l.children) × (u ≡ unit_of p c))
-  pub chains : (e : ℕ) → e < length l.edges → IsFalse (is_loop l e) → HasChain l p e
-  pub links : (k : ℕ) → k < length p.layered.links → IsLink l p o k
+  pub linked : AreLinked l p layers
+  pub rooms : (c : ℕ) → c < length l.children → HasRoom l p o c
+  pub pins : (k : ℕ) → k < length p.layered.links → HasPins l p o k
   pub node_node : p.layered.node_node ≡ l.spacing.node_node
   pub edge_node : p.layered.edge_node ≡ l.spacing.edge_node
   pub edge_edge : p.layered.edge_edge ≡ l.spacing.edge_edge

@@ -4,6 +4,8 @@
 
 mod laws;
 mod level;
+mod table;
 
 pub use laws::examples;
 pub use level::{LevelEdge, LevelIn, Spoke};
+pub use table::{ChildAt, EndAt, LoopAt, Table};
