@@ -1,0 +1,5 @@
+pub mod Ready
+pub mod Laws
+pub mod Apart
+pub mod PortsKept
+pub mod Examples
