@@ -1,0 +1,11 @@
+pub mod Ways
+pub mod Legs
+pub mod Doors
+pub mod Ends
+pub mod NetNames
+pub mod RouteEnds
+pub mod Chains
+pub mod Edges
+pub mod Loops
+pub mod PointLoops
+pub mod Whole
