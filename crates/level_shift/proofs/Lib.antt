@@ -1,0 +1,5 @@
+pub mod MapLemmas
+pub mod GapMoves
+pub mod PathMoves
+pub mod StepMoves
+pub mod DrawingMoves
