@@ -11,7 +11,7 @@ use Rattle.route_lines.specs.Points.{trace_points}
 use Rattle.route_lines.specs.Tidied.{IsSectionOf, one, many, SomeSegment, RunsSquare, StartsAt, EndsAt, Heading, opposite}
 use Rattle.route_lines.proofs.Dropping.{starts_all, ends_all}
 use Rattle.route_lines.proofs.Headings.{square}
-use Rattle.level_stage.specs.Stage.{Stage, Stands}
+use Rattle.level_stage.specs.Stage.{Stage, Stands, ChildStands}
 use Rattle.level_stage.specs.Law.{outward, RoutesShare as PathsShare}
 use Rattle.level_stage.proofs.Clearing.{clear_law}
 use Rattle.level_stage.proofs.Sharing.{sharing_law, some_map}
@@ -24,7 +24,8 @@ use Rattle.level_plan.specs.Traces.{steps_of}
 use Rattle.level_stands.specs.Apart.{drawn_box, drawn_outline}
 use Rattle.level_stands.proofs.ApartLemmas.{outlines_are_drawn}
 use Rattle.level_stands.proofs.SameLines.{dock_eq-self}
-use Rattle.level_rules.specs.Routes.{points_of, route_count, route_point, end_child, HasOneDock, IsOrthogonal, IsRouted, IsClear, RoutesShare, DocksShare, RoutesKept, HasLawfulRoutes, ChildrenStand}
+use Rattle.level_rules.specs.Routes.{points_of, route_count, route_point, end_child, HasOneDock, IsOrthogonal, IsRouted, IsClear, RoutesShare, DocksShare, RoutesKept}
+use Rattle.level_lawful.specs.Lawful.{HasLawfulRoutes}
 use Rattle.level_rules.proofs.Paths.{some_at, square_steps, square_turns, square_leaves, square_comes, drops_shorter}
 use Rattle.level_rules.proofs.PointLoops.{one_point, anchor_meets, anchor_enters}
 
@@ -73,7 +74,7 @@ both_ends : (P : Bool → Type 0) → P true → P false → (t : Bool) → P t
 both_ends P x y true = x
 both_ends P x y false = y
 
-module _ (l : PlainLevel) (p : PlainPlan) (o : Orders) (d : Drawn) (drawn : IsDrawnFrom l p o d) (st : Stands (stage l p o d)) (children : ChildrenStand l p o d) (lawful : HasLawfulRoutes l p o d) where
+module _ (l : PlainLevel) (p : PlainPlan) (o : Orders) (d : Drawn) (drawn : IsDrawnFrom l p o d) (st : Stands (stage l p o d)) (children : (c : ℕ) → c < length l.children → ChildStands (stage l p o d) c) (lawful : HasLawfulRoutes l p o d) where
   abbrev s : Stage
   s = stage l p o d
 

@@ -4,13 +4,10 @@ use Rattle.elk_doc.specs.declared.shape.Point.{Point}
 use Rattle.elk_doc.specs.declared.drawing.Section.{Section}
 use Rattle.elk_doc.specs.Segments.{MeetsRect, EntersRect, Share}
 use Rattle.elk_doc.specs.Route.{IsStep, IsTurn, LeavesOutward}
-use Rattle.route_lines.specs.Tidied.{IsSectionOf}
-use Rattle.level_stage.specs.Stage.{Stands, ChildStands}
-use Rattle.level_stage.specs.Law.{IsLawful}
 use Rattle.level_plan.specs.Level.{PlainLevel, PlainPlan, Orders, end_at, spoke, dock_of}
 use Rattle.level_plan.specs.FromPlan.{Drawn, IsDrawnFrom, anchor, point_or, section_at}
-use Rattle.level_plan.specs.Drawing.{stage}
 use Rattle.level_stands.specs.Apart.{drawn_box, drawn_outline}
+use Rattle.level_stands.specs.Ready.{IsReady}
 
 -- the points of an edge's route, from its source to its target
 abbrev pub points_of : Section → List Point
@@ -68,16 +65,7 @@ pub record RoutesKept (l : PlainLevel) (p : PlainPlan) (o : Orders) (d : Drawn) 
   pub clear : (e c : ℕ) → e < length l.edges → c < length l.children → IsClear l d e c
   pub sharing : (e f : ℕ) → e < length l.edges → f < length l.edges → e ≢ f → RoutesShare d e f → DocksShare l p o e f
 
--- each section holds the points of a lawful route
-abbrev pub HasLawfulRoutes : PlainLevel → PlainPlan → Orders → Drawn → Type 0
-HasLawfulRoutes l p o d =
-    (e : ℕ) → e < length l.edges → (ps : List Point) × IsSectionOf ps (section_at d e) × IsLawful (stage l p o d) e ps
-
-abbrev pub ChildrenStand : PlainLevel → PlainPlan → Orders → Drawn → Type 0
-ChildrenStand l p o d = (c : ℕ) → c < length l.children → ChildStands (stage l p o d) c
-
--- lawful routes of a drawing in which everything stands keep the rules
+-- what is drawn from a plan keeps the rules
 abbrev pub RoutesAreKept : Type 0
 RoutesAreKept =
-    (l : PlainLevel) (p : PlainPlan) (o : Orders) (d : Drawn) → IsDrawnFrom l p o d → Stands (stage l p o d) → ChildrenStand l p o d → HasLawfulRoutes l p o d
-    → RoutesKept l p o d
+    (l : PlainLevel) (p : PlainPlan) (o : Orders) (d : Drawn) (layers : List ℕ) → IsReady l p o layers → IsDrawnFrom l p o d → RoutesKept l p o d
