@@ -1,5 +1,5 @@
 -- Lawful routes keep the rules.
-use Rattle.std.proofs.Common.{◌≡◌, ◌≢◌, ◌⊎◌, ⊎_elim, inl, inr, ℕ, zero, suc, ◌+◌, ◌-◌, ◌<◌, ◌≤◌, cond, Bool, true, false, List, [], ◌∷◌, ◌++◌, length, arith, refl, sym, ◌∙◌, ap, subst, eq-eqb}
+use Rattle.std.proofs.Common.{◌≡◌, ◌≢◌, ◌⊎◌, ⊎_elim, inl, inr, ℕ, zero, suc, ◌+◌, ◌<◌, ◌≤◌, cond, Bool, true, false, List, [], ◌∷◌, ◌++◌, length, arith, refl, sym, ◌∙◌, ap, subst, eq-eqb}
 use Rattle.std.proofs.lemmas.List.{length-append}
 use Rattle.elk_doc.specs.declared.shape.Point.{Point}
 use Rattle.elk_doc.specs.declared.shape.Dock.{Dock}
@@ -24,7 +24,7 @@ use Rattle.level_plan.specs.Traces.{steps_of}
 use Rattle.level_stands.specs.Apart.{drawn_box, drawn_outline}
 use Rattle.level_stands.proofs.ApartLemmas.{outlines_are_drawn}
 use Rattle.level_stands.proofs.SameLines.{dock_eq-self}
-use Rattle.level_rules.specs.Routes.{points_of, route_count, route_point, end_child, HasOneDock, IsOrthogonal, IsRouted, IsClear, RoutesShare, DocksShare, RoutesKept}
+use Rattle.level_rules.specs.Routes.{points_of, route_point, end_child, HasOneDock, IsOrthogonal, IsClear, RoutesShare, DocksShare, RoutesKept}
 use Rattle.level_lawful.specs.Lawful.{HasLawfulRoutes}
 use Rattle.level_rules.proofs.Paths.{some_at, square_steps, square_turns, square_leaves, square_comes, drops_shorter}
 use Rattle.level_rules.proofs.PointLoops.{one_point, anchor_meets, anchor_enters}

@@ -1,13 +1,11 @@
 -- A route that is one single point: it lies at the anchor of its edge, outside boxes and foreign outlines.
-use Rattle.std.proofs.Common.{◌≡◌, ◌≢◌, ◌⊎◌, ⊎_elim, inl, inr, ℕ, ◌+◌, ◌<◌, Bool, true, false, ℤ, ◌+ℤ◌, ◌≤ℤ◌, ◌<ℤ◌, arith, refl, sym, ◌∙◌, ap, ap₂, subst}
+use Rattle.std.proofs.Common.{◌≡◌, ◌≢◌, ◌⊎◌, ⊎_elim, inl, inr, ℕ, ◌<◌, Bool, ℤ, ◌+ℤ◌, ◌≤ℤ◌, ◌<ℤ◌, arith, sym, ◌∙◌, ap₂, subst}
 use Rattle.std.proofs.lemmas.Int.{ints, clamps}
 use Rattle.std.proofs.lemmas.Bool.{cases_eq, cases_lt}
-use Rattle.std.specs.Int.{int_min, int_max}
 use Rattle.elk_doc.specs.declared.shape.Point.{Point}
 use Rattle.elk_doc.specs.declared.shape.Rect.{Rect}
 use Rattle.elk_doc.specs.declared.shape.Side.{Side}
 use Rattle.elk_doc.specs.declared.shape.Side.TheVariants.{North, East, South, West}
-use Rattle.elk_doc.specs.Shapes.{right_of, bottom_of}
 use Rattle.elk_doc.specs.Segments.{MeetsRect, EntersRect, Share, MeetsSpan, EntersSpan, IsBetween}
 use Rattle.elk_doc.proofs.SegmentBounds.{MeetsRect-spans, spans-MeetsRect, EntersRect-spans}
 use Rattle.level_stage.specs.Stage.{Stage, Stands, ChildStands, EndStands, IsOutward}

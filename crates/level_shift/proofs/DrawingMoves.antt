@@ -1,5 +1,5 @@
 -- A drawing that is moved as a whole.
-use Rattle.std.proofs.Common.{◌≡◌, ℕ, zero, suc, ◌+◌, ◌<◌, ◌≤◌, Bool, true, false, List, [], ◌∷◌, map, length, get_or, ℤ, pos, ◌+ℤ◌, ◌-ℤ◌, arith, refl, sym, ◌∙◌, ap, ap₂, subst, inl, inr}
+use Rattle.std.proofs.Common.{◌≡◌, ℕ, zero, suc, ◌<◌, true, false, [], map, length, ℤ, pos, ◌+ℤ◌, ◌-ℤ◌, arith, refl, sym, ◌∙◌, ap, ap₂, subst, inl, inr}
 use Rattle.std.proofs.lemmas.Int.{ints}
 use Rattle.std.proofs.lemmas.Bool.{cases_lt}
 use Rattle.std.proofs.lemmas.List.{get_or-map, get_or_past, length-map}
@@ -10,8 +10,7 @@ use Rattle.route_lines.specs.Points.{PlainGap, gap_in, trace_points}
 use Rattle.route_lines.specs.Tidied.{IsTidied, IsSectionOf}
 use Rattle.level_plan.specs.Level.{PlainLevel, PlainPlan, Orders, End, end_at, spoke, spot_of, anchor_of_spot, outline}
 use Rattle.level_plan.specs.Nets.{gap_left, gap_width, first_slot, column_width, layer_of_child, box_top}
-use Rattle.level_plan.specs.Traces.{steps_of}
-use Rattle.level_plan.specs.FromPlan.{Drawn, PlainTrace, counts, IsGap, IsRoute, IsPlaced, IsDrawnFrom, box_place, anchor, point_or, trace_at, section_at}
+use Rattle.level_plan.specs.FromPlan.{Drawn, counts, IsGap, IsRoute, IsPlaced, IsDrawnFrom, box_place, anchor, trace_at, section_at}
 use Rattle.level_shift.specs.Moved.{moved, moved_point, moved_net, moved_step, moved_gap, moved_trace, moved_section, HasPlaces}
 use Rattle.level_shift.proofs.GapMoves.{gap_moves}
 use Rattle.elk_doc.proofs.ShapeLaws.{same_point}

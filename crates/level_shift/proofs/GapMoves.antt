@@ -1,5 +1,5 @@
 -- Nets and routes that are moved up together stay free.
-use Rattle.std.proofs.Common.{◌≡◌, ◌≢◌, ◌↔◌, ◌⊎◌, ⊎_elim, inl, inr, ℕ, zero, suc, ◌+◌, ◌<◌, Bool, true, false, List, [], ◌∷◌, map, length, get_or, ℤ, pos, ◌+ℤ◌, ◌-ℤ◌, ◌≤ℤ◌, ◌<ℤ◌, arith, refl, sym, ◌∙◌, ap, ap₂, subst}
+use Rattle.std.proofs.Common.{◌≡◌, ◌≢◌, ◌↔◌, ⊎_elim, inl, inr, ℕ, ◌+◌, ◌<◌, Bool, List, map, length, ℤ, pos, ◌+ℤ◌, ◌-ℤ◌, ◌≤ℤ◌, ◌<ℤ◌, arith, refl, sym, ◌∙◌, ap, ap₂, subst}
 use Rattle.std.proofs.lemmas.Int.{ints, clamps}
 use Rattle.std.proofs.lemmas.List.{get_or-map, length-map}
 use Rattle.std.specs.Int.{int_min, int_max}
@@ -7,7 +7,7 @@ use Rattle.route_slots.specs.declared.Pin.{Pin}
 use Rattle.route_slots.specs.declared.Net.{Net}
 use Rattle.route_slots.specs.declared.NetRoute.{NetRoute}
 use Rattle.route_slots.specs.declared.NetRoute.TheVariants.{Straight, One, Two}
-use Rattle.route_slots.specs.Pieces.{Abscissa, slot, rank, Corner, corner, corners, corner_at, net_at, route_at, LevelOverlap, UprightOverlap, Overlap, RoutesOverlap, pin_corner, border_of, left_border}
+use Rattle.route_slots.specs.Pieces.{Corner, corner, corners, corner_at, net_at, route_at, LevelOverlap, UprightOverlap, Overlap, RoutesOverlap, left_border}
 use Rattle.route_slots.specs.GapFree.{HasPin, CommonPin, IsLevelNet, StandsIn, IsAtHeight, IsNearPins, IsFresh, GapFree}
 use Rattle.level_shift.specs.Moved.{moved_pin, moved_net, moved_route}
 
@@ -223,8 +223,7 @@ module _ (y : ℤ) (nets : List Net) (count : ℕ) (routes : List NetRoute) (fre
   straight_moves : (k : ℕ) → k < length nets' → (route_at routes' k ≡ Straight) ↔ IsLevelNet (net_at nets' k)
   straight_moves k h =
       let h' = inside k h in
-      let was = free.straight k h' in
-      (
+      let was = free.straight k h' in (
         λ e.
             let v = was.0 (straight_back y (route_at routes k) (sym (route_is k h') ∙ e)) in
             subst IsLevelNet (sym (net_is k h')) (v.0, ap (λ z. z -ℤ y) v.1),

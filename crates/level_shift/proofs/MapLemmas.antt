@@ -40,4 +40,3 @@ all_changed f (x ∷ xs) (suc i) e = ap (λ ys. f x ∷ ys) (all_changed f xs i 
 -- an element that is not yet changed is the old one
 pub not_yet : {X : Type 0} (P : X → Type 0) (f : X → X) (xs ys : List X) (i : ℕ) (d : X) → All P xs → ys ≡ changed f xs i → i < length xs → P (get_or ys i d)
 not_yet P f xs ys i d all e h = subst P (sym (ap (λ zs. get_or zs i d) e ∙ get_changed f xs i d)) (all i d h)
-

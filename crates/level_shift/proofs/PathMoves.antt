@@ -1,5 +1,5 @@
 -- Paths and the points of traces that are moved.
-use Rattle.std.proofs.Common.{◌≡◌, ◌⊎◌, ⊎_elim, inl, inr, ℕ, zero, suc, ◌+◌, ◌<◌, ◌≤◌, Bool, true, false, List, [], ◌∷◌, ◌++◌, map, length, get_or, ℤ, pos, ◌+ℤ◌, ◌-ℤ◌, ◌*ℤ◌, ◌≤ℤ◌, neg_ℤ, arith, refl, sym, ◌∙◌, ap, ap₂, subst}
+use Rattle.std.proofs.Common.{◌≡◌, ⊎_elim, inl, inr, ℕ, zero, suc, ◌<◌, Bool, true, false, List, [], ◌∷◌, ◌++◌, map, length, ℤ, pos, ◌+ℤ◌, ◌-ℤ◌, ◌*ℤ◌, ◌≤ℤ◌, neg_ℤ, arith, refl, sym, ◌∙◌, ap, ap₂, subst}
 use Rattle.std.proofs.lemmas.Int.{ints, clamps}
 use Rattle.std.proofs.lemmas.Bool.{cases_lt}
 use Rattle.std.specs.Int.{int_min, int_max}
@@ -10,15 +10,12 @@ use Rattle.elk_doc.specs.Segments.{IsBetween}
 use Rattle.elk_doc.proofs.ShapeLaws.{same_point}
 use Rattle.route_slots.specs.declared.NetRoute.{NetRoute}
 use Rattle.route_slots.specs.declared.NetRoute.TheVariants.{Straight, One, Two}
-use Rattle.route_slots.specs.Pieces.{Abscissa, slot, route_at}
+use Rattle.route_slots.specs.Pieces.{slot, route_at}
 use Rattle.route_lines.specs.declared.Step.{Step}
 use Rattle.route_lines.specs.declared.Step.TheVariants.{Lane, Leg}
 use Rattle.route_lines.specs.Points.{PlainGap, gap_in, stand, point_at, leg_points, net_leg, height_next, last_point, points_on, step_points, trace_points}
 use Rattle.route_lines.specs.Tidied.{IsMiddle, Drops, equal, middle, later, DropsSome, none, more, IsTidied, IsSectionOf, one, many}
 use Rattle.level_shift.specs.Moved.{moved_point, moved_route, moved_gap, moved_step, moved_section}
-
-
-
 
 -- dropping points
 

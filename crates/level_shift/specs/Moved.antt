@@ -1,5 +1,5 @@
 -- A drawing that is moved as a whole: one number is taken from all abscissae, and one from all heights.
-use Rattle.std.specs.Prelude.{ℕ, ◌<◌, Bool, List, length, map, ℤ, ◌+ℤ◌, ◌-ℤ◌}
+use Rattle.std.specs.Prelude.{ℕ, ◌<◌, Bool, length, map, ℤ, ◌+ℤ◌, ◌-ℤ◌}
 use Rattle.elk_doc.specs.declared.shape.Point.{Point}
 use Rattle.elk_doc.specs.declared.drawing.Section.{Section}
 use Rattle.route_slots.specs.declared.Pin.{Pin}

@@ -192,7 +192,11 @@ fn moved_section(section: Section, by: Point) -> Section
 }
 
 /// The same sections further to the left and up.
-pub fn moved_sections(alloc: Global, sections: Vec<Section>, by: Point) -> Result<Vec<Section>, AllocError>
+pub fn moved_sections(
+    alloc: Global,
+    sections: Vec<Section>,
+    by: Point,
+) -> Result<Vec<Section>, AllocError>
     requires sections { All IsFarSection sections.items }
     requires by { IsFarPoint by }
     ensures { IfOk result (λ v. v.items ≡ map (spec.moved_section by.x by.y) sections.items) }

@@ -1,4 +1,4 @@
-use Rattle.std.proofs.Common.{◌≡◌, ◌<◌, ◌∙◌, map, length, get_or, arith, refl, subst, sym, ap}
+use Rattle.std.proofs.Common.{◌∙◌, map, arith, refl, subst, sym, ap}
 use Rattle.std.proofs.lemmas.List.{get_or-map, length-map, map-set}
 use Rattle.route_lines.specs.Points.{plain_gap}
 use Rattle.level_shift.specs.Ranges.{IsFarGap}

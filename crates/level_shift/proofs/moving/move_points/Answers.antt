@@ -1,4 +1,4 @@
-use Rattle.std.proofs.Common.{◌≡◌, ◌<◌, ◌≤◌, ◌∙◌, length, arith, refl}
+use Rattle.std.proofs.Common.{◌∙◌, arith, refl}
 use Rattle.level_shift.specs.Moved as spec
 use Rattle.level_shift.specs.Ranges.{IsFarPoint}
 use Rattle.level_shift.proofs.MapLemmas.{change_next, not_yet, all_changed}
