@@ -1,11 +1,16 @@
 //! Going through a value.
 ghost use Rattle.std.specs.Prelude.{◌≡◌, ◌++◌, map, length, bytes_eq, string_bytes, IfOk};
+ghost use Rattle.serde_json.specs.Data.{Data};
 ghost use Rattle.serde_json.specs.View.{view, items_view, members_view};
 ghost use Rattle.elk_json.specs.Elements.{elements, elements_at, elements_below, elements_within, elements_among, own_elements, part, listed, items_list};
+ghost use Rattle.elk_json.specs.PortRules.{node_rule, rule_of_role};
 ghost use Rattle.elk_json.specs.Seen.{seen_list};
 
 use crate::elements::{Element, Kind};
 use crate::key::key_of;
+use crate::members::{has_children, node_role, options_in};
+use elk_doc::document::PortRule;
+use elk_options::Role;
 use serde_json::Value;
 use serde_json::value::Map;
 use std::alloc::{AllocError, Global};
@@ -112,9 +117,30 @@ fn collect_own<'a>(
         holder,
         value,
         key,
+        rule: None,
     })?;
     collect_parts(Kind::Port, place, value, "ports", found)?;
     collect_parts(Kind::Edge, place, value, "edges", found)
+}
+
+// What each part of this kind has as the rule of its node.
+fn rule_beside(kind: Kind, place: usize, holder: &Value) -> Option<PortRule>
+    ensures { (d : Data) → result ≡ node_rule (part kind place (view holder.now) d) }
+{
+    match kind {
+        Kind::Port => rule_in(holder, node_role(place == 0 || has_children(holder))),
+        Kind::Node | Kind::Edge => None,
+    }
+}
+
+// A node's rule for ports, if all its options have values of their tables.
+fn rule_in(value: &Value, role: Role) -> Option<PortRule>
+    ensures { result ≡ rule_of_role role (view value.now) }
+{
+    match options_in(value, role) {
+        Ok(options) => Some(options.rule),
+        Err(_) => None,
+    }
 }
 
 // The items of one member of a node.
@@ -145,6 +171,7 @@ fn collect_items<'a>(
     ensures { IfOk result (λ _. seen_list found.new.items ≡ seen_list found.old.items
         ++ map (part kind place (view holder.now)) (items_list (items_view items.now.items))) }
 {
+    let rule = rule_beside(kind, place, holder);
     for value in items {
         let key = key_of(value);
         found.push(Element {
@@ -153,6 +180,7 @@ fn collect_items<'a>(
             holder,
             value,
             key,
+            rule,
         })?;
     }
     Ok(())

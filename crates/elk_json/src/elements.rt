@@ -3,9 +3,11 @@ ghost use Rattle.std.specs.Prelude.{◌≡◌, option_map};
 ghost use Rattle.serde_json.specs.View.{view};
 ghost use Rattle.elk_json.specs.Members.{id_of};
 ghost use Rattle.elk_json.specs.Keys.{key_id};
+ghost use Rattle.elk_json.specs.PortRules.{node_rule};
 
 pub use crate::collect::elements_of;
 use crate::key::Key;
+use elk_doc::document::PortRule;
 use serde_json::Value;
 
 /// What an element is.
@@ -17,7 +19,7 @@ pub enum Kind {
 }
 
 /// A node, port or edge; the node that it stands at, by its place in the list, and that node's value; its own value, and
-/// its id.
+/// its id; and at a port that node's rule for ports, if all options of the node have values of their tables.
 #[derive(Clone, Copy, Drop)]
 pub struct Element<'a> {
     pub kind: Kind,
@@ -25,5 +27,7 @@ pub struct Element<'a> {
     pub holder: &'a Value,
     pub value: &'a Value,
     pub key: Option<Key<'a>>,
+    pub rule: Option<PortRule>,
     pub ghost keyed: { option_map key_id key ≡ id_of (view value.now) },
+    pub ghost ruled: { rule ≡ node_rule (record { kind = kind; owner = owner; holder = view holder.now; value = view value.now }) },
 }

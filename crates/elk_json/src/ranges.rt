@@ -1,14 +1,12 @@
 //! Ranges of sizes and places.
-ghost use Rattle.std.specs.Prelude.{◌≡◌, option_map, option_and_then, find, is_some, ◌<◌, length, slice_get, IfSome};
-ghost use Rattle.std.specs.Option.{option_map_or};
+ghost use Rattle.std.specs.Prelude.{◌≡◌, option_map, find, true, not, ◌&&◌};
 ghost use Rattle.serde_json.specs.View.{view};
-ghost use Rattle.elk_json.specs.Ranges.{is_size as size_test, is_near as near_test, is_far as far_test, has_good_size as good_size_test, is_fixed_pos as fixed_pos_test, along as along_test, has_good_pin as pin_test, is_at_fixed_pos as at_fixed_pos_test, has_good_place as place_test, is_out_of_range as out_test};
+ghost use Rattle.elk_json.specs.Members.{holder_has_bad_option, holder_options, is_port};
+ghost use Rattle.elk_json.specs.Ranges.{is_size as size_test, is_near as near_test, is_far as far_test, has_good_size as good_size_test, is_fixed_pos as fixed_pos_test, along as along_test, has_good_pin as pin_test, has_good_place as place_test, is_out_of_range as out_test};
 ghost use Rattle.elk_json.specs.Seen.{seen, seen_list};
 
 use crate::elements::{Element, Kind};
-use crate::members::{
-    is_at_compound, is_between, is_compound, node_role, options_in, role_of, whole_at,
-};
+use crate::members::{is_at_compound, is_between, is_compound, options_in, role_of, whole_at};
 use elk_doc::document::PortRule;
 use elk_doc::shape::Side;
 use serde_json::Value;
@@ -41,7 +39,7 @@ fn has_good_size(value: &Value) -> bool
     is_size(whole_at(value, "width")) && is_size(whole_at(value, "height"))
 }
 
-pub(crate) fn is_fixed_pos(rule: PortRule) -> bool
+fn is_fixed_pos(rule: PortRule) -> bool
     ensures { result ≡ fixed_pos_test rule }
 {
     match rule {
@@ -59,25 +57,35 @@ fn along(side: Side, value: &Value) -> i128
     }
 }
 
+// The node of a port keeps its ports where they are.
+pub(crate) fn has_fixed_pos(element: &Element<'_>) -> bool
+    requires { is_port (seen element.now) ≡ true }
+    ensures { result ≡ (not (holder_has_bad_option (seen element.now)) && fixed_pos_test (holder_options (seen element.now)).rule) }
+{
+    match element.rule {
+        None => false,
+        Some(rule) => is_fixed_pos(rule),
+    }
+}
+
 // The place along the side of a port that is pinned.
 #[tactic(auto, unfolding(crate::specs::Ranges::has_good_pin))]
 fn has_good_pin(element: &Element<'_>) -> bool
+    requires { is_port (seen element.now) ≡ true }
     ensures { result ≡ pin_test (seen element.now) }
 {
-    match options_in(element.holder, node_role(is_at_compound(element))) {
+    match options_in(element.value, role_of(element)) {
         Err(_) => true,
-        Ok(holder) => match options_in(element.value, role_of(element)) {
-            Err(_) => true,
-            Ok(own) => match own.side {
-                None => true,
-                Some(side) => !is_fixed_pos(holder.rule) || is_near(along(side, element.value)),
-            },
+        Ok(own) => match own.side {
+            None => true,
+            Some(side) => !has_fixed_pos(element) || is_near(along(side, element.value)),
         },
     }
 }
 
 #[tactic(auto, unfolding(crate::specs::Ranges::has_good_place))]
 fn has_good_place(element: &Element<'_>) -> bool
+    requires { is_port (seen element.now) ≡ true }
     ensures { result ≡ place_test (seen element.now) }
 {
     let x = whole_at(element.value, "x");

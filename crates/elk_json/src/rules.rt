@@ -1,10 +1,8 @@
 //! Which rule refuses a value, and where.
-ghost use Rattle.std.specs.Prelude.{◌≡◌, ◌+ℤ◌, int_lt, IfOk, Some, [], option_map, find, is_some, false, ◌&&◌, ◌||◌, ◌<◌, length};
-ghost use Rattle.std.specs.Option.{option_map_or, option_or};
-ghost use Rattle.std.specs.List.{list_any};
+ghost use Rattle.std.specs.Prelude.{◌≡◌, ◌+ℤ◌, int_lt, IfOk, Some, option_map, find, is_some, true, false, ◌&&◌, ◌||◌, ◌<◌, length};
+ghost use Rattle.std.specs.Option.{option_or};
 ghost use Rattle.serde_json.specs.View.{view};
-ghost use Rattle.elk_options.specs.Reading.{first_bad};
-ghost use Rattle.elk_json.specs.Members.{is_edge, whole_at as whole_test, role_of as role_test, options_data, options_at, has_bad_option as bad_option_test, is_compound as compound_test};
+ghost use Rattle.elk_json.specs.Members.{is_port, whole_at as whole_test, has_bad_option as bad_option_test};
 ghost use Rattle.elk_json.specs.Marks.{AreMarks};
 ghost use Rattle.elk_json.specs.Rules.{first_at, has_boxes, is_badly_optioned as badly_test, has_face_inside as face_test, lies_inside as lies_test, is_port_inside as inside_test, is_placed_inside as placed_inside_test, is_side_inside as side_inside_test, if_so, at, option_refusal as option_refusal_of, edge_refusal as edge_refusal_of, value_refusal as value_refusal_of};
 ghost use Rattle.elk_json.specs.Elements.{elements as elements_spec};
@@ -17,8 +15,8 @@ use crate::ids::{first_double, id_of};
 use crate::limits::{are_too_many, is_too_deep};
 use crate::listed::Listed;
 use crate::marks::levels_with_edges;
-use crate::members::{is_at_compound, is_compound, node_role, options_in, role_of, whole_at};
-use crate::ranges::{first_out_of_range, is_fixed_pos};
+use crate::members::{is_at_compound, is_compound, options_in, role_of, whole_at};
+use crate::ranges::{first_out_of_range, has_fixed_pos};
 use crate::shape::has_bad_shape;
 use crate::whole::is_whole;
 use elk_doc::shape::Side;
@@ -126,14 +124,12 @@ fn is_port_inside(element: &Element<'_>) -> bool
 
 // Where the options of the port or of its node have bad values, an earlier rule holds.
 fn is_placed_inside(element: &Element<'_>) -> bool
+    requires { is_port (seen element.now) ≡ true }
     ensures { result ≡ placed_inside_test (seen element.now) }
 {
-    match options_in(element.holder, node_role(is_at_compound(element))) {
+    match options_in(element.value, role_of(element)) {
         Err(_) => false,
-        Ok(holder) => match options_in(element.value, role_of(element)) {
-            Err(_) => false,
-            Ok(own) => is_fixed_pos(holder.rule) && is_face_inside(own.side, element),
-        },
+        Ok(own) => has_fixed_pos(element) && is_face_inside(own.side, element),
     }
 }
 
