@@ -1,6 +1,6 @@
 //! The search from a node with a surplus to one that asks for more, nearest steps first.
 
-ghost use Rattle.std.specs.Prelude.{◌≡◌, ◌+◌, ◌*◌, ◌≤◌, ◌<◌, ◌^◌, ℕ, pos, ◌≤ℤ◌, ◌+ℤ◌, [], ◌∷◌, length, slice_index, set, IfOk, OnOk};
+ghost use Rattle.std.specs.Prelude.{◌≡◌, ◌+◌, ◌*◌, ◌≤◌, ◌<◌, ◌^◌, ℕ, pos, ◌≤ℤ◌, ◌+ℤ◌, [], ◌∷◌, ◌++◌, length, slice_index, set, IfOk, OnOk};
 ghost use Rattle.std.specs.BinaryHeap.{IsHeap, heap_items};
 ghost use Rattle.layering_laws.specs.Network.{EndsBelow, edge_at};
 ghost use Rattle.layering_laws.specs.Layering.{IsLayering, layer_of};
@@ -131,6 +131,40 @@ fn offer_both(
     Ok(())
 }
 
+/// Reaches a node by a step, and notes how far off it is.
+fn take_step(
+    edges: &[NetEdge],
+    flow: &[u64],
+    step: Step,
+    turn: u32,
+    reached: &mut [bool],
+    labels: &mut [Label],
+    dist: &mut [u128],
+    order: &mut Vec<u32>,
+) -> Result<u32, AllocError>
+    requires there { step.edge < length edges.now }
+    requires flow { length flow.now ≡ length edges.now }
+    requires ends { EndsBelow (length reached.old) edges.now }
+    requires labels { length labels.old ≡ length reached.old }
+    requires dist { length dist.old ≡ length reached.old }
+    ensures reaches { IfOk result (λ v. Reaches reached.old labels.old (edge_at edges.now step.edge) step.edge (slice_index flow.now step.edge) turn reached.new labels.new v) }
+    ensures dist { IfOk result (λ v. dist.new ≡ set dist.old v step.near.0) }
+    ensures order { IfOk result (λ v. order.new.items ≡ order.old.items ++ v ∷ []) }
+{
+    let k = step.edge;
+    let v = reach(
+        edges[k as usize],
+        k,
+        flow[k as usize],
+        turn,
+        reached,
+        labels,
+    );
+    dist[v as usize] = step.near.0;
+    order.push(v)?;
+    Ok(v)
+}
+
 /// Searches from the source until a node that asks for more is reached.
 pub fn search(
     alloc: Global,
@@ -175,17 +209,7 @@ pub fn search(
     'turns: loop {
         if let Some(step) = next_step(edges, reached, &mut queue) {
             now = step.near.0;
-            let amount = flow[step.edge as usize];
-            let v = reach(
-                edges[step.edge as usize],
-                step.edge,
-                amount,
-                turn,
-                reached,
-                labels,
-            );
-            dist[v as usize] = now;
-            order.push(v)?;
+            let v = take_step(edges, flow, step, turn, reached, labels, dist, order)?;
             if excess[v as usize] < 0 {
                 return Ok(Found { to: v, now });
             }

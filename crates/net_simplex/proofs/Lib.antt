@@ -18,3 +18,8 @@ pub mod Spreading
 pub mod Stepping
 pub mod ChainEnds
 pub mod AtEnd
+pub mod CutSums
+pub mod Changing
+pub mod Passages
+pub mod Departing
+pub mod Exchanged

@@ -135,7 +135,7 @@ module _ (nodes : ℕ) (edges : List NetEdge) (net : IsNetwork nodes edges) (tre
   pub out_there : out < length edges
   out_there = chosen.0
 
-  out_marked : is_marked tree out ≡ true
+  pub out_marked : is_marked tree out ≡ true
   out_marked = first_of (is_marked tree out) _ chosen.1
 
   lt : e.tail < nodes
@@ -271,6 +271,9 @@ module _ (nodes : ℕ) (edges : List NetEdge) (net : IsNetwork nodes edges) (tre
             both_of : (a b : Bool) → (not a && b) ≡ true → (a ≡ false) × (b ≡ true)
             both_of true b h = absurd cc
             both_of false b h = (refl, h)
+
+        pub crosses_part : (tail_part nodes edges tree out f.tail ≡ false) × (tail_part nodes edges tree out f.head ≡ true)
+        crosses_part = (sym (part_is f.tail (net.ends by by_there).0) ∙ crosses.0, sym (part_is f.head (net.ends by by_there).1) ∙ crosses.1)
 
         abbrev gap : ℕ
         gap = slack layers f

@@ -9,3 +9,4 @@ pub mod Turning
 pub mod Grown
 pub mod Kept
 pub mod Outcome
+pub mod Changed

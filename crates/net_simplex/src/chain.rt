@@ -1,39 +1,51 @@
 //! The chain of pivots: a tree edge of negative cut value leaves, and the edge of least slack that leads back enters.
 
 ghost use Rattle.std.specs.Prelude.{◌≡◌, ◌≢◌, ◌+◌, ◌<◌, ◌≤◌, ◌^◌, ℕ, pos, ◌≤ℤ◌, ◌<ℤ◌, ◌+ℤ◌, ◌-ℤ◌, true, false, ◌&&◌, int_lt, Some, None, length, set};
-ghost use Rattle.layering_laws.specs.Network.{IsNetwork};
+ghost use Rattle.layering_laws.specs.Network.{EndsBelow, IsNetwork};
 ghost use Rattle.layering_laws.specs.Layering.{layer_of};
 ghost use Rattle.layering_laws.specs.Linked.{is_marked};
 ghost use Rattle.net_simplex.specs.Pivots.{is_in, shifted, least_of, leaving_edge};
+ghost use Rattle.net_simplex.specs.Tree.{IsSpanningTree};
+ghost use Rattle.net_simplex.specs.Rooted.{IsRooted};
+ghost use Rattle.net_simplex.specs.Cuts.{AreCutValues};
 ghost use Rattle.net_simplex.specs.Grown.{IsSmall};
 ghost use Rattle.net_simplex.specs.Kept.{IsKept, PivotsTo, kept_state};
 
+use crate::choice::lower;
 use crate::entering::entering;
+use crate::passing::change_cuts;
 use crate::rooted::{child_of, mark_below};
 use crate::turning::turn;
 use layering_laws::NetEdge;
 
-fn is_negative(marked: bool, cut: i64) -> bool
-    ensures { result ≡ (marked && int_lt cut (pos 0)) }
+fn is_negative(cut: i64) -> bool
+    ensures { result ≡ int_lt cut (pos 0) }
 {
-    if marked {
-        return cut < 0;
-    }
-    false
+    cut < 0
 }
 
-/// The lowest-numbered tree edge of negative cut value.
-pub fn leaving(tree: &[bool], cut: &[i64]) -> Option<u32>
-    requires few { length tree.now ≤ 2 ^ 24 }
+/// The lowest-numbered tree edge of negative cut value. Each tree edge is the one on which some node hangs.
+pub fn leaving(
+    edges: &[NetEdge],
+    tree: &[bool],
+    order: &[u32],
+    place: &[u32],
+    parent: &[u32],
+    cut: &[i64],
+) -> Option<u32>
     requires same { length cut.now ≡ length tree.now }
+    requires ends { EndsBelow (length parent.now) edges.now }
+    requires spanning { IsSpanningTree (length parent.now) edges.now tree.now }
+    requires rooted { IsRooted (length parent.now) edges.now tree.now order.now place.now parent.now }
     ensures { result ≡ least_of (λ k. is_marked tree.now k && int_lt (layer_of cut.now k) (pos 0)) (λ k. 0) (length tree.now) }
 {
-    for k in 0..tree.len() {
-        if is_negative(tree[k], cut[k]) {
-            return Some(k as u32);
-        }
+    let _tables = edges.len() + tree.len() + order.len() + place.len();
+    let mut lowest: Option<u32> = None;
+    for v in 1..parent.len() {
+        let k = parent[v];
+        lowest = lower(lowest, k, is_negative(cut[k as usize]));
     }
-    None
+    lowest
 }
 
 fn moved(layer: i64, by: i64) -> i64
@@ -100,14 +112,17 @@ pub fn pivot(
     below: &mut [bool],
     next: &mut [u32],
     spot: &mut [u32],
+    cut: &mut [i64],
 )
     requires network { IsNetwork (length layers.old) edges.now }
     requires kept { IsKept (length layers.old) edges.now tree.old layers.old order.old place.old parent.old }
     requires leaves { leaving_edge (length layers.old) edges.now (kept_state tree.old layers.old) ≡ Some out }
+    requires values { AreCutValues (length layers.old) edges.now tree.old cut.old }
     requires below { length below.old ≡ length layers.old }
     requires next { length next.old ≡ length layers.old }
     requires spot { length spot.old ≡ length layers.old }
     ensures kept { IsKept (length layers.old) edges.now tree.new layers.new order.new place.new parent.new }
+    ensures values { AreCutValues (length layers.old) edges.now tree.new cut.new }
     ensures pivots { PivotsTo (length layers.old) edges.now tree.old layers.old tree.new layers.new }
 {
     let e = edges[out as usize];
@@ -118,6 +133,7 @@ pub fn pivot(
         Some(choice) => {
             let by = choice.edge;
             let from = lower_end(root_in, edges[by as usize]);
+            change_cuts(edges, tree, order, place, parent, out, by, cut);
             shift(layers, below, move_by(root_in, choice.slack));
             exchange(tree, out, by);
             turn(

@@ -1,7 +1,7 @@
 //! The edge of least slack among those that are looked at, ties by the number.
 
 ghost use Rattle.std.specs.Prelude.{◌≡◌};
-ghost use Rattle.net_simplex.specs.Chosen.{better_of};
+ghost use Rattle.net_simplex.specs.Chosen.{better_of, lower_of};
 
 /// An edge and its slack.
 #[derive(Clone, Copy)]
@@ -19,6 +19,24 @@ pub fn better(best: Option<Choice>, edge: u32, slack: i128) -> Option<Choice>
         Some(old) => {
             if slack < old.slack {
                 return Some(Choice { edge, slack });
+            }
+            Some(old)
+        }
+    }
+}
+
+/// The lower of the lowest number so far and one that may count.
+pub fn lower(lowest: Option<u32>, number: u32, counts: bool) -> Option<u32>
+    ensures { result ≡ lower_of lowest number counts }
+{
+    if !counts {
+        return lowest;
+    }
+    match lowest {
+        None => Some(number),
+        Some(old) => {
+            if number < old {
+                return Some(number);
             }
             Some(old)
         }

@@ -36,7 +36,7 @@ fn plus(a: i64, b: i64) -> i64
     a + b
 }
 
-fn opposite(a: i64) -> i64
+pub fn opposite(a: i64) -> i64
     requires { size_of a < 2 ^ 63 }
     ensures { result ≡ pos 0 -ℤ a }
 {

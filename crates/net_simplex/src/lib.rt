@@ -7,8 +7,11 @@ mod cuts;
 mod entering;
 mod growing;
 mod laws;
+mod passing;
 mod rooted;
 mod solving;
+#[cfg(test)]
+mod tests;
 mod turning;
 
 pub use laws::{

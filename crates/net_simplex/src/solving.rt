@@ -127,16 +127,16 @@ fn run(
     ensures kept { IsKept (length layers.old) edges.now tree.new layers.new order.new place.new parent.new }
     ensures leads { Leads (length layers.old) edges.now budget result tree.old layers.old tree.new layers.new cut.new }
 {
+    sum_cuts(edges, tree, order, place, parent, excess, cut);
     let mut made: u64 = 0;
     'pivots: loop {
-        sum_cuts(edges, tree, order, place, parent, excess, cut);
-        match leaving(tree, cut) {
+        match leaving(edges, tree, order, place, parent, cut) {
             Some(out) => {
                 if made == budget {
                     return None;
                 }
                 pivot(
-                    edges, out, tree, layers, order, place, parent, below, next, spot,
+                    edges, out, tree, layers, order, place, parent, below, next, spot, cut,
                 );
                 made += 1;
             }

@@ -1,22 +1,29 @@
-use Rattle.std.proofs.Common.{rules, ◌∙◌, ◌&&◌, pos, FitsSigned, w64, length, sym}
-use Rattle.std.specs.Prelude.{int_lt}
+use Rattle.std.proofs.Common.{rules, ◌∙◌, ◌+◌, FitsSigned, w64, length, get_or, arith, subst, sym, ap}
 use Rattle.std.proofs.lemmas.Int.{to_z-of_z}
 use Rattle.layering_laws.specs.Layering.{layer_of}
-use Rattle.layering_laws.specs.Linked.{is_marked}
-use Rattle.net_simplex.proofs.Stepping.{first_found, none_before, no_more}
+use Rattle.net_simplex.specs.Chosen.{lower_of, IsLowest}
+use Rattle.net_simplex.proofs.Departing.{lowest_start, lowest_more, lowest_end, there}
 use Rattle.net_simplex.proofs.chain.leaving.Goals as goal
 
-pub loop-k-preserved : goal.loop-k-preserved
-loop-k-preserved c =
-    let z = layer_of c.args.cut.now c.loop-k.k in
+pub loop-v-init : goal.loop-v-init
+loop-v-init c = (omega arith, lowest_start (length c.args.parent.now) c.args.edges.now c.args.tree.now c.args.order.now c.args.place.now c.args.parent.now c.requires.rooted c.requires.spanning c.requires.ends c.args.cut.now)
+
+pub bounds-cut-k : goal.bounds-cut-k
+bounds-cut-k c =
+    let h = there (length c.args.parent.now) c.args.edges.now c.args.tree.now c.args.order.now c.args.place.now c.args.parent.now c.requires.rooted c.requires.spanning c.requires.ends c.args.cut.now c.loop-v.v c.loop-v.invariant.0 c.loop-v-test.true in
+    let a = h.0 in
+    let n = c.requires.same in
+    omega (arith, a, n)
+
+pub loop-v-preserved : goal.loop-v-preserved
+loop-v-preserved c =
+    let i = c.loop-v.v in
+    let k = get_or c.args.parent.now i 0 in
+    let z = layer_of c.args.cut.now k in
     let f : FitsSigned w64 z = search rules in
-    no_more (λ j. is_marked c.args.tree.now j && int_lt (layer_of c.args.cut.now j) (pos 0)) c.loop-k.k c.loop-k.invariant (sym (rw (to_z-of_z w64 z f) at c.is_negative.ensures) ∙ c.if-is_negative.false)
+    let is = rw (to_z-of_z w64 z f) at c.is_negative.ensures in
+    let more = lowest_more (length c.args.parent.now) c.args.edges.now c.args.tree.now c.args.order.now c.args.place.now c.args.parent.now c.requires.rooted c.requires.spanning c.requires.ends c.args.cut.now i c.loop-v.invariant.0 c.loop-v-test.true c.loop-v.lowest c.loop-v.invariant.1 in
+    (omega arith, subst (λ o. IsLowest c.args.tree.now c.args.parent.now c.args.cut.now (i + 1) o) (sym (c.lower-lowest.ensures ∙ ap (lower_of c.loop-v.lowest k) is)) more)
 
 pub returns : goal.returns
-returns c = sym (none_before (λ j. is_marked c.args.tree.now j && int_lt (layer_of c.args.cut.now j) (pos 0)) c.loop-k.k (length c.args.tree.now) c.loop-k-test.false c.loop-k.invariant)
-
-pub returns-then-is_negative : goal.returns-then-is_negative
-returns-then-is_negative c =
-    let z = layer_of c.args.cut.now c.loop-k.k in
-    let f : FitsSigned w64 z = search rules in
-    sym (first_found (λ j. is_marked c.args.tree.now j && int_lt (layer_of c.args.cut.now j) (pos 0)) (length c.args.tree.now) c.loop-k.k c.loop-k-test.true (sym (rw (to_z-of_z w64 z f) at c.is_negative.ensures) ∙ c.if-is_negative.true) c.loop-k.invariant)
+returns c = lowest_end (length c.args.parent.now) c.args.edges.now c.args.tree.now c.args.order.now c.args.place.now c.args.parent.now c.requires.rooted c.requires.spanning c.requires.ends c.args.cut.now c.loop-v.v c.loop-v.lowest c.loop-v-test.false c.loop-v.invariant.1

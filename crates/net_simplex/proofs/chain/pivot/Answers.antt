@@ -3,13 +3,14 @@ use Rattle.std.specs.Int.{w128}
 use Rattle.std.proofs.lemmas.Int.{ints, to_z-of_z}
 use Rattle.layering_laws.specs.Network.{edge_at, EndsBelow}
 use Rattle.layering_laws.specs.Layering.{layer_of}
-use Rattle.net_simplex.specs.Tree.{State, IsState, tail_part}
+use Rattle.net_simplex.specs.Tree.{State, IsState, IsSpanningTree, tail_part}
 use Rattle.net_simplex.specs.Pivots.{slack, shifted, leads_back, least_slack_edge}
 use Rattle.net_simplex.specs.Rooted.{part_from, IsRooted, IsBelow}
 use Rattle.net_simplex.specs.Turning.{Exchanges}
+use Rattle.net_simplex.specs.Cuts.{AreCutValues}
 use Rattle.net_simplex.specs.Kept.{kept_state, StandsFor}
 use Rattle.net_simplex.proofs.FirstTree.{tells_some, tells_none, tells_slack}
-use Rattle.net_simplex.proofs.Stepping.{out_there, child_there, child_other, some_enters, by_there, pivot_is, gap_small, new_stands, new_state, new_root, new_small, exchanges}
+use Rattle.net_simplex.proofs.Stepping.{out_there, out_marked, crosses_part, child_there, child_other, some_enters, by_there, pivot_is, gap_small, new_stands, new_state, new_root, new_small, exchanges}
 use Rattle.net_simplex.proofs.chain.pivot.Goals as goal
 
 pub bounds-edges-out : goal.bounds-edges-out
@@ -310,3 +311,50 @@ returns-in-None-clause-pivots c =
     let part = part_from root_in c.mark_below.new.below in
     let none = tells_none (λ k. slack layers (edge_at edges k)) (least_slack_edge edges layers (leads_back part)) c.in-None.ensures in
     absurd (some_enters n edges net tree layers order place parent kept out c.requires.leaves c.child_of-child.result c.child_of-child.ensures.hangs c.child_of-child.ensures.holds c.mark_below.new.below marks none)
+
+pub change_cuts-requires : goal.change_cuts-requires
+change_cuts-requires c =
+    let n = length c.args.layers.now in
+    let edges = c.args.edges.now in
+    let tree = c.args.tree.now in
+    let layers = c.args.layers.now in
+    let order = c.args.order.now in
+    let place = c.args.place.now in
+    let parent = c.args.parent.now in
+    let net = c.requires.network in
+    let kept = c.requires.kept in
+    let out = c.args.out in
+    let child = c.child_of-child.result in
+    let marks : IsBelow n edges place parent child c.mark_below.new.below = subst (λ m. IsBelow m edges place parent child c.mark_below.new.below) kept.rooted.parent_each c.mark_below.ensures in
+    let root_in = eqb child (edge_at edges out).head in
+    let part = part_from root_in c.mark_below.new.below in
+    let by = c.in-Some.choice.edge in
+    let is = tells_some (λ k. slack layers (edge_at edges k)) (least_slack_edge edges layers (leads_back part)) c.in-Some.choice c.in-Some.ensures in
+    let o = kept.rooted.order_each in
+    let b = by_there n edges net tree layers order place parent kept out c.requires.leaves c.child_of-child.result c.child_of-child.ensures.hangs c.child_of-child.ensures.holds c.mark_below.new.below marks by is in
+    let x = crosses_part n edges net tree layers order place parent kept out c.requires.leaves c.child_of-child.result c.child_of-child.ensures.hangs c.child_of-child.ensures.holds c.mark_below.new.below marks by is in
+    record {
+      ends = subst (λ m. EndsBelow m edges) (sym o) net.ends;
+      weights = net.weight_fits;
+      spanning = subst (λ m. IsSpanningTree m edges tree) (sym o) kept.is.spanning;
+      rooted = subst (λ m. IsRooted m edges tree order place parent) (sym o) kept.rooted;
+      values = subst (λ m. AreCutValues m edges tree c.args.cut.now) (sym o) c.requires.values;
+      out = out_there n edges net tree layers order place parent kept out c.requires.leaves;
+      marked = out_marked n edges net tree layers order place parent kept out c.requires.leaves;
+      by = b;
+      from = subst (λ m. tail_part m edges tree out (edge_at edges by).tail ≡ false) (sym o) x.0;
+      to = subst (λ m. tail_part m edges tree out (edge_at edges by).head ≡ true) (sym o) x.1;
+    }
+
+pub returns-in-Some-clause-values : goal.returns-in-Some-clause-values
+returns-in-Some-clause-values c =
+    let n = length c.args.layers.now in
+    let edges = c.args.edges.now in
+    let tree = c.args.tree.now in
+    let out = c.args.out in
+    let by = c.in-Some.choice.edge in
+    let values = subst (λ m. AreCutValues m edges (set (set tree out false) by true) c.change_cuts.new.cut) c.requires.kept.rooted.order_each c.change_cuts.ensures in
+    subst (λ t. AreCutValues n edges t c.change_cuts.new.cut) (sym c.exchange.ensures) values
+
+pub returns-in-None-clause-values : goal.returns-in-None-clause-values
+returns-in-None-clause-values c = c.requires.values

@@ -1,0 +1,9 @@
+use Rattle.std.proofs.Common.{◌+◌, length, get_or}
+use Rattle.net_simplex.specs.Changed.{ArePassed}
+use Rattle.net_simplex.proofs.passing.pass_way.Given as goal
+
+abbrev pub invariant-way : goal.invariant-way
+invariant-way l = ArePassed (length l.order) l.edges l.tree l.place l.parent l.begin l.end l.by l.initial.cut l.from l.to l.cut
+
+abbrev pub decreases-way : goal.decreases-way
+decreases-way l = get_or l.place l.from 0 + get_or l.place l.to 0
