@@ -5,3 +5,4 @@ pub mod SpokeLemmas
 pub mod VisitLemmas
 pub mod ChoosingLemmas
 pub mod StraightLemmas
+pub mod LaneLemmas

@@ -16,12 +16,12 @@ use Rattle.unit_places.proofs.PlaceLemmas.{place_below, place_reads, place_at}
 
 -- members of what a visit looks at
 
-record IsTaken (passes : ℕ → Bool) (ks : List ℕ) (k : ℕ) : Type 0 where
-  is_first : first_of passes ks ≡ k ∷ []
-  does_pass : passes k ≡ true
-  is_there : 1 ≤ occurs k ks
+pub record IsTaken (passes : ℕ → Bool) (ks : List ℕ) (k : ℕ) : Type 0 where
+  pub is_first : first_of passes ks ≡ k ∷ []
+  pub does_pass : passes k ≡ true
+  pub is_there : 1 ≤ occurs k ks
 
-first_cases : (passes : ℕ → Bool) (ks : List ℕ) → (first_of passes ks ≡ []) ⊎ ((k : ℕ) × IsTaken passes ks k)
+pub first_cases : (passes : ℕ → Bool) (ks : List ℕ) → (first_of passes ks ≡ []) ⊎ ((k : ℕ) × IsTaken passes ks k)
 first_cases passes [] = inl refl
 first_cases passes (k ∷ ks) = elim (cases_Bool (passes k)) [
   | inl t ↦ inr (k, record { is_first = rw t refl; does_pass = t; is_there = occurs_first k ks })
@@ -30,7 +30,7 @@ first_cases passes (k ∷ ks) = elim (cases_Bool (passes k)) [
       (first_cases passes ks)
 ]
 
-occurs_medians : (up : Bool) (ks : List ℕ) (n : ℕ) → 1 ≤ occurs n (medians_in up ks) → 1 ≤ occurs n ks
+pub occurs_medians : (up : Bool) (ks : List ℕ) (n : ℕ) → 1 ≤ occurs n (medians_in up ks) → 1 ≤ occurs n ks
 occurs_medians up [] n h = absurd (omega (arith, h))
 occurs_medians true (k ∷ ks) n h =
     let m = length (k ∷ ks) in
@@ -55,7 +55,7 @@ module _ (l : Plain) (rows : List (List ℕ)) (sweep : Sweep) (sound : IsSound l
   chosen_now chosen u = chosen_at l rows sweep chosen u
 
   -- a link that a visit takes ends at the visited unit
-  of_unit : (u k : ℕ) → 1 ≤ occurs k (sorted_links l rows sweep u) → (k < length l.links) × (near_end sweep (link_at l.links k) ≡ u)
+  pub of_unit : (u k : ℕ) → 1 ≤ occurs k (sorted_links l rows sweep u) → (k < length l.links) × (near_end sweep (link_at l.links k) ≡ u)
   of_unit u k h =
       let test : ℕ → Bool = λ j. near_end sweep (link_at l.links j) == u in
       let all : List ℕ = range_with_len 0 (length l.links) in
@@ -67,17 +67,17 @@ module _ (l : Plain) (rows : List (List ℕ)) (sweep : Sweep) (sound : IsSound l
       (omega (arith, r), eqb-true _ _ (occurs_passes test all k here))
 
   -- what was visited before a unit lies before it in its row
-  abbrev ComesAfter : List ℕ → ℕ → Type 0
+  abbrev pub ComesAfter : List ℕ → ℕ → Type 0
   ComesAfter done u = (v : ℕ) → 1 ≤ occurs v done → layer_of l v ≡ layer_of l u → is_beyond sweep (place u) (place v) ≡ true
 
-  abbrev IsVisitOrder : List ℕ → List ℕ → Type 0
+  abbrev pub IsVisitOrder : List ℕ → List ℕ → Type 0
   IsVisitOrder done [] = ⊤
   IsVisitOrder done (u ∷ us) = ComesAfter done u × IsVisitOrder (u ∷ done) us
 
-  record IsChosenSoFar (done chosen : List ℕ) : Type 0 where
-    known : (j : ℕ) → j < length chosen → get_or chosen j 0 < length l.links
-    near : (j : ℕ) → j < length chosen → 1 ≤ occurs (near_end sweep (chosen_link l chosen j)) done
-    beside : (i j : ℕ) → i < j → j < length chosen → gap_of l (chosen_link l chosen i) ≡ gap_of l (chosen_link l chosen j) → RunsBeside l rows (chosen_link l chosen i) (chosen_link l chosen j)
+  pub record IsChosenSoFar (done chosen : List ℕ) : Type 0 where
+    pub known : (j : ℕ) → j < length chosen → get_or chosen j 0 < length l.links
+    pub near : (j : ℕ) → j < length chosen → 1 ≤ occurs (near_end sweep (chosen_link l chosen j)) done
+    pub beside : (i j : ℕ) → i < j → j < length chosen → gap_of l (chosen_link l chosen i) ≡ gap_of l (chosen_link l chosen j) → RunsBeside l rows (chosen_link l chosen i) (chosen_link l chosen j)
 
   -- both ends beyond in the direction of the visits: the links run beside one another
   beyond_both : (s : Sweep) (a b : Link) → is_beyond s (place (near_end s b)) (place (near_end s a)) ≡ true → is_beyond s (place (far_end s b)) (place (far_end s a)) ≡ true → RunsBeside l rows a b
@@ -86,13 +86,13 @@ module _ (l : Plain) (rows : List (List ℕ)) (sweep : Sweep) (sound : IsSound l
   beyond_both RightUp a b near far = inl (ltb-true _ _ near, ltb-true _ _ far)
   beyond_both RightDown a b near far = inr (ltb-true _ _ near, ltb-true _ _ far)
 
-  same_near : (s : Sweep) (j k : ℕ) → j < length l.links → k < length l.links → gap_of l (link_at l.links j) ≡ gap_of l (link_at l.links k) → layer_of l (near_end s (link_at l.links j)) ≡ layer_of l (near_end s (link_at l.links k))
+  pub same_near : (s : Sweep) (j k : ℕ) → j < length l.links → k < length l.links → gap_of l (link_at l.links j) ≡ gap_of l (link_at l.links k) → layer_of l (near_end s (link_at l.links j)) ≡ layer_of l (near_end s (link_at l.links k))
   same_near LeftUp j k hj hk e = let a = (sound.links_are j hj).next_layer in let b = (sound.links_are k hk).next_layer in omega (arith, a, b, e)
   same_near LeftDown j k hj hk e = let a = (sound.links_are j hj).next_layer in let b = (sound.links_are k hk).next_layer in omega (arith, a, b, e)
   same_near RightUp j k hj hk e = e
   same_near RightDown j k hj hk e = e
 
-  abbrev apart_from : Link → ℕ → Bool
+  abbrev pub apart_from : Link → ℕ → Bool
   apart_from m j =
       not (far_end sweep (link_at l.links j) == far_end sweep m)
       && (not (gap_of l (link_at l.links j) == gap_of l m)
@@ -110,7 +110,7 @@ module _ (l : Plain) (rows : List (List ℕ)) (sweep : Sweep) (sound : IsSound l
       (and_parts (not (far_end sweep other == far_end sweep m)) (not (gap_of l other == gap_of l m) || is_beyond sweep (place (far_end sweep m)) (place (far_end sweep other))) here).1 in
       rw (eq-eqb (gap_of l other) (gap_of l m) gap) at second
 
-  chosen_more : (done chosen : List ℕ) (u k : ℕ) → ComesAfter done u → IsChosenSoFar done chosen → k < length l.links → near_end sweep (link_at l.links k) ≡ u → is_free l rows sweep chosen k ≡ true → IsChosenSoFar (u ∷ done) (chosen ++ k ∷ [])
+  pub chosen_more : (done chosen : List ℕ) (u k : ℕ) → ComesAfter done u → IsChosenSoFar done chosen → k < length l.links → near_end sweep (link_at l.links k) ≡ u → is_free l rows sweep chosen k ≡ true → IsChosenSoFar (u ∷ done) (chosen ++ k ∷ [])
   chosen_more done chosen u k after so hk near_is free =
       let last : get_or (chosen ++ k ∷ []) (length chosen) 0 ≡ k = get_or-append-here in
       let old : (j : ℕ) → j < length chosen → get_or (chosen ++ k ∷ []) j 0 ≡ get_or chosen j 0 = λ j h. get_or_append_left chosen (k ∷ []) 0 j h in
@@ -149,7 +149,7 @@ module _ (l : Plain) (rows : List (List ℕ)) (sweep : Sweep) (sound : IsSound l
       get_or-append-here : get_or (chosen ++ k ∷ []) (length chosen) 0 ≡ k
       get_or-append-here = let none : length chosen - length chosen ≡ 0 = omega arith in get_or-append_right chosen (k ∷ []) (length chosen) (length chosen) 0 refl (omega arith) ∙ ap (λ i. get_or (k ∷ []) i 0) none
 
-  chosen_same : (done chosen : List ℕ) (u : ℕ) → IsChosenSoFar done chosen → IsChosenSoFar (u ∷ done) chosen
+  pub chosen_same : (done chosen : List ℕ) (u : ℕ) → IsChosenSoFar done chosen → IsChosenSoFar (u ∷ done) chosen
   chosen_same done chosen u so =
       record { known = so.known; near = λ j h. let n = so.near j h in omega (arith, n); beside = so.beside }
 
@@ -279,7 +279,7 @@ module _ (l : Plain) (rows : List (List ℕ)) (sweep : Sweep) (sound : IsSound l
       (λ i j less k e. omega (arith, less, e, k, long, same))
       (λ v h i k e. omega (arith, h))
 
-  visits_in_order : (s : Sweep) → goes_left s ≡ goes_left sweep → IsVisitOrder [] (concat (map (visited_row sweep) (cond (goes_left s) (drop 1 rows) (drop 1 (reverse rows)))))
+  pub visits_in_order : (s : Sweep) → goes_left s ≡ goes_left sweep → IsVisitOrder [] (concat (map (visited_row sweep) (cond (goes_left s) (drop 1 rows) (drop 1 (reverse rows)))))
   visits_in_order LeftUp e = to_right
   visits_in_order LeftDown e = to_right
   visits_in_order RightUp e = to_left

@@ -3,3 +3,4 @@ pub mod Marks
 pub mod Spokes
 pub mod Choosing
 pub mod Visits
+pub mod Lanes

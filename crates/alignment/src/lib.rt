@@ -7,6 +7,7 @@
 
 mod choosing;
 mod ends;
+pub mod laws;
 mod marking;
 mod reaching;
 mod spokes;
