@@ -1,7 +1,7 @@
 -- Links between lanes that don't cross are chosen by every sweep.
 use Rattle.std.proofs.Common.{◌≡◌, ◌≢◌, ℕ, zero, suc, ◌+◌, ◌-◌, ◌*◌, ◌<◌, ◌≤◌, ◌==◌, ◌&&◌, ◌||◌, cond, not, nat_lt, nat_le, List, [], ◌∷◌, ◌++◌, length, map, drop, reverse, get_or, Bool, true, false, arith, refl, sym, ◌∙◌, ap, subst, inl, inr, ◌⊎◌, ⊎_elim, eq-eqb, ne_eqb, eqb-true, lt-ltb, ltb-true}
 use Rattle.std.specs.List.{filter, list_all, list_any, concat, range_with_len}
-use Rattle.std.proofs.lemmas.Bool.{cases_eq, cases_Bool, and_parts}
+use Rattle.std.proofs.lemmas.Bool.{cases_eq, cases_lt, cases_Bool, and_parts}
 use Rattle.std.proofs.lemmas.List.{get_or-reverse, length-reverse, get_or-drop, length-drop, length-append, append-nil, get_or_append_left, get_or-append_right}
 use Rattle.elk_layers.specs.declared.units.Link.{Link}
 use Rattle.elk_doc.specs.declared.document.Sweep.{Sweep}
@@ -31,6 +31,12 @@ cross_first g t h x a b c = rw (a, b, c) refl
 cross_second : (g x t h : Bool) → g ≡ true → t ≡ true → h ≡ true → (g && (x || (t && h))) ≡ true
 cross_second g x t h a b c = rw (a, b, c) (or_true x)
 
+clash : {b : Bool} → b ≡ false → b ≡ true → ⊥
+clash f t = true_false (sym t ∙ f)
+  where
+    true_false : true ≡ false → ⊥
+    true_false e = cc
+
 all_from : (test : ℕ → Bool) (xs : List ℕ) → ((i : ℕ) → i < length xs → test (get_or xs i 0) ≡ true) → list_all test xs ≡ true
 all_from test [] h = refl
 all_from test (x ∷ xs) h = both_true (test x) (list_all test xs) (h 0 (omega arith)) (all_from test xs (λ i k. h (suc i) (omega (arith, k))))
@@ -51,10 +57,6 @@ occurs_kept test (x ∷ xs) n t = let h = occurs_kept test xs n t in elim (cases
     | inr ne ↦ rw (f, ne_eqb x n ne) (omega (arith, h))
   ]
 ]
-  where
-    clash : {b : Bool} → b ≡ false → b ≡ true → ⊥
-    clash {true} () q
-    clash {false} p ()
 
 range_has : (a m n : ℕ) → a ≤ n → n < a + m → 1 ≤ occurs n (range_with_len a m)
 range_has a zero n low high = absurd (omega (arith, low, high))
@@ -115,9 +117,9 @@ not_beyond_itself RightUp a h = let k = ltb-true a a h in omega (arith, k)
 not_beyond_itself RightDown a h = let k = ltb-true a a h in omega (arith, k)
 
 less_or_more : (a b : ℕ) → a ≢ b → (nat_lt a b ≡ true) ⊎ (nat_lt b a ≡ true)
-less_or_more a b ne = elim (cases_Bool (nat_lt a b)) [
-  | inl t ↦ inl t
-  | inr f ↦ inr (lt-ltb b a (omega (arith, ne, f)))
+less_or_more a b ne = elim (cases_lt a b) [
+  | inl h ↦ inl (lt-ltb a b h)
+  | inr h ↦ inr (lt-ltb b a (omega (arith, ne, h)))
 ]
 
 one_is_beyond : (s : Sweep) (a b : ℕ) → a ≢ b → (is_beyond s a b ≡ true) ⊎ (is_beyond s b a ≡ true)
@@ -187,10 +189,6 @@ module _ (l : Plain) (rows : List (List ℕ)) (sweep : Sweep) (sound : IsSound l
 
   abbrev Unmarked : List ℕ → Type 0
   Unmarked chosen = (i : ℕ) → i < length chosen → is_marked l rows (chosen_link l chosen i) ≡ false
-
-  clash : {b : Bool} → b ≡ false → b ≡ true → ⊥
-  clash {true} () q
-  clash {false} p ()
 
   -- an unmarked link does not cross a link between lanes
   no_cross : (j k : ℕ) → j < length l.links → k < length l.links → is_marked l rows (link j) ≡ false → is_inner l (link k) ≡ true → cross l rows (link j) (link k) ≡ true → ⊥
@@ -296,7 +294,7 @@ module _ (l : Plain) (rows : List (List ℕ)) (sweep : Sweep) (sound : IsSound l
       ]
     where
       is_not : (b : Bool) → not b ≡ true → b ≡ false
-      is_not true ()
+      is_not true p = sym p
       is_not false p = refl
 
   through : (k : ℕ) → k < length l.links → is_inner l (link k) ≡ true → (us done chosen : List ℕ)
@@ -312,7 +310,7 @@ module _ (l : Plain) (rows : List (List ℕ)) (sweep : Sweep) (sound : IsSound l
         let b = occurs_first k [] in
         stays k us (chosen ++ chosen_at l rows sweep chosen u) (rw here (omega (arith, a, b)))
     | inr ne ↦
-        let later : 1 ≤ occurs (near_end sweep (link k)) us = let q = rw (ne_eqb u (near_end sweep (link k)) ne) at h in q in
+        let later : 1 ≤ occurs (near_end sweep (link k)) us = let q = rw (ne_eqb u (near_end sweep (link k)) ne) at h in omega (arith, q) in
         elim (first_cases (is_free l rows sweep chosen) (medians_in (goes_up sweep) (sorted_links l rows sweep u))) [
           | inl none ↦
               rw none (through k hk inner us (u ∷ done) (chosen ++ []) visit.1
