@@ -1,1 +1,3 @@
 pub mod Placement
+pub mod Straight
+pub mod Checked

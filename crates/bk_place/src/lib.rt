@@ -6,10 +6,15 @@
 #![tactic(auto)]
 
 mod heights;
+pub mod laws;
 mod placing;
 
 pub use alignment::{Alignment, align};
 pub use placing::place;
 
+#[cfg(test)]
+mod checks;
+#[cfg(test)]
+mod long_edges;
 #[cfg(test)]
 mod tests;

@@ -1,0 +1,14 @@
+-- Long edges come out straight.
+use Rattle.std.specs.Prelude.{ℕ, ℤ, ◌<◌, List, length, IsTrue}
+use Rattle.elk_doc.specs.declared.document.Sweep.{Sweep}
+use Rattle.elk_layers.specs.Layered.{Plain, IsSound, AreRows, link_at}
+use Rattle.elk_layers.specs.Alignment.{is_inner, aligned}
+use Rattle.elk_layers.specs.Lines.{IsLevel, AreLines}
+use Rattle.alignment.specs.Lanes.{HaveOneLink, LanesKeepOrder}
+
+-- where no two links between lanes cross, the lines of a sweep make each of them level
+abbrev pub LanesAreLevel : Type 0
+LanesAreLevel =
+    (l : Plain) (rows : List (List ℕ)) (sweep : Sweep) (tops : List ℤ) → IsSound l → AreRows l rows → HaveOneLink l → LanesKeepOrder l rows
+    → AreLines l rows (aligned l rows sweep) tops
+    → (k : ℕ) → k < length l.links → IsTrue (is_inner l (link_at l.links k)) → IsLevel l tops k
