@@ -1,0 +1,113 @@
+-- Marks, and the links of edges.
+use Rattle.std.proofs.Common.{◌≡◌, ◌≢◌, ℕ, zero, suc, ◌+◌, ◌-◌, ◌<◌, ◌≤◌, ◌^◌, ◌==◌, List, [], ◌∷◌, ◌++◌, length, map, get_or, set, take, Bool, true, false, ◌||◌, ◌&&◌, cond, Option, None, Some, IsFalse, refl, sym, ◌∙◌, ap, subst, inl, inr, arith, eq-eqb, ne_eqb, true≢false}
+use Rattle.std.specs.List.{filter, list_any, range_with_len, All}
+use Rattle.std.proofs.lemmas.Bool.{cases_eq, cases_Bool, cases_lt, and_from, and_left, and_right, and_parts}
+use Rattle.std.proofs.lemmas.List.{get_or-set_same, get_or-set_other, length-set, take_more}
+use Rattle.std.proofs.lemmas.List.Folds.{list_any-append}
+use Rattle.elk_layers.specs.declared.units.Link.{Link}
+use Rattle.elk_layers.specs.Layered.{Plain, IsSound, AreRows, link_at, is_child, place_of}
+use Rattle.unit_places.specs.Places.{ArePlaces}
+use Rattle.unit_places.proofs.RowLemmas.{place_small}
+use Rattle.level_plan.specs.Level.{PlainLevel, PlainPlan, first_or, holds, is_loop}
+use Rattle.level_ends.specs.declared.flows.Flow.{Flow}
+use Rattle.level_ends.specs.Flows.{AreFirst, AreFirstFrom, AreMarks, HaveEdges, first_from, is_near, near_unit}
+
+or_mark : (b c : Bool) → c ≡ false → (b || (c || false)) ≡ b
+or_mark true c e = refl
+or_mark false c e = rw e refl
+
+or_yes : (b c : Bool) → c ≡ true → (b || (c || false)) ≡ true
+or_yes true c e = refl
+or_yes false c e = rw e refl
+
+pub marks_start : (count : ℕ) (marks : List Bool) → length marks ≡ count → ((n : ℕ) → n < count → get_or marks n false ≡ false) → AreMarks [] count marks
+marks_start count marks long none = record { as_long = long; mark_is = none }
+
+pub marks_more : (numbers : List ℕ) (i count : ℕ) (marks : List Bool) → i < length numbers → AreMarks (take i numbers) count marks → AreMarks (take (i + 1) numbers) count (set marks (get_or numbers i 0) true)
+marks_more numbers i count marks h are =
+    let at : ℕ = get_or numbers i 0 in
+    let more : (n : ℕ) → holds (take (i + 1) numbers) n ≡ (holds (take i numbers) n || ((get_or numbers i 0 == n) || false)) = λ n.
+    ap (λ ns. holds ns n) (take_more numbers i 0 h) ∙ list_any-append (λ m. m == n) (take i numbers) (get_or numbers i 0 ∷ [])
+    in
+    record {
+      as_long = length-set marks at true ∙ are.as_long;
+      mark_is = λ n less. elim (cases_eq n (get_or numbers i 0)) [
+        | inl e ↦
+            let inside : get_or numbers i 0 < length marks = omega (arith, less, e, are.as_long) in
+            ap (λ x. get_or (set marks (get_or numbers i 0) true) x false) e
+            ∙ get_or-set_same marks (get_or numbers i 0) true false inside
+            ∙ sym (more n ∙ or_yes (holds (take i numbers) n) (get_or numbers i 0 == n) (eq-eqb (get_or numbers i 0) n (sym e)))
+        | inr ne ↦
+            get_or-set_other marks (get_or numbers i 0) n true false ne
+            ∙ are.mark_is n less
+            ∙ sym (more n ∙ or_mark (holds (take i numbers) n) (get_or numbers i 0 == n) (ne_eqb (get_or numbers i 0) n (λ q. ne (sym q))))
+      ];
+    }
+
+-- ---- the first number that passes a test
+
+pub first_cons : (test : ℕ → Bool) (k bound : ℕ) → k < bound → first_from test k bound ≡ cond (test k) k (first_from test (k + 1) bound)
+first_cons test k bound h =
+    let count : bound - k ≡ suc (bound - (k + 1)) = omega (arith, h) in
+    ap (λ m. first_or (filter test (range_with_len k m)) 0) count ∙ pick (test k)
+  where
+    pick : (b : Bool) → first_or (cond b (k ∷ filter test (range_with_len (k + 1) (bound - (k + 1)))) (filter test (range_with_len (k + 1) (bound - (k + 1))))) 0 ≡ cond b k (first_from test (k + 1) bound)
+    pick true = refl
+    pick false = refl
+
+pub firsts_start : (test : ℕ → ℕ → Bool) (bound count : ℕ) (firsts : List ℕ) → length firsts ≡ count → ((e : ℕ) → e < count → get_or firsts e 0 ≡ 0) → AreFirstFrom test bound bound count firsts
+firsts_start test bound count firsts long zero_all =
+    let none : bound - bound ≡ 0 = omega arith in
+    record {
+      as_long = long;
+      first_is = λ e h. zero_all e h ∙ sym (ap (λ m. first_or (filter (test e) (range_with_len bound m)) 0) none);
+    }
+
+-- the number before passes the test of one, or no test
+pub firsts_hit : (test : ℕ → ℕ → Bool) (k bound count at : ℕ) (firsts : List ℕ) → ((e : ℕ) → test e k ≡ (at == e)) → k < bound → at < count → AreFirstFrom test (k + 1) bound count firsts → AreFirstFrom test k bound count (set firsts at k)
+firsts_hit test k bound count at firsts is h inside are =
+    record {
+      as_long = length-set firsts at k ∙ are.as_long;
+      first_is = λ e less. elim (cases_eq e at) [
+        | inl q ↦
+            ap (λ x. get_or (set firsts at k) x 0) q
+            ∙ get_or-set_same firsts at k 0 (omega (arith, inside, are.as_long))
+            ∙ sym (first_cons (test e) k bound h ∙ ap (λ b. cond b k (first_from (test e) (k + 1) bound)) (is e ∙ eq-eqb at e (sym q)))
+        | inr ne ↦
+            get_or-set_other firsts at e k 0 ne
+            ∙ are.first_is e less
+            ∙ sym (first_cons (test e) k bound h ∙ ap (λ b. cond b k (first_from (test e) (k + 1) bound)) (is e ∙ ne_eqb at e (λ q. ne (sym q))))
+      ];
+    }
+
+pub firsts_miss : (test : ℕ → ℕ → Bool) (k bound count : ℕ) (firsts : List ℕ) → ((e : ℕ) → test e k ≡ false) → k < bound → AreFirstFrom test (k + 1) bound count firsts → AreFirstFrom test k bound count firsts
+firsts_miss test k bound count firsts none h are =
+    record {
+      as_long = are.as_long;
+      first_is = λ e less. are.first_is e less ∙ sym (first_cons (test e) k bound h ∙ ap (λ b. cond b k (first_from (test e) (k + 1) bound)) (none e));
+    }
+
+pub firsts_whole : (test : ℕ → ℕ → Bool) (k bound count : ℕ) (firsts : List ℕ) → k ≡ 0 → AreFirstFrom test k bound count firsts → AreFirst test bound count firsts
+firsts_whole test k bound count firsts e are =
+    let all : bound - 0 ≡ bound = omega arith in
+    record {
+      as_long = are.as_long;
+      first_is = λ x h. are.first_is x h ∙ ap (λ m. first_from (test x) m bound) e ∙ ap (λ m. first_or (filter (test x) (range_with_len 0 m)) 0) all;
+    }
+
+-- ---- links by edge
+
+link_noted : (l : Plain) (at_head : Bool) (k count : ℕ) (firsts : List ℕ) (b : Bool) → b ≡ is_child l (near_unit (link_at l.links k) at_head) → k < length l.links → HaveEdges l count
+    → AreFirstFrom (is_near l at_head) (k + 1) (length l.links) count firsts → AreFirstFrom (is_near l at_head) k (length l.links) count (cond b (set firsts (link_at l.links k).edge k) firsts)
+link_noted l at_head k count firsts true is h edges are =
+    firsts_hit (is_near l at_head) k (length l.links) count (link_at l.links k).edge firsts (λ e. ap (λ b. ((link_at l.links k).edge == e) && b) (sym is) ∙ and_true ((link_at l.links k).edge == e)) h (edges k h) are
+  where
+    and_true : (b : Bool) → (b && true) ≡ b
+    and_true true = refl
+    and_true false = refl
+link_noted l at_head k count firsts false is h edges are =
+    firsts_miss (is_near l at_head) k (length l.links) count firsts (λ e. and_right ((link_at l.links k).edge == e) (is_child l (near_unit (link_at l.links k) at_head)) (sym is)) h are
+
+pub links_more : (l : Plain) (at_head : Bool) (k count : ℕ) (firsts : List ℕ) → k < length l.links → HaveEdges l count → AreFirstFrom (is_near l at_head) (k + 1) (length l.links) count firsts
+    → AreFirstFrom (is_near l at_head) k (length l.links) count (cond (is_child l (near_unit (link_at l.links k) at_head)) (set firsts (link_at l.links k).edge k) firsts)
+links_more l at_head k count firsts h edges are = link_noted l at_head k count firsts (is_child l (near_unit (link_at l.links k) at_head)) refl h edges are

@@ -1,0 +1,11 @@
+pub mod Flows
+pub mod Rows
+pub mod Narrow
+pub mod Sides
+pub mod Outlines
+pub mod Lanes
+pub mod Ends
+pub mod Bounds
+pub mod Entries
+pub mod Examples
+pub mod Tops

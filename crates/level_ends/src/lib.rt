@@ -1,0 +1,22 @@
+//! The ends of a level's edges: where they dock, the anchors and ports that follow, and the outlines of children.
+//!
+//! Everything is read once and kept by number: the places at the far ends of links by edge, the spots of each child in
+//! document order, the orders of its sides, and the docks of its spots.
+#![tactic(auto)]
+
+mod docks;
+mod flows;
+mod lanes;
+mod laws;
+mod loops;
+mod orders;
+mod outlines;
+mod spots;
+mod tables;
+mod units;
+
+pub use laws::tables_read_no_tops;
+pub use tables::table_of;
+
+#[cfg(test)]
+mod tests;

@@ -1,0 +1,16 @@
+pub mod ListLemmas
+pub mod Chains
+pub mod Slots
+pub mod Names
+pub mod Nets
+pub mod Holding
+pub mod Splits
+pub mod Reaching
+pub mod Gaps
+pub mod PinLemmas
+pub mod MarkLemmas
+pub mod BorderLemmas
+pub mod PushLemmas
+pub mod RoutedLemmas
+pub mod WorkedLemmas
+pub mod WidthLemmas

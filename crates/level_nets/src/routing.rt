@@ -1,0 +1,156 @@
+//! The gaps of a level.
+ghost use Rattle.std.specs.Prelude.{◌≡◌, ◌+◌, [], true, length, slice_set, IfOk, OnOk};
+ghost use Rattle.level_nets.specs.Parts.{IsGiven, parts};
+ghost use Rattle.level_nets.specs.Held.{plain_gaps};
+ghost use Rattle.level_nets.specs.Reach.{AreColumnsIn, IsSheet, parts_in};
+ghost use Rattle.level_nets.specs.Read.{HoldNets, names_of};
+ghost use Rattle.level_nets.specs.Routed.{AreEmpty, AreMarks, AreGapsIn, AreGapsOf, AreLegsOf, ArePlaces, AreRouted};
+
+use crate::borders::{column_widths, place_gaps};
+use crate::pushing::{push_docks, push_links, push_loops};
+use crate::sheet::Sheet;
+use elk_doc::list::Items;
+use elk_layers::{Layered, Lines};
+use level_plan::{LevelIn, Table};
+use route_lines::Gap;
+use route_slots::Slots;
+use std::alloc::{AllocError, Global};
+
+pub use crate::pushing::LoopLegs;
+
+/// The gaps of a level from left to right, one more than its layers, with their nets and slots; and the places of nets in
+/// their gaps: of each link, of each inverted dock by end (edge e has its source at the end 2e and its target at the end
+/// 2e + 1), and of each self-loop's passages by edge. A place counts only where there is such a net.
+#[derive(Drop)]
+pub struct Routing {
+    pub gaps: Items<Gap>,
+    pub links: Items<u32>,
+    pub docks: Items<u32>,
+    pub loops: Items<LoopLegs>,
+}
+
+// The places of nets in their gaps.
+#[derive(Drop)]
+struct Places {
+    links: Vec<u32>,
+    docks: Vec<u32>,
+    loops: Vec<LoopLegs>,
+}
+
+// So many gaps without nets.
+fn empty_gaps(alloc: Global, count: usize) -> Result<Vec<Gap>, AllocError>
+    ensures { IfOk result (λ gaps. AreEmpty count (plain_gaps gaps.items)) }
+{
+    let mut gaps = Vec::new(alloc);
+    for _ in 0..count {
+        gaps.push(Gap {
+            left: 0,
+            first: 0,
+            step: 0,
+            right: 0,
+            nets: Vec::new(alloc),
+            slots: Slots {
+                count: 0,
+                routes: Vec::new(alloc),
+            },
+        })?;
+    }
+    Ok(gaps)
+}
+
+// Sets the mark with this number, where there is one.
+fn set_mark(marks: &mut [bool], number: u32)
+    ensures { marks.new ≡ slice_set marks.old number true }
+{
+    if (number as usize) < marks.len() {
+        marks[number as usize] = true;
+    }
+}
+
+// Marks all these numbers.
+fn mark_all(marks: &mut [bool], numbers: &[u32])
+    requires { AreMarks [] (length marks.old) marks.old }
+    ensures { AreMarks numbers.now (length marks.old) marks.new }
+{
+    for number in numbers {
+        set_mark(marks, *number);
+    }
+}
+
+/// For each number below a count, whether a list holds it.
+pub fn marks_of(alloc: Global, numbers: &[u32], count: usize) -> Result<Vec<bool>, AllocError>
+    ensures { IfOk result (λ marks. AreMarks numbers.now count marks.items) }
+{
+    let mut marks: Vec<bool> = vec![in alloc; false; count]?;
+    mark_all(marks.as_mut_slice(), numbers);
+    Ok(marks)
+}
+
+// Puts all nets into gaps that have none, and tells their places there.
+fn fill_gaps(alloc: Global, sheet: &Sheet<'_>, gaps: &mut [Gap]) -> Result<Places, AllocError>
+    requires sheet { IsSheet sheet.now }
+    requires empty { AreEmpty (sheet.now.layered.now.layers + 1) (plain_gaps gaps.old) }
+    ensures held { OnOk result (HoldNets (parts_in sheet.now) (names_of (parts_in sheet.now)) (plain_gaps gaps.new)) }
+    ensures places { IfOk result (λ places. ArePlaces (parts_in sheet.now) places) }
+{
+    let links = push_links(alloc, sheet, gaps)?;
+    let docks = push_docks(alloc, sheet, gaps)?;
+    let loops = push_loops(alloc, sheet, gaps)?;
+    Ok(Places {
+        links,
+        docks,
+        loops,
+    })
+}
+
+// The same, and then finds slots and sets borders.
+fn fill_and_place(alloc: Global, sheet: &Sheet<'_>, gaps: &mut [Gap]) -> Result<Places, AllocError>
+    requires sheet { IsSheet sheet.now }
+    requires given { IsGiven (parts_in sheet.now) }
+    requires columns { AreColumnsIn (parts_in sheet.now) }
+    requires empty { AreEmpty (sheet.now.layered.now.layers + 1) (plain_gaps gaps.old) }
+    ensures routed { OnOk result (AreRouted (parts_in sheet.now) (plain_gaps gaps.new)) }
+    ensures places { IfOk result (λ places. ArePlaces (parts_in sheet.now) places) }
+{
+    let places = fill_gaps(alloc, sheet, gaps)?;
+    let widths = column_widths(alloc, sheet)?;
+    place_gaps(alloc, sheet, widths.as_slice(), gaps)?;
+    Ok(places)
+}
+
+/// The gaps of a level, with nets, slots and borders, before the level is moved: its first gap begins at 0, and its tops are
+/// those of the lines. `reversed` has the numbers of the edges that are turned round.
+///
+/// The nets of a gap are those of links, of inverted docks and of self-loops, in this order, each in document order.
+pub fn gaps_of(
+    alloc: Global,
+    level: &LevelIn,
+    layered: &Layered,
+    lines: &Lines,
+    reversed: &[u32],
+    table: &Table,
+) -> Result<Routing, AllocError>
+    requires given { IsGiven (parts level.now layered.now lines.now.top.items reversed.now table.now) }
+    ensures count { IfOk result (λ r. length r.gaps ≡ layered.now.layers + 1) }
+    ensures gaps { IfOk result (λ r. AreGapsOf (parts level.now layered.now lines.now.top.items reversed.now table.now) r.gaps) }
+    ensures legs { IfOk result (λ r. AreLegsOf (parts level.now layered.now lines.now.top.items reversed.now table.now) r) }
+    ensures range { IfOk result (λ r. AreGapsIn r.gaps) }
+{
+    let turned = marks_of(alloc, reversed, level.edges.len())?;
+    let sheet = Sheet {
+        level,
+        layered,
+        tops: lines.top.as_slice(),
+        reversed,
+        turned: turned.as_slice(),
+        table,
+    };
+    let mut gaps = empty_gaps(alloc, layered.layers as usize + 1)?;
+    let places = fill_and_place(alloc, &sheet, gaps.as_mut_slice())?;
+    Ok(Routing {
+        gaps: Items::from_vec(gaps),
+        links: Items::from_vec(places.links),
+        docks: Items::from_vec(places.docks),
+        loops: Items::from_vec(places.loops),
+    })
+}

@@ -1,0 +1,10 @@
+pub mod RangeLemmas
+pub mod NextLemmas
+pub mod Walking
+pub mod TraceLemmas
+pub mod Linking
+pub mod StepReading
+pub mod LoopReading
+pub mod PlaceReading
+pub mod Planning
+pub mod GivenLemmas

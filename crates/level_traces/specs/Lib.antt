@@ -1,0 +1,4 @@
+pub mod Read
+pub mod Reach
+pub mod Chains
+pub mod Traced
