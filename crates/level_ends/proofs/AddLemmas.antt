@@ -1,8 +1,8 @@
 -- An edge's two ends, added to the spots of children.
-use Rattle.std.proofs.Common.{◌≡◌, ◌≢◌, ℕ, zero, suc, ◌+◌, ◌*◌, ◌<◌, ◌≤◌, ◌^◌, List, [], ◌∷◌, ◌++◌, length, map, get_or, set, Bool, true, false, not, cond, Option, None, Some, refl, sym, ◌∙◌, ap, subst, inl, inr, arith, length-append, IfSome, IsFalse}
+use Rattle.std.proofs.Common.{◌≡◌, ℕ, zero, suc, ◌+◌, ◌*◌, ◌<◌, ◌≤◌, ◌^◌, List, [], ◌∷◌, ◌++◌, length, get_or, set, Bool, true, false, not, cond, Option, None, Some, refl, sym, ◌∙◌, ap, subst, inl, inr, arith, IfSome}
 use Rattle.std.specs.List.{filter, range_with_len}
 use Rattle.std.proofs.lemmas.Bool.{cases_eq, cases_lt, cases_order, cases_Bool}
-use Rattle.std.proofs.lemmas.List.{get_or-set_same, get_or-set_other, length-set, get_or_append_left, get_or_push, get_or_past, set_past, length_push}
+use Rattle.std.proofs.lemmas.List.{get_or-set_same, get_or-set_other, get_or_append_left, get_or_push, get_or_past, set_past, length_push}
 use Rattle.std.proofs.lemmas.List.FromFn.{length-range_with_len}
 use Rattle.elk_layers.specs.Layered.{Plain, link_at, place_of}
 use Rattle.port_order.specs.declared.spots.Spot.{Spot}
@@ -11,14 +11,13 @@ use Rattle.port_order.specs.declared.children.Child.{Child}
 use Rattle.port_order.specs.Child.{spot_at, no_spot}
 use Rattle.level_plan.specs.declared.level.Spoke.{Spoke}
 use Rattle.level_plan.specs.Conditions.{IsLevel, IsSpoke, total_ports}
-use Rattle.level_plan.specs.Level.{PlainLevel, PlainPlan, End, child_at, edge_at, end_at, ends_of_edges, enters, far_unit, holds, is_loop, spoke}
+use Rattle.level_plan.specs.Level.{PlainLevel, PlainPlan, End, child_at, end_at, ends_of_edges, enters}
 use Rattle.level_ends.specs.declared.flows.Flow.{Flow}
 use Rattle.level_ends.specs.declared.spots.Told.{Told}
-use Rattle.level_ends.specs.Flows.{AreFlows, IsFlow, first_link}
+use Rattle.level_ends.specs.Flows.{IsFlow, first_link}
 use Rattle.level_ends.specs.Rows.{AreNumbers, AreRowsOf, HasPlace, IsCounted, at_child, bare, ends_to, more_mean, number_by, number_in, number_of, row_at, row_of, row_with, told_by, with_end, with_link}
 use Rattle.level_ends.proofs.SpotLemmas.{IsTold}
-use Rattle.level_ends.proofs.RowLemmas.{row_long, rows_more}
-use Rattle.level_ends.proofs.EndLemmas.{ends_more}
+use Rattle.level_ends.proofs.RowLemmas.{row_long}
 
 far_is : (l : Plain) (rows : List (List ℕ)) (e before after : ℕ) (b : Bool)
     → before ≡ place_of l rows (link_at l.links (first_link l true e)).tail → after ≡ place_of l rows (link_at l.links (first_link l false e)).head

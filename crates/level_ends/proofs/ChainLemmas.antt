@@ -1,10 +1,10 @@
 -- Each edge that is no self-loop has links at both its ends.
-use Rattle.std.proofs.Common.{◌≡◌, ◌≢◌, ℕ, zero, suc, ◌+◌, ◌-◌, ◌<◌, ◌≤◌, ◌^◌, ◌==◌, List, [], ◌∷◌, ◌++◌, length, get_or, Bool, true, false, not, ◌&&◌, cond, Option, None, Some, is_some, IsFalse, refl, sym, ◌∙◌, ap, subst, inl, inr, arith, eq-eqb, ne_eqb, true≢false}
+use Rattle.std.proofs.Common.{◌≡◌, ◌≢◌, ℕ, zero, suc, ◌+◌, ◌-◌, ◌<◌, ◌≤◌, ◌^◌, ◌==◌, List, [], ◌∷◌, ◌++◌, length, get_or, Bool, true, false, not, ◌&&◌, cond, Option, is_some, IsFalse, refl, sym, ◌∙◌, ap, subst, inl, inr, arith, eq-eqb, ne_eqb, true≢false}
 use Rattle.std.specs.List.{filter, range_with_len, All}
 use Rattle.std.proofs.lemmas.Bool.{cases_eq, cases_Bool, and_from, and_parts, eqb-true}
 use Rattle.std.proofs.lemmas.List.{get_or_append_left, get_or_default, get_or_push, get_or_read, length_push}
 use Rattle.std.proofs.lemmas.List.Elements.{All-nil, All-cons, All-append, All-filter, All-get_or, All-head, All-tail, filter_passes}
-use Rattle.elk_layers.specs.Layered.{Plain, IsSound, AreRows, link_at, is_child, place_of, layer_of, unit_at}
+use Rattle.elk_layers.specs.Layered.{Plain, IsSound, AreRows, link_at, is_child, place_of, layer_of}
 use Rattle.unit_places.specs.Places.{ArePlaces}
 use Rattle.unit_places.proofs.RowLemmas.{place_small}
 use Rattle.elk_layers.specs.declared.units.Link.{Link}
@@ -13,9 +13,9 @@ use Rattle.level_plan.specs.Conditions.{IsLevel, IsSpoke}
 use Rattle.level_plan.specs.Level.{PlainLevel, PlainPlan, edge_at, first_or, head_end, holds, is_loop, spoke, tail_end}
 use Rattle.level_plan.specs.Nets.{unit_of}
 use Rattle.level_plan.specs.Traces.{chain, links_at, links_from}
-use Rattle.level_plan.specs.Units.{AreLinked, HasChain, chain_at}
+use Rattle.level_plan.specs.Units.{AreLinked, chain_at}
 use Rattle.level_ends.specs.declared.flows.Flow.{Flow}
-use Rattle.level_ends.specs.Flows.{AreFirst, AreFlows, AreMarks, HaveEdges, IsFlow, IsReadable, first_link, flow_at, is_near, near_unit}
+use Rattle.level_ends.specs.Flows.{AreFirst, AreFlows, AreMarks, IsFlow, IsReadable, first_link, flow_at, is_near, near_unit}
 
 first_exists : (test : ℕ → Bool) (a m k : ℕ) → a ≤ k → k < a + m → test k ≡ true → first_or (filter test (range_with_len a m)) 0 < a + m
 first_exists test a zero k low high t = absurd (omega (arith, low, high))

@@ -1,5 +1,5 @@
 -- The places of spots in the orders of their sides, and their docks.
-use Rattle.std.proofs.Common.{◌≡◌, ◌≢◌, ℕ, zero, suc, ◌+◌, ◌<◌, ◌≤◌, ◌^◌, List, [], ◌∷◌, length, get_or, Bool, true, false, not, Option, None, Some, IsFalse, refl, sym, ◌∙◌, ap, subst, inl, inr, arith}
+use Rattle.std.proofs.Common.{◌≡◌, ◌≢◌, ℕ, ◌<◌, ◌≤◌, List, length, get_or, Bool, true, false, Option, None, Some, IsFalse, refl, sym, ◌∙◌, ap, subst, arith}
 use Rattle.std.specs.List.{All}
 use Rattle.std.proofs.lemmas.List.Elements.{All-from_get_or}
 use Rattle.elk_doc.specs.declared.shape.Side.{Side}
@@ -10,12 +10,11 @@ use Rattle.port_order.specs.declared.spots.Spot.{Spot}
 use Rattle.port_order.specs.Child.{spot_at, is_pinned, is_pinned_at, is_pinned_spot}
 use Rattle.port_order.specs.Sides.{side_of}
 use Rattle.port_order.specs.Order.{IsOrderOfSide, IsSpreadOn}
-use Rattle.port_order.specs.Places.{HoldsOnce, offset_of, place_in, dock_of}
+use Rattle.port_order.specs.Places.{HoldsOnce, offset_of, place_in}
 use Rattle.port_order.proofs.PlaceLemmas.{place_is}
 use Rattle.unit_places.specs.Places.{IsOnce, NotesFirst}
 use Rattle.unit_places.proofs.OccursLemmas.{length_below, no_repeat_from}
 use Rattle.unit_places.proofs.PlaceLemmas.{place_below, place_reads}
-use Rattle.unit_places.specs.Occurring.{occurs}
 use Rattle.level_ends.specs.Rows.{AreNumbered}
 use Rattle.level_ends.specs.Sides.{AreFour, ArePlaced, FourOrders, offset_by, order_on}
 

@@ -1,9 +1,8 @@
 -- Ends in document order, and their places among some of them.
-use Rattle.std.proofs.Common.{◌≡◌, ℕ, zero, suc, ◌+◌, ◌<◌, ◌≤◌, ◌==◌, List, [], ◌∷◌, ◌++◌, length, map, Bool, true, false, not, cond, refl, sym, ◌∙◌, ap, subst, arith, add-zero, append_assoc, length-append, ne_eqb, eq-eqb}
+use Rattle.std.proofs.Common.{◌≡◌, ℕ, zero, suc, ◌+◌, ◌≤◌, ◌==◌, List, [], ◌∷◌, ◌++◌, length, Bool, true, false, not, cond, refl, sym, ◌∙◌, ap, arith, add-zero, append_assoc, ne_eqb, eq-eqb}
 use Rattle.std.specs.List.{filter, All, range_with_len}
 use Rattle.std.proofs.lemmas.Bool.{and_left, and_right}
-use Rattle.std.proofs.lemmas.List.Elements.{All-nil, All-cons, All-head, All-tail, All-append, All-filter, All-weaker, filter-append}
-use Rattle.port_order.specs.declared.spots.Spot.{Spot}
+use Rattle.std.proofs.lemmas.List.Elements.{All-nil, All-cons, All-head, All-tail, All-filter, All-weaker}
 use Rattle.level_plan.specs.Level.{End, end_at, end_eq, ends_of_edges, place_of_end}
 
 -- no two ends of the list are the same

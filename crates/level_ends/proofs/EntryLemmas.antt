@@ -1,9 +1,8 @@
 -- The entries of a table, one after the other.
-use Rattle.std.proofs.Common.{◌≡◌, ℕ, ℤ, zero, suc, ◌+◌, ◌-◌, ◌*◌, ◌<◌, ◌≤◌, ◌^◌, pos, neg_ℤ, ◌+ℤ◌, ◌≤ℤ◌, List, [], ◌∷◌, ◌++◌, length, map, get_or, Option, None, Some, IfSome, SFits, w64, to_z, of_z, refl, sym, ◌∙◌, ap, subst, inl, inr, arith}
-use Rattle.std.specs.List.{All}
+use Rattle.std.proofs.Common.{◌≡◌, ℕ, ℤ, ◌+◌, ◌-◌, ◌*◌, ◌<◌, ◌≤◌, ◌^◌, pos, neg_ℤ, ◌+ℤ◌, ◌≤ℤ◌, List, [], ◌∷◌, ◌++◌, length, map, get_or, None, SFits, w64, to_z, of_z, refl, sym, ◌∙◌, ap, subst, inl, inr, arith}
 use Rattle.std.proofs.lemmas.Bool.{cases_eq}
 use Rattle.std.proofs.lemmas.Int.{ints, to_z-of_z}
-use Rattle.std.proofs.lemmas.List.{get_or-map, get_or_append_left, get_or_default, get_or_past, get_or_push, get_or_read, length-map, length_push}
+use Rattle.std.proofs.lemmas.List.{get_or-map, get_or_append_left, get_or_default, get_or_push, get_or_read, length-map, length_push}
 use Rattle.elk_doc.specs.declared.shape.Dock.{Dock}
 use Rattle.elk_doc.specs.declared.shape.Rect.{Rect}
 use Rattle.elk_doc.specs.declared.shape.Point.{Point}
@@ -18,15 +17,15 @@ use Rattle.level_plan.specs.declared.level.Spoke.{Spoke}
 use Rattle.level_plan.specs.declared.table.ChildAt.{ChildAt}
 use Rattle.level_plan.specs.declared.table.EndAt.{EndAt}
 use Rattle.level_plan.specs.declared.table.LoopAt.{LoopAt}
-use Rattle.level_plan.specs.Conditions.{IsLevel, IsSpoke}
+use Rattle.level_plan.specs.Conditions.{IsSpoke}
 use Rattle.level_plan.specs.Level.{PlainLevel, child_at, edge_at}
 use Rattle.level_plan.specs.Table.{child_in, end_in, loop_in}
 use Rattle.level_ends.specs.declared.lanes.DockLanes.{DockLanes}
-use Rattle.level_ends.specs.Entries.{AreEndEntries, AreEntries, AreLanesOf, AreLoopEntries, AreReady, HaveBodies, HaveDocks, IsEndEntry, IsEntry, IsLoopEntry}
+use Rattle.level_ends.specs.Entries.{AreEndEntries, AreEntries, AreLanesOf, AreLoopEntries, AreReady, HaveBodies, IsEndEntry, IsEntry, IsLoopEntry}
 use Rattle.elk_doc.specs.declared.shape.Side.TheVariants.{North, South}
 use Rattle.level_ends.specs.Bounds.{IsIn, IsLoopIn}
 use Rattle.level_ends.specs.Lanes.{AreDockLanes, AreReadable, PlainLanes, height_by, height_or, lane_place_in, lane_side_in, lanes_at, plain_lanes}
-use Rattle.level_ends.specs.Narrow.{IsNearRect, IsNearSpan, IsOffset}
+use Rattle.level_ends.specs.Narrow.{IsNearRect, IsOffset}
 use Rattle.level_ends.specs.Outlines.{dock_in}
 use Rattle.level_ends.specs.Rows.{row_at}
 use Rattle.level_ends.specs.Sides.{docks_at}

@@ -1,15 +1,11 @@
 -- Marks, and the links of edges.
-use Rattle.std.proofs.Common.{◌≡◌, ◌≢◌, ℕ, zero, suc, ◌+◌, ◌-◌, ◌<◌, ◌≤◌, ◌^◌, ◌==◌, List, [], ◌∷◌, ◌++◌, length, map, get_or, set, take, Bool, true, false, ◌||◌, ◌&&◌, cond, Option, None, Some, IsFalse, refl, sym, ◌∙◌, ap, subst, inl, inr, arith, eq-eqb, ne_eqb, true≢false}
-use Rattle.std.specs.List.{filter, list_any, range_with_len, All}
-use Rattle.std.proofs.lemmas.Bool.{cases_eq, cases_Bool, cases_lt, and_from, and_left, and_right, and_parts}
+use Rattle.std.proofs.Common.{◌≡◌, ℕ, suc, ◌+◌, ◌-◌, ◌<◌, ◌==◌, List, [], ◌∷◌, length, get_or, set, take, Bool, true, false, ◌||◌, ◌&&◌, cond, refl, sym, ◌∙◌, ap, inl, inr, arith, eq-eqb, ne_eqb}
+use Rattle.std.specs.List.{filter, range_with_len}
+use Rattle.std.proofs.lemmas.Bool.{cases_eq, and_right}
 use Rattle.std.proofs.lemmas.List.{get_or-set_same, get_or-set_other, length-set, take_more}
 use Rattle.std.proofs.lemmas.List.Folds.{list_any-append}
-use Rattle.elk_layers.specs.declared.units.Link.{Link}
-use Rattle.elk_layers.specs.Layered.{Plain, IsSound, AreRows, link_at, is_child, place_of}
-use Rattle.unit_places.specs.Places.{ArePlaces}
-use Rattle.unit_places.proofs.RowLemmas.{place_small}
-use Rattle.level_plan.specs.Level.{PlainLevel, PlainPlan, first_or, holds, is_loop}
-use Rattle.level_ends.specs.declared.flows.Flow.{Flow}
+use Rattle.elk_layers.specs.Layered.{Plain, link_at, is_child}
+use Rattle.level_plan.specs.Level.{first_or, holds}
 use Rattle.level_ends.specs.Flows.{AreFirst, AreFirstFrom, AreMarks, HaveEdges, first_from, is_near, near_unit}
 
 or_mark : (b c : Bool) → c ≡ false → (b || (c || false)) ≡ b

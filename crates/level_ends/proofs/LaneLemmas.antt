@@ -1,20 +1,19 @@
 -- Which docks have lanes, and how lanes are numbered.
-use Rattle.std.proofs.Common.{◌≡◌, ◌≢◌, ◌⊎◌, ℕ, zero, suc, ℤ, ◌+◌, ◌<◌, ◌≤◌, ◌^◌, ◌==◌, List, [], ◌∷◌, ◌++◌, length, get_or, set, Bool, true, false, ◌&&◌, ◌||◌, cond, Option, None, Some, refl, sym, ◌∙◌, ap, subst, inl, inr, arith, eq-eqb, ne_eqb, true≢false, length-append}
+use Rattle.std.proofs.Common.{◌≡◌, ◌≢◌, ℕ, zero, suc, ℤ, ◌+◌, ◌<◌, ◌≤◌, ◌^◌, ◌==◌, List, [], ◌∷◌, ◌++◌, length, get_or, set, Bool, true, false, ◌&&◌, ◌||◌, cond, Option, None, Some, refl, sym, ◌∙◌, ap, subst, inl, inr, arith, ne_eqb, true≢false}
 use Rattle.std.specs.List.{filter, list_any, range_with_len}
-use Rattle.std.proofs.lemmas.Bool.{cases_eq, cases_lt, cases_order, cases_Bool, and_from, and_left, and_right, and_parts}
+use Rattle.std.proofs.lemmas.Bool.{cases_eq, cases_lt, cases_Bool, and_from, and_left, and_right}
 use Rattle.std.proofs.lemmas.List.{get_or-set_same, get_or-set_other, get_or_append_left, get_or_past, get_or_push, length-set, length_push}
 use Rattle.std.proofs.lemmas.List.Folds.{list_any-append}
 use Rattle.elk_doc.specs.declared.shape.Side.{Side}
 use Rattle.elk_doc.specs.declared.shape.Side.TheVariants.{North, East, South, West}
 use Rattle.elk_doc.specs.declared.shape.Dock.{Dock}
-use Rattle.elk_doc.specs.PortsKept.{is_side}
 use Rattle.port_order.specs.declared.spots.Spot.{Spot}
 use Rattle.port_order.specs.Child.{spot_at}
 use Rattle.level_plan.specs.Lanes.{asks_lane}
 use Rattle.level_ends.specs.Lanes.{AreAsked, AreFirstSpots, AreLanePlaces, NumbersLanes, asked, first_same, is_on, lane_at, lane_in, lanes_to, same_dock, side_by}
 use Rattle.level_ends.specs.Outlines.{dock_in}
 use Rattle.level_ends.proofs.EndLemmas.{range_more}
-use Rattle.level_ends.proofs.FirstLemmas.{IsFirstSpot, filter_more_no, filter_more_yes, first_of_same, first_spot, same_from, same_parts}
+use Rattle.level_ends.proofs.FirstLemmas.{filter_more_no, filter_more_yes, first_of_same, first_spot, same_from, same_parts}
 
 or_false : (b : Bool) → (b || false) ≡ b
 or_false true = refl

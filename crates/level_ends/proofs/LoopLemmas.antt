@@ -1,16 +1,15 @@
 -- The docks of edges' ends, and the lanes of self-loops, edge by edge.
-use Rattle.std.proofs.Common.{◌≡◌, ◌≢◌, ℕ, zero, suc, ◌+◌, ◌*◌, ◌<◌, ◌≤◌, ◌^◌, ◌==◌, List, [], ◌∷◌, ◌++◌, length, map, get_or, set, Bool, true, false, ◌&&◌, cond, Option, None, Some, refl, sym, ◌∙◌, ap, subst, inl, inr, arith, eq-eqb, ne_eqb, true≢false}
+use Rattle.std.proofs.Common.{◌≡◌, ◌≢◌, ℕ, zero, suc, ◌+◌, ◌*◌, ◌<◌, ◌≤◌, ◌^◌, ◌==◌, List, [], ◌∷◌, ◌++◌, length, map, get_or, set, Bool, true, false, ◌&&◌, Option, None, Some, refl, sym, ◌∙◌, ap, subst, inl, inr, arith, eq-eqb, ne_eqb, true≢false}
 use Rattle.std.specs.List.{filter, range_with_len}
 use Rattle.std.proofs.lemmas.Bool.{cases_eq, cases_Bool, and_from, and_left, and_right, and_parts}
 use Rattle.std.proofs.lemmas.List.{get_or-map, get_or-set_same, get_or-set_other, get_or_append_left, get_or_default, get_or_push, get_or_read, length-map, length-set, length_push}
 use Rattle.elk_doc.specs.declared.shape.Side.{Side}
 use Rattle.elk_doc.specs.declared.shape.Dock.{Dock}
 use Rattle.elk_layers.specs.Layered.{Plain, unit_at}
-use Rattle.port_order.specs.declared.spots.Spot.{Spot}
-use Rattle.port_order.specs.Child.{no_spot, spot_at}
+use Rattle.port_order.specs.Child.{no_spot}
 use Rattle.level_plan.specs.declared.level.LevelEdge.{LevelEdge}
 use Rattle.level_plan.specs.declared.level.Spoke.{Spoke}
-use Rattle.level_plan.specs.Conditions.{IsLevel, IsSpoke}
+use Rattle.level_plan.specs.Conditions.{IsLevel}
 use Rattle.level_plan.specs.Level.{End, PlainLevel, PlainPlan, child_at, dock_of, dock_of_spot, edge_at, end_at, is_loop, spoke, spots}
 use Rattle.level_ends.specs.declared.loops.LoopLanes.{LoopLanes}
 use Rattle.level_ends.specs.declared.spots.Spots.{Spots}
@@ -18,7 +17,7 @@ use Rattle.level_ends.specs.Ends.{AreEndDocks, AreLoopLanes, CountsLoop, HaveChi
 use Rattle.level_ends.specs.Flows.{AreFirstFrom}
 use Rattle.level_ends.specs.Lanes.{loop_lane_on}
 use Rattle.level_ends.specs.Outlines.{dock_in}
-use Rattle.level_ends.specs.Rows.{AreSpotsOf, HasNumber, row_at, row_lists}
+use Rattle.level_ends.specs.Rows.{AreSpotsOf, HasNumber, row_lists}
 use Rattle.level_ends.specs.Sides.{AreDocks, FourOrders, dock_by, docks_at, four_at, orders_in}
 use Rattle.level_plan.specs.Nets.{is_number}
 use Rattle.level_ends.proofs.ChainLemmas.{edge_read}

@@ -14,7 +14,7 @@ use Rattle.level_ends.specs.declared.loops.LoopLanes.{LoopLanes}
 use Rattle.level_ends.specs.Ends.{AreLoopLanes, is_unit_of}
 use Rattle.level_ends.specs.Entries.{AreEndEntries, AreEntries, AreLoopEntries, AreReady, HaveBodies}
 use Rattle.level_ends.specs.Flows.{AreFirst}
-use Rattle.level_ends.specs.Lanes.{PlainLanes, plain_lanes}
+use Rattle.level_ends.specs.Lanes.{plain_lanes}
 use Rattle.level_ends.specs.Narrow.{IsOffset}
 use Rattle.level_ends.specs.Outlines.{dock_in}
 

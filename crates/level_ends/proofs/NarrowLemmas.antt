@@ -1,6 +1,5 @@
 -- How far the parts of a child reach.
-use Rattle.std.proofs.Common.{◌≡◌, ℕ, zero, suc, ◌+◌, ◌<◌, ◌≤◌, ◌^◌, ℤ, pos, ◌+ℤ◌, ◌-ℤ◌, ◌≤ℤ◌, neg_ℤ, List, [], ◌∷◌, length, map, get_or, Bool, true, false, not, cond, ◌&&◌, ◌||◌, Option, None, Some, is_some, IsSomeAnd, IsFalse, IsTrue, refl, sym, ◌∙◌, ap, subst, inl, inr, arith}
-use Rattle.std.proofs.lemmas.Bool.{cases_Bool}
+use Rattle.std.proofs.Common.{◌≡◌, ℕ, zero, suc, ◌<◌, ◌^◌, ℤ, pos, ◌+ℤ◌, ◌-ℤ◌, ◌≤ℤ◌, List, [], ◌∷◌, length, map, get_or, Bool, true, false, not, cond, ◌&&◌, Option, None, Some, is_some, IsSomeAnd, IsTrue, refl, sym, subst, arith}
 use Rattle.std.proofs.lemmas.Int.{ints, clamps}
 use Rattle.std.specs.Int.{int_min, int_max}
 use Rattle.elk_doc.specs.declared.shape.Point.{Point}
@@ -21,7 +20,7 @@ use Rattle.port_order.specs.Child.{is_pinned, no_port, port_at}
 use Rattle.port_order.specs.Conditions.{IsChild, IsChildPort, IsSmall}
 use Rattle.port_order.specs.Places.{corner_of, face_of, given_face, outer_face, place_of_port}
 use Rattle.port_order.specs.Sides.{given_side, side_else, side_of_place}
-use Rattle.level_plan.specs.Conditions.{IsLevel, IsLevelChild, IsNear, IsNearPort, sizes_of, sum_of_ints, total_height, total_width}
+use Rattle.level_plan.specs.Conditions.{IsLevel, IsNear, sizes_of, sum_of_ints, total_height, total_width}
 use Rattle.level_plan.specs.Level.{PlainLevel, child_at}
 use Rattle.level_ends.proofs.AddLemmas.{ports_few}
 use Rattle.level_ends.specs.Narrow.{IsNarrow, IsNearRect, IsNearSpan, IsOffset}

@@ -1,7 +1,7 @@
 -- The docks of a child, each once, and their lanes, by the numbers of spots.
-use Rattle.std.proofs.Common.{◌≡◌, ◌≢◌, ℕ, zero, suc, ℤ, ◌+◌, ◌-◌, ◌<◌, ◌≤◌, ◌==◌, List, [], ◌∷◌, ◌++◌, length, map, take, get_or, Bool, true, false, not, ◌&&◌, ◌||◌, cond, Option, None, Some, refl, sym, ◌∙◌, ap, subst, inl, inr, arith, append_assoc, append-nil, eq-eqb, ne_eqb, eqb, true≢false, length-append}
+use Rattle.std.proofs.Common.{◌≡◌, ◌≢◌, ℕ, zero, suc, ◌+◌, ◌-◌, ◌<◌, ◌≤◌, ◌==◌, List, [], ◌∷◌, ◌++◌, length, map, take, get_or, Bool, true, false, not, ◌&&◌, ◌||◌, cond, refl, sym, ◌∙◌, ap, subst, inl, inr, arith, append_assoc, append-nil, eq-eqb, ne_eqb}
 use Rattle.std.specs.List.{filter, list_any, range_with_len, All}
-use Rattle.std.proofs.lemmas.Bool.{cases_eq, cases_Bool, and_from, and_left, and_right, and_parts}
+use Rattle.std.proofs.lemmas.Bool.{cases_Bool}
 use Rattle.std.proofs.lemmas.List.{length-map, take_more, take_all, map-append}
 use Rattle.std.proofs.lemmas.List.Elements.{All-nil, All-cons, All-head, All-tail, All-map, All-filter, filter-append}
 use Rattle.std.proofs.lemmas.List.Folds.{list_any-append, list_any_none, list_any_at}
@@ -9,10 +9,9 @@ use Rattle.std.proofs.lemmas.List.FromFn.{get_or-range_with_len, length-range_wi
 use Rattle.elk_doc.specs.declared.shape.Dock.{Dock}
 use Rattle.level_stage.specs.Stage.{Line}
 use Rattle.level_plan.specs.Lanes.{dock_eq, line_eq, once, place_of_line}
-use Rattle.level_plan.specs.Level.{first_or}
 use Rattle.level_ends.specs.Lanes.{first_same, same_dock}
 use Rattle.level_ends.specs.Outlines.{dock_in}
-use Rattle.level_ends.proofs.EndLemmas.{range_more, range_split}
+use Rattle.level_ends.proofs.EndLemmas.{range_split}
 use Rattle.level_ends.proofs.FirstLemmas.{filter_more_no, filter_more_yes, first_found}
 use Rattle.level_ends.proofs.LaneLemmas.{any_more}
 

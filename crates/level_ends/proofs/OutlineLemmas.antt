@@ -1,5 +1,5 @@
 -- Outlines and ports by the docks of a child's spots.
-use Rattle.std.proofs.Common.{◌≡◌, ℕ, zero, suc, ℤ, ◌+◌, ◌-◌, ◌<◌, ◌≤◌, ◌^◌, pos, List, [], ◌∷◌, ◌++◌, length, get_or, refl, sym, ◌∙◌, ap, subst, arith, SFits, w64, to_z, of_z, neg_ℤ, ◌+ℤ◌, ◌-ℤ◌, ◌≤ℤ◌}
+use Rattle.std.proofs.Common.{◌≡◌, ℕ, suc, ℤ, ◌+◌, ◌-◌, ◌<◌, ◌^◌, pos, List, [], length, get_or, sym, ◌∙◌, ap, arith, SFits, w64, to_z, of_z, neg_ℤ, ◌+ℤ◌, ◌-ℤ◌, ◌≤ℤ◌}
 use Rattle.std.specs.List.{All, range_with_len}
 use Rattle.std.proofs.lemmas.Int.{ints, clamps, to_z-of_z}
 use Rattle.std.proofs.lemmas.List.{get_or_default}
@@ -10,12 +10,12 @@ use Rattle.elk_doc.specs.declared.shape.Rect.{Rect}
 use Rattle.elk_doc.specs.declared.shape.Side.{Side}
 use Rattle.elk_doc.specs.declared.shape.Side.TheVariants.{North, East, South, West}
 use Rattle.elk_doc.specs.declared.shape.Dock.{Dock}
-use Rattle.elk_doc.specs.Shapes.{hull, hull_size, rect_at}
+use Rattle.elk_doc.specs.Shapes.{hull, rect_at}
 use Rattle.elk_doc.specs.Sound.{IsPlaceWithin, IsWithin}
 use Rattle.port_order.specs.declared.children.Child.{Child}
 use Rattle.port_order.specs.Child.{port_at}
 use Rattle.port_order.specs.Places.{on_side, place_of_port}
-use Rattle.level_ends.specs.Narrow.{IsNarrow, IsNearRect, IsNearSpan, IsOffset}
+use Rattle.level_ends.specs.Narrow.{IsNearSpan, IsOffset}
 use Rattle.level_ends.specs.Outlines.{dock_in, outline_by}
 use Rattle.level_ends.proofs.PartLemmas.{offset_fits}
 

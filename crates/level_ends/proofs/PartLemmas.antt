@@ -1,10 +1,9 @@
 -- The orders and docks of children, child by child.
-use Rattle.std.proofs.Common.{◌≡◌, ℕ, ℤ, zero, suc, ◌+◌, ◌<◌, ◌≤◌, ◌^◌, List, [], ◌∷◌, ◌++◌, length, map, take, get_or, Bool, true, false, IsFalse, IfSome, refl, sym, ◌∙◌, ap, subst, inl, inr, arith, SFits, w64, to_z, of_z, pos, neg_ℤ, ◌+ℤ◌, ◌-ℤ◌}
+use Rattle.std.proofs.Common.{◌≡◌, ℕ, ℤ, ◌+◌, ◌<◌, ◌≤◌, ◌^◌, List, [], ◌∷◌, ◌++◌, length, map, take, get_or, IsFalse, refl, sym, ◌∙◌, ap, subst, inl, inr, arith, SFits, w64, to_z, of_z, pos, neg_ℤ, ◌+ℤ◌, ◌-ℤ◌}
 use Rattle.std.specs.List.{All}
 use Rattle.std.proofs.lemmas.Bool.{cases_eq}
 use Rattle.std.proofs.lemmas.Int.{ints, to_z-of_z}
 use Rattle.std.proofs.lemmas.List.{get_or-map, get_or_append_left, get_or_push, get_or_read, length-map, length_push, map-append, take_more}
-use Rattle.std.proofs.lemmas.List.Elements.{All-push}
 use Rattle.elk_doc.specs.declared.shape.Side.{Side}
 use Rattle.elk_doc.specs.declared.shape.Dock.{Dock}
 use Rattle.elk_doc.specs.Sound.{IsWithin}
@@ -15,12 +14,11 @@ use Rattle.port_order.specs.Conditions.{AreSpots, IsSpot}
 use Rattle.port_order.specs.Places.{HoldsOnce, place_in}
 use Rattle.port_order.specs.Sides.{side_of}
 use Rattle.unit_places.specs.Places.{IsOnce, NotesFirst}
-use Rattle.level_plan.specs.Conditions.{IsLevel}
 use Rattle.level_plan.specs.Level.{PlainLevel, child_at}
 use Rattle.level_ends.specs.declared.orders.SideOrders.{SideOrders}
-use Rattle.level_ends.specs.Narrow.{IsNarrow, IsOffset}
+use Rattle.level_ends.specs.Narrow.{IsOffset}
 use Rattle.level_ends.specs.Rows.{AreNumbered, row_at}
-use Rattle.level_ends.specs.Sides.{AreDocks, AreFour, AreOrdersTo, ArePlaced, FourOrders, HaveOrders, dock_by, docks_at, four_at, four_of, order_on}
+use Rattle.level_ends.specs.Sides.{AreDocks, AreFour, AreOrdersTo, ArePlaced, FourOrders, dock_by, docks_at, four_at, four_of, order_on}
 use Rattle.level_ends.proofs.DockLemmas.{all_noted, order_few, order_once, order_within}
 
 pub offset_fits : (z : ℤ) → IsOffset z → SFits w64 z

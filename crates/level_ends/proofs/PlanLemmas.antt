@@ -1,24 +1,23 @@
 -- The docks and lanes of a child in the words of the level's plan.
-use Rattle.std.proofs.Common.{◌≡◌, ◌≢◌, ◌⊎◌, ℕ, ℤ, zero, suc, ◌+◌, ◌*◌, ◌<◌, ◌≤◌, ◌^◌, ◌==◌, pos, ◌+ℤ◌, List, [], ◌∷◌, ◌++◌, length, map, get_or, Bool, true, false, ◌&&◌, cond, Option, None, Some, IsTrue, int_lt, refl, sym, ◌∙◌, ap, subst, inl, inr, arith, append-nil, length-append, eq-eqb, ne_eqb, eqb-true, true≢false}
+use Rattle.std.proofs.Common.{◌≡◌, ℕ, ℤ, ◌+◌, ◌*◌, ◌<◌, ◌==◌, List, [], ◌∷◌, ◌++◌, length, map, Bool, true, false, ◌&&◌, cond, Option, None, Some, refl, sym, ◌∙◌, ap, subst, arith, append-nil, length-append, eq-eqb, ne_eqb, eqb-true}
 use Rattle.std.specs.List.{filter, list_any, range_with_len, All}
-use Rattle.std.proofs.lemmas.Bool.{cases_eq, cases_Bool, and_from, and_left, and_right, and_parts}
-use Rattle.std.proofs.lemmas.List.{get_or-map, get_or_default, length-map}
+use Rattle.std.proofs.lemmas.Bool.{and_from, and_left}
+use Rattle.std.proofs.lemmas.List.{get_or-map, length-map}
 use Rattle.std.proofs.lemmas.List.Elements.{All-nil, All-cons, All-map}
 use Rattle.elk_doc.specs.declared.shape.Side.{Side}
 use Rattle.elk_doc.specs.declared.shape.Side.TheVariants.{North, East, South, West}
 use Rattle.elk_doc.specs.declared.shape.Dock.{Dock}
 use Rattle.elk_doc.specs.PortsKept.{is_side}
-use Rattle.port_order.specs.declared.children.Child.{Child}
 use Rattle.port_order.specs.declared.spots.Spot.{Spot}
 use Rattle.port_order.specs.Child.{no_spot, spot_at}
 use Rattle.self_loops.specs.Loops.{sides_of_lanes}
 use Rattle.level_stage.specs.Stage.{Line, dock_lane, loop_lane}
 use Rattle.level_plan.specs.Level.{PlainLevel, PlainPlan, Orders, child_at, dock_of, dock_of_spot, edge_at, end_at, is_loop, spots}
-use Rattle.level_plan.specs.Lanes.{asks_lane, dock_eq, docks_with_lane, has_lane, has_one_dock, lane_height, lane_side, lanes, lanes_room, body_top, line_eq, loop_sides, loops_of, once, place_of_line}
+use Rattle.level_plan.specs.Lanes.{asks_lane, dock_eq, docks_with_lane, has_lane, lane_side, lanes, line_eq, loop_sides, loops_of, once, place_of_line}
 use Rattle.level_ends.specs.Ends.{AreEndDocks, loop_on, loops_to}
-use Rattle.level_ends.specs.Lanes.{AreLaneSides, asked, first_same, is_on, lane_at, lane_in, lanes_to, loop_lane_on, same_dock, side_by}
+use Rattle.level_ends.specs.Lanes.{AreLaneSides, asked, first_same, is_on, lane_in, lanes_to, loop_lane_on, same_dock, side_by}
 use Rattle.level_ends.specs.Outlines.{dock_in}
-use Rattle.level_ends.proofs.FirstLemmas.{IsFirstSpot, first_of_same, first_spot, same_from, same_parts, same_self, side_self}
+use Rattle.level_ends.proofs.FirstLemmas.{IsFirstSpot, first_spot, same_self, side_self}
 use Rattle.level_ends.proofs.OnceLemmas.{any_list, any_same, eq_same, filter_map, filter_same, filter_twice, once_all, place_tested}
 
 -- the docks of a child's spots

@@ -1,39 +1,32 @@
 -- What the steps of the table ask of each other.
-use Rattle.std.proofs.Common.{◌≡◌, ◌≢◌, ◌⊎◌, ℕ, ℤ, zero, suc, ◌+◌, ◌-◌, ◌*◌, ◌<◌, ◌≤◌, ◌^◌, pos, neg_ℤ, ◌+ℤ◌, ◌≤ℤ◌, List, [], length, map, get_or, true, false, Option, None, Some, refl, sym, ◌∙◌, ap, subst, inl, inr, arith}
-use Rattle.std.specs.List.{All}
-use Rattle.std.proofs.lemmas.Bool.{cases_lt}
+use Rattle.std.proofs.Common.{◌≡◌, ◌⊎◌, ℕ, ℤ, zero, suc, ◌+◌, ◌*◌, ◌<◌, ◌≤◌, ◌^◌, pos, neg_ℤ, List, [], length, get_or, true, false, Option, None, Some, sym, ◌∙◌, ap, subst, inl, inr, arith}
 use Rattle.std.proofs.lemmas.Int.{ints}
 use Rattle.std.proofs.lemmas.List.{length-map}
 use Rattle.std.proofs.lemmas.List.Elements.{All-get_or}
 use Rattle.elk_doc.specs.declared.shape.Dock.{Dock}
-use Rattle.elk_doc.specs.declared.shape.Rect.{Rect}
 use Rattle.elk_doc.specs.declared.shape.Side.{Side}
 use Rattle.elk_doc.specs.declared.shape.Side.TheVariants.{North}
 use Rattle.elk_doc.specs.Sound.{IsWithin}
-use Rattle.elk_layers.specs.Layered.{IsSound, unit_at}
-use Rattle.port_order.specs.declared.children.Child.{Child}
+use Rattle.elk_layers.specs.Layered.{unit_at}
 use Rattle.port_order.specs.declared.spots.Spot.{Spot}
 use Rattle.port_order.specs.Conditions.{AreSpots}
 use Rattle.level_plan.specs.declared.table.ChildAt.{ChildAt}
-use Rattle.level_plan.specs.declared.table.EndAt.{EndAt}
-use Rattle.level_plan.specs.declared.table.LoopAt.{LoopAt}
 use Rattle.level_plan.specs.declared.table.Table.{Table}
 use Rattle.level_plan.specs.Conditions.{IsLevel}
-use Rattle.level_plan.specs.Level.{End, PlainLevel, PlainPlan, all_ends, child_at, edge_at, end_at, spoke, spots}
-use Rattle.level_plan.specs.Nets.{unit_of}
-use Rattle.level_plan.specs.Table.{child_in, end_in, loop_in}
+use Rattle.level_plan.specs.Level.{End, PlainLevel, PlainPlan, all_ends, child_at, end_at, spoke, spots}
+use Rattle.level_plan.specs.Table.{child_in, end_in}
 use Rattle.level_plan.specs.Units.{AreLinked, AreOrders}
 use Rattle.port_order.specs.Order.{IsOrderOfSide}
 use Rattle.level_ends.specs.declared.loops.LoopLanes.{LoopLanes}
 use Rattle.level_ends.specs.declared.spots.Spots.{Spots}
 use Rattle.level_ends.specs.Bounds.{AreNumbersIn, IsChildIn, IsEndIn}
-use Rattle.level_ends.specs.Ends.{AreEndDocks, AreLoopLanes, HaveChildren}
+use Rattle.level_ends.specs.Ends.{AreLoopLanes, HaveChildren}
 use Rattle.level_ends.specs.Entries.{AreEndEntries, AreEntries, AreLanesOf, AreLoopEntries, AreReady, HaveBodies, HaveDocks, HaveFew, HavePlaces, HaveSpots}
-use Rattle.level_ends.specs.Lanes.{AreDockLanes, AreReadable, PlainLanes, lanes_at, lanes_to}
+use Rattle.level_ends.specs.Lanes.{AreReadable, PlainLanes, lanes_at}
 use Rattle.level_ends.specs.Narrow.{IsNearRect, IsNearSpan, IsOffset}
 use Rattle.level_ends.specs.Outlines.{dock_in}
 use Rattle.level_ends.specs.Rows.{AreNumbered, AreSpotsOf, HasNumber, row_at, row_lists}
-use Rattle.level_ends.specs.Sides.{AreDocks, AreFour, AreOrdersTo, FourOrders, HaveOrders, dock_by, docks_at, four_at, orders_in}
+use Rattle.level_ends.specs.Sides.{AreDocks, AreOrdersTo, FourOrders, HaveOrders, dock_by, docks_at, four_at, orders_in}
 use Rattle.level_ends.proofs.FirstLemmas.{first_within}
 use Rattle.level_ends.proofs.LaneLemmas.{lanes_few}
 use Rattle.level_ends.proofs.LoopLemmas.{loops_few}

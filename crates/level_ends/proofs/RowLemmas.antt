@@ -1,16 +1,16 @@
 -- The spots of a child with one more end.
-use Rattle.std.proofs.Common.{◌≡◌, ◌≢◌, ℕ, zero, suc, ◌+◌, ◌<◌, ◌≤◌, ◌==◌, List, [], ◌∷◌, ◌++◌, length, map, get_or, set, Bool, true, false, ◌&&◌, cond, Option, None, Some, is_none, refl, sym, ◌∙◌, ap, subst, inl, inr, arith, append-nil, append_assoc, length-append, ne_eqb, eq-eqb, IfSome}
+use Rattle.std.proofs.Common.{◌≡◌, ◌≢◌, ℕ, suc, ◌+◌, ◌<◌, ◌==◌, List, [], ◌∷◌, ◌++◌, length, map, get_or, set, Bool, true, false, ◌&&◌, Option, None, Some, is_none, refl, sym, ◌∙◌, ap, subst, inl, inr, arith, append-nil, append_assoc, length-append, ne_eqb, eq-eqb, IfSome}
 use Rattle.std.specs.List.{filter, range_with_len}
 use Rattle.std.proofs.lemmas.Bool.{cases_eq, and_left, and_right, and_from}
-use Rattle.std.proofs.lemmas.List.{get_or-set_same, get_or-set_other, length-set, set-append_left, get_or_append_left, get_or-append_right, same_lists, length-map}
+use Rattle.std.proofs.lemmas.List.{get_or-set_same, get_or-set_other, length-set, set-append_left, get_or_append_left, same_lists}
 use Rattle.std.proofs.lemmas.List.Elements.{filter-append}
 use Rattle.std.proofs.lemmas.List.FromFn.{length-map-range_with_len, get_or-map-range_with_len}
 use Rattle.port_order.specs.declared.spots.Spot.{Spot}
 use Rattle.port_order.specs.Child.{spot_at, no_spot}
 use Rattle.level_plan.specs.declared.level.Spoke.{Spoke}
-use Rattle.level_plan.specs.Level.{PlainLevel, PlainPlan, End, child_at, is_port, spoke, spot, implicit_spot, place_of_end}
+use Rattle.level_plan.specs.Level.{PlainLevel, PlainPlan, End, child_at, is_port, spoke, spot, place_of_end}
 use Rattle.level_ends.specs.declared.spots.Told.{Told}
-use Rattle.level_ends.specs.Rows.{AreRowsOf, at_child, at_port, bare, implicit_spots, port_spots_of, row_at, row_of, row_with, with_end}
+use Rattle.level_ends.specs.Rows.{AreRowsOf, at_child, at_port, implicit_spots, port_spots_of, row_at, row_of, row_with, with_end}
 use Rattle.level_ends.proofs.SpotLemmas.{IsTold, filter_yes, filter_no, spot_more, spot_one}
 use Rattle.level_ends.proofs.EndLemmas.{Differ, place_there}
 

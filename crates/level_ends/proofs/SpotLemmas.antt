@@ -1,6 +1,6 @@
 -- A spot with one more end.
-use Rattle.std.proofs.Common.{◌≡◌, ℕ, ◌+◌, ◌*◌, ◌≤◌, ◌^◌, List, [], ◌∷◌, ◌++◌, length, map, Bool, true, false, not, cond, ◌||◌, Option, None, Some, IsFalse, IfSome, refl, sym, ◌∙◌, ap, subst, inl, inr, arith, append-nil, length-append}
-use Rattle.std.specs.List.{filter, list_any, All}
+use Rattle.std.proofs.Common.{◌≡◌, ℕ, ◌+◌, List, [], ◌∷◌, ◌++◌, length, map, Bool, true, false, not, cond, ◌||◌, Option, Some, IsFalse, refl, sym, ◌∙◌, ap, inl, inr, arith, append-nil, length-append}
+use Rattle.std.specs.List.{filter, list_any}
 use Rattle.std.proofs.lemmas.Bool.{cases_Bool}
 use Rattle.std.proofs.lemmas.List.{map-append}
 use Rattle.std.proofs.lemmas.List.Elements.{filter-append}
@@ -10,7 +10,7 @@ use Rattle.port_order.specs.declared.spots.Mean.{Mean}
 use Rattle.port_order.specs.declared.spots.Spot.{Spot}
 use Rattle.level_plan.specs.Level.{PlainLevel, PlainPlan, End, is_loop, enters, far_unit, linked, mean_of, spot, sum_of}
 use Rattle.level_ends.specs.declared.spots.Told.{Told}
-use Rattle.level_ends.specs.Rows.{IsCounted, bare, more_mean, with_end, with_link}
+use Rattle.level_ends.specs.Rows.{bare, more_mean, with_end, with_link}
 
 -- what is told is true of the end
 pub record IsTold (l : PlainLevel) (p : PlainPlan) (n : End) (t : Told) : Type 0 where

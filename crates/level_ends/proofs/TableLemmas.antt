@@ -1,40 +1,35 @@
 -- The table is the level's, in the words of its plan.
-use Rattle.std.proofs.Common.{◌≡◌, ◌≢◌, ◌⊎◌, ℕ, ℤ, zero, suc, ◌+◌, ◌*◌, ◌<◌, ◌≤◌, ◌^◌, ◌==◌, pos, List, [], ◌∷◌, length, map, get_or, Bool, true, false, ◌&&◌, cond, Option, None, Some, IsTrue, int_lt, ◌+ℤ◌, refl, sym, ◌∙◌, ap, subst, inl, inr, arith, eq-eqb, true≢false}
-use Rattle.std.specs.Prelude.{slice_index_or}
-use Rattle.std.specs.List.{list_any, range_with_len, filter}
+use Rattle.std.proofs.Common.{◌≡◌, ◌⊎◌, ℕ, ℤ, zero, suc, ◌+◌, ◌*◌, ◌<◌, ◌≤◌, ◌==◌, List, length, get_or, Bool, true, false, ◌&&◌, cond, Option, None, Some, IsTrue, int_lt, ◌+ℤ◌, refl, sym, ◌∙◌, ap, subst, inl, inr, arith, eq-eqb, true≢false}
+use Rattle.std.specs.List.{list_any, range_with_len}
 use Rattle.std.proofs.lemmas.Bool.{cases_order, and_from}
-use Rattle.elk_doc.specs.declared.shape.Point.{Point}
 use Rattle.elk_doc.specs.declared.shape.Side.{Side}
 use Rattle.elk_doc.specs.declared.shape.Side.TheVariants.{North, East, South, West}
 use Rattle.elk_doc.specs.declared.shape.Dock.{Dock}
 use Rattle.elk_doc.specs.PortsKept.{is_side}
 use Rattle.elk_doc.specs.Shapes.{hull, rect_at}
-use Rattle.port_order.specs.declared.spots.Spot.{Spot}
-use Rattle.port_order.specs.Child.{port_at, spot_at}
+use Rattle.port_order.specs.Child.{port_at}
 use Rattle.port_order.specs.Order.{IsOrderOfSide}
 use Rattle.port_order.specs.Places.{anchor_at, place_of_port}
 use Rattle.level_stage.specs.Stage.{dock_lane, loop_lane}
-use Rattle.level_plan.specs.declared.level.Spoke.{Spoke}
 use Rattle.level_plan.specs.declared.table.ChildAt.{ChildAt}
 use Rattle.level_plan.specs.declared.table.EndAt.{EndAt}
 use Rattle.level_plan.specs.declared.table.LoopAt.{LoopAt}
 use Rattle.level_plan.specs.declared.table.Table.{Table}
 use Rattle.level_plan.specs.Conditions.{IsLevel}
 use Rattle.level_plan.specs.Lanes.{has_lane, lane_height, lane_side, lanes, loop_sides, place_of_line}
-use Rattle.level_plan.specs.Level.{End, Orders, PlainLevel, PlainPlan, anchor_of_spot, child_at, dock_of, dock_of_spot, edge_at, end_at, is_loop, outline, outline_from, port_place, port_spot, spoke, spot_at_port, spot_of, spots}
-use Rattle.level_plan.specs.Nets.{below_top, unit_of}
+use Rattle.level_plan.specs.Level.{End, Orders, PlainLevel, PlainPlan, child_at, dock_of, dock_of_spot, edge_at, end_at, is_loop, outline, outline_from, port_spot, spoke, spot_at_port, spots}
 use Rattle.level_plan.specs.Table.{IsChildAt, IsEndAt, IsLoopAt, IsTable, child_in, end_in, loop_in}
 use Rattle.level_plan.specs.Units.{AreOrders}
 use Rattle.level_ends.specs.declared.loops.LoopLanes.{LoopLanes}
 use Rattle.level_ends.specs.declared.spots.Spots.{Spots}
 use Rattle.level_ends.specs.Ends.{AreEndDocks, AreLoopLanes, is_unit_of, loop_on, loops_to}
-use Rattle.level_ends.specs.Entries.{AreEndEntries, AreEntries, AreLanesOf, AreLoopEntries, IsEndEntry, IsEntry, IsLoopEntry}
+use Rattle.level_ends.specs.Entries.{AreEndEntries, AreEntries, AreLanesOf, AreLoopEntries, IsEndEntry, IsLoopEntry}
 use Rattle.level_ends.specs.Flows.{AreFirst}
-use Rattle.level_ends.specs.Lanes.{AreDockLanes, AreLaneSides, PlainLanes, asked, first_same, height_by, height_or, is_on, lane_at, lane_in, lane_place_in, lane_side_in, lanes_at, lanes_to, same_dock, side_by}
+use Rattle.level_ends.specs.Lanes.{AreDockLanes, PlainLanes, asked, first_same, height_by, height_or, is_on, lane_in, lane_place_in, lane_side_in, lanes_at, lanes_to, side_by}
 use Rattle.level_ends.specs.Outlines.{dock_in, outline_by}
-use Rattle.level_ends.specs.Rows.{AreSpotsOf, HasNumber, row_at, row_lists}
+use Rattle.level_ends.specs.Rows.{AreSpotsOf, HasNumber, row_lists}
 use Rattle.level_ends.specs.Sides.{AreDocks, AreOrdersTo, FourOrders, docks_at, orders_in}
-use Rattle.level_ends.proofs.FirstLemmas.{IsFirstSpot, first_spot, same_from, same_parts, side_self}
+use Rattle.level_ends.proofs.FirstLemmas.{IsFirstSpot, first_spot, same_from, same_parts}
 use Rattle.level_ends.proofs.LoopLemmas.{child_docks}
 use Rattle.level_ends.proofs.PlanLemmas.{AreChildDocks, dock_place, dock_there, docks_long, has_asked, lane_side_is, lanes_count, loop_bool, loop_place, node_there}
 use Rattle.level_ends.proofs.WholeLemmas.{number_port}

@@ -1,13 +1,12 @@
 -- The level of two children is what a table asks for.
-use Rattle.std.proofs.Common.{◌≡◌, ◌≢◌, ◌⊎◌, ℕ, zero, suc, ◌+◌, ◌-◌, ◌<◌, ◌≤◌, ◌==◌, pos, ◌≤ℤ◌, List, [], ◌∷◌, length, get_or, true, false, Option, None, Some, IsTrue, IsFalse, refl, sym, subst, inl, inr, arith}
+use Rattle.std.proofs.Common.{◌≡◌, ◌≢◌, ◌⊎◌, ℕ, zero, suc, ◌<◌, ◌==◌, pos, ◌≤ℤ◌, List, [], ◌∷◌, length, get_or, true, Some, IsFalse, refl, sym, subst, inr, arith}
 use Rattle.std.proofs.lemmas.Int.{ints}
 use Rattle.std.proofs.lemmas.List.Sums.{count_by-le-length}
-use Rattle.elk_doc.specs.declared.document.PortRule.TheVariants.{Free, FixedSide, FixedPos}
 use Rattle.elk_layers.specs.declared.units.Unit.{Unit as LayerUnit}
-use Rattle.elk_layers.specs.Layered.{AreRows, HasBodyWithin, HasUnit, IsSound, IsSoundLink, is_child, is_lane, layer_of, link_at, row_at, unit_at}
-use Rattle.port_order.specs.Conditions.{IsChild, IsChildPort, IsSmall}
-use Rattle.level_plan.specs.Conditions.{IsLevel, IsLevelChild, IsLevelEdge, IsNearPort, IsSpoke}
-use Rattle.level_plan.specs.Level.{PlainLevel, child_at, is_loop}
+use Rattle.elk_layers.specs.Layered.{AreRows, HasBodyWithin, HasUnit, IsSound, Plain, IsSoundLink, is_child, is_lane, layer_of, link_at, row_at, unit_at}
+use Rattle.port_order.specs.Conditions.{IsChildPort, IsSmall}
+use Rattle.level_plan.specs.Conditions.{IsLevel, IsLevelChild, IsLevelEdge, IsNearPort}
+use Rattle.level_plan.specs.Level.{PlainLevel, PlainPlan, child_at, is_loop}
 use Rattle.level_plan.specs.Units.{AreLinked, HasChain, IsLaneUnit, IsLinkOf, IsUnitOf}
 use Rattle.level_plan.specs.Nets.{unit_of}
 use Rattle.level_ends.specs.Examples.{west, west_layers, west_plan}
@@ -125,3 +124,23 @@ west_linked =
           (λ no_loop. record { long = refl; some = omega arith; from = refl; to = refl; joined = λ i h. absurd (omega (arith, h)); lanes = λ i h. absurd (omega (arith, h)) });
       links = below_one (IsLinkOf west west_plan) (record { edge_in = omega arith; no_loop = refl });
     }
+
+-- a level, a layered drawing and rows that are these
+pub level_is : (l : PlainLevel) → l ≡ west → IsLevel l
+level_is l e = subst IsLevel (sym e) west_level
+
+pub sound_is : (x : Plain) → x ≡ west_plan.layered → IsSound x
+sound_is x e = subst IsSound (sym e) west_sound
+
+pub rows_are : (x : Plain) (rows : List (List ℕ)) → x ≡ west_plan.layered → rows ≡ west_plan.rows → AreRows x rows
+rows_are x rows e f = subst (λ ys. AreRows x ys) (sym f) (subst (λ y. AreRows y west_plan.rows) (sym e) west_rows)
+
+-- the plan of a layered drawing and rows, before tops are known
+abbrev plan_of : ℕ → Plain → List (List ℕ) → PlainPlan
+plan_of layers x rows = record { layers = layers; layered = x; rows = rows; tops = []; reversed = [] }
+
+pub linked_is : (l : PlainLevel) (x : Plain) (rows : List (List ℕ)) → l ≡ west → x ≡ west_plan.layered → rows ≡ west_plan.rows → (layers : List ℕ) × AreLinked l (plan_of x.layers x rows) layers
+linked_is l x rows el ex er =
+    subst (λ k. (layers : List ℕ) × AreLinked k (plan_of x.layers x rows) layers) (sym el)
+    (subst (λ y. (layers : List ℕ) × AreLinked west (plan_of y.layers y rows) layers) (sym ex)
+    (subst (λ rs. (layers : List ℕ) × AreLinked west (plan_of 2 west_plan.layered rs) layers) (sym er) (west_layers, west_linked)))

@@ -1,8 +1,8 @@
 -- The spots of children, once all ends are added.
-use Rattle.std.proofs.Common.{◌≡◌, ◌≢◌, ℕ, zero, suc, ◌+◌, ◌-◌, ◌*◌, ◌<◌, ◌≤◌, ◌^◌, ◌==◌, List, [], ◌∷◌, ◌++◌, length, map, get_or, Bool, true, false, not, ◌&&◌, cond, Option, None, Some, IsNone, IsFalse, is_none, IfSome, refl, sym, ◌∙◌, ap, subst, inl, inr, arith, eq-eqb, append_assoc, length-append}
+use Rattle.std.proofs.Common.{◌≡◌, ℕ, zero, suc, ◌+◌, ◌-◌, ◌*◌, ◌<◌, ◌≤◌, ◌==◌, List, [], ◌∷◌, ◌++◌, length, get_or, Bool, true, false, not, ◌&&◌, cond, Option, None, Some, is_none, IfSome, refl, sym, ◌∙◌, ap, subst, inl, inr, arith, eq-eqb, append_assoc, length-append}
 use Rattle.std.specs.List.{filter, list_any, range_with_len}
-use Rattle.std.proofs.lemmas.Bool.{cases_lt, cases_Bool, and_from, and_left, and_right}
-use Rattle.std.proofs.lemmas.List.{get_or_append_left, get_or-append_right, get_or_at}
+use Rattle.std.proofs.lemmas.Bool.{cases_lt, and_from}
+use Rattle.std.proofs.lemmas.List.{get_or-append_right, get_or_at}
 use Rattle.std.proofs.lemmas.List.Elements.{filter-append}
 use Rattle.port_order.specs.declared.spots.Spot.{Spot}
 use Rattle.port_order.specs.declared.spots.Mean.{Mean}
@@ -10,13 +10,12 @@ use Rattle.port_order.specs.Child.{spot_at, no_spot}
 use Rattle.port_order.specs.Conditions.{AreSpots, IsSpot}
 use Rattle.level_plan.specs.declared.level.Spoke.{Spoke}
 use Rattle.level_plan.specs.Conditions.{IsLevel, IsSpoke}
-use Rattle.level_plan.specs.Level.{PlainLevel, PlainPlan, End, all_ends, child_at, edge_at, end_at, ends_of_edges, enters, implicit_ends, implicit_spot, is_loop, linked, mean_of, place_of_end, port_spot, spoke, spot, spot_at_port, spot_of, spots}
+use Rattle.level_plan.specs.Level.{PlainLevel, PlainPlan, End, all_ends, child_at, end_at, ends_of_edges, enters, implicit_ends, implicit_spot, is_loop, linked, mean_of, place_of_end, port_spot, spoke, spot, spot_at_port, spots}
 use Rattle.level_ends.specs.declared.flows.Flow.{Flow}
 use Rattle.level_ends.specs.declared.spots.Spots.{Spots}
 use Rattle.level_ends.specs.Flows.{AreFlows}
-use Rattle.level_ends.specs.Rows.{AreNumbered, AreNumbers, AreRowsOf, AreSpotsOf, AreSpotsTo, HasNumber, at_child, at_port, ends_before, ends_to, implicit_spots, number_by, number_of, port_spots_of, row_at, row_lists, row_of}
-use Rattle.level_ends.proofs.SpotLemmas.{filter_yes, filter_no}
-use Rattle.level_ends.proofs.RowLemmas.{implicit_long, implicit_numbered, port_spots_long, port_there, row_long}
+use Rattle.level_ends.specs.Rows.{AreNumbered, AreSpotsOf, AreSpotsTo, HasNumber, at_child, at_port, ends_before, ends_to, implicit_spots, number_by, number_of, port_spots_of, row_at, row_lists, row_of}
+use Rattle.level_ends.proofs.RowLemmas.{implicit_numbered, port_spots_long, port_there, row_long}
 use Rattle.level_ends.proofs.EndLemmas.{Differ, differ_filter, ends_differ, ends_split, place_there}
 use Rattle.level_ends.proofs.AddLemmas.{ends_to_long, row_few}
 

@@ -1,13 +1,12 @@
 -- The docks of edges' ends as a list, the lanes of self-loops, and the units of children.
-use Rattle.std.specs.Prelude.{◌≡◌, ℕ, ◌+◌, ◌*◌, ◌<◌, ◌≤◌, ◌^◌, ◌==◌, cond, Bool, true, false, ◌&&◌, List, length, Option, None, Some, slice_index, slice_index_or, slice_set}
+use Rattle.std.specs.Prelude.{◌≡◌, ℕ, ◌+◌, ◌*◌, ◌<◌, ◌≤◌, ◌^◌, ◌==◌, cond, Bool, true, false, ◌&&◌, List, length, Option, None, Some, slice_index, slice_set}
 use Rattle.std.specs.List.{filter, range_with_len}
 use Rattle.elk_doc.specs.declared.shape.Side.{Side}
 use Rattle.elk_doc.specs.declared.shape.Side.TheVariants.{North, South}
 use Rattle.elk_doc.specs.declared.shape.Dock.{Dock}
-use Rattle.elk_layers.specs.declared.units.Unit.{Unit as LayerUnit}
 use Rattle.elk_layers.specs.Layered.{Plain, unit_at}
 use Rattle.level_plan.specs.Level.{PlainLevel, PlainPlan, Orders, dock_of, edge_at, end_at, is_loop}
-use Rattle.level_plan.specs.Nets.{is_number, unit_of}
+use Rattle.level_plan.specs.Nets.{is_number}
 use Rattle.level_ends.specs.declared.loops.LoopLanes.{LoopLanes}
 use Rattle.level_ends.specs.Lanes.{loop_lane_on}
 use Rattle.level_ends.specs.Outlines.{dock_in}

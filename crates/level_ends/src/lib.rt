@@ -1,7 +1,8 @@
-//! The ends of a level's edges: where they dock, the anchors and ports that follow, and the outlines of children.
+//! The ends of a level's edges: where they dock, the anchors, ports and outlines that follow, and the lanes beside these.
 //!
 //! Everything is read once and kept by number: the places at the far ends of links by edge, the spots of each child in
-//! document order, the orders of its sides, and the docks of its spots.
+//! document order, the orders of its sides, the docks of its spots, and the lanes of docks and self-loops with their places
+//! from the outline. `table_of` puts together what a drawing needs of them.
 #![tactic(auto)]
 
 mod docks;

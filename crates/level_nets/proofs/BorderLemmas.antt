@@ -1,14 +1,13 @@
 -- Widths and borders of gaps in range, and gaps that are placed one after the other.
-use Rattle.std.proofs.Common.{◌≡◌, ◌≢◌, ◌⊎◌, inl, inr, ⊎_elim, ℕ, zero, suc, ◌+◌, ◌-◌, ◌*◌, ◌<◌, ◌≤◌, ◌^◌, eqb, cond, Bool, true, false, ◌||◌, List, [], ◌∷◌, ◌++◌, map, length, get_or, set, ℤ, pos, negsuc, ◌+ℤ◌, ◌-ℤ◌, ◌*ℤ◌, ◌≤ℤ◌, refl, sym, subst, ap, ◌∙◌, arith, FitsSigned, w64, to_z, of_z, add-one}
-use Rattle.std.proofs.lemmas.Bool.{cases_eq, eq-eqb, ne_eqb, cases_Bool, cond_both}
+use Rattle.std.proofs.Common.{◌≡◌, ⊎_elim, ℕ, zero, suc, ◌+◌, ◌-◌, ◌*◌, ◌<◌, ◌≤◌, ◌^◌, eqb, cond, Bool, ◌||◌, List, [], ◌∷◌, length, get_or, set, ℤ, pos, negsuc, ◌+ℤ◌, ◌*ℤ◌, ◌≤ℤ◌, refl, sym, subst, ap, ◌∙◌, arith, FitsSigned, w64, to_z, of_z, add-one}
+use Rattle.std.proofs.lemmas.Bool.{cases_eq, eq-eqb, ne_eqb, cond_both}
 use Rattle.std.proofs.lemmas.Int.{ints, clamps}
 use Rattle.std.proofs.lemmas.List.{length-set, get_or-set_same, get_or-set_other, get_or-map, map-set, length-map}
 use Rattle.std.proofs.Math.Nat.{mul-le-mul_left}
 use Rattle.std.specs.Int.{int_max}
 use Rattle.std.specs.List.{range_with_len}
-use Rattle.elk_doc.specs.Sound.{IsWithin, IsDistance, IsSoundSpacing}
+use Rattle.elk_doc.specs.Sound.{IsDistance, IsSoundSpacing}
 use Rattle.elk_layers.specs.Layered.{IsFromZero, layer_of}
-use Rattle.route_slots.specs.declared.Net.{Net}
 use Rattle.route_lines.specs.declared.Gap.{Gap}
 use Rattle.route_lines.specs.Points.{PlainGap, plain_gap, gap_in}
 use Rattle.level_plan.specs.Level.{PlainLevel, PlainPlan}
@@ -59,9 +58,9 @@ width_in l p g n sound few =
     let steps = few_steps (n - 1) l.spacing.edge_edge_layers (omega (arith, few)) sound.edge_edge_layers in
     cond_both (eqb g 0 || eqb g p.layers) (outer_width l n) (inner_width l n) (λ z. IsFromZero z (pos (2 ^ 36)))
     (λ outer. cond_both (eqb n 0) (pos 0) (l.spacing.edge_node_layers +ℤ (pos (n - 1) *ℤ l.spacing.edge_edge_layers)) (λ z. IsFromZero z (pos (2 ^ 36)))
-      (λ none. nothing) (λ some. outer_sum l.spacing.edge_node_layers (pos (n - 1) *ℤ l.spacing.edge_edge_layers) sound.edge_node_layers steps))
+    (λ none. nothing) (λ some. outer_sum l.spacing.edge_node_layers (pos (n - 1) *ℤ l.spacing.edge_edge_layers) sound.edge_node_layers steps))
     (λ inner. cond_both (eqb n 0) l.spacing.node_layers (int_max l.spacing.node_layers (l.spacing.edge_node_layers +ℤ l.spacing.edge_node_layers +ℤ (pos (n - 1) *ℤ l.spacing.edge_edge_layers))) (λ z. IsFromZero z (pos (2 ^ 36)))
-      (λ none. one_distance l.spacing.node_layers sound.node_layers) (λ some. inner_sum l.spacing.node_layers l.spacing.edge_node_layers (pos (n - 1) *ℤ l.spacing.edge_edge_layers) sound.node_layers sound.edge_node_layers steps))
+    (λ none. one_distance l.spacing.node_layers sound.node_layers) (λ some. inner_sum l.spacing.node_layers l.spacing.edge_node_layers (pos (n - 1) *ℤ l.spacing.edge_edge_layers) sound.node_layers sound.edge_node_layers steps))
 
 -- columns are not narrower than nothing
 widest_from : (s : Parts) (r : ℕ) (cs : List ℕ) → pos 0 ≤ℤ widest_of s r cs
@@ -109,8 +108,8 @@ pub left_range : (s : Parts) (i : ℕ) (old now : List PlainGap) → IsSoundSpac
     → ((g : ℕ) → g < length old → AreNetsIn (gap_in old g).nets) → i ≤ length old → ArePlaced s i old now → IsFromZero (left_of s (counts_of now) i) (pos (2 ^ 50))
 left_range s i old now sound layers columns long nets within placed =
     let few : (h : ℕ) → h < i → counts_of now h ≤ 2 ^ 15 =
-        λ h less. count_few s h (left_of s (counts_of now) h) (gap_in now h) (placed.each h less)
-          (subst AreNetsIn (sym (placed.nets h (omega (arith, less, within)))) (nets h (omega (arith, less, within)))) in
+    λ h less. count_few s h (left_of s (counts_of now) h) (gap_in now h) (placed.each h less)
+    (subst AreNetsIn (sym (placed.nets h (omega (arith, less, within)))) (nets h (omega (arith, less, within)))) in
     let left = left_in s (counts_of now) i sound few in
     let wide = columns i (omega (arith, within, long)) in
     let low = left.0 in
@@ -128,7 +127,7 @@ placed_more s i old now new gap left less placed border here nets e =
     let at : gap_in new i ≡ gap = ap (λ gs. gap_in gs i) e ∙ get_or-set_same now i gap _ inside in
     let other : (g : ℕ) → (g ≡ i → ⊥) → gap_in new g ≡ gap_in now g = λ g ne. ap (λ gs. gap_in gs g) e ∙ get_or-set_other now i g gap _ ne in
     let kept : (g : ℕ) → g < i + 1 → left_of s (counts_of now) g ≡ left_of s (counts_of new) g =
-        λ g below. left_same s (counts_of now) (counts_of new) g (λ k under. ap (λ (q : PlainGap). q.count) (sym (other k (λ same. omega (arith, same, under, below))))) in
+    λ g below. left_same s (counts_of now) (counts_of new) g (λ k under. ap (λ (q : PlainGap). q.count) (sym (other k (λ same. omega (arith, same, under, below))))) in
     record {
       as_many = long ∙ placed.as_many;
       nets = λ g within.
@@ -139,12 +138,12 @@ placed_more s i old now new gap left less placed border here nets e =
       each = λ g below.
           ⊎_elim
           (λ (same : g ≡ i).
-            subst (λ k. IsPlaced s k (left_of s (counts_of new) k) (gap_in new k)) (sym same)
-            (subst (λ q. IsPlaced s i (left_of s (counts_of new) i) q) (sym at)
-            (subst (λ z. IsPlaced s i z gap) (border ∙ kept i (omega arith)) here)))
+          subst (λ k. IsPlaced s k (left_of s (counts_of new) k) (gap_in new k)) (sym same)
+          (subst (λ q. IsPlaced s i (left_of s (counts_of new) i) q) (sym at)
+          (subst (λ z. IsPlaced s i z gap) (border ∙ kept i (omega arith)) here)))
           (λ ne.
-            subst (λ q. IsPlaced s g (left_of s (counts_of new) g) q) (sym (other g ne))
-            (subst (λ z. IsPlaced s g z (gap_in now g)) (kept g below) (placed.each g (omega (arith, below, ne)))))
+          subst (λ q. IsPlaced s g (left_of s (counts_of new) g) q) (sym (other g ne))
+          (subst (λ z. IsPlaced s g z (gap_in now g)) (kept g below) (placed.each g (omega (arith, below, ne)))))
           (cases_eq g i);
     }
 
@@ -211,8 +210,8 @@ widest_at : (s : Parts) (n m r : ℕ) → m < n → widest_of s r (range_with_le
 widest_at s n m r h =
     let next : n - (m + 1) + 1 ≡ n - m = omega (arith, h) in
     let here : widest_of s r (range_with_len (n - (m + 1)) (m + 1))
-        ≡ cond (eqb (layer_of s.layered (child_in s.table.children (n - (m + 1))).unit) r) (int_max (child_in s.table.children (n - (m + 1))).outline.width (widest_of s r (range_with_len (n - (m + 1) + 1) m))) (widest_of s r (range_with_len (n - (m + 1) + 1) m)) =
-        rw (add-one m) refl in
+    ≡ cond (eqb (layer_of s.layered (child_in s.table.children (n - (m + 1))).unit) r) (int_max (child_in s.table.children (n - (m + 1))).outline.width (widest_of s r (range_with_len (n - (m + 1) + 1) m))) (widest_of s r (range_with_len (n - (m + 1) + 1) m)) =
+    rw (add-one m) refl in
     here ∙ ap (λ a. cond (eqb (layer_of s.layered (child_in s.table.children (n - (m + 1))).unit) r) (int_max (child_in s.table.children (n - (m + 1))).outline.width (widest_of s r (range_with_len a m))) (widest_of s r (range_with_len a m))) next
 
 pub widest_more : (s : Parts) (m : ℕ) (old new : List ℤ) (layer : ℕ) (width : ℤ) → m < length s.level.children → layer < length old
@@ -225,20 +224,20 @@ widest_more s m old new layer width h inside el ew e widest r less =
     let within : r < length old = omega (arith, less, long) in
     ap (λ ws. get_or ws r (pos 0)) e
     ∙ (⊎_elim
-      (λ (same : r ≡ layer).
-        ap (λ k. get_or (set old layer (int_max width (get_or old layer (pos 0)))) k (pos 0)) same
-        ∙ get_or-set_same old layer (int_max width (get_or old layer (pos 0))) (pos 0) inside
-        ∙ ap (λ k. int_max width (get_or old k (pos 0))) (sym same)
-        ∙ ap (int_max width) (widest r within)
-        ∙ ap (λ z. int_max z (widest_of s r (range_with_len (length s.level.children - m) m))) ew
-        ∙ sym (ap (λ (b : Bool). cond b (int_max (child_in s.table.children (length s.level.children - (m + 1))).outline.width (widest_of s r (range_with_len (length s.level.children - m) m))) (widest_of s r (range_with_len (length s.level.children - m) m)))
-          (eq-eqb (layer_of s.layered (child_in s.table.children (length s.level.children - (m + 1))).unit) r (sym el ∙ sym same))))
-      (λ (other : r ≡ layer → ⊥).
-        get_or-set_other old layer r (int_max width (get_or old layer (pos 0))) (pos 0) other
-        ∙ widest r within
-        ∙ sym (ap (λ (b : Bool). cond b (int_max (child_in s.table.children (length s.level.children - (m + 1))).outline.width (widest_of s r (range_with_len (length s.level.children - m) m))) (widest_of s r (range_with_len (length s.level.children - m) m)))
-          (ne_eqb (layer_of s.layered (child_in s.table.children (length s.level.children - (m + 1))).unit) r (λ q. other (sym q ∙ sym el)))))
-      (cases_eq r layer))
+    (λ (same : r ≡ layer).
+    ap (λ k. get_or (set old layer (int_max width (get_or old layer (pos 0)))) k (pos 0)) same
+    ∙ get_or-set_same old layer (int_max width (get_or old layer (pos 0))) (pos 0) inside
+    ∙ ap (λ k. int_max width (get_or old k (pos 0))) (sym same)
+    ∙ ap (int_max width) (widest r within)
+    ∙ ap (λ z. int_max z (widest_of s r (range_with_len (length s.level.children - m) m))) ew
+    ∙ sym (ap (λ (b : Bool). cond b (int_max (child_in s.table.children (length s.level.children - (m + 1))).outline.width (widest_of s r (range_with_len (length s.level.children - m) m))) (widest_of s r (range_with_len (length s.level.children - m) m)))
+    (eq-eqb (layer_of s.layered (child_in s.table.children (length s.level.children - (m + 1))).unit) r (sym el ∙ sym same))))
+    (λ (other : r ≡ layer → ⊥).
+    get_or-set_other old layer r (int_max width (get_or old layer (pos 0))) (pos 0) other
+    ∙ widest r within
+    ∙ sym (ap (λ (b : Bool). cond b (int_max (child_in s.table.children (length s.level.children - (m + 1))).outline.width (widest_of s r (range_with_len (length s.level.children - m) m))) (widest_of s r (range_with_len (length s.level.children - m) m)))
+    (ne_eqb (layer_of s.layered (child_in s.table.children (length s.level.children - (m + 1))).unit) r (λ q. other (sym q ∙ sym el)))))
+    (cases_eq r layer))
     ∙ sym (widest_at s (length s.level.children) m r h)
 
 pub widest_none : (s : Parts) (n : ℕ) (widths : List ℤ) → ((r : ℕ) → r < length widths → get_or widths r (pos 0) ≡ pos 0) → AreWidest s 0 widths
@@ -277,12 +276,12 @@ stepped s i olds gaps g d e left width asked less long placed border here nets s
     let old_inside : i < length (plain_gaps olds) = omega (arith, less, many) in
     let next = step_placed s i (plain_gaps olds) gaps g e left old_inside inside placed border here nets in
     let own : AreNetsIn (plain_gap g).nets =
-        subst AreNetsIn (sym (nets ∙ ap (λ (q : PlainGap). q.nets) (gap_read gaps i e inside) ∙ placed.nets i old_inside)) (asked.nets i less) in
+    subst AreNetsIn (sym (nets ∙ ap (λ (q : PlainGap). q.nets) (gap_read gaps i e inside) ∙ placed.nets i old_inside)) (asked.nets i less) in
     let range = subst (λ z. IsFromZero z (pos (2 ^ 50))) (sym border) (border_range s i olds gaps asked (omega (arith, less)) placed) in
     let right = right_range s i left (plain_gap g) asked.sound here own range in
     let read = right_read gaps i g d inside in
     let at : gap_in (plain_gaps (set gaps i g)) i ≡ plain_gap g =
-        ap (λ gs. gap_in gs i) (map-set plain_gap gaps i g) ∙ get_or-set_same (plain_gaps gaps) i (plain_gap g) _ (let all = length-map gaps plain_gap in omega (arith, inside, all)) in
+    ap (λ gs. gap_in gs i) (map-set plain_gap gaps i g) ∙ get_or-set_same (plain_gaps gaps) i (plain_gap g) _ (let all = length-map gaps plain_gap in omega (arith, inside, all)) in
     let wide = width_range s i asked.columns (let all = asked.long in omega (arith, less, all)) in
     let high = subst (λ (q : PlainGap). IsFromZero q.right (pos (2 ^ 51))) (sym at) right in
     record {

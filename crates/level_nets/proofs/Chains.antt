@@ -1,14 +1,13 @@
 -- Each link is one of its edge's chain. So a link that begins or ends at a child does so at that of the edge's end, and an edge
 -- has one link in a gap.
-use Rattle.std.proofs.Common.{◌≡◌, ◌≢◌, ◌⊎◌, inl, inr, ⊎_elim, ℕ, zero, suc, ◌+◌, ◌-◌, ◌<◌, ◌≤◌, eqb, cond, Bool, true, false, ◌&&◌, ◌||◌, List, [], ◌∷◌, ◌++◌, length, get_or, refl, sym, subst, ap, ◌∙◌, arith}
-use Rattle.std.proofs.lemmas.Bool.{and_from, and_parts, eq-eqb, eqb-true, cases_order, cases_Bool}
-use Rattle.std.specs.Prelude.{Option, None, Some, is_some}
-use Rattle.std.specs.List.{filter, range_with_len}
-use Rattle.elk_doc.specs.declared.shape.Dock.{Dock}
-use Rattle.elk_layers.specs.Layered.{unit_at, link_at, is_child, layer_of, IsSoundLink}
+use Rattle.std.proofs.Common.{◌≡◌, ◌⊎◌, ⊎_elim, ℕ, zero, suc, ◌+◌, ◌-◌, ◌<◌, eqb, cond, Bool, true, false, ◌&&◌, ◌||◌, List, [], ◌∷◌, length, refl, sym, subst, ap, ◌∙◌, arith}
+use Rattle.std.proofs.lemmas.Bool.{and_from, and_parts, eq-eqb, eqb-true, cases_order}
+use Rattle.std.specs.Prelude.{is_some}
+use Rattle.std.specs.List.{range_with_len}
+use Rattle.elk_layers.specs.Layered.{unit_at, link_at, is_child, layer_of}
 use Rattle.self_loops.specs.Loops.{is_upright}
-use Rattle.level_stage.specs.Stage.{Line, anchor_line, dock_lane, long_lane}
-use Rattle.level_plan.specs.Level.{PlainLevel, PlainPlan, Orders, End, spoke, tail_end, head_end, dock_of, is_loop}
+use Rattle.level_stage.specs.Stage.{anchor_line, dock_lane, long_lane}
+use Rattle.level_plan.specs.Level.{PlainLevel, PlainPlan, Orders, End, spoke, tail_end, head_end, dock_of}
 use Rattle.level_plan.specs.Nets.{unit_of, unit_of_line, is_inverted, line_of_end, tail_line, head_line}
 use Rattle.level_plan.specs.Traces.{links_at, links_from, chain}
 use Rattle.level_plan.specs.Units.{IsLaneUnit, HasChain, chain_at}
@@ -29,10 +28,10 @@ from_has p e k [] h = absurd h
 from_has p e k (q ∷ rs) h =
     ⊎_elim
     (λ here.
-      let found = filter_has (λ j. eqb (link_at p.layered.links j).edge e && eqb (layer_of p.layered (link_at p.layered.links j).tail) q) (range_with_len 0 (length p.layered.links)) k here in
-      let low = (range_has 0 (length p.layered.links) k found.0).1 in
-      let named = and_parts (eqb (link_at p.layered.links k).edge e) (eqb (layer_of p.layered (link_at p.layered.links k).tail) q) found.1 in
-      (omega (arith, low), eqb-true (link_at p.layered.links k).edge e named.0))
+    let found = filter_has (λ j. eqb (link_at p.layered.links j).edge e && eqb (layer_of p.layered (link_at p.layered.links j).tail) q) (range_with_len 0 (length p.layered.links)) k here in
+    let low = (range_has 0 (length p.layered.links) k found.0).1 in
+    let named = and_parts (eqb (link_at p.layered.links k).edge e) (eqb (layer_of p.layered (link_at p.layered.links k).tail) q) found.1 in
+    (omega (arith, low), eqb-true (link_at p.layered.links k).edge e named.0))
     (λ rest. from_has p e k rs rest)
     (append_has (links_at p e q) (links_from p e rs) k h)
 
@@ -82,7 +81,7 @@ module _ (l : PlainLevel) (p : PlainPlan) (o : Orders) (layers : List ℕ) (read
   tail_at_place e (suc i) k has h at child =
       let next : i + 1 ≡ suc i = omega arith in
       let joined : (link_at p.layered.links (chain_at p e i)).head ≡ (link_at p.layered.links k).tail =
-          has.joined i (omega (arith, h)) ∙ ap (λ j. (link_at p.layered.links (chain_at p e j)).tail) next ∙ ap (λ j. (link_at p.layered.links j).tail) at in
+      has.joined i (omega (arith, h)) ∙ ap (λ j. (link_at p.layered.links (chain_at p e j)).tail) next ∙ ap (λ j. (link_at p.layered.links j).tail) at in
       absurd (lane_no_child p (link_at p.layered.links k).tail (subst (IsLaneUnit p) joined (has.lanes i (omega (arith, h)))) child)
 
   pub tail_is : (k : ℕ) → k < length p.layered.links → is_child p.layered (link_at p.layered.links k).tail ≡ true
@@ -101,13 +100,13 @@ module _ (l : PlainLevel) (p : PlainPlan) (o : Orders) (layers : List ℕ) (read
       let within = at.1 in
       ⊎_elim
       (λ (last : i + 1 ≡ length (chain p e)).
-        let same : length (chain p e) - 1 ≡ i = omega (arith, last) in
-        ap (λ j. (link_at p.layered.links j).head) (sym at.2) ∙ ap (λ j. (link_at p.layered.links (chain_at p e j)).head) (sym same) ∙ has.to)
+      let same : length (chain p e) - 1 ≡ i = omega (arith, last) in
+      ap (λ j. (link_at p.layered.links j).head) (sym at.2) ∙ ap (λ j. (link_at p.layered.links (chain_at p e j)).head) (sym same) ∙ has.to)
       (λ (order : (i + 1 < length (chain p e)) ⊎ (length (chain p e) < i + 1)).
-        ⊎_elim
-        (λ (less : i + 1 < length (chain p e)). absurd (lane_no_child p (link_at p.layered.links k).head (subst (λ j. IsLaneUnit p (link_at p.layered.links j).head) at.2 (has.lanes i less)) child))
-        (λ more. absurd (omega (arith, more, within)))
-        order)
+      ⊎_elim
+      (λ (less : i + 1 < length (chain p e)). absurd (lane_no_child p (link_at p.layered.links k).head (subst (λ j. IsLaneUnit p (link_at p.layered.links j).head) at.2 (has.lanes i less)) child))
+      (λ more. absurd (omega (arith, more, within)))
+      order)
       (cases_order (i + 1) (length (chain p e)))
 
   -- the lines of a link lie in its tail and its head
@@ -147,7 +146,7 @@ module _ (l : PlainLevel) (p : PlainPlan) (o : Orders) (layers : List ℕ) (read
   before e i j has less h same =
       let at : i + suc (j - suc i) ≡ j = omega (arith, less) in
       let up = subst (λ m. layer_of p.layered (link_at p.layered.links (chain_at p e i)).tail < layer_of p.layered (link_at p.layered.links (chain_at p e m)).tail) at
-          (layers_rise e i (j - suc i) has (omega (arith, less, h))) in
+      (layers_rise e i (j - suc i) has (omega (arith, less, h))) in
       omega (arith, up, same)
 
   -- an edge has one link in a gap
@@ -162,9 +161,9 @@ module _ (l : PlainLevel) (p : PlainPlan) (o : Orders) (layers : List ℕ) (read
       let nk = (ready.sound.links_are k hk).next_layer in
       let tails : layer_of p.layered (link_at p.layered.links j).tail ≡ layer_of p.layered (link_at p.layered.links k).tail = omega (arith, nj, nk, layers) in
       let same : layer_of p.layered (link_at p.layered.links (chain_at p e aj.0)).tail ≡ layer_of p.layered (link_at p.layered.links (chain_at p e ak.0)).tail =
-          ap (λ m. layer_of p.layered (link_at p.layered.links m).tail) aj.2 ∙ tails ∙ ap (λ m. layer_of p.layered (link_at p.layered.links m).tail) (sym ak.2) in
+      ap (λ m. layer_of p.layered (link_at p.layered.links m).tail) aj.2 ∙ tails ∙ ap (λ m. layer_of p.layered (link_at p.layered.links m).tail) (sym ak.2) in
       ⊎_elim
       (λ (one : aj.0 ≡ ak.0). sym aj.2 ∙ ap (λ i. chain_at p e i) one ∙ ak.2)
       (λ (order : (aj.0 < ak.0) ⊎ (ak.0 < aj.0)).
-        ⊎_elim (λ less. absurd (before e aj.0 ak.0 has less ak.1 same)) (λ more. absurd (before e ak.0 aj.0 has more aj.1 (sym same))) order)
+      ⊎_elim (λ less. absurd (before e aj.0 ak.0 has less ak.1 same)) (λ more. absurd (before e ak.0 aj.0 has more aj.1 (sym same))) order)
       (cases_order aj.0 ak.0)

@@ -1,5 +1,5 @@
 -- The nets of each gap are those of the plan, and there are few of them; widths and borders are those of the plan.
-use Rattle.std.proofs.Common.{◌≡◌, ◌≢◌, ◌⊎◌, inl, inr, ⊎_elim, ℕ, zero, suc, ◌+◌, ◌-◌, ◌*◌, ◌<◌, ◌≤◌, ◌^◌, eqb, cond, Bool, true, false, List, [], ◌∷◌, ◌++◌, map, length, get_or, ℤ, pos, ◌+ℤ◌, ◌-ℤ◌, ◌≤ℤ◌, refl, sym, subst, ap, ◌∙◌, arith}
+use Rattle.std.proofs.Common.{◌≡◌, inl, inr, ⊎_elim, ℕ, zero, suc, ◌+◌, ◌*◌, ◌<◌, ◌≤◌, ◌^◌, eqb, cond, Bool, List, [], ◌∷◌, ◌++◌, map, length, ℤ, pos, ◌+ℤ◌, ◌-ℤ◌, refl, sym, subst, ap, ◌∙◌, arith}
 use Rattle.std.proofs.lemmas.Bool.{eqb-true, eq-eqb, cases_Bool}
 use Rattle.std.proofs.lemmas.Int.{ints}
 use Rattle.std.proofs.lemmas.List.{length-append, length-map}
@@ -8,18 +8,16 @@ use Rattle.std.specs.Int.{int_max}
 use Rattle.std.specs.List.{All, filter, range_with_len}
 use Rattle.elk_doc.specs.declared.shape.Rect.{Rect}
 use Rattle.elk_layers.specs.Layered.{link_at, layer_of}
-use Rattle.route_slots.specs.declared.Net.{Net}
 use Rattle.route_slots.specs.GapFree.{IsNet, AreHeights}
 use Rattle.route_lines.specs.Points.{PlainGap, gap_in}
-use Rattle.level_plan.specs.declared.table.ChildAt.{ChildAt}
-use Rattle.level_plan.specs.Level.{PlainLevel, PlainPlan, Orders, all_ends, outline}
+use Rattle.level_plan.specs.Level.{Orders, all_ends, outline}
 use Rattle.level_plan.specs.Nets.{Name, of_link, of_dock, of_loop, unit_of, layer_of_child, gap_of, net_of, all_names, names_in, nets_in, place_of_name, widest, column_width, gap_left, gap_width}
-use Rattle.level_plan.specs.FromPlan.{IsGap, counts}
+use Rattle.level_plan.specs.FromPlan.{IsGap}
 use Rattle.level_plan.specs.Table.{child_in}
 use Rattle.level_stands.proofs.Lists.{Has, has_left, has_right, filter_has, range_has}
 use Rattle.level_stands.proofs.NameLemmas.{IsName, name_is}
 use Rattle.level_nets.specs.Parts.{Parts, plan_of, ArePlanned, EndAbove}
-use Rattle.level_nets.specs.Read.{HoldNets, link_names, dock_names, passing_names, names_of, gap_named, net_named, in_gap, nets_named, leg_behind, widest_of, width_of, left_of, columns_of}
+use Rattle.level_nets.specs.Read.{HoldNets, link_names, dock_names, passing_names, names_of, gap_named, net_named, in_gap, nets_named, leg_behind, widest_of, width_of, left_of}
 use Rattle.level_nets.specs.Reach.{AreNetsIn}
 use Rattle.level_nets.specs.Placed.{IsPlaced, counts_of}
 use Rattle.level_nets.specs.Routed.{drawn_with, place_in_gap}
@@ -54,7 +52,7 @@ module _ (s : Parts) (rows : List (List ℕ)) (o : Orders) (layers : List ℕ) (
       ap (λ names. nets_named s names g) (names_are s rows o layers planned)
       ∙ ap (map (net_named s)) (gaps_are (all_names s.level (plan_of s rows) o) g (λ n has. has))
       ∙ map_same (net_named s) (net_of s.level (plan_of s rows) o (pos 0)) (names_in s.level (plan_of s rows) o g)
-        (λ n has. net_is s rows o layers planned n (name_is s.level (plan_of s rows) o n (filter_has (λ m. eqb (gap_of s.level (plan_of s rows) o m) g) (all_names s.level (plan_of s rows) o) n has).0))
+      (λ n has. net_is s rows o layers planned n (name_is s.level (plan_of s rows) o n (filter_has (λ m. eqb (gap_of s.level (plan_of s rows) o m) g) (all_names s.level (plan_of s rows) o) n has).0))
 
   -- there are few nets in a gap
   links_few : (g : ℕ) → length (filter (λ n. eqb (gap_named s n) g) (link_names (length s.layered.links))) ≤ 2048
@@ -64,7 +62,7 @@ module _ (s : Parts) (rows : List (List ℕ)) (o : Orders) (layers : List ℕ) (
       (few_named (λ k. eqb (layer_of s.layered (link_at s.layered.links k).head) g) (λ k. (link_at s.layered.links k).edge) (length s.layered.links) 2048
       (λ k h here. let edge = (planned.ready.units.linked.links k h).edge_in in let few = planned.ready.level.few_edges in omega (arith, edge, few))
       (λ j k hj hk aj ak same. one_link s.level (plan_of s rows) o layers planned.ready j k hj hk same
-        (eqb-true (layer_of s.layered (link_at s.layered.links j).head) g aj ∙ sym (eqb-true (layer_of s.layered (link_at s.layered.links k).head) g ak))))
+      (eqb-true (layer_of s.layered (link_at s.layered.links j).head) g aj ∙ sym (eqb-true (layer_of s.layered (link_at s.layered.links k).head) g ak))))
 
   pub names_few : (g : ℕ) → length (in_gap s (names_of s) g) ≤ 2 ^ 14
   unfolding in_gap
@@ -74,7 +72,7 @@ module _ (s : Parts) (rows : List (List ℕ)) (o : Orders) (layers : List ℕ) (
       let docks = dock_names s (all_ends s.level) in
       let loops = passing_names s (range_with_len 0 (length s.level.edges)) in
       let split : filter f (links ++ docks ++ loops) ≡ filter f links ++ filter f docks ++ filter f loops =
-          filter_append f (links ++ docks) loops ∙ ap (λ (ns : List Name). ns ++ filter f loops) (filter_append f links docks) in
+      filter_append f (links ++ docks) loops ∙ ap (λ (ns : List Name). ns ++ filter f loops) (filter_append f links docks) in
       let a = links_few g in
       let b0 = filter_short f docks in
       let b1 = docks_short s (all_ends s.level) in
@@ -114,10 +112,10 @@ module _ (s : Parts) (rows : List (List ℕ)) (o : Orders) (layers : List ℕ) (
       let g = gap_of l p o n in
       let f : Name → Bool = λ m. eqb (gap_of l p o m) g in
       let front : length (in_gap s before (gap_named s n)) ≡ length (filter f before) =
-          ap (λ k. length (in_gap s before k)) (gap_is s rows o layers planned n known) ∙ ap length (gaps_are before g (λ m has. there m (has_left before (n ∷ splits.after) m has))) in
+      ap (λ k. length (in_gap s before k)) (gap_is s rows o layers planned n known) ∙ ap length (gaps_are before g (λ m has. there m (has_left before (n ∷ splits.after) m has))) in
       let names : names_in l p o g ≡ filter f before ++ n ∷ filter f splits.after =
-          ap (filter f) all ∙ filter_append f before (n ∷ splits.after)
-          ∙ ap (λ (b : Bool). filter f before ++ cond b (n ∷ filter f splits.after) (filter f splits.after)) (eq-eqb g g refl) in
+      ap (filter f) all ∙ filter_append f before (n ∷ splits.after)
+      ∙ ap (λ (b : Bool). filter f before ++ cond b (n ∷ filter f splits.after) (filter f splits.after)) (eq-eqb g g refl) in
       front
       ∙ sym (place_at (filter f before) (filter f splits.after) n (λ m has. splits.other m (filter_has f before m has).0) splits.self)
       ∙ ap (λ (ns : List Name). place_of_name ns n) (sym names)

@@ -1,6 +1,6 @@
 -- Gaps that hold the nets of some names, and of one name more.
-use Rattle.std.proofs.Common.{◌≡◌, ◌≢◌, ◌⊎◌, inl, inr, ⊎_elim, ℕ, zero, suc, ◌+◌, ◌-◌, ◌*◌, ◌<◌, ◌≤◌, ◌^◌, eqb, cond, Bool, true, false, not, ◌&&◌, List, [], ◌∷◌, ◌++◌, map, length, get_or, set, refl, sym, subst, ap, ◌∙◌, arith}
-use Rattle.std.proofs.lemmas.Bool.{cases_eq, eq-eqb, ne_eqb, cases_Bool}
+use Rattle.std.proofs.Common.{◌≡◌, ⊎_elim, ℕ, ◌+◌, ◌*◌, ◌<◌, ◌≤◌, ◌^◌, eqb, cond, Bool, true, false, List, [], ◌∷◌, ◌++◌, map, length, set, refl, sym, subst, ap, ◌∙◌, arith}
+use Rattle.std.proofs.lemmas.Bool.{cases_eq, eq-eqb, ne_eqb}
 use Rattle.std.proofs.lemmas.List.{append-nil, append_assoc, map-append, length-append, length-map, length-set, get_or-set_same, get_or-set_other}
 use Rattle.std.proofs.lemmas.List.FromFn.{length-range_with_len, map-range_with_len_more}
 use Rattle.std.specs.List.{filter, range_with_len}
@@ -42,18 +42,18 @@ held_more s names n old new g net eg en less e held =
       nets = λ h inside.
           ⊎_elim
           (λ (same : h ≡ g).
-            let at : gap_in new h ≡ with_net (gap_in old g) net = ap (λ gs. gap_in gs h) e ∙ ap (gap_in (set old g (with_net (gap_in old g) net))) same ∙ get_or-set_same old g (with_net (gap_in old g) net) _ less in
-            ap (λ (q : PlainGap). q.nets) at
-            ∙ ap (λ (ns : List Net). ns ++ net ∷ []) (held.nets g less)
-            ∙ ap (λ (m : Net). map (net_named s) (in_gap s names g) ++ m ∷ []) en
-            ∙ sym (map-append (net_named s) (in_gap s names g) (n ∷ []))
-            ∙ ap (map (net_named s)) (sym (in_gap_here s names n g (sym eg)))
-            ∙ ap (λ k. map (net_named s) (in_gap s (names ++ n ∷ []) k)) (sym same))
+          let at : gap_in new h ≡ with_net (gap_in old g) net = ap (λ gs. gap_in gs h) e ∙ ap (gap_in (set old g (with_net (gap_in old g) net))) same ∙ get_or-set_same old g (with_net (gap_in old g) net) _ less in
+          ap (λ (q : PlainGap). q.nets) at
+          ∙ ap (λ (ns : List Net). ns ++ net ∷ []) (held.nets g less)
+          ∙ ap (λ (m : Net). map (net_named s) (in_gap s names g) ++ m ∷ []) en
+          ∙ sym (map-append (net_named s) (in_gap s names g) (n ∷ []))
+          ∙ ap (map (net_named s)) (sym (in_gap_here s names n g (sym eg)))
+          ∙ ap (λ k. map (net_named s) (in_gap s (names ++ n ∷ []) k)) (sym same))
           (λ (other : h ≡ g → ⊥).
-            let at : gap_in new h ≡ gap_in old h = ap (λ gs. gap_in gs h) e ∙ get_or-set_other old g h (with_net (gap_in old g) net) _ other in
-            ap (λ (q : PlainGap). q.nets) at
-            ∙ held.nets h (omega (arith, inside, long))
-            ∙ ap (map (net_named s)) (sym (in_gap_other s names n h (λ q. other (sym (eg ∙ q))))))
+          let at : gap_in new h ≡ gap_in old h = ap (λ gs. gap_in gs h) e ∙ get_or-set_other old g h (with_net (gap_in old g) net) _ other in
+          ap (λ (q : PlainGap). q.nets) at
+          ∙ held.nets h (omega (arith, inside, long))
+          ∙ ap (map (net_named s)) (sym (in_gap_other s names n h (λ q. other (sym (eg ∙ q))))))
           (cases_eq h g);
     }
 

@@ -1,7 +1,7 @@
 -- Filters and maps of lists, numbers that are named once, and places in a list of names.
-use Rattle.std.proofs.Common.{◌≡◌, ◌≢◌, ◌⊎◌, inl, inr, ⊎_elim, ℕ, zero, suc, ◌+◌, ◌-◌, ◌*◌, ◌<◌, ◌≤◌, eqb, cond, Bool, true, false, List, [], ◌∷◌, ◌++◌, map, length, get_or, refl, sym, subst, ap, ◌∙◌, arith}
-use Rattle.std.proofs.lemmas.Bool.{cases_Bool, cases_order}
-use Rattle.std.proofs.lemmas.List.{length-map, get_or-map, append_assoc, length-append}
+use Rattle.std.proofs.Common.{◌≡◌, inl, inr, ⊎_elim, ℕ, zero, suc, ◌+◌, ◌-◌, ◌<◌, ◌≤◌, cond, Bool, true, false, List, [], ◌∷◌, ◌++◌, map, length, get_or, refl, sym, subst, ap, ◌∙◌, arith}
+use Rattle.std.proofs.lemmas.Bool.{cases_Bool}
+use Rattle.std.proofs.lemmas.List.{length-map, get_or-map}
 use Rattle.std.specs.List.{All, filter, range_with_len}
 use Rattle.level_stands.proofs.Lists.{Has, has_at, filter_has, range_has}
 use Rattle.route_slots.proofs.Lists.{few_below}
@@ -61,20 +61,20 @@ pub few_named : (test : ℕ → Bool) (f : ℕ → ℕ) (n bound : ℕ) → ((k 
 few_named test f n bound below alone =
     let ks : List ℕ = filter test (range_with_len 0 n) in
     let in_range : (i : ℕ) → i < length ks → (get_or ks i 0 < n) × (test (get_or ks i 0) ≡ true) =
-        λ i less. let has = filter_has test (range_with_len 0 n) (get_or ks i 0) (has_at ks i 0 less) in
-          let low = (range_has 0 n (get_or ks i 0) has.0).1 in (omega (arith, low), has.1) in
+    λ i less. let has = filter_has test (range_with_len 0 n) (get_or ks i 0) (has_at ks i 0 less) in
+    let low = (range_has 0 n (get_or ks i 0) has.0).1 in (omega (arith, low), has.1) in
     let long : length (map f ks) ≡ length ks = length-map ks f in
     let at : (i : ℕ) → i < length ks → get_or (map f ks) i 0 ≡ f (get_or ks i 0) = λ i less. get_or-map f ks i 0 0 less in
     subst (λ z. z ≤ bound) long
     (few_below (map f ks) bound
     (λ i less. let inside : i < length ks = omega (arith, less, long) in rw (at i inside) (below (get_or ks i 0) (in_range i inside).0 (in_range i inside).1))
     (λ i j h less same.
-      let inside : j < length ks = omega (arith, less, long) in
-      let before : i < length ks = omega (arith, h, inside) in
-      let one : get_or ks i 0 ≡ get_or ks j 0 =
-          alone (get_or ks i 0) (get_or ks j 0) (in_range i before).0 (in_range j inside).0 (in_range i before).1 (in_range j inside).1 (sym (at i before) ∙ same ∙ at j inside) in
-      let up = rising test 0 n i j h inside in
-      omega (arith, one, up)))
+    let inside : j < length ks = omega (arith, less, long) in
+    let before : i < length ks = omega (arith, h, inside) in
+    let one : get_or ks i 0 ≡ get_or ks j 0 =
+    alone (get_or ks i 0) (get_or ks j 0) (in_range i before).0 (in_range j inside).0 (in_range i before).1 (in_range j inside).1 (sym (at i before) ∙ same ∙ at j inside) in
+    let up = rising test 0 n i j h inside in
+    omega (arith, one, up)))
 
 -- a range up to a number and behind it
 pub range_split : (a k m : ℕ) → range_with_len a (k + m) ≡ range_with_len a k ++ range_with_len (a + k) m

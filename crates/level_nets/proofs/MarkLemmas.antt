@@ -1,5 +1,5 @@
 -- Marks of listed numbers.
-use Rattle.std.proofs.Common.{◌≡◌, ◌≢◌, ℕ, zero, suc, ◌+◌, ◌<◌, ◌==◌, List, [], ◌∷◌, ◌++◌, length, get_or, set, take, Bool, true, false, ◌||◌, inl, inr, refl, sym, ◌∙◌, ap, arith, eq-eqb, ne_eqb}
+use Rattle.std.proofs.Common.{◌≡◌, ℕ, ◌+◌, ◌<◌, ◌==◌, List, [], ◌∷◌, length, get_or, set, take, Bool, true, false, ◌||◌, inl, inr, refl, sym, ◌∙◌, ap, arith, eq-eqb, ne_eqb}
 use Rattle.std.proofs.lemmas.Bool.{cases_eq}
 use Rattle.std.proofs.lemmas.List.{get_or-set_same, get_or-set_other, length-set, take_more}
 use Rattle.std.proofs.lemmas.List.Folds.{list_any-append}
@@ -37,4 +37,3 @@ marks_more numbers i count marks h are =
             ∙ sym (more n ∙ or_mark (holds (take i numbers) n) (get_or numbers i 0 == n) (ne_eqb (get_or numbers i 0) n (λ q. ne (sym q))))
       ];
     }
-

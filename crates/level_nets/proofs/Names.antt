@@ -1,23 +1,21 @@
 -- What is read off the table are the names of the plan, and their gaps.
-use Rattle.std.proofs.Common.{◌≡◌, ◌≢◌, ◌⊎◌, inl, inr, ⊎_elim, ℕ, zero, suc, ◌+◌, ◌-◌, ◌*◌, ◌<◌, ◌≤◌, eqb, cond, Bool, true, false, not, ◌&&◌, ◌||◌, List, [], ◌∷◌, ◌++◌, map, length, get_or, ℤ, refl, sym, subst, ap, ◌∙◌, arith}
-use Rattle.std.proofs.lemmas.Bool.{cases_Bool, eq-eqb}
-use Rattle.std.specs.Prelude.{slice_index_or}
+use Rattle.std.proofs.Common.{◌≡◌, inl, inr, ℕ, ◌+◌, ◌<◌, Bool, true, false, not, ◌&&◌, List, [], ◌∷◌, ◌++◌, map, length, refl, sym, ap, ◌∙◌, arith}
 use Rattle.std.specs.Ordering.{int_eq}
 use Rattle.std.specs.List.{filter, range_with_len}
 use Rattle.elk_doc.specs.declared.shape.Side.{Side}
 use Rattle.elk_doc.specs.declared.shape.Side.TheVariants.{North, East, South, West}
 use Rattle.elk_doc.specs.declared.shape.Dock.{Dock}
 use Rattle.elk_doc.specs.PortsKept.{is_side}
-use Rattle.elk_layers.specs.Layered.{unit_at, link_at, layer_of}
+use Rattle.elk_layers.specs.Layered.{layer_of}
 use Rattle.self_loops.specs.Loops.{passes_left, passes_right}
-use Rattle.level_plan.specs.Level.{PlainLevel, PlainPlan, Orders, End, end_at, edge_at, ends_of_edges, all_ends, spoke, enters, is_loop, dock_of}
+use Rattle.level_plan.specs.Level.{PlainLevel, Orders, End, end_at, edge_at, all_ends, spoke, enters, is_loop, dock_of}
 use Rattle.level_plan.specs.Lanes.{has_one_dock}
-use Rattle.level_plan.specs.Nets.{Name, of_link, of_dock, of_loop, unit_of, layer_of_child, inverts, is_inverted, if_passed, loop_names, all_names, gap_beside, gap_of}
-use Rattle.level_plan.specs.Table.{IsEndAt, IsLoopAt, IsChildAt, child_in, loop_in}
+use Rattle.level_plan.specs.Nets.{Name, of_link, of_dock, of_loop, unit_of, inverts, is_inverted, if_passed, loop_names, all_names, gap_beside, gap_of}
+use Rattle.level_plan.specs.Table.{IsEndAt, child_in}
 use Rattle.level_stands.proofs.Lists.{Has, range_has}
 use Rattle.level_stands.proofs.SpotLemmas.{spoke_there}
 use Rattle.level_nets.specs.Parts.{Parts, plan_of, ArePlanned}
-use Rattle.level_nets.specs.Read.{at_end, dock_at, child_of, unit_of_dock, is_turned_back, is_one_dock, passes_west, passes_east, link_names, dock_names, passing_names, names_of, gap_at, gap_named}
+use Rattle.level_nets.specs.Read.{at_end, dock_at, unit_of_dock, is_turned_back, is_one_dock, passes_west, passes_east, link_names, dock_names, passing_names, names_of, gap_at, gap_named}
 use Rattle.level_nets.specs.Routed.{is_passing_left, is_passing_right}
 use Rattle.level_stands.proofs.NameLemmas.{IsName, ends_edge}
 use Rattle.level_nets.proofs.ListLemmas.{filter_same}
@@ -90,7 +88,7 @@ module _ (s : Parts) (rows : List (List ℕ)) (o : Orders) (layers : List ℕ) (
   names_are =
       ap (λ (ns : List Name). link_names (length s.layered.links) ++ ns ++ passing_names s (range_with_len 0 (length s.level.edges))) (dock_names_are (all_ends s.level) (end_below s.level))
       ∙ ap (λ (ns : List Name). link_names (length s.layered.links) ++ map of_dock (filter (is_inverted s.level (plan_of s rows) o) (all_ends s.level)) ++ ns)
-        (passing_names_are (range_with_len 0 (length s.level.edges)) (λ e k. let low = (range_has 0 (length s.level.edges) e k).1 in omega (arith, low)))
+      (passing_names_are (range_with_len 0 (length s.level.edges)) (λ e k. let low = (range_has 0 (length s.level.edges) e k).1 in omega (arith, low)))
 
   -- gaps
   pub child_below : (n : End) → n.edge < length s.level.edges → (spoke s.level n).child < length s.level.children

@@ -1,6 +1,6 @@
 -- What is read off the table are the nets of the plan: two different pins each, in range.
-use Rattle.std.proofs.Common.{◌≡◌, ◌≢◌, ◌⊎◌, inl, inr, ⊎_elim, ℕ, zero, suc, ◌+◌, ◌-◌, ◌*◌, ◌<◌, ◌≤◌, ◌^◌, eqb, cond, Bool, true, false, not, ◌&&◌, ◌||◌, List, [], ◌∷◌, ◌++◌, map, length, get_or, ℤ, pos, neg_ℤ, ◌+ℤ◌, ◌-ℤ◌, ◌≤ℤ◌, ◌<ℤ◌, refl, sym, subst, ap, ◌∙◌, arith}
-use Rattle.std.proofs.lemmas.Bool.{cases_Bool, eq-eqb, eqb-true, and_parts, or_right, or_parts, not-true}
+use Rattle.std.proofs.Common.{◌≡◌, ◌⊎◌, ⊎_elim, ℕ, ◌<◌, ◌^◌, cond, Bool, true, false, not, List, length, ℤ, pos, ◌+ℤ◌, ◌-ℤ◌, ◌≤ℤ◌, ◌<ℤ◌, refl, sym, subst, ap, ◌∙◌, arith}
+use Rattle.std.proofs.lemmas.Bool.{eqb-true, and_parts, or_right, not-true}
 use Rattle.std.proofs.lemmas.Int.{ints}
 use Rattle.std.specs.List.{list_any}
 use Rattle.elk_doc.specs.declared.shape.Side.{Side}
@@ -8,25 +8,24 @@ use Rattle.elk_doc.specs.declared.shape.Side.TheVariants.{North, East, South, We
 use Rattle.elk_doc.specs.declared.shape.Rect.{Rect}
 use Rattle.elk_doc.specs.declared.shape.Dock.{Dock}
 use Rattle.elk_doc.specs.PortsKept.{is_side}
-use Rattle.elk_layers.specs.Layered.{unit_at, link_at}
+use Rattle.elk_layers.specs.Layered.{unit_at}
 use Rattle.elk_layers.specs.Lines.{top_of}
 use Rattle.route_slots.specs.declared.Pin.{Pin}
 use Rattle.route_slots.specs.declared.Net.{Net}
 use Rattle.route_slots.specs.GapFree.{IsNet, IsHeight, AreHeights}
 use Rattle.self_loops.specs.Loops.{is_upright, crosses, passes_left, passes_right}
-use Rattle.level_stage.specs.Stage.{Line, anchor_line, dock_lane, loop_lane, long_lane, Reaches}
-use Rattle.level_plan.specs.declared.table.ChildAt.{ChildAt}
+use Rattle.level_stage.specs.Stage.{Line, anchor_line, dock_lane, loop_lane, Reaches}
 use Rattle.level_plan.specs.Level.{PlainLevel, PlainPlan, Orders, End, end_at, edge_at, spoke, enters, is_loop, dock_of, outline}
-use Rattle.level_plan.specs.Lanes.{dock_eq, has_one_dock, loop_sides, body_top, has_lane}
-use Rattle.level_plan.specs.Nets.{Name, of_link, of_dock, of_loop, unit_of, unit_of_line, below_top, height_of, inverts, is_inverted, tail_line, head_line, lane_side_of_end, loop_line, a_line, b_line, edge_of, net_of}
-use Rattle.level_plan.specs.Table.{child_in, loop_in}
+use Rattle.level_plan.specs.Lanes.{dock_eq, has_one_dock, loop_sides, body_top}
+use Rattle.level_plan.specs.Nets.{Name, of_link, of_dock, of_loop, unit_of, unit_of_line, below_top, height_of, inverts, is_inverted, lane_side_of_end, loop_line, a_line, b_line, edge_of, net_of}
+use Rattle.level_plan.specs.Table.{loop_in}
 use Rattle.level_stands.proofs.SameLines.{dock_eq-self, is_side-same}
 use Rattle.level_stands.proofs.LoopSides.{source_left, target_left, source_right, target_right}
 use Rattle.level_stands.proofs.LaneLemmas.{end_has_lane}
 use Rattle.level_stands.proofs.NameLemmas.{IsName, IsLine, a_line_is, b_line_is}
 use Rattle.level_stands.proofs.LineLemmas.{lies_in, line_unit, lines_differ}
 use Rattle.level_nets.specs.Parts.{Parts, plan_of, ArePlanned, EndAbove}
-use Rattle.level_nets.specs.Read.{at_end, dock_at, child_of, unit_of_dock, below_unit, anchor_below, lane_of_loop, loop_below, pin, loop_pin, link_net, dock_net, loop_net, net_named}
+use Rattle.level_nets.specs.Read.{at_end, dock_at, child_of, unit_of_dock, anchor_below, lane_of_loop, loop_below, pin, loop_pin, net_named}
 use Rattle.level_nets.proofs.Chains.{tail_line_unit, head_line_unit}
 use Rattle.level_nets.proofs.Names.{end_is, dock_is, child_below, unit_is}
 
@@ -114,9 +113,9 @@ module _ (l : PlainLevel) (p : PlainPlan) (o : Orders) (e : ℕ) where
   two_lanes side passes a b same =
       ⊎_elim
       (λ (west : (side ≡ West) × (passes_left source.side target.side (has_one_dock l p o e) ≡ true)).
-        left_on_lanes source.side target.side (has_one_dock l p o e) west.1 (subst (λ z. is_side source.side z ≡ false) west.0 a) (subst (λ z. is_side target.side z ≡ false) west.0 b))
+      left_on_lanes source.side target.side (has_one_dock l p o e) west.1 (subst (λ z. is_side source.side z ≡ false) west.0 a) (subst (λ z. is_side target.side z ≡ false) west.0 b))
       (λ (east : (side ≡ East) × (passes_right source.side target.side (has_one_dock l p o e) ≡ true)).
-        right_on_lanes source.side target.side (has_one_dock l p o e) east.1 (subst (λ z. is_side source.side z ≡ false) east.0 a) (subst (λ z. is_side target.side z ≡ false) east.0 b) same)
+      right_on_lanes source.side target.side (has_one_dock l p o e) east.1 (subst (λ z. is_side source.side z ≡ false) east.0 a) (subst (λ z. is_side target.side z ≡ false) east.0 b) same)
       passes
 
   pub two_lines : (side : Side) → Passes side → loop_line e source side ≡ loop_line e target side → ⊥
@@ -244,17 +243,17 @@ module _ (s : Parts) (rows : List (List ℕ)) (o : Orders) (layers : List ℕ) (
   is_net (of_link k) h same = absurd (let bad : true ≡ false = ap (λ (q : Pin). q.on_left) same in cc)
   is_net (of_dock n) h same =
       let one : dock_lane (dock_of s.level (plan_of s rows) o n) ≡ anchor_line (dock_of s.level (plan_of s rows) o n) =
-          level_lines n.edge _ _ (dock_of s.level (plan_of s rows) o n).side (a_line_is s.level (plan_of s rows) o layers planned.ready (of_dock n) h) (b_line_is s.level (plan_of s rows) o layers planned.ready (of_dock n) h) tt refl refl
-          (ap (λ (q : Pin). q.height) same)
+      level_lines n.edge _ _ (dock_of s.level (plan_of s rows) o n).side (a_line_is s.level (plan_of s rows) o layers planned.ready (of_dock n) h) (b_line_is s.level (plan_of s rows) o layers planned.ready (of_dock n) h) tt refl refl
+      (ap (λ (q : Pin). q.height) same)
       in absurd cc
   is_net (of_loop e side) h same =
       let one : loop_line e (dock_of s.level (plan_of s rows) o (end_at e true)) side ≡ loop_line e (dock_of s.level (plan_of s rows) o (end_at e false)) side =
-          level_lines e _ _ side (a_line_is s.level (plan_of s rows) o layers planned.ready (of_loop e side) h) (b_line_is s.level (plan_of s rows) o layers planned.ready (of_loop e side) h)
-          (loop_reaches e (dock_of s.level (plan_of s rows) o (end_at e true)) side) (loop_reaches e (dock_of s.level (plan_of s rows) o (end_at e false)) side)
-          (loop_line_unit s.level (plan_of s rows) e (dock_of s.level (plan_of s rows) o (end_at e true)) side refl
-          ∙ ap (unit_of (plan_of s rows)) (sym (target_node e h.1))
-          ∙ sym (loop_line_unit s.level (plan_of s rows) e (dock_of s.level (plan_of s rows) o (end_at e false)) side (target_node e h.1)))
-          (ap (λ (q : Pin). q.height) same)
+      level_lines e _ _ side (a_line_is s.level (plan_of s rows) o layers planned.ready (of_loop e side) h) (b_line_is s.level (plan_of s rows) o layers planned.ready (of_loop e side) h)
+      (loop_reaches e (dock_of s.level (plan_of s rows) o (end_at e true)) side) (loop_reaches e (dock_of s.level (plan_of s rows) o (end_at e false)) side)
+      (loop_line_unit s.level (plan_of s rows) e (dock_of s.level (plan_of s rows) o (end_at e true)) side refl
+      ∙ ap (unit_of (plan_of s rows)) (sym (target_node e h.1))
+      ∙ sym (loop_line_unit s.level (plan_of s rows) e (dock_of s.level (plan_of s rows) o (end_at e false)) side (target_node e h.1)))
+      (ap (λ (q : Pin). q.height) same)
       in two_lines s.level (plan_of s rows) o e side h.2 one
 
   module _ (ends : EndAbove s) where

@@ -1,19 +1,19 @@
 -- One net more in a gap, and one leg more.
-use Rattle.std.proofs.Common.{◌≡◌, ◌≢◌, ◌⊎◌, inl, inr, ⊎_elim, ℕ, zero, suc, ◌+◌, ◌-◌, ◌*◌, ◌<◌, ◌≤◌, ◌^◌, Bool, true, false, List, [], ◌∷◌, ◌++◌, map, length, get_or, set, refl, sym, subst, ap, ◌∙◌, arith}
+use Rattle.std.proofs.Common.{◌≡◌, ⊎_elim, ℕ, ◌+◌, ◌*◌, ◌<◌, ◌≤◌, ◌^◌, Bool, true, false, List, [], ◌∷◌, ◌++◌, length, get_or, set, sym, subst, ap, ◌∙◌, arith}
 use Rattle.std.proofs.lemmas.Bool.{cases_eq}
-use Rattle.std.proofs.lemmas.List.{map-set, length-map, length_push, get_or_append_left, get_or_push, append-nil, length-append}
-use Rattle.elk_doc.specs.declared.shape.Side.TheVariants.{East, West}
+use Rattle.std.proofs.lemmas.List.{map-set, length-map, length_push, get_or_append_left, get_or_push, length-append}
+use Rattle.elk_doc.specs.declared.shape.Side.TheVariants.{West}
 use Rattle.elk_layers.specs.Layered.{IsSound}
 use Rattle.route_slots.specs.declared.Net.{Net}
 use Rattle.route_slots.proofs.Lists.{each_pushed}
 use Rattle.route_lines.specs.declared.Gap.{Gap}
 use Rattle.route_lines.specs.Points.{PlainGap, plain_gap, gap_in}
-use Rattle.level_plan.specs.Level.{End, end_at}
-use Rattle.level_plan.specs.Nets.{Name, of_link, of_dock, of_loop, if_passed}
+use Rattle.level_plan.specs.Level.{end_at}
+use Rattle.level_plan.specs.Nets.{of_link, of_dock, if_passed}
 use Rattle.level_nets.specs.declared.pushing.LoopLegs.{LoopLegs}
 use Rattle.level_nets.specs.Parts.{Parts}
-use Rattle.level_nets.specs.Read.{HoldNets, link_names, dock_names, is_turned_back, passes_west, passes_east, end_number, leg_behind}
-use Rattle.level_nets.specs.Held.{plain_gaps, with_net, AreFew, AreLinkLegs, AreDockLegs, IsLoopLegs, AreLoopLegs, legs_at, behind_docks, behind_loops, before_dock}
+use Rattle.level_nets.specs.Read.{HoldNets, link_names, dock_names, is_turned_back, passes_west, end_number, leg_behind}
+use Rattle.level_nets.specs.Held.{plain_gaps, with_net, AreFew, AreLinkLegs, AreDockLegs, IsLoopLegs, AreLoopLegs, behind_docks, behind_loops, before_dock}
 use Rattle.level_nets.proofs.Holding.{few_held, links_long, docks_short, docks_few, loops_few, passed_short}
 use Rattle.level_nets.proofs.BorderLemmas.{gap_read}
 
@@ -88,11 +88,11 @@ dock_legs_more s e legs new a b same are source target =
       each = λ f t h turned.
           ap (λ (ns : List ℕ). get_or ns (end_number (end_at f t)) 0) same
           ∙ ⊎_elim
-            (λ (own : f ≡ e).
-              subst (λ k. get_or ((legs ++ a ∷ []) ++ b ∷ []) (end_number (end_at k t)) 0 ≡ leg_behind s (before_dock s k t) (of_dock (end_at k t))) (sym own)
-              (here t (subst (λ k. is_turned_back s (end_at k t) ≡ true) own turned)))
-            (λ (other : f ≡ e → ⊥). early legs a b (end_number (end_at f t)) (inside f t (omega (arith, h, other))) ∙ are.each f t (omega (arith, h, other)) turned)
-            (cases_eq f e);
+          (λ (own : f ≡ e).
+          subst (λ k. get_or ((legs ++ a ∷ []) ++ b ∷ []) (end_number (end_at k t)) 0 ≡ leg_behind s (before_dock s k t) (of_dock (end_at k t))) (sym own)
+          (here t (subst (λ k. is_turned_back s (end_at k t) ≡ true) own turned)))
+          (λ (other : f ≡ e → ⊥). early legs a b (end_number (end_at f t)) (inside f t (omega (arith, h, other))) ∙ are.each f t (omega (arith, h, other)) turned)
+          (cases_eq f e);
     }
   where
     here : (t : Bool) → is_turned_back s (end_at e t) ≡ true → get_or ((legs ++ a ∷ []) ++ b ∷ []) (end_number (end_at e t)) 0 ≡ leg_behind s (before_dock s e t) (of_dock (end_at e t))

@@ -1,5 +1,5 @@
 -- What is asked of a level keeps all numbers in range that the nets are read with.
-use Rattle.std.proofs.Common.{◌≡◌, ◌≢◌, ◌⊎◌, inl, inr, ⊎_elim, ℕ, ◌+◌, ◌-◌, ◌*◌, ◌<◌, ◌≤◌, ◌^◌, eqb, cond, Bool, true, false, not, ◌&&◌, List, length, ℤ, pos, neg_ℤ, ◌+ℤ◌, ◌-ℤ◌, ◌≤ℤ◌, ◌<ℤ◌, refl, sym, subst, ap, ◌∙◌, arith}
+use Rattle.std.proofs.Common.{◌≡◌, inl, inr, ℕ, ◌<◌, ◌≤◌, ◌^◌, Bool, true, false, List, length, ℤ, pos, neg_ℤ, ◌+ℤ◌, ◌-ℤ◌, ◌≤ℤ◌, ◌<ℤ◌, refl, sym, subst, ap, ◌∙◌, arith}
 use Rattle.std.proofs.lemmas.Bool.{and_parts}
 use Rattle.std.proofs.lemmas.Int.{ints}
 use Rattle.elk_doc.specs.declared.shape.Side.{Side}
@@ -11,15 +11,15 @@ use Rattle.elk_layers.specs.Layered.{unit_at, IsFromZero}
 use Rattle.elk_layers.specs.Lines.{top_of}
 use Rattle.self_loops.specs.Loops.{is_upright, passes_left, passes_right}
 use Rattle.level_stage.specs.Stage.{Line, anchor_line, dock_lane, loop_lane}
-use Rattle.level_plan.specs.Level.{PlainLevel, PlainPlan, Orders, End, end_at, spoke, is_loop, dock_of}
+use Rattle.level_plan.specs.Level.{Orders, End, end_at, spoke, is_loop, dock_of}
 use Rattle.level_plan.specs.Lanes.{has_one_dock}
 use Rattle.level_plan.specs.Nets.{of_dock, of_loop, unit_of, unit_of_line, below_top, lane_side_of_end, loop_line, is_inverted}
 use Rattle.level_stands.proofs.EndLemmas.{child_unit}
 use Rattle.level_stands.proofs.LinkLemmas.{child_is}
 use Rattle.level_stands.proofs.NameLemmas.{IsName, IsLine, a_line_is, b_line_is}
 use Rattle.level_stands.proofs.LineLemmas.{lies_in, line_unit}
-use Rattle.level_nets.specs.Parts.{Parts, plan_of, ArePlanned, EndAbove, IsGiven}
-use Rattle.level_nets.specs.Read.{at_end, dock_at, child_of, unit_of_dock, is_turned_back, passes_west, passes_east, passes_on, lane_of_loop, anchor_below}
+use Rattle.level_nets.specs.Parts.{Parts, plan_of, ArePlanned, EndAbove}
+use Rattle.level_nets.specs.Read.{dock_at, child_of, unit_of_dock, passes_on}
 use Rattle.level_nets.specs.Reach.{IsBeside, IsBelow, IsDockIn, IsEndIn, IsPassing, AreInReach}
 use Rattle.level_nets.proofs.Names.{dock_is, turned_is, west_is, east_is, child_below, unit_is}
 use Rattle.level_nets.proofs.Nets.{anchor_is, lane_is, loop_lane_is, laned_source, laned_target}
@@ -64,7 +64,7 @@ module _ (s : Parts) (rows : List (List ℕ)) (o : Orders) (layers : List ℕ) (
       let u = unit_of (plan_of s rows) (spoke s.level n).child in
       let there = unit_there n h in
       let line : IsLine s.level (plan_of s rows) o n.edge (anchor_line (dock_of s.level (plan_of s rows) o n)) =
-          (h, (n.at_source, refl), subst (λ (d : Dock). is_upright d.side ≡ false) (dock_is s rows o layers planned n h) beside) in
+      (h, (n.at_source, refl), subst (λ (d : Dock). is_upright d.side ≡ false) (dock_is s rows o layers planned n h) beside) in
       let lies = lies_in s.level (plan_of s rows) o layers planned.ready n.edge (anchor_line (dock_of s.level (plan_of s rows) o n)) line in
       let same = anchor_is s rows o layers planned n h in
       let body = body_is n h in
@@ -99,11 +99,11 @@ module _ (s : Parts) (rows : List (List ℕ)) (o : Orders) (layers : List ℕ) (
   passes_is_name e South h passes = absurd (let bad : false ≡ true = passes in cc)
   passes_is_name e West h passes =
       let parts = and_parts (is_loop s.level e) (passes_left (dock_of s.level (plan_of s rows) o (end_at e true)).side (dock_of s.level (plan_of s rows) o (end_at e false)).side (has_one_dock s.level (plan_of s rows) o e))
-          (sym (west_is s rows o layers planned e h) ∙ passes) in
+      (sym (west_is s rows o layers planned e h) ∙ passes) in
       (h, parts.0, inl (refl, parts.1))
   passes_is_name e East h passes =
       let parts = and_parts (is_loop s.level e) (passes_right (dock_of s.level (plan_of s rows) o (end_at e true)).side (dock_of s.level (plan_of s rows) o (end_at e false)).side (has_one_dock s.level (plan_of s rows) o e))
-          (sym (east_is s rows o layers planned e h) ∙ passes) in
+      (sym (east_is s rows o layers planned e h) ∙ passes) in
       (h, parts.0, inr (refl, parts.1))
 
   -- off its side an end of the loop comes by a lane

@@ -1,24 +1,23 @@
 -- The gaps of a level, and the places of nets, in the words of its plan.
-use Rattle.std.proofs.Common.{◌≡◌, ◌≢◌, ◌⊎◌, inl, inr, ⊎_elim, ℕ, zero, suc, ◌+◌, ◌-◌, ◌*◌, ◌<◌, ◌≤◌, ◌^◌, eqb, cond, Bool, true, false, ◌&&◌, List, [], ◌∷◌, ◌++◌, map, length, get_or, set, take, drop, ℤ, pos, ◌+ℤ◌, ◌≤ℤ◌, refl, sym, subst, ap, ◌∙◌, arith}
-use Rattle.std.proofs.lemmas.Bool.{cases_Bool, cases_eq, cond_both}
+use Rattle.std.proofs.Common.{◌≡◌, ⊎_elim, ℕ, ◌+◌, ◌<◌, ◌^◌, eqb, Bool, true, false, List, [], ◌∷◌, ◌++◌, map, length, get_or, take, drop, ℤ, pos, ◌+ℤ◌, refl, sym, subst, ap, ◌∙◌, arith}
+use Rattle.std.proofs.lemmas.Bool.{cases_eq, cond_both}
 use Rattle.std.proofs.lemmas.Int.{ints}
-use Rattle.std.proofs.lemmas.List.{length-map, map_push, length_push, get_or_append_left, get_or_push, take_at, append-nil, drop_all, take_all}
+use Rattle.std.proofs.lemmas.List.{length-map, map_push, length_push, get_or_append_left, get_or_push, append-nil, drop_all, take_all}
 use Rattle.elk_doc.specs.declared.shape.Side.TheVariants.{East, West}
 use Rattle.elk_doc.specs.Sound.{IsDistance, IsSoundSpacing}
 use Rattle.elk_layers.specs.Layered.{IsFromZero}
-use Rattle.route_slots.specs.declared.Net.{Net}
 use Rattle.route_lines.specs.declared.Gap.{Gap}
 use Rattle.route_lines.specs.Points.{PlainGap, plain_gap, gap_in}
-use Rattle.level_plan.specs.Level.{PlainLevel, PlainPlan, Orders, end_at, is_loop, dock_of, holds}
-use Rattle.level_plan.specs.Nets.{Name, of_link, of_dock, of_loop, first_slot, gap_width}
+use Rattle.level_plan.specs.Level.{PlainLevel, end_at, holds}
+use Rattle.level_plan.specs.Nets.{of_link, of_dock, of_loop, first_slot}
 use Rattle.level_nets.specs.declared.routing.Places.{Places}
 use Rattle.level_nets.specs.declared.routing.Routing.{Routing}
-use Rattle.level_nets.specs.Parts.{Parts, plan_of, ArePlanned, HasPlan, IsGiven}
-use Rattle.level_nets.specs.Read.{HoldNets, names_of, end_number, left_of, in_gap, nets_named, passes_west, passes_east, is_turned_back}
-use Rattle.level_nets.specs.Held.{plain_gaps, behind_docks, AreLinkLegs, AreDockLegs, AreLoopLegs, legs_at, before_dock}
+use Rattle.level_nets.specs.Parts.{Parts, IsGiven}
+use Rattle.level_nets.specs.Read.{HoldNets, names_of, end_number, left_of, in_gap, passes_west, passes_east, is_turned_back}
+use Rattle.level_nets.specs.Held.{plain_gaps, legs_at, before_dock}
 use Rattle.level_nets.specs.Reach.{AreNetsIn, AreColumnsIn}
-use Rattle.level_nets.specs.Placed.{IsPlaced, ArePlaced, counts_of}
-use Rattle.level_nets.specs.Routed.{AreEmpty, AreMarks, ArePlaces, AreRouted, AreGapsOf, AreLegs, AreLegsOf, AreGapsIn, IsGapIn}
+use Rattle.level_nets.specs.Placed.{ArePlaced, counts_of}
+use Rattle.level_nets.specs.Routed.{AreEmpty, AreMarks, ArePlaces, AreRouted, AreGapsOf, AreLegsOf, AreGapsIn}
 use Rattle.level_nets.proofs.Names.{turned_is, west_is, east_is}
 use Rattle.level_nets.proofs.Gaps.{gap_of_plan, place_is, are_nets}
 use Rattle.level_nets.proofs.Splits.{link_splits, dock_splits, west_splits, east_splits}
@@ -43,12 +42,12 @@ empty_more n gaps new g e none empty =
       none = λ h less.
           ap (λ (gs : List PlainGap). (gap_in gs h).nets) all
           ∙ ⊎_elim
-            (λ (last : h ≡ n). ap (λ (q : PlainGap). q.nets) (get_or_push (plain_gaps gaps) (plain_gap g) _ h (empty.as_many ∙ sym last)) ∙ none)
-            (λ other.
-              let early : h < n = omega (arith, less, other) in
-              let long = empty.as_many in
-              ap (λ (q : PlainGap). q.nets) (get_or_append_left (plain_gaps gaps) (plain_gap g ∷ []) _ h (omega (arith, early, long))) ∙ empty.none h early)
-            (cases_eq h n);
+          (λ (last : h ≡ n). ap (λ (q : PlainGap). q.nets) (get_or_push (plain_gaps gaps) (plain_gap g) _ h (empty.as_many ∙ sym last)) ∙ none)
+          (λ other.
+          let early : h < n = omega (arith, less, other) in
+          let long = empty.as_many in
+          ap (λ (q : PlainGap). q.nets) (get_or_append_left (plain_gaps gaps) (plain_gap g ∷ []) _ h (omega (arith, early, long))) ∙ empty.none h early)
+          (cases_eq h n);
     }
 
 pub none_held : (s : Parts) (gaps : List PlainGap) → AreEmpty (s.layered.layers + 1) gaps → HoldNets s [] gaps

@@ -1,5 +1,5 @@
 -- The names of a level before and behind one of them, and that no earlier name is the same.
-use Rattle.std.proofs.Common.{◌≡◌, ◌≢◌, ◌⊎◌, inl, inr, ⊎_elim, ℕ, zero, suc, ◌+◌, ◌-◌, ◌*◌, ◌<◌, ◌≤◌, eqb, cond, Bool, true, false, not, ◌&&◌, List, [], ◌∷◌, ◌++◌, map, length, refl, sym, subst, ap, ◌∙◌, arith}
+use Rattle.std.proofs.Common.{◌≡◌, inl, inr, ⊎_elim, ℕ, suc, ◌+◌, ◌-◌, ◌<◌, eqb, cond, Bool, true, false, not, List, [], ◌∷◌, ◌++◌, map, length, refl, sym, subst, ap, ◌∙◌, arith}
 use Rattle.std.proofs.lemmas.Bool.{eq-eqb, ne_eqb, and_left, and_right, and_from}
 use Rattle.std.proofs.lemmas.List.{append_assoc, map-append}
 use Rattle.std.specs.List.{filter, range_with_len}
@@ -68,10 +68,10 @@ passing_has s [] m h = absurd h
 passing_has s (e ∷ es) m h =
     ⊎_elim
     (λ here.
-      ⊎_elim
-      (λ west. (e, West, inl refl, passed_has (passes_west s e) e West m west))
-      (λ east. (e, East, inl refl, passed_has (passes_east s e) e East m east))
-      (append_has (if_passed (passes_west s e) e West) (if_passed (passes_east s e) e East) m here))
+    ⊎_elim
+    (λ west. (e, West, inl refl, passed_has (passes_west s e) e West m west))
+    (λ east. (e, East, inl refl, passed_has (passes_east s e) e East m east))
+    (append_has (if_passed (passes_west s e) e West) (if_passed (passes_east s e) e East) m here))
     (λ rest. let at = passing_has s es m rest in (at.0, at.1, inr at.2, at.3))
     (append_has (if_passed (passes_west s e) e West ++ if_passed (passes_east s e) e East) (passing_names s es) m h)
 
@@ -132,9 +132,9 @@ module _ (s : Parts) (e : ℕ) (there : e < length s.level.edges) where
       ⊎_elim
       (λ link. let at = link_has (length s.layered.links) m link in subst (λ z. name_eq z (of_dock n) ≡ false) at.2 refl)
       (λ dock.
-        let at = dock_has s earlier m dock in
-        let low = (range_has 0 e at.0.edge (ends_edge (range_with_len 0 e) at.0 at.1)).1 in
-        subst (λ z. name_eq z (of_dock n) ≡ false) at.2 (other_edge at.0 n (λ same. omega (arith, same, own, low))))
+      let at = dock_has s earlier m dock in
+      let low = (range_has 0 e at.0.edge (ends_edge (range_with_len 0 e) at.0 at.1)).1 in
+      subst (λ z. name_eq z (of_dock n) ≡ false) at.2 (other_edge at.0 n (λ same. omega (arith, same, own, low))))
       (append_has links (dock_names s earlier) m has)
 
   source_splits : is_turned_back s (end_at e true) ≡ true → Splits (names_of s) (behind_docks s e) (of_dock (end_at e true))
@@ -156,16 +156,16 @@ module _ (s : Parts) (e : ℕ) (there : e < length s.level.edges) where
         after = rest ++ loops;
         is = names_are
             ∙ ap (λ (ns : List Name). (links ++ dock_names s earlier) ++ (ns ++ loops))
-              (dock_names_append s (end_at e true ∷ []) (end_at e false ∷ ends_of_edges later) ∙ ap (λ (ns : List Name). own ++ ns) (dock_first s (end_at e false) (ends_of_edges later) turned))
+            (dock_names_append s (end_at e true ∷ []) (end_at e false ∷ ends_of_edges later) ∙ ap (λ (ns : List Name). own ++ ns) (dock_first s (end_at e false) (ends_of_edges later) turned))
             ∙ ap (λ (ns : List Name). (links ++ dock_names s earlier) ++ ns) (append_assoc own (of_dock (end_at e false) ∷ rest) loops)
             ∙ sym (append_assoc (links ++ dock_names s earlier) own (of_dock (end_at e false) ∷ (rest ++ loops)));
         other = λ m has.
             ⊎_elim
             (λ before. earlier_other (end_at e false) refl m before)
             (λ source.
-              let at = dock_has s (end_at e true ∷ []) m source in
-              let same : end_at e true ≡ at.0 = ⊎_elim (λ here. here) (λ none. absurd none) at.1 in
-              subst (λ z. name_eq z (of_dock (end_at e false)) ≡ false) (ap of_dock same ∙ at.2) (and_right (eqb e e) false refl))
+            let at = dock_has s (end_at e true ∷ []) m source in
+            let same : end_at e true ≡ at.0 = ⊎_elim (λ here. here) (λ none. absurd none) at.1 in
+            subst (λ z. name_eq z (of_dock (end_at e false)) ≡ false) (ap of_dock same ∙ at.2) (and_right (eqb e e) false refl))
             (append_has (links ++ dock_names s earlier) own m has);
         self = end_self (end_at e false);
       }
@@ -200,14 +200,14 @@ module _ (s : Parts) (e : ℕ) (there : e < length s.level.edges) where
   earlier_loops_other side m has =
       ⊎_elim
       (λ first.
-        ⊎_elim
-        (λ link. let at = link_has (length s.layered.links) m link in subst (λ z. name_eq z (of_loop e side) ≡ false) at.2 refl)
-        (λ dock. let at = dock_has s (all_ends s.level) m dock in subst (λ z. name_eq z (of_loop e side) ≡ false) at.2 refl)
-        (append_has links (dock_names s (all_ends s.level)) m first))
+      ⊎_elim
+      (λ link. let at = link_has (length s.layered.links) m link in subst (λ z. name_eq z (of_loop e side) ≡ false) at.2 refl)
+      (λ dock. let at = dock_has s (all_ends s.level) m dock in subst (λ z. name_eq z (of_loop e side) ≡ false) at.2 refl)
+      (append_has links (dock_names s (all_ends s.level)) m first))
       (λ loop.
-        let at = passing_has s (range_with_len 0 e) m loop in
-        let low = (range_has 0 e at.0 at.2).1 in
-        subst (λ z. name_eq z (of_loop e side) ≡ false) at.3 (and_left (eqb at.0 e) (is_side at.1 side) (ne_eqb at.0 e (λ same. omega (arith, same, low)))))
+      let at = passing_has s (range_with_len 0 e) m loop in
+      let low = (range_has 0 e at.0 at.2).1 in
+      subst (λ z. name_eq z (of_loop e side) ≡ false) at.3 (and_left (eqb at.0 e) (is_side at.1 side) (ne_eqb at.0 e (λ same. omega (arith, same, low)))))
       (append_has front (passing_names s (range_with_len 0 e)) m has)
 
   loop_self : (side : Side) → name_eq (of_loop e side) (of_loop e side) ≡ true

@@ -2,8 +2,8 @@
 -- of children and ports allow.
 use Rattle.std.proofs.Common.{◌≡◌, ℕ, zero, suc, ◌+◌, ◌*◌, ◌<◌, ◌≤◌, ◌^◌, ◌==◌, ◌&&◌, not, cond, nat_lt, Bool, true, false, List, [], ◌∷◌, map, length, get_or, ℤ, pos, neg_ℤ, ◌+ℤ◌, ◌-ℤ◌, ◌≤ℤ◌, refl, sym, ◌∙◌, ap, subst, inl, inr, ◌⊎◌, ⊎_elim, arith, eq-eqb, ne_eqb, lt-ltb, ltb-true}
 use Rattle.std.proofs.lemmas.Int.{ints, clamps}
-use Rattle.std.proofs.lemmas.Bool.{cases_Bool, cases_order, cases_lt}
-use Rattle.std.specs.Prelude.{Option, None, Some, IsTrue, IsFalse, slice_index_or}
+use Rattle.std.proofs.lemmas.Bool.{cases_Bool, cases_order}
+use Rattle.std.specs.Prelude.{Option, None, Some, IsFalse, slice_index_or}
 use Rattle.std.specs.Int.{int_min, int_max}
 use Rattle.std.specs.List.{range_with_len}
 use Rattle.elk_doc.specs.declared.shape.Point.{Point}
@@ -14,10 +14,10 @@ use Rattle.elk_doc.specs.declared.shape.Side.TheVariants.{North, East, South, We
 use Rattle.elk_doc.specs.declared.document.PortRule.TheVariants.{Free}
 use Rattle.elk_doc.specs.declared.document.Direction.TheVariants.{Right}
 use Rattle.elk_doc.specs.Document.{origin, no_size}
-use Rattle.elk_doc.specs.Shapes.{hull, rect_at}
+use Rattle.elk_doc.specs.Shapes.{rect_at}
 use Rattle.elk_doc.specs.Sound.{IsWithin, along}
 use Rattle.elk_doc.specs.PortsKept.{size_along, across, flush}
-use Rattle.elk_layers.specs.Layered.{layer_of, IsFromZero}
+use Rattle.elk_layers.specs.Layered.{layer_of}
 use Rattle.port_order.specs.declared.children.Child.{Child}
 use Rattle.port_order.specs.declared.children.ChildPort.{ChildPort}
 use Rattle.port_order.specs.declared.spots.Spot.{Spot}

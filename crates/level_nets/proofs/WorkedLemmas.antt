@@ -1,32 +1,26 @@
 -- Two parallel edges meet what is asked of a level.
-use Rattle.std.proofs.Common.{◌≡◌, ◌≢◌, ◌⊎◌, inl, inr, ⊎_elim, ℕ, zero, suc, ◌+◌, ◌-◌, ◌*◌, ◌<◌, ◌≤◌, ◌^◌, eqb, Bool, true, false, List, [], ◌∷◌, map, length, get_or, ℤ, pos, ◌+ℤ◌, ◌≤ℤ◌, ◌<ℤ◌, refl, sym, subst, ap, ◌∙◌, arith}
+use Rattle.std.proofs.Common.{◌≡◌, ◌≢◌, ◌⊎◌, inr, ℕ, zero, suc, ◌+◌, ◌*◌, ◌<◌, ◌≤◌, ◌^◌, eqb, true, false, List, [], ◌∷◌, length, ℤ, pos, ◌+ℤ◌, ◌≤ℤ◌, ◌<ℤ◌, refl, sym, subst, arith}
 use Rattle.std.proofs.lemmas.Int.{ints}
 use Rattle.std.proofs.lemmas.List.Sums.{count_by-le-length}
-use Rattle.std.specs.Prelude.{Option, None, Some, slice_index, slice_index_or}
+use Rattle.std.specs.Prelude.{Some, slice_index, slice_index_or}
 use Rattle.elk_doc.specs.declared.shape.Side.{Side}
 use Rattle.elk_doc.specs.declared.shape.Side.TheVariants.{North, East, South, West}
 use Rattle.elk_doc.specs.Sound.{IsWithin, IsDistance, IsSoundSpacing}
 use Rattle.elk_layers.specs.declared.units.Unit.{Unit as LayerUnit}
 use Rattle.elk_layers.specs.Layered.{unit_at, link_at, layer_of, is_lane, is_child, IsSpacing, IsFromZero, HasBodyWithin, IsSoundLink, IsSound, HasUnit, AreRows, row_at}
 use Rattle.elk_layers.specs.Lines.{AreApart, Keeps, room, body_room, top_of}
-use Rattle.port_order.specs.declared.children.Child.{Child}
 use Rattle.port_order.specs.Child.{spot_at}
-use Rattle.port_order.specs.Conditions.{IsSmall, IsChild}
 use Rattle.port_order.specs.Places.{HoldsOnce}
 use Rattle.port_order.specs.Order.{ComesFirst, IsOrderOfSide, IsSpreadOn}
-use Rattle.level_plan.specs.Level.{PlainLevel, PlainPlan, Orders, End, end_at, child_at, edge_at, spots, is_loop}
-use Rattle.level_plan.specs.Conditions.{IsLevel, IsLevelChild, IsLevelEdge, IsSpoke}
+use Rattle.level_plan.specs.Level.{PlainLevel, end_at, child_at, spots, is_loop}
+use Rattle.level_plan.specs.Conditions.{IsLevel, IsLevelChild, IsLevelEdge}
 use Rattle.level_plan.specs.Units.{AreUnits, AreLinked, AreOrders, IsUnitOf, HasRoom, HasChain, IsLinkOf, HasPins, IsLaneUnit}
 use Rattle.level_plan.specs.Nets.{unit_of}
-use Rattle.level_plan.specs.Traces.{chain}
 use Rattle.level_plan.specs.Table.{IsEndAt, IsLoopAt, IsChildAt, IsTable, end_in, loop_in, child_in}
 use Rattle.level_plan.specs.Examples.{parallel, parallel_plan, parallel_orders}
-use Rattle.level_stands.specs.Ready.{IsReady}
-use Rattle.level_nets.specs.Parts.{Parts, ArePlanned, HasPlan, IsGiven, EndAbove}
+use Rattle.level_nets.specs.Parts.{Parts, IsGiven}
 use Rattle.elk_layers.specs.Layered.{Plain}
 use Rattle.level_plan.specs.declared.table.Table.{Table}
-use Rattle.level_nets.specs.Read.{columns_of, width_of}
-use Rattle.level_nets.specs.Reach.{AreColumnsIn}
 use Rattle.level_nets.specs.Worked.{parallel_table, parallel_parts}
 
 -- what holds of 0 and 1 holds below 2
@@ -269,14 +263,6 @@ parallel_given =
         };
       };
     }
-
-pub parallel_columns : AreColumnsIn parallel_parts
-unfolding columns_of width_of
-parallel_columns zero h = from_zero 0 (2 ^ 48) (omega arith)
-parallel_columns (suc zero) h = from_zero 30 (2 ^ 48) (omega arith)
-parallel_columns (suc (suc zero)) h = from_zero 60 (2 ^ 48) (omega arith)
-parallel_columns (suc (suc (suc zero))) h = from_zero 60 (2 ^ 48) (omega arith)
-parallel_columns (suc (suc (suc (suc g)))) h = absurd (omega (arith, h))
 
 -- parts that are those of the worked level
 abbrev parts_from : PlainLevel → Plain → List ℤ → List ℕ → Table → Parts

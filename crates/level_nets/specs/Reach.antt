@@ -1,8 +1,7 @@
 -- What lies in range, so that the nets of a level can be read off without a number that doesn't fit.
-use Rattle.std.specs.Prelude.{◌≡◌, ℕ, ◌+◌, ◌*◌, ◌<◌, ◌≤◌, ◌^◌, Bool, true, false, List, ℤ, pos, neg_ℤ, ◌-ℤ◌, ◌≤ℤ◌, length, slice_index_or, IsTrue}
+use Rattle.std.specs.Prelude.{◌≡◌, ℕ, ◌+◌, ◌*◌, ◌<◌, ◌≤◌, ◌^◌, Bool, false, List, ℤ, pos, neg_ℤ, ◌-ℤ◌, ◌≤ℤ◌, length, slice_index_or, IsTrue}
 use Rattle.std.specs.List.{All}
 use Rattle.elk_doc.specs.declared.shape.Side.{Side}
-use Rattle.elk_doc.specs.declared.shape.Side.TheVariants.{North, East, South, West}
 use Rattle.elk_doc.specs.declared.shape.Dock.{Dock}
 use Rattle.elk_doc.specs.PortsKept.{is_side}
 use Rattle.elk_doc.specs.Sound.{IsWithin}
@@ -13,7 +12,6 @@ use Rattle.self_loops.specs.Loops.{is_upright}
 use Rattle.level_plan.specs.Level.{End, end_at, holds}
 use Rattle.level_plan.specs.Nets.{lane_side_of_end}
 use Rattle.level_plan.specs.Table.{loop_in, child_in}
-use Rattle.level_plan.specs.Conditions.{plain_level}
 use Rattle.level_nets.specs.declared.sheet.Sheet.{Sheet}
 use Rattle.elk_layers.specs.Lines.{top_of}
 use Rattle.level_nets.specs.Parts.{Parts, parts, EndAbove}

@@ -1,5 +1,5 @@
 -- The gaps of a level are those of its plan, and the places of nets are those of their names.
-use Rattle.std.specs.Prelude.{◌≡◌, ℕ, ◌<◌, ◌^◌, ◌+◌, ◌*◌, ◌&&◌, Bool, true, false, List, [], ℤ, pos, length, slice_index, slice_index_or, IsTrue}
+use Rattle.std.specs.Prelude.{◌≡◌, ℕ, ◌<◌, ◌^◌, ◌*◌, ◌&&◌, Bool, true, false, List, [], ℤ, pos, length, slice_index, slice_index_or, IsTrue}
 use Rattle.elk_doc.specs.declared.shape.Side.TheVariants.{East, West}
 use Rattle.elk_layers.specs.Layered.{IsFromZero}
 use Rattle.self_loops.specs.Loops.{passes_left, passes_right}

@@ -1,5 +1,5 @@
 -- Two children side by side, joined by two parallel edges, with the table of their docks.
-use Rattle.std.specs.Prelude.{ℕ, List, [], ◌∷◌, pos}
+use Rattle.std.specs.Prelude.{ℕ, [], ◌∷◌, pos}
 use Rattle.elk_doc.specs.declared.shape.Side.{Side}
 use Rattle.elk_doc.specs.declared.shape.Side.TheVariants.{East, West}
 use Rattle.level_plan.specs.declared.table.EndAt.{EndAt}

@@ -125,7 +125,11 @@ fn first_slot(level: &LevelIn, gap: u32) -> i64
     ensures value { result ≡ nets.first_slot (plain_level level.now) gap }
     ensures range { IsFromZero result (pos (2 ^ 20)) }
 {
-    if gap == 0 { 0 } else { level.spacing.edge_node_layers }
+    if gap == 0 {
+        0
+    } else {
+        level.spacing.edge_node_layers
+    }
 }
 
 // Finds slots for a gap's nets, and sets its borders.

@@ -124,7 +124,10 @@ pub fn is_turned_back(sheet: &Sheet<'_>, edge: u32, at_source: bool) -> bool
     if is_loop(sheet, edge) {
         return false;
     }
-    inverts(end_at(sheet, edge, at_source).dock.side, enters(sheet, edge, at_source))
+    inverts(
+        end_at(sheet, edge, at_source).dock.side,
+        enters(sheet, edge, at_source),
+    )
 }
 
 /// The net of an inverted dock, from its lane to its anchor.

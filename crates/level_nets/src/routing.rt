@@ -7,6 +7,7 @@ ghost use Rattle.level_nets.specs.Read.{HoldNets, names_of};
 ghost use Rattle.level_nets.specs.Routed.{AreEmpty, AreMarks, AreGapsIn, AreGapsOf, AreLegsOf, ArePlaces, AreRouted};
 
 use crate::borders::{column_widths, place_gaps};
+pub use crate::pushing::LoopLegs;
 use crate::pushing::{push_docks, push_links, push_loops};
 use crate::sheet::Sheet;
 use elk_doc::list::Items;
@@ -15,8 +16,6 @@ use level_plan::{LevelIn, Table};
 use route_lines::Gap;
 use route_slots::Slots;
 use std::alloc::{AllocError, Global};
-
-pub use crate::pushing::LoopLegs;
 
 /// The gaps of a level from left to right, one more than its layers, with their nets and slots; and the places of nets in
 /// their gaps: of each link, of each inverted dock by end (edge e has its source at the end 2e and its target at the end

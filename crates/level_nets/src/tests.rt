@@ -148,13 +148,13 @@ fn child_at(alloc: Global, unit: u32) -> ChildAt
 fn table(alloc: Global) -> Result<Table, AllocError>
     ensures { IfOk result (λ t. t ≡ worked.parallel_table) }
 {
-    let none = LoopAt {
-        north: 0,
-        south: 0,
-    };
+    let none = LoopAt { north: 0, south: 0 };
     let children = vec![in alloc; child_at(alloc, 0), child_at(alloc, 1)]?;
-    let ends = vec![
-        in alloc; end_at(0, Side::East, 30, 10), end_at(1, Side::West, 0, 10), end_at(0, Side::East, 30, 20), end_at(1, Side::West, 0, 20)
+    let ends = vec![in alloc;
+        end_at(0, Side::East, 30, 10),
+        end_at(1, Side::West, 0, 10),
+        end_at(0, Side::East, 30, 20),
+        end_at(1, Side::West, 0, 20),
     ]?;
     let loops = vec![in alloc; none, none]?;
     Ok(Table {

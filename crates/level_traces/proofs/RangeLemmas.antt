@@ -20,13 +20,13 @@ pub end_there : (e : ℕ) (t : Bool) (n m : ℕ) → e < n → m ≡ 2 * n → e
 end_there e true n m h k = omega (arith, h, k)
 end_there e false n m h k = omega (arith, h, k)
 
-pub right_in : (gaps : List Gap) (g : ℕ) (d : Gap) → g < length gaps → AreGapsIn gaps → IsFromZero (get_or gaps g d).right (pos (2 ^ 50))
-right_in gaps g d h are = subst (λ (v : PlainGap). IsFromZero v.right (pos (2 ^ 50))) (get_or-map plain_gap gaps g d _ h) (are g h).right
+pub right_in : (gaps : List Gap) (g : ℕ) (d : Gap) → g < length gaps → AreGapsIn gaps → IsFromZero (get_or gaps g d).right (pos (2 ^ 51))
+right_in gaps g d h are = subst (λ (v : PlainGap). IsFromZero v.right (pos (2 ^ 51))) (get_or-map plain_gap gaps g d _ h) (are g h).right
 
 -- the numbers that place the box of a child
 pub record AreBoxNumbers (s : Parts) (gaps : List Gap) (c : ℕ) : Type 0 where
   pub unit : (child_in s.table.children c).unit < length s.layered.units
-  pub right : IsFromZero (gap_in (plain_gaps gaps) (layer_of s.layered (child_in s.table.children c).unit)).right (pos (2 ^ 50))
+  pub right : IsFromZero (gap_in (plain_gaps gaps) (layer_of s.layered (child_in s.table.children c).unit)).right (pos (2 ^ 51))
   pub top : IsFromZero (top_of s.tops (child_in s.table.children c).unit) (pos (2 ^ 49))
   pub body : IsFromZero (unit_at s.layered.units (child_in s.table.children c).unit).body_top (pos (2 ^ 49))
   pub x : IsBelow (child_in s.table.children c).outline.x
@@ -52,7 +52,7 @@ box_numbers s gaps c sound reach numbers linked are many h =
       y = numbers.outlines_y c inside;
     }
 
-box_point : (r o t b y : ℤ) → IsFromZero r (pos (2 ^ 50)) → IsBelow o → IsFromZero t (pos (2 ^ 49)) → IsFromZero b (pos (2 ^ 49)) → IsBelow y
+box_point : (r o t b y : ℤ) → IsFromZero r (pos (2 ^ 51)) → IsBelow o → IsFromZero t (pos (2 ^ 49)) → IsFromZero b (pos (2 ^ 49)) → IsBelow y
     → IsBoxPoint (record { x = r -ℤ o; y = t +ℤ (b -ℤ y) })
 box_point r o t b y fr fo ft fb fy =
     let r0 = fr.0 in let r1 = fr.1 in let o0 = fo.above in let o1 = fo.below in

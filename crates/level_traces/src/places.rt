@@ -23,7 +23,7 @@ fn right_of(gaps: &[Gap], gap: u32) -> i64
     requires gap { gap < length gaps.now }
     requires gaps { AreGapsIn gaps.now }
     ensures value { result ≡ (gap_in (plain_gaps gaps.now) gap).right }
-    ensures range { IsFromZero result (pos (2 ^ 50)) }
+    ensures range { IsFromZero result (pos (2 ^ 51)) }
 {
     gaps[gap as usize].right
 }

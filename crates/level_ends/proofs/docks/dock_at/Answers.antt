@@ -1,4 +1,4 @@
-use Rattle.std.proofs.Common.{◌<◌, length, ap, sym, subst, arith}
+use Rattle.std.proofs.Common.{length, ap, arith}
 use Rattle.port_order.specs.Sides.{side_of}
 use Rattle.port_order.proofs.PlaceLemmas.{place_inside}
 use Rattle.level_ends.specs.Sides.{four_of, order_on}

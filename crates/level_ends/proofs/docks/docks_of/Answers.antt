@@ -1,12 +1,11 @@
-use Rattle.std.proofs.Common.{◌≡◌, ◌<◌, ◌+◌, List, [], ◌∷◌, length, map, ap, sym, subst, ◌∙◌}
+use Rattle.std.proofs.Common.{◌<◌, ◌+◌, List, [], ◌∷◌, length, map, ap, sym, subst, ◌∙◌}
 use Rattle.std.proofs.lemmas.List.{map-append}
-use Rattle.elk_doc.specs.declared.shape.Dock.{Dock}
 use Rattle.port_order.specs.declared.children.Child.{Child}
 use Rattle.level_plan.specs.Conditions.{plain_level}
 use Rattle.level_plan.specs.Level.{child_at}
 use Rattle.level_ends.specs.Narrow.{IsNarrow}
 use Rattle.level_ends.specs.Rows.{row_at, row_lists}
-use Rattle.level_ends.specs.Sides.{AreDocks, AreFour, four_at, four_of}
+use Rattle.level_ends.specs.Sides.{AreDocks, AreFour, four_of}
 use Rattle.level_ends.proofs.EdgeLemmas.{child_read}
 use Rattle.level_ends.proofs.NarrowLemmas.{narrow}
 use Rattle.level_ends.proofs.PartLemmas.{docks_pushed, four_taken}

@@ -1,4 +1,4 @@
-use Rattle.std.proofs.Common.{[], length}
+use Rattle.std.proofs.Common.{[]}
 use Rattle.level_plan.specs.Conditions.{plain_level, plain_plan}
 use Rattle.level_ends.proofs.ChainLemmas.{tables, first_read, last_read, flow_pushed}
 use Rattle.level_ends.proofs.flows.flows_of.Goals as goal

@@ -1,4 +1,4 @@
-use Rattle.std.proofs.Common.{◌<◌, false, length, arith, refl}
+use Rattle.std.proofs.Common.{false, arith, refl}
 use Rattle.std.proofs.lemmas.List.{get_or_read}
 use Rattle.level_ends.proofs.LaneLemmas.{lane_made, lane_pushed}
 use Rattle.level_ends.proofs.OutlineLemmas.{dock_read}

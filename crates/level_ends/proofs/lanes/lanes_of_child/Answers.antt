@@ -1,7 +1,7 @@
-use Rattle.std.proofs.Common.{◌≡◌, ◌+◌, List, Option, length, ap, sym, subst, arith, ◌∙◌}
+use Rattle.std.proofs.Common.{List, Option, length, ap, subst, arith, ◌∙◌}
 use Rattle.elk_doc.specs.declared.shape.Side.{Side}
 use Rattle.elk_doc.specs.declared.shape.Side.TheVariants.{North, South}
-use Rattle.level_ends.specs.Lanes.{AreLanePlaces, lanes_to}
+use Rattle.level_ends.specs.Lanes.{AreLanePlaces}
 use Rattle.level_ends.proofs.LaneLemmas.{lanes_counted}
 use Rattle.level_ends.proofs.lanes.lanes_of_child.Goals as goal
 

@@ -1,6 +1,4 @@
-use Rattle.std.proofs.Common.{◌<◌, refl, arith, length}
-use Rattle.std.proofs.lemmas.List.{get_or_read}
-use Rattle.port_order.specs.Child.{spot_at}
+use Rattle.std.proofs.Common.{refl, arith}
 use Rattle.level_ends.proofs.FirstLemmas.{first_within}
 use Rattle.level_ends.proofs.LaneLemmas.{asked_start, spot_marked}
 use Rattle.level_ends.proofs.OutlineLemmas.{dock_read}

@@ -1,4 +1,4 @@
-use Rattle.std.proofs.Common.{arith, refl, sym, ◌∙◌, length, ◌<◌}
+use Rattle.std.proofs.Common.{arith, refl}
 use Rattle.level_ends.proofs.LaneLemmas.{lane_numbered, lanes_few}
 use Rattle.level_ends.proofs.lanes.number_lanes.Goals as goal
 

@@ -1,4 +1,4 @@
-use Rattle.std.proofs.Common.{◌≡◌, ◌<◌, ◌+◌, ◌-◌, ◌^◌, pos, length, get_or, arith, refl, ◌∙◌}
+use Rattle.std.proofs.Common.{◌≡◌, ◌<◌, ◌+◌, ◌-◌, pos, length, get_or, arith}
 use Rattle.elk_doc.specs.declared.shape.Side.TheVariants.{North}
 use Rattle.elk_doc.specs.declared.shape.Dock.{Dock}
 use Rattle.level_ends.proofs.OutlineLemmas.{dock_offset, dock_read, outline_more, rect_read}

@@ -1,9 +1,7 @@
 use Rattle.std.proofs.Common.{subst, sym, ap, ◌∙◌, w64}
 use Rattle.std.proofs.lemmas.Int.{to_z-of_z}
 use Rattle.elk_doc.specs.declared.shape.Point.{Point}
-use Rattle.elk_doc.specs.declared.shape.Size.{Size}
 use Rattle.elk_doc.specs.Shapes.{rect_at}
-use Rattle.port_order.specs.Child.{port_at}
 use Rattle.port_order.specs.Places.{place_of_port}
 use Rattle.level_ends.specs.Narrow.{IsNearRect}
 use Rattle.level_ends.proofs.NarrowLemmas.{port_near}

@@ -1,4 +1,4 @@
-use Rattle.std.proofs.Common.{◌≡◌, ◌^◌, ap, sym, subst, ◌∙◌}
+use Rattle.std.proofs.Common.{ap}
 use Rattle.std.proofs.lemmas.List.{get_or_read}
 use Rattle.port_order.specs.declared.children.ChildPort.{ChildPort}
 use Rattle.port_order.specs.Child.{no_port, port_at}

@@ -1,4 +1,3 @@
-use Rattle.port_order.specs.declared.spots.Spot.{Spot}
 use Rattle.level_ends.specs.Rows.{row_with}
 use Rattle.level_ends.proofs.ReadLemmas.{row_changed}
 use Rattle.level_ends.proofs.spots.add_end.Goals as goal

@@ -1,4 +1,4 @@
-use Rattle.std.proofs.Common.{◌≡◌, ◌+◌, ◌<◌, ℕ, [], ◌∷◌, ◌++◌, List, Some, length, map, ap, ◌∙◌, sym, subst, arith}
+use Rattle.std.proofs.Common.{◌+◌, [], ◌∷◌, Some, length, map, ap, ◌∙◌, sym, subst, arith}
 use Rattle.std.proofs.lemmas.List.{map-append}
 use Rattle.level_plan.specs.Conditions.{plain_level}
 use Rattle.std.specs.List.{range_with_len}

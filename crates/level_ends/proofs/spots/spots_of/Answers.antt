@@ -1,4 +1,4 @@
-use Rattle.std.proofs.Common.{◌≡◌, ℕ, ◌∙◌, arith}
+use Rattle.std.proofs.Common.{arith}
 use Rattle.level_plan.specs.Conditions.{plain_level}
 use Rattle.level_ends.proofs.EdgeLemmas.{spots_start}
 use Rattle.level_ends.proofs.WholeLemmas.{spots_whole}

@@ -1,9 +1,8 @@
-use Rattle.std.proofs.Common.{◌≡◌, ◌<◌, ◌≤◌, ◌+◌, List, [], ◌∷◌, length, map, ap, sym, subst, arith, ◌∙◌, refl}
+use Rattle.std.proofs.Common.{◌<◌, ◌+◌, List, length, map, ap, sym, subst, arith, refl}
 use Rattle.std.specs.List.{All}
 use Rattle.elk_doc.specs.declared.shape.Dock.{Dock}
 use Rattle.port_order.specs.declared.children.Child.{Child}
 use Rattle.level_plan.specs.Conditions.{plain_level}
-use Rattle.level_plan.specs.declared.table.ChildAt.{ChildAt}
 use Rattle.level_ends.specs.Entries.{AreEntries}
 use Rattle.level_ends.specs.Lanes.{plain_lanes}
 use Rattle.level_ends.specs.Narrow.{IsNarrow, IsOffset}

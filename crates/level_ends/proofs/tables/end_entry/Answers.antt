@@ -1,4 +1,4 @@
-use Rattle.std.proofs.Common.{◌<◌, ℕ, [], length, map, sym, subst}
+use Rattle.std.proofs.Common.{[], length, map, sym, subst}
 use Rattle.std.proofs.lemmas.List.{get_or_read}
 use Rattle.level_plan.specs.declared.table.ChildAt.{ChildAt}
 use Rattle.level_plan.specs.Conditions.{plain_level}

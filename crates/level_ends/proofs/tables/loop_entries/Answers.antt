@@ -1,9 +1,7 @@
-use Rattle.std.proofs.Common.{◌≡◌, ◌≤◌, ◌+◌, ◌^◌, ◌∙◌, List, [], ◌∷◌, length, ap, sym, subst, arith}
+use Rattle.std.proofs.Common.{◌≤◌, ◌+◌, ◌^◌, length, sym, subst, arith}
 use Rattle.level_plan.specs.declared.table.ChildAt.{ChildAt}
-use Rattle.level_plan.specs.declared.table.LoopAt.{LoopAt}
 use Rattle.level_plan.specs.Conditions.{plain_level}
 use Rattle.level_plan.specs.Level.{edge_at}
-use Rattle.level_plan.specs.Table.{child_in}
 use Rattle.level_ends.specs.Entries.{AreLoopEntries}
 use Rattle.level_ends.specs.Narrow.{IsNearRect}
 use Rattle.level_ends.proofs.ChainLemmas.{edge_read}

@@ -1,4 +1,4 @@
-use Rattle.std.proofs.Common.{◌≡◌, ◌<◌, ◌*◌, ◌^◌, ◌∙◌, ℕ, List, length, map, true, false, ap, sym, subst}
+use Rattle.std.proofs.Common.{◌<◌, ◌∙◌, length, map, ap, sym, subst}
 use Rattle.elk_doc.specs.declared.shape.Side.TheVariants.{North, South}
 use Rattle.elk_layers.specs.Layered.{plain}
 use Rattle.level_plan.specs.Conditions.{plain_level}

@@ -1,6 +1,5 @@
-use Rattle.std.proofs.Common.{◌≡◌, ◌<◌, ◌^◌, ◌∙◌, ℕ, [], List, length, map, ap, sym, subst, refl}
+use Rattle.std.proofs.Common.{[], List, length, map, sym, subst, refl}
 use Rattle.level_plan.specs.Conditions.{plain_level, plain_plan}
-use Rattle.level_plan.specs.Level.{PlainPlan}
 use Rattle.level_ends.specs.declared.flows.Flow.{Flow}
 use Rattle.level_ends.specs.declared.orders.SideOrders.{SideOrders}
 use Rattle.level_ends.specs.Flows.{AreFlows}

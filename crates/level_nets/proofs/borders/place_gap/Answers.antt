@@ -1,4 +1,4 @@
-use Rattle.std.proofs.Common.{◌≡◌, List, w64, sym, subst, arith}
+use Rattle.std.proofs.Common.{List, w64, subst, arith}
 use Rattle.std.proofs.lemmas.Int.{ints, to_z-of_z}
 use Rattle.route_slots.specs.declared.Net.{Net}
 use Rattle.route_slots.specs.GapFree.{GapFree}

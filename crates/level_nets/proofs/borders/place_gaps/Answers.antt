@@ -1,14 +1,10 @@
-use Rattle.std.proofs.Common.{◌≡◌, ◌∙◌, ◌<◌, ◌≤◌, ℕ, ℤ, pos, ◌+◌, length, get_or, set, w64, to_z, of_z, sym, subst, ap, arith}
-use Rattle.std.proofs.lemmas.Int.{ints}
+use Rattle.std.proofs.Common.{◌∙◌, ◌<◌, pos, length, get_or, w64, to_z, sym, subst, ap, arith}
 use Rattle.std.proofs.lemmas.List.{length-map}
-use Rattle.elk_layers.specs.Layered.{IsFromZero}
-use Rattle.route_lines.specs.declared.Gap.{Gap}
-use Rattle.route_lines.specs.Points.{PlainGap, plain_gap, gap_in}
-use Rattle.level_nets.specs.Parts.{Parts}
+use Rattle.route_lines.specs.Points.{PlainGap, plain_gap}
 use Rattle.level_nets.specs.Reach.{parts_in, AreNetsIn}
 use Rattle.level_nets.specs.Held.{plain_gaps}
-use Rattle.level_nets.specs.Placed.{ArePlaced, counts_of}
-use Rattle.level_nets.proofs.BorderLemmas.{AreAsked, Stepped, stepped, border_range, placed_none, left_none, gap_read, less_range}
+use Rattle.level_nets.specs.Placed.{counts_of}
+use Rattle.level_nets.proofs.BorderLemmas.{AreAsked, stepped, border_range, placed_none, left_none, gap_read, less_range}
 use Rattle.level_nets.proofs.borders.place_gaps.Goals as goal
 
 pub gaps-init : goal.gaps-init
@@ -40,6 +36,6 @@ pub gaps-preserved : goal.gaps-preserved
 gaps-preserved c =
     let asked : AreAsked (parts_in c.args.sheet.now) c.args.gaps.now = record { sound = c.requires.spacing; layers = c.requires.layers; columns = c.requires.columns; long = c.requires.long; nets = c.requires.nets } in
     let step = stepped (parts_in c.args.sheet.now) c.gaps.number c.args.gaps.now c.gaps.gaps c.place_gap.new.gap c.index-gaps-number-in-gaps.result c.index-gaps-number.result (to_z w64 c.gaps.left-bits) (get_or c.args.widths.now c.gaps.number (pos 0))
-        asked c.gaps-test.true c.gaps.auto.gaps c.gaps.invariant.placed c.gaps.invariant.left_is c.in_ok-place_gap.ensures.placed c.in_ok-place_gap.ensures.nets
-        (c.requires.widths.each c.gaps.number (let wide = c.requires.widths.as_many in let long = c.requires.long in let less = c.gaps-test.true in omega (arith, wide, long, less))) in
+    asked c.gaps-test.true c.gaps.auto.gaps c.gaps.invariant.placed c.gaps.invariant.left_is c.in_ok-place_gap.ensures.placed c.in_ok-place_gap.ensures.nets
+    (c.requires.widths.each c.gaps.number (let wide = c.requires.widths.as_many in let long = c.requires.long in let less = c.gaps-test.true in omega (arith, wide, long, less))) in
     record { placed = step.placed; left_is = step.left }

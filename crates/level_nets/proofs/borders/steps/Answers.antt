@@ -8,5 +8,5 @@ returns-clause-range c =
     let fits : FitsSigned w64 c.from.result = search rules in
     let count : c.from.result ≡ pos c.args.count = omega (arith, ints, c.from.ensures) in
     let same : to_z w64 (of_z w64 c.from.result) *ℤ to_z w64 (of_z w64 c.args.step) ≡ pos c.args.count *ℤ c.args.step =
-        ap (λ (z : ℤ). z *ℤ to_z w64 (of_z w64 c.args.step)) (to_z-of_z w64 c.from.result fits ∙ count) ∙ ap (λ (z : ℤ). pos c.args.count *ℤ z) (to_z-of_z w64 c.args.step c.ranges.step) in
+    ap (λ (z : ℤ). z *ℤ to_z w64 (of_z w64 c.args.step)) (to_z-of_z w64 c.from.result fits ∙ count) ∙ ap (λ (z : ℤ). pos c.args.count *ℤ z) (to_z-of_z w64 c.args.step c.ranges.step) in
     range_of (to_z w64 (of_z w64 c.from.result) *ℤ to_z w64 (of_z w64 c.args.step)) (pos c.args.count *ℤ c.args.step) same (steps_in c.args.count c.args.step (omega (arith)) c.requires)

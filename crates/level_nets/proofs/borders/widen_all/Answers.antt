@@ -1,6 +1,5 @@
-use Rattle.std.proofs.Common.{◌≡◌, ◌∙◌, ◌<◌, ◌≤◌, ℕ, ℤ, pos, ◌+◌, ◌-◌, length, FitsSigned, w64, to_z, of_z, get_or, set, sym, subst, ap, arith, rules}
-use Rattle.std.proofs.lemmas.Int.{ints, to_z-of_z}
-use Rattle.std.specs.Int.{int_max}
+use Rattle.std.proofs.Common.{◌≡◌, ◌∙◌, ◌<◌, ◌+◌, ◌-◌, length, FitsSigned, w64, to_z, of_z, subst, ap, arith, rules}
+use Rattle.std.proofs.lemmas.Int.{to_z-of_z}
 use Rattle.elk_layers.specs.declared.units.Unit.{Unit as LayerUnit}
 use Rattle.elk_layers.specs.Layered.{layer_of, unit_at}
 use Rattle.level_plan.specs.declared.table.ChildAt.{ChildAt}
@@ -18,10 +17,10 @@ children-preserved c =
     let same : c.len-count.result - 1 - c.children.done ≡ length s.level.children - (c.children.done + 1) = omega (arith, less) in
     let child : c.child_at-child.result.now ≡ child_in s.table.children (length s.level.children - (c.children.done + 1)) = c.child_at-child.ensures ∙ ap (child_in s.table.children) same in
     let layer : c.unit_at-layer.result.layer ≡ layer_of s.layered (child_in s.table.children (length s.level.children - (c.children.done + 1))).unit =
-        ap (λ (u : LayerUnit). u.layer) c.unit_at-layer.ensures ∙ ap (λ (k : ChildAt). (unit_at s.layered.units k.unit).layer) child in
+    ap (λ (u : LayerUnit). u.layer) c.unit_at-layer.ensures ∙ ap (λ (k : ChildAt). (unit_at s.layered.units k.unit).layer) child in
     let fits : FitsSigned w64 c.child_at-child.result.now.outline.width = search rules in
     let width : to_z w64 (of_z w64 c.child_at-child.result.now.outline.width) ≡ (child_in s.table.children (length s.level.children - (c.children.done + 1))).outline.width =
-        to_z-of_z w64 c.child_at-child.result.now.outline.width fits ∙ ap (λ (k : ChildAt). k.outline.width) child in
+    to_z-of_z w64 c.child_at-child.result.now.outline.width fits ∙ ap (λ (k : ChildAt). k.outline.width) child in
     let inside : c.unit_at-layer.result.layer < length c.children.widths = omega (arith) in
     record {
       as_many = let long = c.children.invariant.as_many in let kept = c.widen.auto.widths in omega (arith, long, kept);

@@ -1,12 +1,11 @@
-use Rattle.std.proofs.Common.{◌≡◌, ◌∙◌, ◌<◌, ◌++◌, ◌∷◌, [], ℕ, List, Bool, true, length, sym, subst, ap, arith, rules}
+use Rattle.std.proofs.Common.{◌≡◌, true, rules}
 use Rattle.std.proofs.lemmas.Result.{IfOk-weaker, on_ok_weaker}
-use Rattle.route_lines.specs.declared.Gap.{Gap}
 use Rattle.level_plan.specs.Level.{end_at}
-use Rattle.level_plan.specs.Nets.{Name, of_link, of_dock, of_loop, if_passed}
-use Rattle.level_nets.specs.Read.{HoldNets, dock_names, is_turned_back, passes_on}
+use Rattle.level_plan.specs.Nets.{of_dock}
+use Rattle.level_nets.specs.Read.{is_turned_back}
 use Rattle.level_nets.specs.Reach.{parts_in}
 use Rattle.level_nets.specs.Held.{plain_gaps}
-use Rattle.level_nets.proofs.Holding.{held_more, leg_is, dock_held, passage_held}
+use Rattle.level_nets.proofs.Holding.{held_more, leg_is, dock_held}
 use Rattle.level_nets.proofs.PushLemmas.{gap_inside}
 use Rattle.level_nets.proofs.pushing.push_dock.Goals as goal
 
@@ -18,7 +17,7 @@ returns-clause-held c =
     let inside = gap_inside c.args.gaps.now c.args.sheet.now.layered.now.layers c.dock_gap.result c.requires.long c.dock_gap.ensures.inside in
     on_ok_weaker c.push_net.result
     (λ pushed names held. dock_held s names n (plain_gaps c.push_net.new.gaps) turned
-      (held_more s names (of_dock n) (plain_gaps c.args.gaps.now) (plain_gaps c.push_net.new.gaps) c.dock_gap.result c.dock_net.result c.dock_gap.ensures.value c.dock_net.ensures inside pushed held))
+    (held_more s names (of_dock n) (plain_gaps c.args.gaps.now) (plain_gaps c.push_net.new.gaps) c.dock_gap.result c.dock_net.result c.dock_gap.ensures.value c.dock_net.ensures inside pushed held))
     c.push_net.ensures.pushed
 
 pub returns-clause-leg : goal.returns-clause-leg

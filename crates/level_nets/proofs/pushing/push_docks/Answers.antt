@@ -1,4 +1,4 @@
-use Rattle.std.proofs.Common.{◌≡◌, ◌∙◌, ◌<◌, ◌≤◌, ℕ, ◌+◌, List, ◌++◌, ◌∷◌, [], length, true, false, sym, subst, ap, arith}
+use Rattle.std.proofs.Common.{◌≡◌, ◌∙◌, ℕ, List, ◌++◌, ◌∷◌, [], length, true, subst, ap, arith}
 use Rattle.level_plan.specs.Level.{end_at}
 use Rattle.level_plan.specs.Nets.{Name}
 use Rattle.level_nets.specs.Read.{HoldNets, dock_names}

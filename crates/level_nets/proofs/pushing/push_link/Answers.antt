@@ -1,12 +1,9 @@
-use Rattle.std.proofs.Common.{◌≡◌, ◌∙◌, ◌<◌, ◌++◌, ◌∷◌, [], ℕ, List, Bool, true, length, sym, subst, ap, arith}
+use Rattle.std.proofs.Common.{arith}
 use Rattle.std.proofs.lemmas.Result.{IfOk-weaker, on_ok_weaker}
-use Rattle.route_lines.specs.declared.Gap.{Gap}
-use Rattle.level_plan.specs.Level.{end_at}
-use Rattle.level_plan.specs.Nets.{Name, of_link, of_dock, of_loop, if_passed}
-use Rattle.level_nets.specs.Read.{HoldNets, dock_names, is_turned_back, passes_on}
+use Rattle.level_plan.specs.Nets.{of_link}
 use Rattle.level_nets.specs.Reach.{parts_in}
 use Rattle.level_nets.specs.Held.{plain_gaps}
-use Rattle.level_nets.proofs.Holding.{held_more, leg_is, dock_held, passage_held}
+use Rattle.level_nets.proofs.Holding.{held_more, leg_is}
 use Rattle.level_nets.proofs.PushLemmas.{gap_inside}
 use Rattle.level_nets.proofs.pushing.push_link.Goals as goal
 

@@ -1,4 +1,4 @@
-use Rattle.std.proofs.Common.{◌≡◌, ◌∙◌, ◌<◌, ◌≤◌, ℕ, ◌+◌, List, ◌++◌, ◌∷◌, [], length, sym, subst, ap, arith}
+use Rattle.std.proofs.Common.{◌≡◌, ◌∙◌, List, length, sym, subst, ap, arith}
 use Rattle.level_nets.specs.Read.{HoldNets}
 use Rattle.level_nets.specs.Reach.{parts_in}
 use Rattle.level_nets.specs.Held.{plain_gaps}

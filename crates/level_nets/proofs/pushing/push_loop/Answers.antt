@@ -1,4 +1,4 @@
-use Rattle.std.proofs.Common.{◌≡◌, ◌∙◌, ◌<◌, ◌≤◌, ℕ, ◌+◌, List, ◌++◌, ◌∷◌, [], length, sym, subst, ap, arith}
+use Rattle.std.proofs.Common.{List, ◌++◌, subst, arith}
 use Rattle.elk_doc.specs.declared.shape.Side.TheVariants.{West}
 use Rattle.level_plan.specs.Nets.{Name, if_passed}
 use Rattle.level_nets.specs.Read.{HoldNets, passes_west}

@@ -1,4 +1,4 @@
-use Rattle.std.proofs.Common.{◌≡◌, ◌∙◌, ◌<◌, ◌≤◌, ℕ, ◌+◌, List, ◌++◌, ◌∷◌, [], length, sym, subst, ap, arith}
+use Rattle.std.proofs.Common.{◌≡◌, ◌∙◌, List, length, subst, ap, arith}
 use Rattle.level_plan.specs.Nets.{Name}
 use Rattle.level_nets.specs.Read.{HoldNets}
 use Rattle.level_nets.specs.Reach.{parts_in}

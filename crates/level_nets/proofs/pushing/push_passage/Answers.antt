@@ -1,12 +1,10 @@
-use Rattle.std.proofs.Common.{◌≡◌, ◌∙◌, ◌<◌, ◌++◌, ◌∷◌, [], ℕ, List, Bool, true, length, sym, subst, ap, arith, rules}
+use Rattle.std.proofs.Common.{◌≡◌, true, rules}
 use Rattle.std.proofs.lemmas.Result.{IfOk-weaker, on_ok_weaker}
-use Rattle.route_lines.specs.declared.Gap.{Gap}
-use Rattle.level_plan.specs.Level.{end_at}
-use Rattle.level_plan.specs.Nets.{Name, of_link, of_dock, of_loop, if_passed}
-use Rattle.level_nets.specs.Read.{HoldNets, dock_names, is_turned_back, passes_on}
+use Rattle.level_plan.specs.Nets.{of_loop}
+use Rattle.level_nets.specs.Read.{passes_on}
 use Rattle.level_nets.specs.Reach.{parts_in}
 use Rattle.level_nets.specs.Held.{plain_gaps}
-use Rattle.level_nets.proofs.Holding.{held_more, leg_is, dock_held, passage_held}
+use Rattle.level_nets.proofs.Holding.{held_more, leg_is, passage_held}
 use Rattle.level_nets.proofs.PushLemmas.{gap_inside}
 use Rattle.level_nets.proofs.pushing.push_passage.Goals as goal
 
@@ -17,7 +15,7 @@ returns-clause-held c =
     let inside = gap_inside c.args.gaps.now c.args.sheet.now.layered.now.layers c.loop_gap.result c.requires.long c.loop_gap.ensures.inside in
     on_ok_weaker c.push_net.result
     (λ pushed names held. passage_held s names (passes_on s c.args.edge c.args.side) c.args.edge c.args.side (plain_gaps c.push_net.new.gaps) passes
-      (held_more s names (of_loop c.args.edge c.args.side) (plain_gaps c.args.gaps.now) (plain_gaps c.push_net.new.gaps) c.loop_gap.result c.loop_net.result c.loop_gap.ensures.value c.loop_net.ensures inside pushed held))
+    (held_more s names (of_loop c.args.edge c.args.side) (plain_gaps c.args.gaps.now) (plain_gaps c.push_net.new.gaps) c.loop_gap.result c.loop_net.result c.loop_gap.ensures.value c.loop_net.ensures inside pushed held))
     c.push_net.ensures.pushed
 
 pub returns-clause-leg : goal.returns-clause-leg

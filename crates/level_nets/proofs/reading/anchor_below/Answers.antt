@@ -1,9 +1,8 @@
-use Rattle.std.proofs.Common.{◌≡◌, ◌∙◌, ℤ, ap, arith}
+use Rattle.std.proofs.Common.{◌∙◌, ap, arith}
 use Rattle.std.proofs.lemmas.Int.{ints}
 use Rattle.elk_layers.specs.declared.units.Unit.{Unit as LayerUnit}
 use Rattle.elk_layers.specs.Layered.{unit_at}
 use Rattle.level_plan.specs.declared.table.ChildAt.{ChildAt}
-use Rattle.level_nets.specs.Read.{child_of, unit_of_dock}
 use Rattle.level_nets.specs.Reach.{parts_in}
 use Rattle.level_nets.proofs.reading.anchor_below.Goals as goal
 

@@ -1,4 +1,4 @@
-use Rattle.std.proofs.Common.{◌≡◌, ℤ, ◌+ℤ◌, FitsSigned, w64, true, false, refl, ap, arith, rules}
+use Rattle.std.proofs.Common.{◌+ℤ◌, FitsSigned, w64, true, false, refl, ap, arith, rules}
 use Rattle.std.proofs.lemmas.Int.{ints}
 use Rattle.elk_layers.specs.declared.units.Link.{Link}
 use Rattle.elk_layers.specs.Layered.{link_at}

@@ -1,4 +1,4 @@
-use Rattle.std.proofs.Common.{◌≡◌, ◌∙◌, ℤ, FitsSigned, w64, to_z, of_z, false, refl, sym, subst, ap, rules}
+use Rattle.std.proofs.Common.{◌∙◌, FitsSigned, w64, sym, subst, ap, rules}
 use Rattle.std.proofs.lemmas.Int.{to_z-of_z}
 use Rattle.elk_doc.specs.declared.shape.Side.TheVariants.{East}
 use Rattle.elk_doc.specs.PortsKept.{is_side}

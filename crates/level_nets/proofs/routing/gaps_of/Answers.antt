@@ -1,4 +1,4 @@
-use Rattle.std.proofs.Common.{◌≡◌, ◌∙◌, ◌<◌, ℕ, ℤ, List, Bool, false, length, get_or, sym, subst, ap, arith, rules}
+use Rattle.std.proofs.Common.{◌≡◌, ◌∙◌, ℤ, List, length, sym, subst, ap}
 use Rattle.route_lines.specs.declared.Gap.{Gap}
 use Rattle.level_nets.specs.Parts.{parts}
 use Rattle.level_nets.specs.Held.{plain_gaps}
@@ -33,7 +33,7 @@ returns-clause-gaps c =
     let s = parts c.args.level.now c.args.layered.now c.args.lines.now.top.items c.args.reversed.now c.args.table.now in
     let whole = ap length c.as_mut_slice.ensures.value in
     let gaps : c.from_vec.result ≡ c.fill_and_place.new.gaps =
-        c.from_vec.ensures ∙ written c.in_ok-gaps.gaps.items c.fill_and_place.new.gaps c.in_ok-gaps.gaps.len (sym c.as_mut_slice.ensures.len ∙ whole) (c.fill_and_place.auto.gaps ∙ whole) in
+    c.from_vec.ensures ∙ written c.in_ok-gaps.gaps.items c.fill_and_place.new.gaps c.in_ok-gaps.gaps.len (sym c.as_mut_slice.ensures.len ∙ whole) (c.fill_and_place.auto.gaps ∙ whole) in
     let routed = subst (λ (tops : List ℤ). AreRouted (parts c.args.level.now c.args.layered.now tops c.args.reversed.now c.args.table.now) (plain_gaps c.fill_and_place.new.gaps)) c.as_slice.ensures.value c.in_ok-places.ensures.routed in
     subst (λ (gs : List Gap). AreGapsOf (parts c.args.level.now c.args.layered.now c.args.lines.now.top.items c.args.reversed.now c.args.table.now) gs) (sym gaps) (routed_gaps s c.fill_and_place.new.gaps routed)
 
@@ -49,6 +49,6 @@ returns-clause-range c =
     let plan = c.requires.given.plan in
     let whole = ap length c.as_mut_slice.ensures.value in
     let gaps : c.from_vec.result ≡ c.fill_and_place.new.gaps =
-        c.from_vec.ensures ∙ written c.in_ok-gaps.gaps.items c.fill_and_place.new.gaps c.in_ok-gaps.gaps.len (sym c.as_mut_slice.ensures.len ∙ whole) (c.fill_and_place.auto.gaps ∙ whole) in
+    c.from_vec.ensures ∙ written c.in_ok-gaps.gaps.items c.fill_and_place.new.gaps c.in_ok-gaps.gaps.len (sym c.as_mut_slice.ensures.len ∙ whole) (c.fill_and_place.auto.gaps ∙ whole) in
     let routed = subst (λ (tops : List ℤ). AreRouted (parts c.args.level.now c.args.layered.now tops c.args.reversed.now c.args.table.now) (plain_gaps c.fill_and_place.new.gaps)) c.as_slice.ensures.value c.in_ok-places.ensures.routed in
     subst (λ (gs : List Gap). AreGapsIn gs) (sym gaps) (routed_range s c.fill_and_place.new.gaps c.requires.given (columns_in s plan.rows plan.orders plan.layers plan.planned) routed)
