@@ -1,0 +1,3 @@
+pub mod Alternating
+pub mod NetsThere
+pub mod LegsThere
