@@ -23,3 +23,4 @@ pub mod ReadyLemmas
 pub mod MovedLemmas
 pub mod WestLemmas
 pub mod TopLemmas
+pub mod AgreeingLemmas

@@ -93,6 +93,9 @@ row_sound l p c ns =
       differ = λ i j hi hj e. sym (row_numbered l p c ns i hi) ∙ e ∙ row_numbered l p c ns j hj;
     }
 
+pub spots_are : (l : PlainLevel) (p : PlainPlan) (c : ℕ) → AreSpots (child_at l c) (spots l p c)
+spots_are l p c = subst (AreSpots (child_at l c)) (sym (spots_row l p c)) (row_sound l p c (all_ends l))
+
 -- ---- the number of an end
 
 abbrev after : ℕ → Bool → ℕ → List End
@@ -176,7 +179,7 @@ spots_whole l p flows count v level are all s =
       row_is = row;
       few = λ c h. let short = row_few l p c (all_ends l) level few in let same = ap length (spots_row l p c) in omega (arith, short, same);
       numbered = λ c h. subst AreNumbered (sym (spots_row l p c)) (row_numbered l p c (all_ends l));
-      sound = λ c h. subst (AreSpots (child_at l c)) (sym (spots_row l p c)) (row_sound l p c (all_ends l));
+      sound = λ c h. spots_are l p c;
       two_each = s.numbers.as_long ∙ ap (λ x. 2 * x) all;
       sources = λ e h. subst (HasNumber l p (end_at e true)) (sym (s.numbers.source e (omega (arith, h, all)))) (has_number l p e true h (spoke_at l e true level h));
       targets = λ e h. subst (HasNumber l p (end_at e false)) (sym (s.numbers.target e (omega (arith, h, all)))) (has_number l p e false h (spoke_at l e false level h));

@@ -9,3 +9,4 @@ pub mod Bounds
 pub mod Entries
 pub mod Examples
 pub mod Tops
+pub mod Agreeing

@@ -16,7 +16,7 @@ mod spots;
 mod tables;
 mod units;
 
-pub use laws::tables_read_no_tops;
+pub use laws::{tables_need_no_orders, tables_read_no_tops};
 pub use tables::table_of;
 
 #[cfg(test)]
