@@ -8,3 +8,6 @@ mod steps;
 mod tracing;
 
 pub use tracing::{Routes, routes_of};
+
+#[cfg(test)]
+mod tests;
