@@ -34,10 +34,14 @@ IsPartNumber d n a i = (number : ℕ → ℕ) × IsNumbering d n number × (numb
 abbrev pub PartHolds : Document → ℕ → LevelOptions → Certificate → ℕ → Type 0
 PartHolds d n o c a = IsTrue o.split → IsChild d n a → IsPartNumber d n a (part_in d n c a)
 
+-- two children keep their distances, whichever of them has the smaller layer
+abbrev pub BothApart : Document → Placed → ℕ → LevelOptions → Certificate → ℕ → ℕ → Type 0
+BothApart d p n o c a b = LayersApart d p n o c a b × LayersApart d p n o c b a
+
 -- two children of one part of a level that is not one of boxes, the lower number first, keep their distances
 abbrev pub LayersHold : Document → Placed → ℕ → LevelOptions → Certificate → ℕ → ℕ → Type 0
 LayersHold d p n o c a b =
-    IsFalse o.boxes → IsChild d n a → IsChild d n b → a < b → (IsTrue o.split → part_in d n c a ≡ part_in d n c b) → LayersApart d p n o c a b × LayersApart d p n o c b a
+    IsFalse o.boxes → IsChild d n a → IsChild d n b → a < b → (IsTrue o.split → part_in d n c a ≡ part_in d n c b) → BothApart d p n o c a b
 
 -- two children of one part of a level that is not one of boxes, the lower number first
 pub record MayBeNear (d : Document) (n : ℕ) (o : LevelOptions) (c : Certificate) (a b : ℕ) : Type 0 where

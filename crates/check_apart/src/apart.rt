@@ -42,7 +42,7 @@ fn fault_by_names(
     if let Some(child) = first_part(doc, node, options, certificate, names, parts) {
         return Some(Fault::lone(Place::Node(child)));
     }
-    let near = near_fault(
+    if let Some(fault) = near_fault(
         doc,
         placed,
         outlines,
@@ -51,11 +51,10 @@ fn fault_by_names(
         node,
         options,
         certificate,
-    );
-    if let Some(fault) = near {
+    ) {
         return Some(fault);
     }
-    let far = part_fault(
+    if let Some(fault) = part_fault(
         doc,
         placed,
         outlines,
@@ -64,8 +63,7 @@ fn fault_by_names(
         node,
         options,
         certificate,
-    );
-    if let Some(fault) = far {
+    ) {
         return Some(fault);
     }
     box_fault(doc, placed, outlines, node, options)

@@ -1,5 +1,5 @@
 //! Distances between rectangles, in the frame of a direction.
-ghost use Rattle.std.specs.Prelude.{◌≡◌, ◌⊎◌, ◌↔◌, ◌+ℤ◌, ◌^◌, neg_ℤ, pos, IsTrue, true, false};
+ghost use Rattle.std.specs.Prelude.{◌≡◌, ◌↔◌, ◌+ℤ◌, ◌^◌, neg_ℤ, pos, IsTrue, true, false};
 ghost use Rattle.elk_doc.specs.Sound.{IsWithin};
 ghost use Rattle.check_apart.specs.FirstApart.{IsBeyond, StandsClearIn};
 ghost use Rattle.elk_doc.specs.Shapes.{bottom_of, right_of, turned};

@@ -4,7 +4,7 @@ ghost use Rattle.elk_doc.specs.Apart.{BoxesApart, LayersApart};
 ghost use Rattle.elk_doc.specs.Drawing.{part_in};
 ghost use Rattle.drawing_faults.specs.Faults.{IsFirst};
 ghost use Rattle.drawing_faults.specs.Shapes.{AreOutlines};
-ghost use Rattle.check_apart.specs.FirstApart.{AreLayers, AreParts, BoxesHold, FirstPair, LayersHold, LevelApart, MayBeNear};
+ghost use Rattle.check_apart.specs.FirstApart.{AreLayers, AreParts, BothApart, BoxesHold, FirstPair, LayersHold, LevelApart, MayBeNear};
 
 use crate::distances::{is_beyond, stands_clear};
 use drawing_faults::{Fault, Place, is_child, outline_at};
@@ -105,6 +105,51 @@ fn may_be_near(
     is_one_part(doc, node, options, certificate, parts, one, other)
 }
 
+// Whether two children stand apart, whichever of them has the smaller layer.
+fn both_apart(
+    doc: &Doc,
+    placed: &Placed,
+    outlines: &[Rect],
+    layers: &[u32],
+    node: u32,
+    options: &LevelOptions,
+    certificate: &Certificate,
+    one: u32,
+    other: u32,
+) -> bool
+    requires one_in { one < length doc.now.nodes }
+    requires other_in { other < length doc.now.nodes }
+    requires outlines { AreOutlines doc.now placed.now outlines.now }
+    requires layers { AreLayers doc.now node certificate.now layers.now }
+    ensures { IsTrue result ↔ BothApart doc.now placed.now node options.now certificate.now one other }
+{
+    let apart = layers_apart(
+        doc,
+        placed,
+        outlines,
+        layers,
+        node,
+        options,
+        certificate,
+        one,
+        other,
+    );
+    if !apart {
+        return false;
+    }
+    layers_apart(
+        doc,
+        placed,
+        outlines,
+        layers,
+        node,
+        options,
+        certificate,
+        other,
+        one,
+    )
+}
+
 // Whether two nodes, if they are children of one part, the other of greater number, keep their distances.
 fn layers_hold(
     doc: &Doc,
@@ -128,7 +173,7 @@ fn layers_hold(
     if !may_be_near(doc, node, options, certificate, parts, one, other) {
         return true;
     }
-    if !layers_apart(
+    both_apart(
         doc,
         placed,
         outlines,
@@ -138,19 +183,6 @@ fn layers_hold(
         certificate,
         one,
         other,
-    ) {
-        return false;
-    }
-    layers_apart(
-        doc,
-        placed,
-        outlines,
-        layers,
-        node,
-        options,
-        certificate,
-        other,
-        one,
     )
 }
 

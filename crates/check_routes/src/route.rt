@@ -1,5 +1,5 @@
 //! Orthogonal routes that leave both docks outward.
-ghost use Rattle.std.specs.Prelude.{◌≡◌, ◌↔◌, ℕ, ◌<◌, IsTrue, MatchOption, false, length, true};
+ghost use Rattle.std.specs.Prelude.{◌↔◌, ℕ, ◌<◌, IsTrue, MatchOption, false, length, true};
 ghost use Rattle.elk_doc.specs.Fits.{Fits};
 ghost use Rattle.elk_doc.specs.Route.{IsOrthogonal, IsPointLoop, IsStep, IsTurn, LeavesOutward, Route};
 ghost use Rattle.drawing_faults.specs.Faults.{IsFirst};

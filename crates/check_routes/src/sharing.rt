@@ -1,6 +1,5 @@
 //! Routes that share a piece only where their edges share a dock.
 ghost use Rattle.std.specs.Prelude.{◌≡◌, ◌↔◌, ℕ, ◌<◌, IsTrue, MatchOption, length, true, false};
-ghost use Rattle.elk_doc.specs.Drawing.{section_of};
 ghost use Rattle.elk_doc.specs.Fits.{Fits};
 ghost use Rattle.elk_doc.specs.Level.{IsEdge};
 ghost use Rattle.elk_doc.specs.Route.{Route};

@@ -1,5 +1,5 @@
 -- Marks of ports that one edge more enters or leaves.
-use Rattle.std.proofs.Common.{◌≡◌, ◌≢◌, ℕ, ◌+◌, ◌<◌, Bool, true, false, ◌||◌, ◌==◌, List, length, set, refl, sym, ap, ◌∙◌, inl, inr, add-one, eq-eqb, get_or, get_or-set_same, get_or-set_other, replicate, not, ◌&&◌}
+use Rattle.std.proofs.Common.{◌≡◌, ℕ, ◌+◌, ◌<◌, Bool, true, false, ◌||◌, ◌==◌, List, set, refl, sym, ap, ◌∙◌, inl, inr, add-one, eq-eqb, get_or, get_or-set_same, get_or-set_other, replicate, not, ◌&&◌}
 use Rattle.std.proofs.lemmas.Bool.{cases_eq, ne_eqb}
 use Rattle.std.proofs.lemmas.List.{get_or-replicate, length-replicate}
 use Rattle.std.proofs.Math.ListN.{length-set}

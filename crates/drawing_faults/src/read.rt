@@ -1,6 +1,6 @@
 //! Readers of documents and drawings.
 ghost use Rattle.std.specs.Prelude.{◌≡◌, ◌+◌, ◌<◌, length, slice_index_or};
-ghost use Rattle.elk_doc.specs.Document.{origin, parent_of};
+ghost use Rattle.elk_doc.specs.Document.{origin};
 ghost use Rattle.elk_doc.specs.Drawing.{head_node, is_listed, points_of, tail_node};
 ghost use Rattle.elk_doc.specs.Fits.{Fits};
 ghost use Rattle.elk_doc.specs.Level.{is_child, is_edge_of, is_loop, node_of_end};

@@ -225,6 +225,26 @@ fn options_and_ports(rt: HostRuntime) -> Result<(), Fail> {
             0,
             "-",
         ),
+        (
+            "{\"layoutOptions\":{\"portConstraints\":\"FIXED_POS\"},\"ports\":[{\"id\":\"p\",\"x\":1048577,\"layoutOptions\":{\"port.side\":\"NORTH\"}}]}",
+            4,
+            "p",
+        ),
+        (
+            "{\"layoutOptions\":{\"portConstraints\":\"FIXED_POS\"},\"ports\":[{\"id\":\"p\",\"x\":1048577,\"layoutOptions\":{\"port.side\":\"EAST\"}}]}",
+            0,
+            "-",
+        ),
+        (
+            "{\"id\":\"r\",\"layoutOptions\":{\"portConstraints\":\"FIXED_POS\",\"elk.direction\":\"x\"},\"ports\":[{\"id\":\"p\",\"x\":1048577,\"layoutOptions\":{\"port.side\":\"NORTH\"}}]}",
+            11,
+            "r",
+        ),
+        (
+            "{\"layoutOptions\":{\"portConstraints\":\"FIXED_POS\"},\"ports\":[{\"id\":\"p\",\"x\":1048577,\"layoutOptions\":{\"port.side\":\"NORTH\",\"port.index\":\"x\"}}]}",
+            11,
+            "p",
+        ),
     ];
     for (text, number, place) in rows {
         assert!(rt; holds(&rt, text, number, place));

@@ -1,3 +1,5 @@
 pub mod BreakLaws
 pub mod DrawnLaws
 mod ExampleLaws
+mod FlatLaws
+mod LevelLaws

@@ -3,6 +3,8 @@
 
 mod definition;
 mod judge;
+#[cfg(test)]
+mod level_tests;
 mod levels;
 mod shapes;
 #[cfg(test)]

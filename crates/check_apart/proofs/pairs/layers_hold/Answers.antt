@@ -1,4 +1,4 @@
-use Rattle.std.proofs.Common.{refl, rules}
+use Rattle.std.proofs.Common.{refl}
 use Rattle.std.proofs.lemmas.Bool.{both_ways}
 use Rattle.check_apart.proofs.pairs.layers_hold.Goals as goal
 
@@ -8,17 +8,9 @@ returns-then-not-may_be_near c = (
   λ _. refl,
 )
 
-pub returns-then-not-layers_apart : goal.returns-then-not-layers_apart
-returns-then-not-layers_apart c =
-    let near = c.may_be_near.ensures.0 c.if-not-may_be_near.false in (
-      λ t. absurd (search rules),
-      λ h. absurd (both_ways c.layers_apart.result c.if-not-layers_apart.true (c.layers_apart.ensures.1 (h near.layered near.one near.other near.order near.part).0)),
-    )
-
 pub returns : goal.returns
 returns c =
-    let near = c.may_be_near.ensures.0 c.if-not-may_be_near.false in
-    let before = c.layers_apart.ensures.0 c.if-not-layers_apart.false in (
-      λ t _ _ _ _ _. (before, c.layers_apart-2.ensures.0 t),
-      λ h. c.layers_apart-2.ensures.1 (h near.layered near.one near.other near.order near.part).1,
+    let near = c.may_be_near.ensures.0 c.if-not-may_be_near.false in (
+      λ t _ _ _ _ _. c.both_apart.ensures.0 t,
+      λ h. c.both_apart.ensures.1 (h near.layered near.one near.other near.order near.part),
     )
