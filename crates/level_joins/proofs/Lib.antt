@@ -1,3 +1,4 @@
 pub mod Alternating
 pub mod NetsThere
 pub mod LegsThere
+pub mod NearPoints

@@ -1,5 +1,6 @@
 //! What holds of the steps of the routes of a level, as the contracts of functions that do nothing.
 ghost use Rattle.level_joins.specs.Joins.{LegsAreThere, StepsAlternate, TracesJoin};
+ghost use Rattle.level_joins.specs.Nearness.{PointsAreNear};
 
 /// Lanes and legs alternate along the steps of each edge of a plan.
 pub fn steps_alternate()
@@ -14,4 +15,9 @@ pub fn legs_are_there()
 /// Where the gaps hold the nets of a plan, the steps of each edge make a trace through them.
 pub fn traces_join()
     ensures { TracesJoin }
+{}
+
+/// Where the ends, the gaps and the steps of a trace are near, its points are coordinates of a drawing.
+pub fn points_are_near()
+    ensures { PointsAreNear }
 {}
