@@ -1,0 +1,6 @@
+pub mod Drawing
+pub mod Joined
+pub mod Outlines
+pub mod Parts
+pub mod Shifted
+pub mod Sketched

@@ -1,0 +1,102 @@
+//! The drawing of a level.
+ghost use Rattle.std.specs.Prelude.{IfOk};
+ghost use Rattle.level_plan.specs.Conditions.{plain_level};
+ghost use Rattle.level_draw.specs.Drawing.{IsDrawable, IsDrawn, IsMadeFrom, plan_from};
+ghost use Rattle.level_draw.specs.Sketched.{IsSketch};
+
+use crate::parts::{Parts, parts_of};
+use crate::shifting::{reach_in, shifted, size_of};
+use elk_doc::drawing::{Certificate, Section};
+use elk_doc::list::Items;
+use elk_doc::shape::{Point, Size};
+use elk_layers::{Layered, Lines, Order};
+use level_plan::LevelIn;
+use route_lines::{Gap, Trace};
+use std::alloc::{AllocError, Global};
+
+/// What a level is drawn from, and the gaps and traces between its units and its routes. Gaps are numbered from left to right,
+/// one more than layers, and traces by edge.
+#[derive(Drop)]
+pub struct Plan {
+    pub layered: Layered,
+    pub start: Order,
+    pub order: Order,
+    pub lines: Lines,
+    pub gaps: Items<Gap>,
+    pub traces: Items<Trace>,
+}
+
+/// A level as it is drawn: boxes and ports by child, ports as places in their child's box, sections by edge.
+#[derive(Drop)]
+pub struct LevelOut {
+    pub plan: Plan,
+    pub boxes: Items<Point>,
+    pub ports: Items<Items<Point>>,
+    pub sections: Items<Section>,
+    pub certificate: Certificate,
+    pub extent: Size,
+}
+
+// The parts of a level's drawing, which begins at 0, and how far it reaches.
+#[derive(Drop)]
+struct Sketch {
+    parts: Parts,
+    extent: Size,
+}
+
+// The parts of a level's drawing, moved so that it begins at 0.
+fn sketch_of(
+    alloc: Global,
+    level: &LevelIn,
+    certificate: &Certificate,
+    layered: &Layered,
+    order: &Order,
+    lines: &Lines,
+) -> Result<Sketch, AllocError>
+    requires { IsDrawable (plain_level level.now) (plan_from certificate.now layered.now order.now lines.now) certificate.now.layers }
+    ensures { IfOk result (IsSketch (plain_level level.now) (plan_from certificate.now layered.now order.now lines.now) certificate.now.layers) }
+{
+    let parts = parts_of(alloc, level, certificate, layered, order, lines)?;
+    let reach = reach_in(&parts);
+    let moved = shifted(alloc, parts, reach.low)?;
+    Ok(Sketch {
+        parts: moved,
+        extent: size_of(reach),
+    })
+}
+
+/// The drawing of a level from its units and links, the order of its rows and the tops of its units, in whole document units
+/// and in the frame in which its direction runs to the right. Outlines and routes begin at 0. The certificate, the order that
+/// the rows began with and what the drawing is made from are kept in it.
+///
+/// The tops need only keep the distances of units. The only error is want of memory; what was given is dropped then.
+pub fn draw(
+    alloc: Global,
+    level: &LevelIn,
+    certificate: Certificate,
+    layered: Layered,
+    start: Order,
+    order: Order,
+    lines: Lines,
+) -> Result<LevelOut, AllocError>
+    requires { IsDrawable (plain_level level.now) (plan_from certificate layered order lines) certificate.layers }
+    ensures given { IfOk result (IsMadeFrom certificate layered start order lines) }
+    ensures drawn { IfOk result (IsDrawn (plain_level level.now) (plan_from certificate layered order lines) certificate.layers) }
+{
+    let sketch = sketch_of(alloc, level, &certificate, &layered, &order, &lines)?;
+    Ok(LevelOut {
+        plan: Plan {
+            layered,
+            start,
+            order,
+            lines,
+            gaps: Items::from_vec(sketch.parts.gaps),
+            traces: Items::from_vec(sketch.parts.traces),
+        },
+        boxes: Items::from_vec(sketch.parts.boxes),
+        ports: Items::from_vec(sketch.parts.ports),
+        sections: Items::from_vec(sketch.parts.sections),
+        certificate,
+        extent: sketch.extent,
+    })
+}
