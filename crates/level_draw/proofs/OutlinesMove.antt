@@ -22,7 +22,7 @@ use Rattle.level_shift.specs.Moved.{moved, moved_point, moved_section}
 use Rattle.level_draw.specs.Drawing.{outlines_in}
 
 -- a rectangle, moved to the left and up
-abbrev moved_rect : ℤ → ℤ → Rect → Rect
+abbrev pub moved_rect : ℤ → ℤ → Rect → Rect
 moved_rect x y r = record { x = r.x -ℤ x; y = r.y -ℤ y; width = r.width; height = r.height }
 
 low_moves : (a b x : ℤ) → int_min (a -ℤ x) (b -ℤ x) ≡ int_min a b -ℤ x

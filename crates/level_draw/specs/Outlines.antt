@@ -13,8 +13,8 @@ outline_from r corner = record { x = corner.x +ℤ r.x; y = corner.y +ℤ r.y; w
 
 -- both lie near 0
 pub record IsNearby (r : Rect) (corner : Point) : Type 0 where
-  pub outline : IsPlaceWithin (2 ^ 53) (record { x = r.x; y = r.y })
-  pub corner : IsPlaceWithin (2 ^ 53) corner
+  pub outline_near : IsPlaceWithin (2 ^ 53) (record { x = r.x; y = r.y })
+  pub corner_near : IsPlaceWithin (2 ^ 53) corner
 
 pub record AreNearby (children : List ChildAt) (boxes : List Point) : Type 0 where
   pub as_many : length boxes ≡ length children

@@ -41,7 +41,7 @@ pub record AreFar (v : Parts) : Type 0 where
   pub outlines : All IsNear v.outlines.items
 
 -- Parts of a level's drawing that was not moved.
-pub record AreParts (l : PlainLevel) (p : PlainPlan) (layers : List ℕ) (v : Parts) : Type 0 where
-  pub drawn : (o : Orders) (extent : Size) → IsReady l p o layers → IsDrawnFrom l p o (drawn_of v extent (pos 0) (pos 0))
+pub record AreParts (l : PlainLevel) (p : PlainPlan) (v : Parts) : Type 0 where
+  pub drawn : (o : Orders) (layers : List ℕ) (extent : Size) → IsReady l p o layers → IsDrawnFrom l p o (drawn_of v extent (pos 0) (pos 0))
   pub outlines : (extent : Size) → v.outlines.items ≡ outlines_in l (drawn_of v extent (pos 0) (pos 0))
   pub far : AreFar v

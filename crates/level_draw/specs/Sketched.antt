@@ -7,8 +7,8 @@ use Rattle.level_draw.specs.declared.drawing.Sketch.{Sketch}
 use Rattle.level_draw.specs.Drawing.{IsTight}
 use Rattle.level_draw.specs.Parts.{drawn_of}
 
-pub record IsSketch (l : PlainLevel) (p : PlainPlan) (layers : List ℕ) (v : Sketch) : Type 0 where
+pub record IsSketch (l : PlainLevel) (p : PlainPlan) (v : Sketch) : Type 0 where
   pub left : ℤ
   pub top : ℤ
-  pub drawn : (o : Orders) → IsReady l p o layers → IsDrawnFrom l p o (drawn_of v.parts v.extent left top)
+  pub drawn : (o : Orders) (layers : List ℕ) → IsReady l p o layers → IsDrawnFrom l p o (drawn_of v.parts v.extent left top)
   pub tight : IsTight l (drawn_of v.parts v.extent left top)

@@ -1,6 +1,6 @@
 //! The drawing of a level.
-ghost use Rattle.std.specs.Prelude.{IfOk};
-ghost use Rattle.level_plan.specs.Conditions.{plain_level};
+ghost use Rattle.std.specs.Prelude.{ℕ, List, IfOk};
+ghost use Rattle.level_plan.specs.Conditions.{plain_level, plain_plan};
 ghost use Rattle.level_draw.specs.Drawing.{IsDrawable, IsDrawn, IsMadeFrom, plan_from};
 ghost use Rattle.level_draw.specs.Sketched.{IsSketch};
 
@@ -48,15 +48,15 @@ struct Sketch {
 fn sketch_of(
     alloc: Global,
     level: &LevelIn,
-    certificate: &Certificate,
     layered: &Layered,
     order: &Order,
     lines: &Lines,
+    reversed: &[u32],
 ) -> Result<Sketch, AllocError>
-    requires { IsDrawable (plain_level level.now) (plan_from certificate.now layered.now order.now lines.now) certificate.now.layers }
-    ensures { IfOk result (IsSketch (plain_level level.now) (plan_from certificate.now layered.now order.now lines.now) certificate.now.layers) }
+    requires { (layers : List ℕ) × IsDrawable (plain_level level.now) (plain_plan layered.now order.now lines.now.top.items reversed.now) layers }
+    ensures { IfOk result (IsSketch (plain_level level.now) (plain_plan layered.now order.now lines.now.top.items reversed.now)) }
 {
-    let parts = parts_of(alloc, level, certificate, layered, order, lines)?;
+    let parts = parts_of(alloc, level, layered, order, lines, reversed)?;
     let reach = reach_in(&parts);
     let moved = shifted(alloc, parts, reach.low)?;
     Ok(Sketch {
@@ -83,20 +83,23 @@ pub fn draw(
     ensures given { IfOk result (IsMadeFrom certificate layered start order lines) }
     ensures drawn { IfOk result (IsDrawn (plain_level level.now) (plan_from certificate layered order lines) certificate.layers) }
 {
-    let sketch = sketch_of(alloc, level, &certificate, &layered, &order, &lines)?;
+    let reversed = certificate.reversed.as_slice();
+    let sketch = sketch_of(alloc, level, &layered, &order, &lines, reversed)?;
+    let extent = sketch.extent;
+    let parts = sketch.parts;
     Ok(LevelOut {
         plan: Plan {
             layered,
             start,
             order,
             lines,
-            gaps: Items::from_vec(sketch.parts.gaps),
-            traces: Items::from_vec(sketch.parts.traces),
+            gaps: Items::from_vec(parts.gaps),
+            traces: Items::from_vec(parts.traces),
         },
-        boxes: Items::from_vec(sketch.parts.boxes),
-        ports: Items::from_vec(sketch.parts.ports),
-        sections: Items::from_vec(sketch.parts.sections),
+        boxes: Items::from_vec(parts.boxes),
+        ports: Items::from_vec(parts.ports),
+        sections: Items::from_vec(parts.sections),
         certificate,
-        extent: sketch.extent,
+        extent,
     })
 }

@@ -1,12 +1,12 @@
 //! The parts of a drawing before it is moved.
-ghost use Rattle.std.specs.Prelude.{◌≡◌, IfOk};
-ghost use Rattle.level_plan.specs.Conditions.{plain_level};
-ghost use Rattle.level_draw.specs.Drawing.{IsDrawable, plan_from};
+ghost use Rattle.std.specs.Prelude.{◌≡◌, ℕ, List, IfOk};
+ghost use Rattle.level_plan.specs.Conditions.{plain_level, plain_plan};
+ghost use Rattle.level_draw.specs.Drawing.{IsDrawable};
 ghost use Rattle.level_draw.specs.Parts.{AreParts, ports_in};
 
 use crate::outlines::outlines_of;
 use crate::sections::sections_of;
-use elk_doc::drawing::{Certificate, Section};
+use elk_doc::drawing::Section;
 use elk_doc::list::Items;
 use elk_doc::shape::{Point, Rect};
 use elk_layers::{Layered, Lines, Order};
@@ -43,15 +43,14 @@ fn ports_of(alloc: Global, children: Vec<ChildAt>) -> Result<Vec<Items<Point>>, 
 pub(crate) fn parts_of(
     alloc: Global,
     level: &LevelIn,
-    certificate: &Certificate,
     layered: &Layered,
     order: &Order,
     lines: &Lines,
+    reversed: &[u32],
 ) -> Result<Parts, AllocError>
-    requires { IsDrawable (plain_level level.now) (plan_from certificate.now layered.now order.now lines.now) certificate.now.layers }
-    ensures { IfOk result (AreParts (plain_level level.now) (plan_from certificate.now layered.now order.now lines.now) certificate.now.layers) }
+    requires { (layers : List ℕ) × IsDrawable (plain_level level.now) (plain_plan layered.now order.now lines.now.top.items reversed.now) layers }
+    ensures { IfOk result (AreParts (plain_level level.now) (plain_plan layered.now order.now lines.now.top.items reversed.now)) }
 {
-    let reversed = certificate.reversed.as_slice();
     let table = table_of(alloc, level, layered, order, reversed)?;
     let routing = gaps_of(alloc, level, layered, lines, reversed, &table)?;
     let routes = routes_of(alloc, level, layered, lines, reversed, &table, &routing)?;

@@ -1,0 +1,13 @@
+pub mod Answering
+pub mod Assembled
+pub mod FarParts
+pub mod Joining
+pub mod Nearness
+pub mod Outlined
+pub mod OutlinesMove
+pub mod PartsMade
+pub mod Planned
+pub mod ReachFar
+pub mod RulesKept
+pub mod SectionLemmas
+pub mod Sketching

@@ -1,0 +1,65 @@
+-- A table that is made before places are known belongs to the plan.
+use Rattle.std.proofs.Common.{◌≡◌, ℕ, ◌<◌, List, [], inl, inr, length, ℤ}
+use Rattle.std.proofs.Common.{⊎_elim}
+use Rattle.level_plan.specs.declared.table.Table.{Table}
+use Rattle.level_plan.specs.Level.{PlainLevel, PlainPlan, Orders}
+use Rattle.level_plan.specs.Table.{IsTable}
+use Rattle.level_plan.specs.Units.{AreLinked, AreOrders, HasChain, IsLaneUnit, IsLinkOf, IsUnitOf}
+use Rattle.level_stands.specs.Ready.{IsReady}
+use Rattle.level_ends.specs.Tops.{with_tops}
+use Rattle.level_nets.specs.Parts.{IsGiven, Parts, plan_of}
+use Rattle.level_draw.specs.Drawing.{IsDrawable}
+use Rattle.level_ends.proofs.TopLemmas.{no_tops}
+use Rattle.level_ends.proofs.AgreeingLemmas.{need_no_orders}
+
+module _ (l : PlainLevel) (p : PlainPlan) (tops : List ℤ) where
+  unit_kept : (layer c : ℕ) → IsUnitOf p layer c → IsUnitOf (with_tops p tops) layer c
+  unit_kept layer c h = record { in_range = h.in_range; child = h.child; alone = h.alone; layer_is = h.layer_is }
+
+  lane_kept : (u : ℕ) → IsLaneUnit p u → IsLaneUnit (with_tops p tops) u
+  lane_kept u h = record { no_child = h.no_child; flat = h.flat; entered = h.entered; once = h.once }
+
+  chain_kept : (e : ℕ) → HasChain l p e → HasChain l (with_tops p tops) e
+  chain_kept e h =
+      record {
+        long = h.long;
+        some = h.some;
+        from = h.from;
+        to = h.to;
+        joined = h.joined;
+        lanes = λ i k. lane_kept _ (h.lanes i k);
+      }
+
+  link_kept : (k : ℕ) → IsLinkOf l p k → IsLinkOf l (with_tops p tops) k
+  link_kept k h = record { edge_in = h.edge_in; no_loop = h.no_loop }
+
+  -- units and links stay what they are, wherever units stand
+  pub linked_kept : (layers : List ℕ) → AreLinked l p layers → AreLinked l (with_tops p tops) layers
+  linked_kept layers h =
+      record {
+        children = λ c k. unit_kept _ c (h.children c k);
+        units = λ u k. ⊎_elim (λ lane. inl (lane_kept u lane)) (λ child. inr child) (h.units u k);
+        chains = λ e k no_loop. chain_kept e (h.chains e k no_loop);
+        links = λ k m. link_kept k (h.links k m);
+      }
+
+pub table_fits : (l : PlainLevel) (p : PlainPlan) (o q : Orders) (layers : List ℕ) (t : Table) → IsReady l p o layers → AreOrders l (with_tops p []) q → IsTable l (with_tops p []) q t
+    → IsTable l p o t
+table_fits l p o q layers t ready orders table =
+    need_no_orders l p q o t ready.level (no_tops.orders l (with_tops p []) q p.tops orders) ready.units.orders
+    (no_tops.table l (with_tops p []) q p.tops t table)
+
+-- so the level is one whose gaps and routes are wanted
+pub is_given : (s : Parts) (rows : List (List ℕ)) (layers : List ℕ) (q : Orders) → IsDrawable s.level (plan_of s rows) layers
+    → AreOrders s.level (with_tops (plan_of s rows) []) q → IsTable s.level (with_tops (plan_of s rows) []) q s.table → IsGiven s
+is_given s rows layers q drawable orders table =
+    record {
+      few_layers = drawable.few_layers;
+      bottoms = drawable.bottoms;
+      plan = record {
+        rows = rows;
+        orders = drawable.orders;
+        layers = layers;
+        planned = record { ready = drawable.ready; table = table_fits s.level (plan_of s rows) drawable.orders q layers s.table drawable.ready orders table };
+      };
+    }
