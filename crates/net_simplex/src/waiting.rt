@@ -67,12 +67,13 @@ fn rise_of(layers: &[i64], e: NetEdge) -> i128
     rise_between(layers[e.tail as usize], layers[e.head as usize], e.least)
 }
 
-fn is_out(reached: &[bool], v: u32) -> bool
-    requires { v < length reached.now }
-    ensures out { result ≡ true → is_in reached.now v ≡ false }
-    ensures held { result ≡ false → is_in reached.now v ≡ true }
+/// Whether the node at the other end of the edge is not reached.
+fn is_out(reached: &[bool], e: NetEdge, end: End) -> bool
+    requires { far_of end e < length reached.now }
+    ensures out { result ≡ true → is_in reached.now (far_of end e) ≡ false }
+    ensures held { result ≡ false → is_in reached.now (far_of end e) ≡ true }
 {
-    !reached[v as usize]
+    !reached[far_node(e, end) as usize]
 }
 
 /// Adds the edges that lead from `v` out of the tree, `v` at this end of them.
@@ -99,7 +100,7 @@ pub fn add_edges(
     let mut k = first_of(links, v);
     while (k as usize) < edges.len() {
         let e = edges[k as usize];
-        if is_out(reached, far_node(e, end)) {
+        if is_out(reached, e, end) {
             add_waiting(queue, rise_of(layers, e), k)?;
         }
         k = next_of(links, k);
@@ -125,7 +126,7 @@ pub fn nearest(
     let _layers = layers.len();
     while let Some(first) = first_waiting(queue) {
         let k = first.edge.0;
-        if is_out(reached, far_node(edges[k as usize], end)) {
+        if is_out(reached, edges[k as usize], end) {
             return Some(k);
         }
         drop_first(queue);

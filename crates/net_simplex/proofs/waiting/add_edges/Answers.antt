@@ -1,4 +1,4 @@
-use Rattle.std.proofs.Common.{◌≡◌, ◌∙◌, suc, length, get_or, arith, sym, subst, ap, true, FitsSigned, rules}
+use Rattle.std.proofs.Common.{◌≡◌, ◌∙◌, suc, length, get_or, arith, sym, subst, ap, FitsSigned, rules}
 use Rattle.std.specs.Int.{w128}
 use Rattle.std.proofs.lemmas.Int.{to_z-of_z}
 use Rattle.std.specs.BinaryHeap.{IsHeap, heap_items}
@@ -30,7 +30,6 @@ loop-k-preserved c =
     let n : IsNextAt edges end v (suc k) k' =
     subst (λ x. IsNextAt edges end v (suc k) x) (sym c.next_of-k.ensures) (subst (λ x. IsNextAt edges end x (suc k) (get_or c.args.links.now.next.items k 0)) is (c.requires.links.goes_on k there))
     in
-    let far = c.far_node.ensures in
     elim c.if-is_out.branch [
       | then-is_out+in_ok-add_waiting w ↦
           let z = w.rise_of.result in
@@ -49,7 +48,7 @@ loop-k-preserved c =
         n.here,
         subst (λ h. IsHeap waiting_order (heap_items h)) (sym w.queue-is) c.loop-k.invariant.2,
         subst (λ h. AreWaiting edges end reached layers v k' (heap_items h)) (sym w.queue-is)
-            (waiting_past edges end reached layers v k k' q n (λ out. let a = subst (λ x. is_in reached x ≡ true) far (c.is_out.ensures.held w.if-is_out.false) in let b = out.1 in absurd cc) c.loop-k.invariant.3),
+            (waiting_past edges end reached layers v k k' q n (λ out. let a = c.is_out.ensures.held w.if-is_out.false in let b = out.1 in absurd cc) c.loop-k.invariant.3),
       )
     ]
 
