@@ -55,7 +55,7 @@ links_to l n = filter (λ e. not (is_loop l e)) (range_with_len 0 n)
 abbrev pub links : PlainLevel → List ℕ
 links l = links_to l (length l.edges)
 
--- the network of a level whose listed edges are turned round
+-- the network of a level whose listed edges are turned round: its edges without the self-loops, each of length 1
 abbrev pub net_edge : PlainLevel → List ℕ → ℕ → NetEdge
 net_edge l listed e = oriented (holds listed e) (edge_at l e)
 
@@ -69,7 +69,10 @@ flow_at flow e = slice_index_or flow e 0
 abbrev pub link_flows : PlainLevel → List ℕ → List ℕ
 link_flows l flow = map (flow_at flow) (links l)
 
--- what is answered for a level
+-- What is answered for a level: the edges that are turned round; a layer for each child, below the number of children; a flow
+-- for each edge, 0 at self-loops; and a span. Layers, flow and span are a solution of the level's network: each oriented edge
+-- leads to a higher layer, the least layer of each part is 0, the flow balances with the span as its value, and no layering of
+-- the same orientation costs less.
 pub record IsCertificateOf (l : PlainLevel) (c : Certificate) : Type 0 where
   pub reversed : AreReversed l c.reversed
   pub layer_for_each : length c.layers ≡ length l.children
