@@ -1,0 +1,8 @@
+pub mod FlowLemmas
+pub mod GraphLemmas
+pub mod ListLemmas
+pub mod LowLayers
+pub mod MadeLemmas
+pub mod NetLemmas
+pub mod PartLemmas
+pub mod TurnLemmas

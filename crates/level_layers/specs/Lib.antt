@@ -1,0 +1,5 @@
+pub mod Certificate
+pub mod Examples
+pub mod Flows
+pub mod Low
+pub mod Marks

@@ -1,0 +1,12 @@
+//! The certificate of a level: its edges are oriented, and a layering of least span is found with the flow that shows it.
+#![tactic(auto)]
+
+mod certificates;
+mod laws;
+mod networks;
+mod orienting;
+#[cfg(test)]
+mod tests;
+
+pub use certificates::certificate_of;
+pub use laws::layers_stay_low;
