@@ -14,7 +14,7 @@ head_child l turned e = (spoke l (end_at e turned)).child
 abbrev pub layer_in : List ℕ → ℕ → ℕ
 layer_in layers c = slice_index_or layers c 0
 
--- One layer for each child; each oriented edge that is no self-loop leads to a greater one.
+-- One layer for each child, below 2,048; each oriented edge that is no self-loop leads to a greater one.
 pub record AreLayersOf (l : PlainLevel) (reversed layers : List ℕ) : Type 0 where
   pub as_many : length layers ≡ length l.children
   pub below : (c : ℕ) → c < length layers → layer_in layers c < 2048

@@ -1,11 +1,7 @@
-use Rattle.std.proofs.Common.{◌≡◌, ◌∙◌, List, [], sym, subst, ap}
-use Rattle.port_order.specs.declared.children.Child.{Child}
-use Rattle.level_plan.specs.declared.level.LevelEdge.{LevelEdge}
+use Rattle.std.proofs.Common.{[], sym, subst}
 use Rattle.level_plan.specs.Level.{PlainLevel}
 use Rattle.level_plan.specs.Conditions.{IsLevel, plain_level}
-use Rattle.level_plan.specs.Examples.{spacing}
 use Rattle.level_units.specs.Layering.{AreLayersOf}
-use Rattle.level_units.specs.Worked.{nothing}
 use Rattle.level_units.proofs.WorkedLemmas.{nothing_is, nothing_layers, nothing_from}
 use Rattle.level_units.proofs.tests.a_level_without_children_has_no_layer.Goals as goal
 
