@@ -1,0 +1,11 @@
+pub mod SumLemmas
+pub mod GrownLemmas
+pub mod CountLemmas
+pub mod FilterLemmas
+pub mod RunLemmas
+pub mod NumberLemmas
+pub mod SoundLemmas
+pub mod LinkedLemmas
+pub mod GrowingLemmas
+pub mod RowLemmas
+pub mod WorkedLemmas

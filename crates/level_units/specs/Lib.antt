@@ -1,0 +1,5 @@
+pub mod Layering
+pub mod Numbered
+pub mod Grown
+pub mod Started
+pub mod Worked
