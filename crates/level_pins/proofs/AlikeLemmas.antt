@@ -1,21 +1,24 @@
 -- Orders and tables do not depend on heights, pins and ranks.
-use Rattle.std.proofs.Common.{◌≡◌, inl, inr, ⊎_elim, ℕ, ◌+◌, ◌-◌, ◌<◌, get_or, arith, ◌==◌, ◌&&◌, ◌++◌, ◌+ℤ◌, ◌-ℤ◌, ℤ, List, [], ◌∷◌, map, length, Bool, true, false, cond, IsFalse, IsTrue, refl, sym, ◌∙◌, ap, ap₂, subst}
-use Rattle.std.specs.Prelude.{Option, None, Some, is_some}
+use Rattle.std.proofs.Common.{◌≡◌, inl, inr, ⊎_elim, ℕ, ◌+◌, ◌-◌, ◌<◌, get_or, arith, ◌==◌, ◌&&◌, ◌||◌, not, ◌++◌, pos, ◌+ℤ◌, ◌-ℤ◌, ℤ, List, [], ◌∷◌, map, length, Bool, true, false, cond, IsFalse, IsTrue, refl, sym, ◌∙◌, ap, ap₂, subst}
+use Rattle.std.specs.Prelude.{Option, None, Some, int_lt, is_some}
+use Rattle.std.specs.Ordering.{int_eq}
 use Rattle.std.specs.List.{filter, list_any, range_with_len}
 use Rattle.elk_doc.specs.declared.shape.Rect.{Rect}
 use Rattle.elk_doc.specs.declared.shape.Side.{Side}
 use Rattle.elk_doc.specs.declared.shape.Side.TheVariants.{North, East, South, West}
 use Rattle.elk_doc.specs.declared.shape.Dock.{Dock}
+use Rattle.elk_doc.specs.declared.document.PortRule.{PortRule}
+use Rattle.elk_doc.specs.declared.document.PortRule.TheVariants.{Free, FixedSide, FixedOrder, FixedPos}
 use Rattle.elk_doc.specs.PortsKept.{is_side}
 use Rattle.elk_doc.specs.Shapes.{hull, rect_at}
 use Rattle.elk_doc.specs.declared.shape.Point.{Point}
 use Rattle.port_order.specs.declared.spots.Mean.{Mean}
 use Rattle.port_order.specs.declared.spots.Spot.{Spot}
-use Rattle.port_order.specs.Child.{port_at}
+use Rattle.port_order.specs.Child.{is_pinned, port_at}
 use Rattle.port_order.specs.Sides.{side_of}
 use Rattle.port_order.specs.Order.{IsOrderOfSide}
 use Rattle.port_order.specs.Places.{place_of_port}
-use Rattle.self_loops.specs.Loops.{sides_of_lanes}
+use Rattle.self_loops.specs.Loops.{is_upright, sides_of_lanes}
 use Rattle.elk_layers.specs.Layered.{Plain, unit_at, link_at, layer_of, place_in, place_of, row_at, is_child}
 use Rattle.level_stage.specs.Stage.{Line, anchor_line, dock_lane, loop_lane, long_lane}
 use Rattle.level_plan.specs.declared.table.EndAt.{EndAt}
@@ -24,10 +27,10 @@ use Rattle.level_plan.specs.declared.table.ChildAt.{ChildAt}
 use Rattle.level_plan.specs.declared.table.Table.{Table}
 use Rattle.level_plan.specs.Level.{PlainLevel, PlainPlan, Orders, End, end_at, child_at, edge_at, is_loop, enters, ends_at_port, first_or, far_unit, implicit_ends, implicit_spot, is_link_of, link_of, linked, mean_of, place_of_end, port_spot, spoke, spot, spot_at_port, spots, spot_of, sum_of, dock_of, dock_of_spot, anchor_of_spot, port_place, outline_from, outline, tail_end, head_end}
 use Rattle.level_plan.specs.Lanes.{asks_lane, dock_eq, has_lane, docks_with_lane, lane_side, loops_of, loop_sides, lanes, lanes_room, once, place_of_line, body_top, lane_height, loop_lane_height}
-use Rattle.level_plan.specs.Nets.{below_top, box_below, is_number, layer_of_child, unit_of}
+use Rattle.level_plan.specs.Nets.{below_top, box_below, inverts, is_number, layer_of_child, unit_of}
 use Rattle.level_plan.specs.Traces.{chain, links_at, links_from}
 use Rattle.level_plan.specs.Table.{IsTable, IsEndAt, IsLoopAt, IsChildAt, end_in, loop_in, child_in}
-use Rattle.level_plan.specs.Units.{AreLinked, AreOrders, HasChain, IsLaneUnit, IsLinkOf, IsUnitOf, chain_at}
+use Rattle.level_plan.specs.Units.{AreLinked, AreOrders, HasChain, IsLaneUnit, IsLinkOf, IsUnitOf, chain_at, head_rank, is_fixed, is_pinned_port, is_spread_fixed, lane_rank, last_rank, link_side, offset_first, pinned_on, port_rank, ports_on, rank_of_end, tail_rank}
 use Rattle.level_nets.proofs.ListLemmas.{filter_same, map_same}
 use Rattle.level_pins.specs.Alike.{AreAlike, AreFlat, ReadNoHeights, with_layered}
 
@@ -191,6 +194,13 @@ module _ (l : PlainLevel) (p : PlainPlan) (v : Plain) (tops : List ℤ) (alike :
           links = λ k m. link_kept k (h.links k (omega (arith, links, m)));
         }
 
+  -- an end's rank, by the last one of its side, its dock and its port's rank
+  abbrev rank_from : End → ℕ → Dock → ℕ → ℕ
+  rank_from n last d r =
+      cond (not (is_fixed (child_at l (spoke l n).child).rule)) 0
+      (cond (is_spread_fixed (child_at l (spoke l n).child).rule (spoke l n).port (is_pinned_port (child_at l (spoke l n).child) (spoke l n).port)) (last + 1)
+      (cond (is_upright d.side || (not (is_loop l n.edge) && inverts d.side (enters p n))) (lane_rank last (lane_side l d)) r))
+
   module _ (o : Orders) where
     pub dock_same : (n : End) → dock_of l q o n ≡ dock_of l p o n
     dock_same n = ap (dock_of_spot l o (spoke l n).child) (spot_of_same n)
@@ -284,6 +294,53 @@ module _ (l : PlainLevel) (p : PlainPlan) (v : Plain) (tops : List ℤ) (alike :
           south = is.south ∙ ap (λ (ms : List Line). length ms) (sym (lanes_same c South));
         }
 
+    -- ---- ranks
+
+    ports_on_same : (c : ℕ) (side : Side) → ports_on l q c side ≡ ports_on l p c side
+    ports_on_same c side =
+        filter_same (λ k. is_side (side_of (child_at l c) (port_spot l q c k)) side) (λ k. is_side (side_of (child_at l c) (port_spot l p c k)) side) (range_with_len 0 (length (child_at l c).ports))
+        (λ k h. ap (λ (z : Spot). is_side (side_of (child_at l c) z) side) (port_spot_same c k))
+
+    pinned_on_same : (c : ℕ) (side : Side) → pinned_on l q c side ≡ pinned_on l p c side
+    pinned_on_same c side = ap (filter (is_pinned (child_at l c))) (ports_on_same c side)
+
+    first_same : (c k j : ℕ) → offset_first l q o c j k ≡ offset_first l p o c j k
+    first_same c k j =
+        ap₂ (λ (x y : Spot). int_lt (dock_of_spot l o c x).offset (dock_of_spot l o c y).offset || (int_eq (dock_of_spot l o c x).offset (dock_of_spot l o c y).offset && int_lt (pos j) (pos k))) (port_spot_same c j) (port_spot_same c k)
+
+    last_same : (c : ℕ) (side : Side) (rule : PortRule) → last_rank l q c side rule ≡ last_rank l p c side rule
+    last_same c side Free = refl
+    last_same c side FixedSide = refl
+    last_same c side FixedOrder = ap (λ (ks : List ℕ). length ks) (ports_on_same c side)
+    last_same c side FixedPos = ap (λ (ks : List ℕ). length ks) (pinned_on_same c side)
+
+    port_rank_same : (c : ℕ) (side : Side) (rule : PortRule) (port : Option ℕ) (b : Bool) → port_rank l q o c side rule port b ≡ port_rank l p o c side rule port b
+    port_rank_same c side Free port b = refl
+    port_rank_same c side FixedSide port b = refl
+    port_rank_same c side FixedOrder (Some k) b = refl
+    port_rank_same c side FixedOrder None b = ap (λ n. n + 1) (last_same c side FixedOrder)
+    port_rank_same c side FixedPos None b = ap (λ n. n + 1) (last_same c side FixedPos)
+    port_rank_same c side FixedPos (Some k) false = ap (λ n. n + 1) (last_same c side FixedPos)
+    port_rank_same c side FixedPos (Some k) true =
+        ap (λ (js : List ℕ). length (filter (λ j. offset_first l q o c j k) js) + 1) (pinned_on_same c side)
+        ∙ ap (λ (js : List ℕ). length js + 1) (filter_same (λ j. offset_first l q o c j k) (λ j. offset_first l p o c j k) (pinned_on l p c side) (λ j h. first_same c k j))
+
+    rank_same : (n : End) → rank_of_end l q o n ≡ rank_of_end l p o n
+    rank_same n =
+        ap (λ (last : ℕ). rank_from n last (dock_of l q o n) (port_rank l q o (spoke l n).child (link_side p n) (child_at l (spoke l n).child).rule (spoke l n).port (is_pinned_port (child_at l (spoke l n).child) (spoke l n).port))) (last_same (spoke l n).child (link_side p n) (child_at l (spoke l n).child).rule)
+        ∙ ap (λ (d : Dock). rank_from n (last_rank l p (spoke l n).child (link_side p n) (child_at l (spoke l n).child).rule) d (port_rank l q o (spoke l n).child (link_side p n) (child_at l (spoke l n).child).rule (spoke l n).port (is_pinned_port (child_at l (spoke l n).child) (spoke l n).port))) (dock_same n)
+        ∙ ap (λ (r : ℕ). rank_from n (last_rank l p (spoke l n).child (link_side p n) (child_at l (spoke l n).child).rule) (dock_of l p o n) r) (port_rank_same (spoke l n).child (link_side p n) (child_at l (spoke l n).child).rule (spoke l n).port (is_pinned_port (child_at l (spoke l n).child) (spoke l n).port))
+
+    tail_rank_same : (k : ℕ) → tail_rank l q o k ≡ tail_rank l p o k
+    tail_rank_same k =
+        ap₂ (λ u e. cond (is_child v u) (rank_of_end l q o (tail_end p e)) 0) (alike.tail_is k) (alike.edge_is k)
+        ∙ ap₂ (λ (b : Bool) (r : ℕ). cond b r 0) (child_same (link_at p.layered.links k).tail) (rank_same (tail_end p (link_at p.layered.links k).edge))
+
+    head_rank_same : (k : ℕ) → head_rank l q o k ≡ head_rank l p o k
+    head_rank_same k =
+        ap₂ (λ u e. cond (is_child v u) (rank_of_end l q o (head_end p e)) 0) (alike.head_is k) (alike.edge_is k)
+        ∙ ap₂ (λ (b : Bool) (r : ℕ). cond b r 0) (child_same (link_at p.layered.links k).head) (rank_same (head_end p (link_at p.layered.links k).edge))
+
     table_same : (t : Table) → IsTable l p o t → IsTable l q o t
     table_same t is =
         record {
@@ -301,5 +358,7 @@ no_heights =
     record {
       orders = λ l p v tops o alike are. orders_same l p v tops alike o are;
       table = λ l p v tops o t alike is. table_same l p v tops alike o t is;
+      tail_rank_is = λ l p v tops o k alike. tail_rank_same l p v tops alike o k;
+      head_rank_is = λ l p v tops o k alike. head_rank_same l p v tops alike o k;
       linked = λ l p v tops layers alike layers_are flat h. linked_same l p v tops alike layers_are flat layers h;
     }

@@ -1,4 +1,5 @@
 pub mod AlikeLemmas
+pub mod BlankLemmas
 pub mod ChildLemmas
 pub mod FittedLemmas
 pub mod MadeLemmas
@@ -7,3 +8,4 @@ pub mod RoomLemmas
 pub mod SizeLemmas
 pub mod TotalLemmas
 pub mod WithinLemmas
+pub mod WorkedLevels

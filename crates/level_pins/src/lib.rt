@@ -12,3 +12,6 @@ mod pins;
 
 pub use fitting::pinned;
 pub use laws::tables_read_no_heights;
+
+#[cfg(test)]
+mod tests;
