@@ -27,9 +27,9 @@ use Rattle.level_plan.specs.declared.table.ChildAt.{ChildAt}
 use Rattle.level_plan.specs.declared.table.Table.{Table}
 use Rattle.level_plan.specs.Level.{PlainLevel, PlainPlan, Orders, End, end_at, child_at, edge_at, is_loop, enters, ends_at_port, first_or, far_unit, implicit_ends, implicit_spot, is_link_of, link_of, linked, mean_of, place_of_end, port_spot, spoke, spot, spot_at_port, spots, spot_of, sum_of, dock_of, dock_of_spot, anchor_of_spot, port_place, outline_from, outline, tail_end, head_end}
 use Rattle.level_plan.specs.Lanes.{asks_lane, dock_eq, has_lane, docks_with_lane, lane_side, loops_of, loop_sides, lanes, lanes_room, once, place_of_line, body_top, lane_height, loop_lane_height}
-use Rattle.level_plan.specs.Nets.{below_top, box_below, inverts, is_number, layer_of_child, unit_of}
+use Rattle.level_plan.specs.Nets.{below_top, inverts, is_number, layer_of_child, unit_of}
 use Rattle.level_plan.specs.Traces.{chain, links_at, links_from}
-use Rattle.level_plan.specs.Table.{IsTable, IsEndAt, IsLoopAt, IsChildAt, end_in, loop_in, child_in}
+use Rattle.level_plan.specs.Table.{IsTable, IsEndAt, IsLoopAt, IsChildAt, loop_in, child_in}
 use Rattle.level_plan.specs.Units.{AreLinked, AreOrders, HasChain, IsLaneUnit, IsLinkOf, IsUnitOf, chain_at, head_rank, is_fixed, is_pinned_port, is_spread_fixed, lane_rank, last_rank, link_side, offset_first, pinned_on, port_rank, ports_on, rank_of_end, tail_rank}
 use Rattle.level_nets.proofs.ListLemmas.{filter_same, map_same}
 use Rattle.level_pins.specs.Alike.{AreAlike, AreFlat, ReadNoHeights, with_layered}

@@ -1,15 +1,14 @@
 -- Units and links of a sound drawing are sound before their heights, pins and ranks are known.
-use Rattle.std.proofs.Common.{◌≡◌, ℕ, zero, suc, ◌<◌, ◌≤◌, ◌^◌, ◌==◌, Bool, true, false, not, List, [], ◌∷◌, length, map, ℤ, pos, ◌+ℤ◌, ◌≤ℤ◌, ◌<ℤ◌, refl, sym, subst, ap, ◌∙◌, arith}
+use Rattle.std.proofs.Common.{◌≡◌, ℕ, zero, suc, ◌<◌, List, [], ◌∷◌, length, map, ℤ, pos, refl, sym, subst, ap, ◌∙◌, arith}
 use Rattle.std.proofs.lemmas.Int.{ints}
 use Rattle.std.proofs.lemmas.List.{length-map}
-use Rattle.std.specs.Prelude.{None}
 use Rattle.elk_layers.specs.declared.units.Unit.{Unit as LayerUnit}
 use Rattle.elk_layers.specs.declared.units.Link.{Link}
 use Rattle.elk_layers.specs.Layered.{Plain, AreRows, HasUnit, IsFromZero, IsSound, IsSoundLink, layer_of, link_at, row_at, total_height, unit_at}
 use Rattle.level_plan.specs.Level.{PlainLevel, PlainPlan}
 use Rattle.level_plan.specs.Units.{AreLinked}
 use Rattle.level_plan.specs.Conditions.{IsLevel}
-use Rattle.level_pins.specs.Alike.{AreAlike, AreFlat, with_layered}
+use Rattle.level_pins.specs.Alike.{AreAlike, AreFlat}
 use Rattle.level_pins.specs.Worked.{blank, blank_link, blank_unit}
 use Rattle.level_pins.proofs.AlikeLemmas.{no_heights}
 use Rattle.level_pins.proofs.ReadLemmas.{count_same}

@@ -1,10 +1,9 @@
 -- What is read off a table are the heights and pins of the plan, and they keep what is asked of units and links.
-use Rattle.std.proofs.Common.{◌≡◌, inl, inr, ⊎_elim, ℕ, ◌+◌, ◌-◌, ◌*◌, ◌<◌, ◌≤◌, ◌^◌, ◌==◌, cond, Bool, true, false, not, ◌||◌, ℤ, pos, ◌+ℤ◌, ◌-ℤ◌, ◌≤ℤ◌, ◌<ℤ◌, List, [], length, IfSome, refl, sym, subst, ap, ap₂, ◌∙◌, arith}
-use Rattle.std.proofs.lemmas.Bool.{cases_lt, cases_Bool, not-true}
+use Rattle.std.proofs.Common.{◌≡◌, ⊎_elim, ℕ, ◌+◌, ◌*◌, ◌<◌, ◌≤◌, ◌^◌, cond, Bool, true, false, not, ◌||◌, ℤ, pos, ◌+ℤ◌, ◌-ℤ◌, ◌≤ℤ◌, ◌<ℤ◌, List, [], length, IfSome, refl, sym, subst, ap, ap₂, ◌∙◌, arith}
+use Rattle.std.proofs.lemmas.Bool.{cases_lt}
 use Rattle.std.proofs.lemmas.Int.{ints}
 use Rattle.std.proofs.lemmas.List.{get_or_past}
 use Rattle.std.specs.Prelude.{Option, None, Some, is_some}
-use Rattle.elk_doc.specs.declared.document.Spacing.{Spacing}
 use Rattle.elk_doc.specs.declared.shape.Dock.{Dock}
 use Rattle.elk_doc.specs.declared.shape.Point.{Point}
 use Rattle.elk_doc.specs.declared.shape.Rect.{Rect}
@@ -12,19 +11,17 @@ use Rattle.elk_doc.specs.declared.shape.Side.TheVariants.{North, South}
 use Rattle.elk_doc.specs.Sound.{IsWithin}
 use Rattle.elk_layers.specs.declared.units.Unit.{Unit as LayerUnit}
 use Rattle.elk_layers.specs.declared.units.Link.{Link}
-use Rattle.elk_layers.specs.Layered.{Plain, AreRows, HasBodyWithin, HasUnit, IsSound, IsSoundLink, is_child, is_lane, layer_of, link_at, row_at, total_height, unit_at}
+use Rattle.elk_layers.specs.Layered.{Plain, AreRows, HasBodyWithin, HasUnit, IsSound, IsSoundLink, is_child, layer_of, link_at, row_at, total_height, unit_at}
 use Rattle.self_loops.specs.Loops.{is_upright}
 use Rattle.level_stage.specs.Stage.{anchor_line, dock_lane, long_lane}
-use Rattle.level_plan.specs.declared.table.ChildAt.{ChildAt}
-use Rattle.level_plan.specs.declared.table.EndAt.{EndAt}
 use Rattle.level_plan.specs.declared.table.Table.{Table}
 use Rattle.level_plan.specs.Conditions.{IsLevel}
 use Rattle.level_plan.specs.Conditions as level
 use Rattle.level_plan.specs.Level.{PlainLevel, PlainPlan, Orders, End, child_at, dock_of, end_at, enters, head_end, holds, is_loop, outline, spoke, spot_of, tail_end}
 use Rattle.level_plan.specs.Lanes.{body_top, lanes, lanes_room, unit_height}
-use Rattle.level_plan.specs.Nets.{below_top, head_line, inverts, is_inverted, is_number, line_of_end, tail_line, unit_of}
-use Rattle.level_plan.specs.Table.{IsChildAt, IsEndAt, IsTable, child_in, end_in}
-use Rattle.level_plan.specs.Units.{AreLinked, AreOrders, HasRoom, IsUnitOf}
+use Rattle.level_plan.specs.Nets.{below_top, head_line, is_inverted, is_number, line_of_end, tail_line, unit_of}
+use Rattle.level_plan.specs.Table.{IsEndAt, IsTable, child_in, end_in}
+use Rattle.level_plan.specs.Units.{AreLinked, AreOrders, HasRoom}
 use Rattle.level_stands.proofs.LaneLemmas.{end_has_lane}
 use Rattle.level_stands.proofs.LinkLemmas.{head_enters, tail_leaves}
 use Rattle.level_ends.specs.Bounds.{AreNumbersIn}
@@ -33,13 +30,13 @@ use Rattle.level_ends.proofs.ReadyLemmas.{have_children}
 use Rattle.level_nets.specs.Routed.{AreMarks}
 use Rattle.level_pins.specs.Alike.{AreAlike, AreFlat, with_layered}
 use Rattle.level_pins.specs.Fitted.{AreFitted, AreKept}
-use Rattle.level_pins.specs.Reading.{AreFittedLinks, AreFittedUnits, HasChildIn, IsLinkIn, IsReadable, anchor_below, end_of, is_on_lane, link_with, mark_at, pin_at, pin_of, roomy, unit_with}
+use Rattle.level_pins.specs.Reading.{AreFittedLinks, AreFittedUnits, HasChildIn, IsLinkIn, IsReadable, anchor_below, end_of, is_on_lane, pin_at, pin_of, roomy}
 use Rattle.level_pins.proofs.AlikeLemmas.{child_same, no_heights, unit_same}
 use Rattle.level_pins.proofs.ChildLemmas.{head_unit, tail_unit}
 use Rattle.level_pins.proofs.ReadLemmas.{count_same, field_same, half, is_link_with, lanes_few, link_field, number_some, pin_child, pin_lane, pin_off, pin_on, room_small, with_child, with_layer, with_none, with_some}
 use Rattle.level_pins.proofs.SizeLemmas.{heights_least, heights_of, outline_high}
 use Rattle.level_pins.proofs.TotalLemmas.{IsCounted, first, first_double, first_heights, total_within}
-use Rattle.level_pins.proofs.WithinLemmas.{IsUpTo, end_within, inverted_is, lanes_from_zero, level_offset, outline_deep}
+use Rattle.level_pins.proofs.WithinLemmas.{IsUpTo, end_within, inverted_is, lanes_from_zero, level_offset, off_left, outline_deep}
 
 -- the units and links with heights and pins
 abbrev pub plain_with : PlainPlan → List LayerUnit → List Link → Plain
@@ -119,12 +116,6 @@ module _ (l : PlainLevel) (p : PlainPlan) (o : Orders) (t : Table) (marks : List
 module _ (l : PlainLevel) (p : PlainPlan) (o : Orders) (t : Table) (marks : List Bool) (us : List LayerUnit) (ks : List Link) (made : IsTabled l p o t marks)
     (units : AreFittedUnits l.spacing t.children p.layered.units (length p.layered.units) us)
     (links : AreFittedLinks l.spacing t us marks p.layered.links (length p.layered.links) ks) where
-  abbrev v : Plain
-  v = plain_with p us ks
-
-  abbrev s : Spacing
-  s = l.spacing
-
   pub alike : AreAlike p.layered (plain_with p us ks)
   alike =
       record {
@@ -237,11 +228,7 @@ module _ (l : PlainLevel) (p : PlainPlan) (o : Orders) (t : Table) (marks : List
         step true lies =
             pin_on l.spacing t (end_of t e a) b (same ∙ lies)
             ∙ (end_is e a h).lane (end_has_lane l q o e a made.level h loop (sym (inverted_is l q o (end_at e a) loop) ∙ lies))
-        step false lies = pin_off l.spacing t (end_of t e a) b (same ∙ lies) ∙ anchor_is e a h (off (is_upright (dock_of l q o (end_at e a)).side) (is_inverted l q o (end_at e a)) lies)
-          where
-            off : (x y : Bool) → (x || y) ≡ false → x ≡ false
-            off true y h = absurd (let bad : true ≡ false = h in cc)
-            off false y h = refl
+        step false lies = pin_off l.spacing t (end_of t e a) b (same ∙ lies) ∙ anchor_is e a h (off_left (is_upright (dock_of l q o (end_at e a)).side) (is_inverted l q o (end_at e a)) lies)
 
     pin_line : (u e : ℕ) (a b : Bool) → e < length l.edges → is_loop l e ≡ false → enters q (end_at e a) ≡ b
         → pin_at l.spacing t (unit_at us u) e a b ≡ below_top l q o (cond (is_child (plain_with p us ks) u) (line_of_end l q o (end_at e a)) (long_lane u))

@@ -1,5 +1,5 @@
 -- What the code has at hand when it gives units and links their heights and pins.
-use Rattle.std.proofs.Common.{◌≡◌, ℕ, Bool, List, [], length, ℤ, pos, ◌∙◌, refl, sym, subst, arith, SFits, w64, to_z, of_z}
+use Rattle.std.proofs.Common.{◌≡◌, ℕ, Bool, List, [], length, ℤ, refl, sym, subst, arith, SFits, w64, to_z, of_z}
 use Rattle.std.proofs.lemmas.Int.{ints, to_z-of_z}
 use Rattle.elk_doc.specs.declared.document.Spacing.{Spacing}
 use Rattle.elk_layers.specs.declared.units.Unit.{Unit as LayerUnit}
@@ -10,7 +10,7 @@ use Rattle.elk_layers.specs.Layered.{Plain, AreRows, IsSound, IsSpacing, plain, 
 use Rattle.level_plan.specs.declared.level.LevelIn.{LevelIn}
 use Rattle.level_plan.specs.declared.table.Table.{Table}
 use Rattle.level_plan.specs.Conditions.{IsLevel, plain_level, plain_plan}
-use Rattle.level_plan.specs.Level.{Orders, PlainLevel}
+use Rattle.level_plan.specs.Level.{Orders}
 use Rattle.level_plan.specs.Table.{IsTable}
 use Rattle.level_plan.specs.Units.{AreLinked, AreOrders}
 use Rattle.level_ends.specs.Bounds.{AreNumbersIn}

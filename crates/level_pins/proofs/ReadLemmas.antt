@@ -1,6 +1,6 @@
 -- What single entries of the table give: heights and pins of one unit, of one end and of one link.
-use Rattle.std.proofs.Common.{◌≡◌, inl, inr, ⊎_elim, ◌⊎◌, ℕ, zero, suc, ◌+◌, ◌-◌, ◌*◌, ◌<◌, ◌≤◌, ◌^◌, ◌==◌, ◌&&◌, cond, Bool, true, false, not, ℤ, pos, ◌+ℤ◌, ◌*ℤ◌, ◌≤ℤ◌, List, [], ◌∷◌, length, map, refl, sym, subst, ap, ap₂, ◌∙◌, arith}
-use Rattle.std.proofs.lemmas.Bool.{cases_lt, cases_Bool, eqb-true, false≢true}
+use Rattle.std.proofs.Common.{◌≡◌, inl, inr, ⊎_elim, ◌⊎◌, ℕ, zero, suc, ◌+◌, ◌-◌, ◌*◌, ◌≤◌, ◌^◌, ◌==◌, cond, Bool, true, false, not, ℤ, pos, ◌+ℤ◌, ◌*ℤ◌, List, [], ◌∷◌, length, map, refl, sym, ap, ap₂, ◌∙◌, arith}
+use Rattle.std.proofs.lemmas.Bool.{cases_lt, eqb-true, false≢true}
 use Rattle.std.proofs.lemmas.Int.{ints}
 use Rattle.std.proofs.lemmas.List.{get_or_past, length-map, length-append}
 use Rattle.std.proofs.lemmas.List.Sums.{sum_by-cons}
@@ -20,10 +20,10 @@ use Rattle.level_plan.specs.declared.table.ChildAt.{ChildAt}
 use Rattle.level_plan.specs.declared.table.EndAt.{EndAt}
 use Rattle.level_plan.specs.declared.table.Table.{Table}
 use Rattle.level_plan.specs.Conditions.{IsLevel}
-use Rattle.level_plan.specs.Level.{PlainLevel, PlainPlan, Orders, all_ends, child_at, dock_of_spot, edge_at, implicit_ends, implicit_spot, is_loop, port_spot, spoke, spots}
-use Rattle.level_plan.specs.Lanes.{dock_eq, docks_with_lane, has_lane, lane_side, lanes, loop_sides, loops_of, once}
+use Rattle.level_plan.specs.Level.{PlainLevel, PlainPlan, Orders, all_ends, child_at, dock_of_spot, implicit_ends, implicit_spot, port_spot, spots}
+use Rattle.level_plan.specs.Lanes.{dock_eq, docks_with_lane, lane_side, lanes, loop_sides, loops_of, once}
 use Rattle.level_plan.specs.Nets.{is_number}
-use Rattle.level_plan.specs.Table.{child_in, end_in}
+use Rattle.level_plan.specs.Table.{child_in}
 use Rattle.level_ends.specs.Lanes.{room}
 use Rattle.level_ends.proofs.AddLemmas.{ends_to_long, ports_few}
 use Rattle.level_ends.proofs.TimesLemmas.{times_within}

@@ -1,5 +1,5 @@
 -- The outline of a child is not much higher than its box and its ports together.
-use Rattle.std.proofs.Common.{◌≡◌, ℕ, zero, suc, ◌+◌, ◌*◌, ◌<◌, ◌≤◌, ◌^◌, ℤ, pos, neg_ℤ, ◌+ℤ◌, ◌-ℤ◌, ◌≤ℤ◌, List, [], ◌∷◌, length, map, get_or, Bool, true, false, not, cond, ◌&&◌, refl, sym, ◌∙◌, ap, subst, arith}
+use Rattle.std.proofs.Common.{◌≡◌, ℕ, zero, suc, ◌+◌, ◌<◌, ◌≤◌, ◌^◌, ℤ, pos, neg_ℤ, ◌+ℤ◌, ◌-ℤ◌, ◌≤ℤ◌, List, [], ◌∷◌, length, map, get_or, Bool, true, false, not, cond, ◌&&◌, refl, sym, subst, arith}
 use Rattle.std.proofs.lemmas.Int.{ints, clamps}
 use Rattle.std.specs.Prelude.{Option, None, Some}
 use Rattle.std.specs.Int.{int_min, int_max}
@@ -13,9 +13,8 @@ use Rattle.elk_doc.specs.Shapes.{hull_size}
 use Rattle.elk_doc.specs.Sound.{IsWithin, along}
 use Rattle.port_order.specs.declared.children.Child.{Child}
 use Rattle.port_order.specs.declared.children.ChildPort.{ChildPort}
-use Rattle.port_order.specs.Child.{is_pinned, is_pinned_spot, no_port, port_at}
-use Rattle.port_order.specs.Conditions.{IsChild}
-use Rattle.port_order.specs.Places.{face_of, given_face, offset_of, outer_face, place_of_port}
+use Rattle.port_order.specs.Child.{is_pinned, no_port, port_at}
+use Rattle.port_order.specs.Places.{given_face, offset_of, outer_face, place_of_port}
 use Rattle.port_order.specs.Sides.{given_side, side_else, side_of}
 use Rattle.port_order.proofs.KeptLemmas.{dock_inside}
 use Rattle.self_loops.specs.Loops.{is_upright}

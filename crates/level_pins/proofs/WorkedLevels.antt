@@ -1,5 +1,5 @@
 -- The two levels of the tests meet what is asked of a level.
-use Rattle.std.proofs.Common.{◌≡◌, ◌≢◌, ◌⊎◌, inr, ℕ, zero, suc, ◌<◌, List, [], ◌∷◌, length, refl, arith}
+use Rattle.std.proofs.Common.{◌≡◌, ◌≢◌, ◌⊎◌, inr, ℕ, zero, suc, ◌<◌, [], ◌∷◌, length, refl, arith}
 use Rattle.std.specs.Prelude.{Some, slice_index, slice_index_or}
 use Rattle.elk_layers.specs.Layered.{AreRows, HasUnit, layer_of, row_at, unit_at}
 use Rattle.level_plan.specs.Units.{AreLinked, HasChain, IsLaneUnit, IsLinkOf, IsUnitOf}
