@@ -1,0 +1,11 @@
+pub mod AlikeLemmas
+pub mod BlankLemmas
+pub mod ChildLemmas
+pub mod FittedLemmas
+pub mod MadeLemmas
+pub mod ReadLemmas
+pub mod RoomLemmas
+pub mod SizeLemmas
+pub mod TotalLemmas
+pub mod WithinLemmas
+pub mod WorkedLevels

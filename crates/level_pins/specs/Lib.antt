@@ -1,0 +1,4 @@
+pub mod Alike
+pub mod Fitted
+pub mod Reading
+pub mod Worked
