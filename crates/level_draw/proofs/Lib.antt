@@ -8,6 +8,8 @@ pub mod OutlinesMove
 pub mod PartsMade
 pub mod Planned
 pub mod ReachFar
+pub mod ReadyLemmas
+pub mod ReadyParallel
 pub mod RulesKept
 pub mod SectionLemmas
 pub mod Sketching

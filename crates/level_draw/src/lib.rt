@@ -9,3 +9,6 @@ mod sections;
 mod shifting;
 
 pub use drawing::{LevelOut, Plan, draw};
+
+#[cfg(test)]
+mod worked;
