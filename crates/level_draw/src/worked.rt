@@ -1,4 +1,4 @@
-//! Three worked levels: two parallel edges, a port on the north side, and self-loops between all pairs of sides.
+//! A worked level: two parallel edges.
 ghost use Rattle.std.specs.Prelude.{◌≡◌, [], ◌∷◌, ◌++◌, pos, None, IfOk};
 ghost use Rattle.elk_layers.specs.Layered.{plain, rows_of};
 ghost use Rattle.level_plan.specs.Conditions.{plain_level};
