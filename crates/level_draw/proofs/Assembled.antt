@@ -1,5 +1,5 @@
 -- The parts of a level make the drawing of its plan.
-use Rattle.std.proofs.Common.{◌≡◌, ℕ, ◌+◌, ◌<◌, true, false, List, [], map, length, get_or, pos, arith, sym, ◌∙◌, ap}
+use Rattle.std.proofs.Common.{◌≡◌, ℕ, ◌+◌, ◌<◌, List, [], length, get_or, pos, arith, sym, ◌∙◌, ap}
 use Rattle.std.proofs.lemmas.List.{get_or-map, length-map}
 use Rattle.elk_doc.specs.declared.shape.Point.{Point}
 use Rattle.elk_doc.specs.declared.shape.Size.{Size}
@@ -8,13 +8,13 @@ use Rattle.route_lines.specs.declared.Gap.{Gap}
 use Rattle.route_lines.specs.declared.Trace.{Trace}
 use Rattle.route_lines.specs.Points.{plain_gap}
 use Rattle.level_plan.specs.declared.table.ChildAt.{ChildAt}
-use Rattle.level_plan.specs.Level.{Orders, end_at, child_at}
+use Rattle.level_plan.specs.Level.{Orders}
 use Rattle.level_plan.specs.Table.{child_in}
 use Rattle.level_plan.specs.FromPlan.{Drawn, IsGap, IsPlaced, IsRoute, IsDrawnFrom}
 use Rattle.level_shift.specs.Ranges.{plain_trace}
 use Rattle.level_nets.specs.Parts.{Parts, ArePlanned, plan_of}
 use Rattle.level_nets.specs.Held.{plain_gaps}
-use Rattle.level_nets.specs.Routed.{AreGapsOf, drawn_with}
+use Rattle.level_nets.specs.Routed.{AreGapsOf}
 use Rattle.level_traces.specs.Traced.{ArePlannedRoutes, plain_traces}
 use Rattle.level_draw.specs.Joined.{AreJoined}
 use Rattle.level_draw.specs.Parts.{ports_in}

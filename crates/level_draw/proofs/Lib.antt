@@ -1,5 +1,7 @@
 pub mod Answering
 pub mod Assembled
+pub mod BareLemmas
+pub mod ChainedLemmas
 pub mod FarParts
 pub mod Joining
 pub mod Nearness
@@ -7,6 +9,7 @@ pub mod Outlined
 pub mod OutlinesMove
 pub mod PartsMade
 pub mod Planned
+pub mod PortedLemmas
 pub mod ReachFar
 pub mod ReadyLemmas
 pub mod ReadyParallel

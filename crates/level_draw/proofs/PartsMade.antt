@@ -1,13 +1,11 @@
 -- What is made for a level are the parts of its drawing.
-use Rattle.std.proofs.Common.{◌≡◌, ℕ, ◌+◌, ◌<◌, List, [], length, ℤ, pos, refl, sym, subst, ap, ◌∙◌}
+use Rattle.std.proofs.Common.{◌≡◌, ℕ, ◌+◌, List, [], length, pos, refl, sym, subst, ap, ◌∙◌}
 use Rattle.std.specs.List.{All}
-use Rattle.elk_doc.specs.declared.shape.Point.{Point}
 use Rattle.elk_doc.specs.declared.shape.Rect.{Rect}
 use Rattle.elk_doc.specs.declared.shape.Size.{Size}
 use Rattle.elk_doc.specs.declared.drawing.Section.{Section}
-use Rattle.route_lines.specs.Points.{PlainGap}
 use Rattle.level_plan.specs.Level.{Orders}
-use Rattle.level_plan.specs.FromPlan.{Drawn, PlainTrace, IsDrawnFrom}
+use Rattle.level_plan.specs.FromPlan.{Drawn, IsDrawnFrom}
 use Rattle.level_plan.specs.Table.{IsTable}
 use Rattle.level_plan.specs.Units.{AreOrders}
 use Rattle.level_stands.specs.Ready.{IsReady}

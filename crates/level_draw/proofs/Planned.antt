@@ -1,5 +1,5 @@
 -- A table that is made before places are known belongs to the plan.
-use Rattle.std.proofs.Common.{◌≡◌, ℕ, ◌<◌, List, [], inl, inr, length, ℤ}
+use Rattle.std.proofs.Common.{ℕ, List, [], inl, inr, ℤ}
 use Rattle.std.proofs.Common.{⊎_elim}
 use Rattle.level_plan.specs.declared.table.Table.{Table}
 use Rattle.level_plan.specs.Level.{PlainLevel, PlainPlan, Orders}

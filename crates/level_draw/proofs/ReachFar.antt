@@ -1,12 +1,11 @@
 -- The least and the greatest of numbers in range are in range.
-use Rattle.std.proofs.Common.{◌≡◌, ℕ, suc, ◌<◌, List, [], ◌∷◌, ◌++◌, ℤ, pos, ◌+ℤ◌, Option, None, Some, IfSome, arith, refl, sym, subst}
+use Rattle.std.proofs.Common.{◌≡◌, suc, List, [], ◌∷◌, ◌++◌, ℤ, pos, ◌+ℤ◌, Option, None, Some, IfSome, arith, refl, sym, subst}
 use Rattle.std.specs.Int.{int_max, int_min}
 use Rattle.std.proofs.lemmas.Int.{ints, clamps}
 use Rattle.std.specs.List.{All}
 use Rattle.elk_doc.specs.declared.shape.Point.{Point}
 use Rattle.elk_doc.specs.declared.shape.Rect.{Rect}
 use Rattle.elk_doc.specs.declared.drawing.Section.{Section}
-use Rattle.elk_doc.specs.Sound.{IsWithin}
 use Rattle.level_extent.specs.declared.spanning.Reach.{Reach}
 use Rattle.level_extent.specs.Reach.{IsNear, IsReach, abscissae, corners_of, greatest, heights, least, points_along, points_of, reached}
 use Rattle.level_shift.specs.Ranges.{IsFar, IsFarPoint, IsFarSection}

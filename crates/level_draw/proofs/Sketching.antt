@@ -8,15 +8,13 @@ use Rattle.elk_doc.specs.Document.{origin}
 use Rattle.elk_doc.proofs.ShapeLaws.{same_point}
 use Rattle.route_lines.specs.Points.{PlainGap}
 use Rattle.level_plan.specs.Level.{PlainLevel, PlainPlan, Orders, end_at, spoke}
-use Rattle.level_plan.specs.Nets.{layer_of_child, unit_of}
+use Rattle.level_plan.specs.Nets.{unit_of}
 use Rattle.level_plan.specs.FromPlan.{Drawn, PlainTrace, IsDrawnFrom}
 use Rattle.level_stands.specs.Ready.{IsReady}
 use Rattle.level_extent.specs.declared.spanning.Reach.{Reach}
 use Rattle.level_extent.specs.Reach.{IsReach, reached}
-use Rattle.level_shift.specs.Moved.{HasPlaces, moved, moved_gap, moved_point, moved_section, moved_trace}
+use Rattle.level_shift.specs.Moved.{HasPlaces, moved, moved_point, moved_section}
 use Rattle.level_shift.proofs.DrawingMoves.{drawing_moves}
-use Rattle.level_nets.specs.Held.{plain_gaps}
-use Rattle.level_traces.specs.Traced.{plain_traces}
 use Rattle.level_draw.specs.declared.parts.Parts.{Parts}
 use Rattle.level_draw.specs.Drawing.{IsDrawable, IsTight, outlines_in}
 use Rattle.level_draw.specs.Parts.{AreParts, drawn_of}

@@ -1,4 +1,5 @@
 pub mod Drawing
+pub mod Examples
 pub mod Joined
 pub mod Outlines
 pub mod Parts

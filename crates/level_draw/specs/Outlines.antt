@@ -1,5 +1,5 @@
 -- The outlines of children, from the corners of their boxes.
-use Rattle.std.specs.Prelude.{◌≡◌, ℕ, ◌<◌, ◌^◌, List, ℤ, pos, neg_ℤ, ◌+ℤ◌, length, slice_index_or}
+use Rattle.std.specs.Prelude.{◌≡◌, ℕ, ◌<◌, ◌^◌, List, pos, ◌+ℤ◌, length, slice_index_or}
 use Rattle.elk_doc.specs.declared.shape.Point.{Point}
 use Rattle.elk_doc.specs.declared.shape.Rect.{Rect}
 use Rattle.elk_doc.specs.Sound.{IsPlaceWithin}

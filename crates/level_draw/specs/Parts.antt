@@ -1,5 +1,5 @@
 -- The parts of a drawing before it is moved.
-use Rattle.std.specs.Prelude.{◌≡◌, ℕ, ◌<◌, List, map, ℤ, pos, length}
+use Rattle.std.specs.Prelude.{◌≡◌, ℕ, List, map, ℤ, pos}
 use Rattle.std.specs.List.{All}
 use Rattle.elk_doc.specs.declared.shape.Point.{Point}
 use Rattle.elk_doc.specs.declared.shape.Size.{Size}

@@ -1,5 +1,5 @@
 -- The parts of a drawing that is moved, and how far they reach.
-use Rattle.std.specs.Prelude.{◌≡◌, map, ℤ, pos, Option, Some, None}
+use Rattle.std.specs.Prelude.{◌≡◌, map, ℤ, Option, Some, None}
 use Rattle.elk_doc.specs.Document.{origin}
 use Rattle.level_extent.specs.declared.spanning.Reach.{Reach}
 use Rattle.level_shift.specs.Moved.{moved_gap, moved_point, moved_section, moved_trace}

@@ -1,5 +1,5 @@
 -- The parts of a drawing that begins at 0, and how far they reach.
-use Rattle.std.specs.Prelude.{◌≡◌, ℕ, List, ℤ}
+use Rattle.std.specs.Prelude.{ℕ, List, ℤ}
 use Rattle.level_plan.specs.Level.{PlainLevel, PlainPlan, Orders}
 use Rattle.level_plan.specs.FromPlan.{IsDrawnFrom}
 use Rattle.level_stands.specs.Ready.{IsReady}

@@ -11,4 +11,6 @@ mod shifting;
 pub use drawing::{LevelOut, Plan, draw};
 
 #[cfg(test)]
+mod tests;
+#[cfg(test)]
 mod worked;

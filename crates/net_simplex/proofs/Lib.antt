@@ -23,3 +23,5 @@ pub mod Changing
 pub mod Passages
 pub mod Departing
 pub mod Exchanged
+mod Outgoing
+mod Nearness

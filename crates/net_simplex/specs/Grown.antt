@@ -1,6 +1,6 @@
 -- The first tree while it grows, as the code keeps it: the nodes of the tree stand at layers counted from node 0, and a
 -- number tells how much higher they stand.
-use Rattle.std.specs.Prelude.{◌≡◌, ℕ, ◌<◌, Bool, true, false, ℤ, pos, ◌+ℤ◌, ◌-ℤ◌, ◌≤ℤ◌, ◌<ℤ◌, ◌^◌, List, length, set}
+use Rattle.std.specs.Prelude.{◌≡◌, ◌≢◌, slice_index, ℕ, ◌<◌, Bool, true, false, ℤ, pos, ◌+ℤ◌, ◌-ℤ◌, ◌≤ℤ◌, ◌<ℤ◌, ◌^◌, List, length, set}
 use Rattle.layering_laws.specs.declared.network.NetEdge.{NetEdge}
 use Rattle.layering_laws.specs.Network.{InOnePart}
 use Rattle.layering_laws.specs.Layering.{layer_of}
@@ -49,3 +49,10 @@ pub record Attaches (e : NetEdge) (k filled : ℕ) (tree reached : List Bool) (l
   pub reached_is : reached' ≡ set (set reached e.tail true) e.head true
   pub from_tail : is_in reached e.tail ≡ true → Joins e.head k (layer_of layers e.tail +ℤ pos e.least) filled layers order place parent layers' order' place' parent' by
   pub from_head : is_in reached e.tail ≡ false → Joins e.tail k (layer_of layers e.head -ℤ pos e.least) filled layers order place parent layers' order' place' parent' by
+
+-- one node is reached more, the one that stands last in the order; the layers of the others stay
+pub record IsJoined (nodes filled : ℕ) (reached : List Bool) (layers : List ℤ) (order' : List ℕ) (reached' : List Bool) (layers' : List ℤ) : Type 0 where
+  pub node : slice_index order' filled < nodes
+  pub was_out : is_in reached (slice_index order' filled) ≡ false
+  pub is_held : is_in reached' (slice_index order' filled) ≡ true
+  pub others : (v : ℕ) → v < nodes → v ≢ slice_index order' filled → (is_in reached' v ≡ is_in reached v) × (layer_of layers' v ≡ layer_of layers v)

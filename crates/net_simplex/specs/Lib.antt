@@ -10,3 +10,4 @@ pub mod Grown
 pub mod Kept
 pub mod Outcome
 pub mod Changed
+pub mod Outward

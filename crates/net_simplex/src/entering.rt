@@ -6,9 +6,14 @@ ghost use Rattle.layering_laws.specs.Layering.{layer_of, IsLayering};
 ghost use Rattle.net_simplex.specs.Pivots.{slack, is_in, borders, leads_back, least_slack_edge, shifted};
 ghost use Rattle.net_simplex.specs.Rooted.{part_from};
 ghost use Rattle.net_simplex.specs.Chosen.{Tells};
+ghost use Rattle.net_simplex.specs.Outward.{IsNearest, AreQueues, nearer_of};
+ghost use Rattle.std.specs.BinaryHeap.{heap_items};
+ghost use Rattle.layering_laws.specs.declared.links.End.TheVariants.{Tail, Head};
 
 use crate::choice::{Choice, better};
-use layering_laws::NetEdge;
+use crate::waiting::{Waiting, nearest};
+use layering_laws::{End, NetEdge};
+use std::collections::BinaryHeap;
 
 fn slack_between(low: i128, high: i128, least: u64) -> i128
     requires low_from { pos 0 ≤ℤ (low +ℤ pos (2 ^ 100)) }
@@ -68,34 +73,84 @@ fn layer_in(reached: bool, layer: i64, by: i64) -> i128
     i128::from(layer)
 }
 
-fn is_border(reached: &[bool], e: NetEdge) -> bool
-    requires tail { e.tail < length reached.now }
-    requires head { e.head < length reached.now }
-    ensures { result ≡ borders reached.now e }
+/// An edge with its slack where the tree's nodes stand higher by `by` than their layers say.
+fn with_slack(edges: &[NetEdge], layers: &[i64], reached: &[bool], by: i64, k: u32) -> Choice
+    requires there { k < length edges.now }
+    requires marks { length reached.now ≡ length layers.now }
+    requires ends { EndsBelow (length layers.now) edges.now }
+    requires layering { IsLayering edges.now (shifted (is_in reached.now) by layers.now) }
+    ensures edge { result.edge ≡ k }
+    ensures slack { result.slack ≡ pos (slack (shifted (is_in reached.now) by layers.now) (edge_at edges.now k)) }
 {
-    if reached[e.tail as usize] {
-        return !reached[e.head as usize];
+    let e = edges[k as usize];
+    let low = layer_in(reached[e.tail as usize], layers[e.tail as usize], by);
+    let high = layer_in(reached[e.head as usize], layers[e.head as usize], by);
+    let slack = slack_between(low, high, e.least);
+    Choice { edge: k, slack }
+}
+
+/// The edge of less slack, ties by the number.
+fn nearer(a: Choice, b: Choice) -> u32
+    ensures { result ≡ nearer_of a b }
+{
+    if a.slack < b.slack {
+        return a.edge;
     }
-    reached[e.head as usize]
+    if b.slack < a.slack {
+        return b.edge;
+    }
+    if a.edge < b.edge {
+        return a.edge;
+    }
+    b.edge
+}
+
+/// Of the nearest edge whose tail is in the tree and the nearest whose head is the one of less slack.
+fn nearer_of_both(
+    edges: &[NetEdge],
+    layers: &[i64],
+    reached: &[bool],
+    by: i64,
+    up: Option<u32>,
+    down: Option<u32>,
+) -> Option<u32>
+    requires marks { length reached.now ≡ length layers.now }
+    requires ends { EndsBelow (length layers.now) edges.now }
+    requires layering { IsLayering edges.now (shifted (is_in reached.now) by layers.now) }
+    requires up { IsNearest edges.now Tail reached.now layers.now up }
+    requires down { IsNearest edges.now Head reached.now layers.now down }
+    ensures { result ≡ least_slack_edge edges.now (shifted (is_in reached.now) by layers.now) (borders reached.now) }
+{
+    match up {
+        Some(a) => match down {
+            Some(b) => Some(nearer(
+                with_slack(edges, layers, reached, by, a),
+                with_slack(edges, layers, reached, by, b),
+            )),
+            None => Some(a),
+        },
+        None => down,
+    }
 }
 
 /// Of the edges between the tree and the outside the one of least slack, ties by the number. The tree's nodes stand
 /// higher by `by` than their layers say.
-pub fn joining(edges: &[NetEdge], layers: &[i64], reached: &[bool], by: i64) -> Option<Choice>
-    requires few { length edges.now ≤ 2 ^ 24 }
+pub fn joining(
+    edges: &[NetEdge],
+    layers: &[i64],
+    reached: &[bool],
+    by: i64,
+    rising: &mut BinaryHeap<Waiting>,
+    falling: &mut BinaryHeap<Waiting>,
+) -> Option<u32>
     requires marks { length reached.now ≡ length layers.now }
     requires ends { EndsBelow (length layers.now) edges.now }
     requires layering { IsLayering edges.now (shifted (is_in reached.now) by layers.now) }
-    ensures { Tells (λ k. slack (shifted (is_in reached.now) by layers.now) (edge_at edges.now k)) (least_slack_edge edges.now (shifted (is_in reached.now) by layers.now) (borders reached.now)) result }
+    requires queues { AreQueues edges.now reached.now layers.now (heap_items rising.old) (heap_items falling.old) }
+    ensures least { result ≡ least_slack_edge edges.now (shifted (is_in reached.now) by layers.now) (borders reached.now) }
+    ensures queues { AreQueues edges.now reached.now layers.now (heap_items rising.new) (heap_items falling.new) }
 {
-    let mut best: Option<Choice> = None;
-    for k in 0..edges.len() {
-        let e = edges[k];
-        if is_border(reached, e) {
-            let low = layer_in(reached[e.tail as usize], layers[e.tail as usize], by);
-            let high = layer_in(reached[e.head as usize], layers[e.head as usize], by);
-            best = better(best, k as u32, slack_between(low, high, e.least));
-        }
-    }
-    best
+    let up = nearest(edges, End::Tail, layers, reached, rising);
+    let down = nearest(edges, End::Head, layers, reached, falling);
+    nearer_of_both(edges, layers, reached, by, up, down)
 }

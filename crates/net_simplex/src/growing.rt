@@ -1,18 +1,25 @@
 //! The first tree: it grows from node 0 by the edge of least slack to the outside, ties by the number. The layers of its
 //! nodes are counted from node 0, and a number tells how much higher they stand.
 
-ghost use Rattle.std.specs.Prelude.{◌≡◌, ◌≢◌, ◌+◌, ◌-◌, ◌<◌, ◌≤◌, ◌^◌, ℕ, pos, ◌≤ℤ◌, ◌<ℤ◌, ◌+ℤ◌, ◌-ℤ◌, true, false, length, replicate, slice_index};
+ghost use Rattle.std.specs.Prelude.{◌≡◌, ◌≢◌, ◌+◌, ◌-◌, ◌<◌, ◌≤◌, ◌^◌, ℕ, pos, ◌≤ℤ◌, ◌<ℤ◌, ◌+ℤ◌, ◌-ℤ◌, true, false, length, replicate, slice_index, IfOk, OnOk};
+ghost use Rattle.std.specs.BinaryHeap.{heap_items};
+ghost use Rattle.layering_laws.specs.Links.{AreLinks};
+ghost use Rattle.layering_laws.specs.declared.links.End.TheVariants.{Tail, Head};
 ghost use Rattle.layering_laws.specs.Network.{IsNetwork, IsAcyclic, EndsBelow};
 ghost use Rattle.layering_laws.specs.Layering.{layer_of, IsLayering};
 ghost use Rattle.layering_laws.specs.Paths.{AreGreatestSums};
-ghost use Rattle.net_simplex.specs.Pivots.{is_in, first_state, grown_once as once};
-ghost use Rattle.net_simplex.specs.Grown.{IsConnected, Joins, Attaches, IsSmall, IsGrown, growing_of};
+ghost use Rattle.net_simplex.specs.Pivots.{is_in, shifted, borders, least_slack_edge, first_state, grown_once as once};
+ghost use Rattle.net_simplex.specs.Grown.{IsConnected, Joins, Attaches, IsSmall, IsGrown, IsJoined, growing_of};
+ghost use Rattle.net_simplex.specs.Outward.{AreQueues, AreQueuesBut, IsEmptyHeap};
 ghost use Rattle.net_simplex.specs.Kept.{IsKept, StandsFor};
 
 use crate::cuts::{number_at, put};
 use crate::entering::joining;
 use crate::rooted::plant;
-use layering_laws::NetEdge;
+use crate::waiting::{Waiting, add_edges};
+use layering_laws::{End, Links, NetEdge, link_edges};
+use std::alloc::{AllocError, Global};
+use std::collections::BinaryHeap;
 
 fn less(a: i64, b: i64) -> i64
     requires a { IsSmall a }
@@ -101,9 +108,10 @@ fn attach(
     join(e.tail, k, at, filled, layers, order, place, parent)
 }
 
-/// One more edge joins the tree. The answer tells how much higher its nodes stand then.
-fn grow_once(
+/// The chosen edge joins the tree. The answer tells how much higher its nodes stand then.
+fn grow_by(
     edges: &[NetEdge],
+    choice: Option<u32>,
     filled: u32,
     by: i64,
     tree: &mut [bool],
@@ -115,15 +123,17 @@ fn grow_once(
 ) -> i64
     requires network { IsNetwork (length layers.old) edges.now }
     requires connected { IsConnected (length layers.old) edges.now }
+    requires choice { choice ≡ least_slack_edge edges.now (shifted (is_in reached.old) by layers.old) (borders reached.old) }
     requires room { filled < length layers.old }
     requires grown { IsGrown (length layers.old) edges.now filled tree.old reached.old by layers.old order.old place.old parent.old }
     ensures grown { IsGrown (length layers.old) edges.now (filled + 1) tree.new reached.new result layers.new order.new place.new parent.new }
     ensures once { growing_of tree.new reached.new result layers.new ≡ once edges.now (growing_of tree.old reached.old by layers.old) }
+    ensures joined { IsJoined (length layers.old) filled reached.old layers.old order.new reached.new layers.new }
 {
-    match joining(edges, layers, reached, by) {
-        Some(choice) => attach(
-            edges[choice.edge as usize],
-            choice.edge,
+    match choice {
+        Some(k) => attach(
+            edges[k as usize],
+            k,
             filled,
             tree,
             reached,
@@ -136,8 +146,117 @@ fn grow_once(
     }
 }
 
+/// Adds the edges that lead from `v` out of the tree.
+fn add_both(
+    edges: &[NetEdge],
+    tails: &Links,
+    heads: &Links,
+    layers: &[i64],
+    reached: &[bool],
+    v: u32,
+    rising: &mut BinaryHeap<Waiting>,
+    falling: &mut BinaryHeap<Waiting>,
+) -> Result<(), AllocError>
+    requires few { length edges.now ≤ 2 ^ 24 }
+    requires ends { EndsBelow (length layers.now) edges.now }
+    requires tails { AreLinks (length layers.now) edges.now Tail tails.now.first.items tails.now.next.items }
+    requires heads { AreLinks (length layers.now) edges.now Head heads.now.first.items heads.now.next.items }
+    requires marks { length reached.now ≡ length layers.now }
+    requires there { v < length layers.now }
+    requires held { is_in reached.now v ≡ true }
+    requires queues { AreQueuesBut edges.now reached.now layers.now v (heap_items rising.old) (heap_items falling.old) }
+    ensures { OnOk result (AreQueues edges.now reached.now layers.now (heap_items rising.new) (heap_items falling.new)) }
+{
+    add_edges(edges, tails, End::Tail, layers, reached, v, rising)?;
+    add_edges(edges, heads, End::Head, layers, reached, v, falling)?;
+    Ok(())
+}
+
+/// One more edge joins the tree. The answer tells how much higher its nodes stand then.
+fn grow_once(
+    edges: &[NetEdge],
+    tails: &Links,
+    heads: &Links,
+    filled: u32,
+    by: i64,
+    tree: &mut [bool],
+    reached: &mut [bool],
+    layers: &mut [i64],
+    order: &mut [u32],
+    place: &mut [u32],
+    parent: &mut [u32],
+    rising: &mut BinaryHeap<Waiting>,
+    falling: &mut BinaryHeap<Waiting>,
+) -> Result<i64, AllocError>
+    requires network { IsNetwork (length layers.old) edges.now }
+    requires connected { IsConnected (length layers.old) edges.now }
+    requires tails { AreLinks (length layers.old) edges.now Tail tails.now.first.items tails.now.next.items }
+    requires heads { AreLinks (length layers.old) edges.now Head heads.now.first.items heads.now.next.items }
+    requires room { filled < length layers.old }
+    requires grown { IsGrown (length layers.old) edges.now filled tree.old reached.old by layers.old order.old place.old parent.old }
+    requires queues { AreQueues edges.now reached.old layers.old (heap_items rising.old) (heap_items falling.old) }
+    ensures grown { IfOk result (λ now. IsGrown (length layers.old) edges.now (filled + 1) tree.new reached.new now layers.new order.new place.new parent.new) }
+    ensures once { IfOk result (λ now. growing_of tree.new reached.new now layers.new ≡ once edges.now (growing_of tree.old reached.old by layers.old)) }
+    ensures queues { OnOk result (AreQueues edges.now reached.new layers.new (heap_items rising.new) (heap_items falling.new)) }
+{
+    let choice = joining(edges, layers, reached, by, rising, falling);
+    let now = grow_by(
+        edges, choice, filled, by, tree, reached, layers, order, place, parent,
+    );
+    let v = order[filled as usize];
+    add_both(edges, tails, heads, layers, reached, v, rising, falling)?;
+    Ok(now)
+}
+
+/// The first tree, by edges that wait in queues.
+fn grow_from(
+    edges: &[NetEdge],
+    tails: &Links,
+    heads: &Links,
+    tree: &mut [bool],
+    reached: &mut [bool],
+    layers: &mut [i64],
+    order: &mut [u32],
+    place: &mut [u32],
+    parent: &mut [u32],
+    rising: &mut BinaryHeap<Waiting>,
+    falling: &mut BinaryHeap<Waiting>,
+) -> Result<(), AllocError>
+    requires network { IsNetwork (length layers.old) edges.now }
+    requires some { 0 < length layers.old }
+    requires connected { IsConnected (length layers.old) edges.now }
+    requires greatest { AreGreatestSums (length layers.old) edges.now layers.old }
+    requires layering { IsLayering edges.now layers.old }
+    requires tails { AreLinks (length layers.old) edges.now Tail tails.now.first.items tails.now.next.items }
+    requires heads { AreLinks (length layers.old) edges.now Head heads.now.first.items heads.now.next.items }
+    requires no_tree { tree.old ≡ replicate (length edges.now) false }
+    requires none_reached { reached.old ≡ replicate (length layers.old) false }
+    requires order { length order.old ≡ length layers.old }
+    requires place { length place.old ≡ length layers.old }
+    requires parent { length parent.old ≡ length layers.old }
+    requires rising { IsEmptyHeap (heap_items rising.old) }
+    requires falling { IsEmptyHeap (heap_items falling.old) }
+    ensures kept { OnOk result (IsKept (length layers.old) edges.now tree.new layers.new order.new place.new parent.new) }
+    ensures first { OnOk result (StandsFor (length layers.old) (first_state (length layers.old) edges.now layers.old) tree.new layers.new) }
+{
+    let mut by = number_at(layers, 0);
+    put(layers, 0, 0);
+    reached[0] = true;
+    parent[0] = edges.len() as u32;
+    plant(0, 0, order, place);
+    add_both(edges, tails, heads, layers, reached, 0, rising, falling)?;
+    for i in 1..layers.len() {
+        by = grow_once(
+            edges, tails, heads, i as u32, by, tree, reached, layers, order, place, parent, rising,
+            falling,
+        )?;
+    }
+    Ok(())
+}
+
 /// The first tree, from the start layering on.
 pub fn grow(
+    alloc: Global,
     edges: &[NetEdge],
     tree: &mut [bool],
     reached: &mut [bool],
@@ -145,7 +264,7 @@ pub fn grow(
     order: &mut [u32],
     place: &mut [u32],
     parent: &mut [u32],
-)
+) -> Result<(), AllocError>
     requires network { IsNetwork (length layers.old) edges.now }
     requires some { 0 < length layers.old }
     requires connected { IsConnected (length layers.old) edges.now }
@@ -156,17 +275,25 @@ pub fn grow(
     requires order { length order.old ≡ length layers.old }
     requires place { length place.old ≡ length layers.old }
     requires parent { length parent.old ≡ length layers.old }
-    ensures kept { IsKept (length layers.old) edges.now tree.new layers.new order.new place.new parent.new }
-    ensures first { StandsFor (length layers.old) (first_state (length layers.old) edges.now layers.old) tree.new layers.new }
+    ensures kept { OnOk result (IsKept (length layers.old) edges.now tree.new layers.new order.new place.new parent.new) }
+    ensures first { OnOk result (StandsFor (length layers.old) (first_state (length layers.old) edges.now layers.old) tree.new layers.new) }
 {
-    let mut by = number_at(layers, 0);
-    put(layers, 0, 0);
-    reached[0] = true;
-    parent[0] = edges.len() as u32;
-    plant(0, 0, order, place);
-    for i in 1..layers.len() {
-        by = grow_once(
-            edges, i as u32, by, tree, reached, layers, order, place, parent,
-        );
-    }
+    let nodes = layers.len() as u32;
+    let tails = link_edges(alloc, nodes, edges, End::Tail)?;
+    let heads = link_edges(alloc, nodes, edges, End::Head)?;
+    let mut rising: BinaryHeap<Waiting> = BinaryHeap::new(alloc);
+    let mut falling: BinaryHeap<Waiting> = BinaryHeap::new(alloc);
+    grow_from(
+        edges,
+        &tails,
+        &heads,
+        tree,
+        reached,
+        layers,
+        order,
+        place,
+        parent,
+        &mut rising,
+        &mut falling,
+    )
 }

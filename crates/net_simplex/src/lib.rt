@@ -13,6 +13,7 @@ mod solving;
 #[cfg(test)]
 mod tests;
 mod turning;
+mod waiting;
 
 pub use laws::{
     growth_keeps, last_is_best, one_way, parts_cut, pivot_ends, pivot_goes_on, pivot_keeps,

@@ -147,6 +147,7 @@ fn run(
 
 /// The first tree, the chain, and its answer.
 fn run_on(
+    alloc: Global,
     edges: &[NetEdge],
     budget: u64,
     layers: &mut [i64],
@@ -160,7 +161,7 @@ fn run_on(
     spot: &mut [u32],
     excess: &mut [i64],
     cut: &mut [i64],
-) -> Option<u64>
+) -> Result<Option<u64>, AllocError>
     requires network { IsNetwork (length layers.old) edges.now }
     requires some { 0 < length layers.old }
     requires connected { IsConnected (length layers.old) edges.now }
@@ -176,9 +177,9 @@ fn run_on(
     requires spot { length spot.old ≡ length layers.old }
     requires excess { length excess.old ≡ length layers.old }
     requires cut { length cut.old ≡ length edges.now }
-    ensures { Outcome (length layers.old) edges.now budget result layers.new flow.new }
+    ensures { IfOk result (λ o. Outcome (length layers.old) edges.now budget o layers.new flow.new) }
 {
-    grow(edges, tree, reached, layers, order, place, parent);
+    grow(alloc, edges, tree, reached, layers, order, place, parent)?;
     let ended = run(
         edges, budget, tree, layers, order, place, parent, reached, next, spot, excess, cut,
     );
@@ -186,9 +187,9 @@ fn run_on(
         Some(pivots) => {
             write_flow(tree, cut, flow);
             lower(layers);
-            Some(pivots)
+            Ok(Some(pivots))
         }
-        None => None,
+        None => Ok(None),
     }
 }
 
@@ -221,7 +222,8 @@ fn run_from(
     let mut excess: Vec<i64> = vec![in alloc; 0; nodes]?;
     let mut cut: Vec<i64> = vec![in alloc; 0; edges.len()]?;
     as_layers(sums, layers);
-    Ok(run_on(
+    run_on(
+        alloc,
         edges,
         budget,
         layers,
@@ -235,7 +237,7 @@ fn run_from(
         spot.as_mut_slice(),
         excess.as_mut_slice(),
         cut.as_mut_slice(),
-    ))
+    )
 }
 
 /// A layering of least cost of a connected network, and a flow that proves it, by network simplex: from a tree of tight

@@ -1,4 +1,4 @@
-use Rattle.std.proofs.Common.{◌≡◌, ◌∙◌, pos, length, replicate, false, arith, subst, sym, ap}
+use Rattle.std.proofs.Common.{◌≡◌, ◌∙◌, pos, length, IfOk, replicate, false, arith, subst, sym, ap}
 use Rattle.std.proofs.lemmas.List.{length-replicate}
 use Rattle.layering_laws.specs.Network.{IsNetwork}
 use Rattle.layering_laws.specs.Layering.{IsLayering}
@@ -45,4 +45,4 @@ run_on-requires c =
     }
 
 pub returns : goal.returns
-returns c = subst (λ m. Outcome m c.args.edges.now c.args.budget c.run_on.result c.run_on.new.layers c.run_on.new.flow) c.as_layers.auto.layers c.run_on.ensures
+returns c = subst (λ m. IfOk c.run_on.result (λ o. Outcome m c.args.edges.now c.args.budget o c.run_on.new.layers c.run_on.new.flow)) c.as_layers.auto.layers c.run_on.ensures

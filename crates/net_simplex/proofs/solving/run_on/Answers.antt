@@ -14,7 +14,7 @@ run-ended-requires c =
     let r = c.grow.auto.reached in
     record {
       network = subst (λ m. IsNetwork m edges) (sym l) c.requires.network;
-      kept = subst (λ m. IsKept m edges c.grow.new.tree c.grow.new.layers c.grow.new.order c.grow.new.place c.grow.new.parent) (sym l) c.grow.ensures.kept;
+      kept = subst (λ m. IsKept m edges c.grow.new.tree c.grow.new.layers c.grow.new.order c.grow.new.place c.grow.new.parent) (sym l) c.in_ok-grow.ensures.kept;
       below = r ∙ (ap length c.requires.reached ∙ (length-replicate (length c.args.layers.now) false ∙ sym l));
       next = c.requires.next ∙ sym l;
       spot = c.requires.spot ∙ sym l;
@@ -60,7 +60,7 @@ returns-in-Some c =
     let kept = subst (λ m. IsKept m edges tree layers c.run-ended.new.order c.run-ended.new.place c.run-ended.new.parent) l c.run-ended.ensures.kept in
     let x = subst (λ m. Leads m edges c.args.budget (Some c.in-Some.pivots) c.grow.new.tree c.grow.new.layers tree layers c.run-ended.new.cut) l c.in-Some.ensures.leads in
     let q = kept.is.spanning.mark_for_each in
-    let r = x.1 (first_state n edges start) c.grow.ensures.first in
+    let r = x.1 (first_state n edges start) c.in_ok-grow.ensures.first in
     let a = ended n edges c.requires.network tree layers kept.is kept.root c.requires.some start c.requires.greatest c.args.budget c.in-Some.pivots (first_state n edges start) r.0 refl x.0 r.1 r.2 x.3 in
     let f = flow_is n edges c.requires.network tree layers kept.is kept.root c.run-ended.new.cut x.2 x.3 c.write_flow.new.flow (c.write_flow.ensures.same ∙ q) (λ k b. c.write_flow.ensures.is k (omega (arith, b, q))) in
     subst (λ ls. Outcome n edges c.args.budget (Some c.in-Some.pivots) ls c.write_flow.new.flow) (sym c.lower.ensures)
@@ -76,5 +76,5 @@ returns-in-None c =
     let l = c.grow.auto.layers in
     let kept = subst (λ m. IsKept m edges tree layers c.run-ended.new.order c.run-ended.new.place c.run-ended.new.parent) l c.run-ended.ensures.kept in
     let x = subst (λ m. Leads m edges c.args.budget None c.grow.new.tree c.grow.new.layers tree layers c.run-ended.new.cut) l c.in-None.ensures.leads in
-    let r = x.0 (first_state n edges start) c.grow.ensures.first in
+    let r = x.0 (first_state n edges start) c.in_ok-grow.ensures.first in
     ran_out n edges c.requires.network tree layers kept.is kept.root start c.requires.greatest c.args.budget (first_state n edges start) r.0 refl r.1 r.2 x.1
