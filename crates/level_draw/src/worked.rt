@@ -1,4 +1,4 @@
-//! A worked level: two parallel edges.
+//! Two worked levels: two parallel edges, and a port on the north side between two edges.
 ghost use Rattle.std.specs.Prelude.{◌≡◌, [], ◌∷◌, ◌++◌, pos, None, IfOk};
 ghost use Rattle.elk_layers.specs.Layered.{plain, rows_of};
 ghost use Rattle.level_plan.specs.Conditions.{plain_level};
@@ -232,6 +232,144 @@ fn parallel_edges_are_drawn_straight(rt: HostRuntime) -> Result<(), Fail> {
         Size {
             width: 80,
             height: 30
+        }
+    );
+    Ok(())
+}
+
+// A port of 10 by 10 on the north side.
+fn north_port() -> ChildPort
+    ensures { result ≡ more.port_on Side.North }
+{
+    ChildPort {
+        size: Size {
+            width: 10,
+            height: 10,
+        },
+        place: at(0, 0),
+        half: 5,
+        side: Some(Side::North),
+        index: 0,
+    }
+}
+
+// The port of the middle child lies on its north side; an edge comes to it from the left, and one leaves it to the right.
+fn north(alloc: Global) -> Result<LevelIn, AllocError>
+    ensures { IfOk result (λ l. plain_level l ≡ more.north) }
+{
+    let first = square(Vec::new(alloc), PortRule::Free);
+    let middle = square(vec![in alloc; north_port()]?, PortRule::FixedSide);
+    let last = square(Vec::new(alloc), PortRule::Free);
+    let children = vec![in alloc; first, middle, last]?;
+    let coming = edge(spoke(0, None), spoke(1, Some(0)));
+    let leaving = edge(spoke(1, Some(0)), spoke(2, None));
+    let edges = vec![in alloc; coming, leaving]?;
+    Ok(level(children, edges))
+}
+
+fn child_unit(child: u32) -> Unit
+    ensures { result ≡ plans.unit_with child 30 0 30 0 0 }
+{
+    Unit {
+        layer: child,
+        child: Some(child),
+        height: 30,
+        body_top: 0,
+        body_height: 30,
+        north: 0,
+        south: 0,
+    }
+}
+
+fn ported_unit() -> Unit
+    ensures { result ≡ plans.unit_with 1 50 10 40 1 0 }
+{
+    Unit {
+        layer: 1,
+        child: Some(1),
+        height: 50,
+        body_top: 10,
+        body_height: 40,
+        north: 1,
+        south: 0,
+    }
+}
+
+fn north_units(alloc: Global) -> Result<Vec<Unit>, AllocError>
+    ensures { IfOk result (λ v. v.items ≡ plans.north_plan.layered.units) }
+{
+    let units = vec![in alloc; child_unit(0), ported_unit(), child_unit(2)]?;
+    Ok(units)
+}
+
+fn north_links(alloc: Global) -> Result<Vec<Link>, AllocError>
+    ensures { IfOk result (λ v. v.items ≡ plans.north_plan.layered.links) }
+{
+    let links = vec![in alloc; link(0, 0, 1, 15, 0), link(1, 1, 2, 0, 15)]?;
+    Ok(links)
+}
+
+fn north_layered(alloc: Global) -> Result<Layered, AllocError>
+    ensures { IfOk result (λ l. plain l ≡ plans.north_plan.layered) }
+{
+    let units = north_units(alloc)?;
+    let links = north_links(alloc)?;
+    Ok(layered(3, units, links))
+}
+
+fn north_rows(alloc: Global) -> Result<Order, AllocError>
+    ensures { IfOk result (λ o. rows_of o ≡ plans.north_plan.rows) }
+{
+    let rows = vec![in alloc; vec![in alloc; 0]?, vec![in alloc; 1]?, vec![in alloc; 2]?]?;
+    Ok(Order { rows })
+}
+
+#[test]
+fn edges_meet_at_a_port_on_the_north_side(rt: HostRuntime) -> Result<(), Fail> {
+    let alloc = rt.alloc();
+    let level = north(alloc)?;
+    let layered = north_layered(alloc)?;
+    let start = north_rows(alloc)?;
+    let order = north_rows(alloc)?;
+    let certificate = certificate(alloc, vec![in alloc; 0, 1, 2]?);
+    let lines = Lines {
+        top: vec![in alloc; 0, 15, 0]?,
+    };
+    let drawing = draw(alloc, &level, certificate, layered, start, order, lines)?;
+    assert_eq!(rt;
+        drawing.boxes.as_slice(),
+        [at(0, 0), at(50, 35), at(100, 0)].as_slice()
+    );
+    let ports = drawing.ports.as_slice();
+    assert_eq!(rt; ports.len(), 3);
+    assert_eq!(rt; [ports[0].len(), ports[2].len()], [0, 0]);
+    assert_eq!(rt; ports[1].as_slice(), [at(10, -10)].as_slice());
+    let sections = drawing.sections.as_slice();
+    assert_eq!(rt; sections.len(), 2);
+    assert_eq!(rt;
+        points_of(alloc, &sections[0])?.as_slice(),
+        [at(30, 15), at(65, 15), at(65, 25)].as_slice()
+    );
+    assert_eq!(rt;
+        points_of(alloc, &sections[1])?.as_slice(),
+        [at(65, 25), at(65, 15), at(100, 15)].as_slice()
+    );
+    let gaps = drawing.plan.gaps.as_slice();
+    assert_eq!(rt; gaps.len(), 4);
+    assert_eq!(rt;
+        [
+            borders(&gaps[0]),
+            borders(&gaps[1]),
+            borders(&gaps[2]),
+            borders(&gaps[3])
+        ],
+        [(0, 0, 0), (30, 50, 0), (80, 100, 0), (130, 130, 0)]
+    );
+    assert_eq!(rt;
+        drawing.extent,
+        Size {
+            width: 130,
+            height: 65
         }
     );
     Ok(())
