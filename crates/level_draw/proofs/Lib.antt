@@ -11,6 +11,9 @@ pub mod PartsMade
 pub mod Planned
 pub mod PortedLemmas
 pub mod ReachFar
+pub mod ReadyLemmas
+pub mod ReadyNorth
+pub mod ReadyParallel
 pub mod RulesKept
 pub mod SectionLemmas
 pub mod Sketching
