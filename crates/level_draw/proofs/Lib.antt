@@ -11,6 +11,8 @@ pub mod PartsMade
 pub mod Planned
 pub mod PortedLemmas
 pub mod ReachFar
+pub mod ReadyLemmas
+pub mod ReadyParallel
 pub mod RulesKept
 pub mod SectionLemmas
 pub mod Sketching

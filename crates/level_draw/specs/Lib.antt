@@ -5,3 +5,4 @@ pub mod Outlines
 pub mod Parts
 pub mod Shifted
 pub mod Sketched
+pub mod WorkedPlans

@@ -12,3 +12,5 @@ pub use drawing::{LevelOut, Plan, draw};
 
 #[cfg(test)]
 mod tests;
+#[cfg(test)]
+mod worked;
