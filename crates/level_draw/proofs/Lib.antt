@@ -12,6 +12,7 @@ pub mod Planned
 pub mod PortedLemmas
 pub mod ReachFar
 pub mod ReadyLemmas
+pub mod ReadyLooped
 pub mod ReadyNorth
 pub mod ReadyParallel
 pub mod RulesKept

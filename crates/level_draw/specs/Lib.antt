@@ -1,6 +1,7 @@
 pub mod Drawing
 pub mod Examples
 pub mod Joined
+pub mod LoopedPlan
 pub mod Outlines
 pub mod Parts
 pub mod Shifted

@@ -11,6 +11,8 @@ mod shifting;
 pub use drawing::{LevelOut, Plan, draw};
 
 #[cfg(test)]
+mod looped;
+#[cfg(test)]
 mod tests;
 #[cfg(test)]
 mod worked;

@@ -21,16 +21,16 @@ use std::test::Fail;
 
 // A level, and what it is drawn from.
 #[derive(Drop)]
-struct Given {
-    level: LevelIn,
-    certificate: Certificate,
-    layered: Layered,
-    start: Order,
-    order: Order,
-    lines: Lines,
+pub(crate) struct Given {
+    pub(crate) level: LevelIn,
+    pub(crate) certificate: Certificate,
+    pub(crate) layered: Layered,
+    pub(crate) start: Order,
+    pub(crate) order: Order,
+    pub(crate) lines: Lines,
 }
 
-fn at(x: i64, y: i64) -> Point
+pub(crate) fn at(x: i64, y: i64) -> Point
     ensures { result ≡ record { x = x; y = y } }
 {
     Point { x, y }
@@ -51,7 +51,7 @@ fn square(ports: Vec<ChildPort>, rule: PortRule) -> Child
     }
 }
 
-fn edge(source: Spoke, target: Spoke) -> LevelEdge
+pub(crate) fn edge(source: Spoke, target: Spoke) -> LevelEdge
     ensures { result ≡ record { source = source; target = target; weight = 1 } }
 {
     LevelEdge {
@@ -61,13 +61,13 @@ fn edge(source: Spoke, target: Spoke) -> LevelEdge
     }
 }
 
-fn spoke(child: u32, port: Option<u32>) -> Spoke
+pub(crate) fn spoke(child: u32, port: Option<u32>) -> Spoke
     ensures { result ≡ record { child = child; port = port } }
 {
     Spoke { child, port }
 }
 
-fn level(children: Vec<Child>, edges: Vec<LevelEdge>) -> LevelIn
+pub(crate) fn level(children: Vec<Child>, edges: Vec<LevelEdge>) -> LevelIn
     ensures { plain_level result ≡ record { children = children.items; edges = edges.items; spacing = examples.spacing } }
 {
     LevelIn {
@@ -86,7 +86,7 @@ fn level(children: Vec<Child>, edges: Vec<LevelEdge>) -> LevelIn
     }
 }
 
-fn unit(child: u32, height: u8, top: u8, body: u8, north: u32, south: u32) -> Unit
+pub(crate) fn unit(child: u32, height: u8, top: u8, body: u8, north: u32, south: u32) -> Unit
     ensures { result ≡ plans.unit_with child height top body north south }
 {
     Unit {
@@ -114,7 +114,7 @@ fn link(edge: u32, tail: u32, head: u32, tail_at: u8, head_at: u8) -> Link
     }
 }
 
-fn layered(layers: u32, units: Vec<Unit>, links: Vec<Link>) -> Layered
+pub(crate) fn layered(layers: u32, units: Vec<Unit>, links: Vec<Link>) -> Layered
     ensures { plain result ≡ record { layers = layers; units = units.items; links = links.items; node_node = pos 20; edge_node = pos 10; edge_edge = pos 10 } }
 {
     Layered {
@@ -128,7 +128,7 @@ fn layered(layers: u32, units: Vec<Unit>, links: Vec<Link>) -> Layered
 }
 
 // A certificate of these layers in which no edge is turned round.
-fn certificate(alloc: Global, layers: Vec<u32>) -> Certificate
+pub(crate) fn certificate(alloc: Global, layers: Vec<u32>) -> Certificate
     ensures layers { result.layers ≡ layers.items }
     ensures reversed { result.reversed ≡ [] }
 {
@@ -142,7 +142,7 @@ fn certificate(alloc: Global, layers: Vec<u32>) -> Certificate
 }
 
 // The points of a section, from its start to its end.
-fn points_of(alloc: Global, section: &Section) -> Result<Vec<Point>, AllocError>
+pub(crate) fn points_of(alloc: Global, section: &Section) -> Result<Vec<Point>, AllocError>
     ensures { IfOk result (λ points. points.items ≡ (section.now.start ∷ []) ++ section.now.bends ++ (section.now.end ∷ [])) }
 {
     let mut points = vec![in alloc; section.start]?;
@@ -152,7 +152,7 @@ fn points_of(alloc: Global, section: &Section) -> Result<Vec<Point>, AllocError>
 }
 
 // The left border, the right border and the number of slots of a gap.
-fn borders(gap: &Gap) -> (i64, i64, u32)
+pub(crate) fn borders(gap: &Gap) -> (i64, i64, u32)
     ensures left { result.0 ≡ gap.now.left }
     ensures right { result.1 ≡ gap.now.right }
     ensures count { result.2 ≡ gap.now.slots.count }
@@ -160,7 +160,7 @@ fn borders(gap: &Gap) -> (i64, i64, u32)
     (gap.left, gap.right, gap.slots.count)
 }
 
-fn drawn(alloc: Global, given: Given) -> Result<LevelOut, AllocError>
+pub(crate) fn drawn(alloc: Global, given: Given) -> Result<LevelOut, AllocError>
     requires { IsDrawable (plain_level given.level) (plan_from given.certificate given.layered given.order given.lines) given.certificate.layers }
     ensures { IfOk result (λ v. v.plan.order ≡ given.order) }
 {
