@@ -1,0 +1,7 @@
+//! A level of a document as children, edges and distances, in the frame in which its direction runs to the right; and when the
+//! document's drawing comes from a drawing of that level.
+#![tactic(auto)]
+
+mod laws;
+
+pub use laws::levels_turn;
