@@ -1,2 +1,5 @@
 pub mod HullLemmas
 pub mod OutlineLemmas
+pub mod ReachLemmas
+pub mod ShapeLemmas
+pub mod FrameLemmas
