@@ -3,3 +3,4 @@ pub mod OutlineLemmas
 pub mod ReachLemmas
 pub mod ShapeLemmas
 pub mod FrameLemmas
+pub mod ExampleLemmas

@@ -1,4 +1,5 @@
 //! What comes back into the document, each as the contract of a function that does nothing.
+ghost use Rattle.turned_boxes.specs.Examples.{UpwardFits};
 ghost use Rattle.turned_boxes.specs.Framed.{FramedBoxesFit};
 ghost use Rattle.turned_boxes.specs.Outlines.{DistancesTurnBack, OutlinesTurnBack};
 
@@ -16,4 +17,9 @@ pub fn distances_turn_back()
 /// to be.
 pub fn framed_boxes_fit()
     ensures { FramedBoxesFit }
+{}
+
+/// A document that runs up, its drawing, and the drawing of its level meet what these laws ask.
+pub fn examples()
+    ensures { UpwardFits }
 {}

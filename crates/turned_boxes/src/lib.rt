@@ -4,4 +4,4 @@
 
 mod laws;
 
-pub use laws::{distances_turn_back, framed_boxes_fit, outlines_turn_back};
+pub use laws::{distances_turn_back, examples, framed_boxes_fit, outlines_turn_back};
