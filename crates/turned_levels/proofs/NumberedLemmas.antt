@@ -35,7 +35,7 @@ stands p (suc m) i h =
     let longer : length (numbers_below p (suc m)) ≡ length (numbers_below p m) + 1 = rw more (length-append (numbers_below p m) (m ∷ [])) in
     ⊎_elim
     (λ early. rw (more, get_or-append (numbers_below p m) (m ∷ []) 0 i early) (higher p m i _ (stands p m i early)))
-    (λ late. let last : length (numbers_below p m) ≡ i = omega (arith, late, longer, h) in
+    (λ (late : length (numbers_below p m) ≤ i). let last : length (numbers_below p m) ≡ i = omega (arith, late, longer, h) in
     rw (more, get_or_push (numbers_below p m) m 0 i last) (record { below = omega arith; passes = t; counted = sym (length-numbers_below p m) ∙ last }))
     (cases_lt i (length (numbers_below p m))))
     (λ f. let same = numbers_below-same p m f in
