@@ -1,5 +1,5 @@
 -- What the level of a node and its drawing read of a document's drawing.
-use Rattle.std.proofs.Common.{◌≡◌, ℕ, zero, suc, ◌<◌, List, [], ◌∷◌, map, length, get_or, is_some, refl, sym, ap, ap₂, ◌∙◌, subst, arith}
+use Rattle.std.proofs.Common.{◌≡◌, ℕ, suc, ◌<◌, List, [], ◌∷◌, map, length, get_or, is_some, refl, sym, ap, ap₂, ◌∙◌, subst, arith}
 use Rattle.elk_doc.specs.declared.shape.Point.{Point}
 use Rattle.elk_doc.specs.declared.shape.Size.{Size}
 use Rattle.elk_doc.specs.declared.shape.Rect.{Rect}
@@ -8,14 +8,12 @@ use Rattle.elk_doc.specs.declared.document.LevelOptions.{LevelOptions}
 use Rattle.elk_doc.specs.declared.drawing.Section.{Section}
 use Rattle.elk_doc.specs.declared.drawing.Placed.{Placed}
 use Rattle.elk_doc.specs.Document.{Document, node_at, port_at}
-use Rattle.elk_doc.specs.Level.{children, IsChild, IsEdge}
+use Rattle.elk_doc.specs.Level.{children, IsChild}
 use Rattle.elk_doc.specs.Shapes.{turned, rect_at}
-use Rattle.elk_doc.specs.Drawing.{box_of, port_place, section_of}
 use Rattle.port_order.specs.declared.children.Child.{Child}
 use Rattle.level_plan.specs.Level.{PlainLevel}
 use Rattle.level_plan.specs.FromPlan.{Drawn, point_or, section_at}
-use Rattle.level_stands.specs.Apart.{drawn_port}
-use Rattle.turned_levels.specs.Turned.{child_number, edge_number, port_number, ports_of, turned_size, turned_place, box_size, level_port, level_child, level_edge, level_of}
+use Rattle.turned_levels.specs.Turned.{child_number, edge_number, port_number, ports_of, turned_size, turned_place, box_size, level_port, level_child, level_of}
 use Rattle.turned_levels.specs.Drawing.{IsTurnedChild, IsTurnedDrawing, IsTurnedSection, plus}
 use Rattle.turned_levels.specs.Kept.{AgreeAt}
 use Rattle.turned_levels.proofs.NumberedLemmas.{numbers_match}
@@ -40,7 +38,7 @@ pub levels_read_sizes : (d : Document) (p q : Placed) (n : ℕ) (o : LevelOption
 levels_read_sizes d p q n o same =
     let f : List Child → PlainLevel = λ cs. record { children = cs; edges = (level_of d p n o).edges; spacing = o.spacing } in
     ap f (map_same (level_child d p o.direction) (level_child d q o.direction) (children d n)
-      (λ i h. ap (sized d o.direction (child_number d n i)) (same (child_number d n i) ((numbers_match d n).children.meant i h))))
+    (λ i h. ap (sized d o.direction (child_number d n i)) (same (child_number d n i) ((numbers_match d n).children.meant i h))))
 
 child_kept : (d : Document) (p q : Placed) (n : ℕ) (way : Direction) (v : Drawn) (by : Point) → AgreeAt d p q n
     → (i c : ℕ) → IsChild d n c → IsTurnedChild d p way v by i c → IsTurnedChild d q way v by i c

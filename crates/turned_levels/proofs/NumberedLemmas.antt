@@ -1,5 +1,5 @@
 -- Children, edges and ports stand at their places.
-use Rattle.std.proofs.Common.{◌≡◌, ℕ, zero, suc, ◌+◌, ◌<◌, ⊎_elim, Bool, true, false, [], ◌∷◌, length, length-append, get_or, eqb, Option, Some, None, IsSome, IsTrue, unwrap_or, refl, sym, ap, ◌∙◌, subst, arith, rules, eqb-true, eq-eqb, ne_eqb}
+use Rattle.std.proofs.Common.{◌≡◌, ℕ, zero, suc, ◌+◌, ◌<◌, ◌≤◌, ⊎_elim, Bool, true, false, [], ◌∷◌, length, length-append, get_or, eqb, Option, Some, None, IsSome, IsTrue, unwrap_or, refl, sym, ap, ◌∙◌, subst, arith, rules, eqb-true, eq-eqb, ne_eqb}
 use Rattle.std.proofs.lemmas.Bool.{cases_lt, cases_Bool, cases_eq}
 use Rattle.std.proofs.lemmas.List.{get_or_push, get_or-map, length-map}
 use Rattle.std.proofs.Math.ListN.{get_or-append}
