@@ -1,0 +1,4 @@
+pub mod RangeLemmas
+pub mod SumLemmas
+pub mod PlaceLemmas
+pub mod JoinLemmas
