@@ -13,7 +13,7 @@ use Rattle.layering_laws.specs.Layering.{at_node, cost, flow_value, inward, laye
 use Rattle.layering_laws.specs.Parts.{ArePartNumbers}
 use Rattle.layering_laws.proofs.Duality.{flow_bounds_cost, over_nodes, over_same}
 use Rattle.part_layers.specs.Divided.{links_of, links_to, nodes_of, part_edges, part_flow, part_layers, part_nodes, place_of, renumbered}
-use Rattle.part_layers.specs.Dividing.{AreNumbersBelow}
+use Rattle.part_layers.specs.Dividing.{AreCounted}
 use Rattle.part_layers.proofs.RangeLemmas.{map_same}
 use Rattle.part_layers.proofs.SumLemmas.{at_numbers, over_parts, over_passed, over_range, weighed_numbers}
 use Rattle.part_layers.proofs.PlaceLemmas.{edge_is, edges_are, link_less, link_place, many_links, node_at, node_in, node_place, one_part, place_less}
@@ -80,7 +80,7 @@ cost_fits nodes edges layers net from to =
 
 -- ---- the whole from its parts
 
-module _ (numbers : List ℕ) (edges : List NetEdge) (net : IsNetwork (length numbers) edges) (parts : ArePartNumbers (length numbers) edges numbers) (count : ℕ) (counted : AreNumbersBelow numbers count) where
+module _ (numbers : List ℕ) (edges : List NetEdge) (net : IsNetwork (length numbers) edges) (parts : ArePartNumbers (length numbers) edges numbers) (count : ℕ) (counted : AreCounted numbers (length numbers) count) where
   -- what is summed at a node of a part is what is summed there in the whole
   at_part : (end : NetEdge → ℕ) (amounts : List ℕ) (k v : ℕ) → ((x : NetEdge) → end (renumbered numbers x) ≡ place_of numbers (end x)) → ((e : ℕ) → e < length edges → (end (edge_at edges e) < length numbers) × (slice_index numbers (end (edge_at edges e)) ≡ slice_index numbers (edge_at edges e).tail))
       → length amounts ≡ length edges → v < length numbers → slice_index numbers v ≡ k → at_node end (part_edges numbers edges k) (part_flow numbers edges amounts k) (place_of numbers v) ≡ at_node end edges amounts v

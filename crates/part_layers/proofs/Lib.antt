@@ -2,3 +2,4 @@ pub mod RangeLemmas
 pub mod SumLemmas
 pub mod PlaceLemmas
 pub mod JoinLemmas
+mod FillLemmas

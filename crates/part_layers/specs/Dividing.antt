@@ -5,10 +5,10 @@ use Rattle.layering_laws.specs.declared.network.Network.{Network}
 use Rattle.layering_laws.specs.Network.{edge_at}
 use Rattle.part_layers.specs.Divided.{links_to, nodes_to, place_of, renumbered}
 
--- every node's part is one of so many, and each of these has a node
-pub record AreNumbersBelow (numbers : List ℕ) (count : ℕ) : Type 0 where
-  pub below : (v : ℕ) → v < length numbers → slice_index numbers v < count
-  pub last : 0 < count → (v : ℕ) × (v < length numbers) × (slice_index numbers v + 1 ≡ count)
+-- the numbers of the first n nodes lie below a count, and the last number below it is among them
+pub record AreCounted (numbers : List ℕ) (n count : ℕ) : Type 0 where
+  pub below : (v : ℕ) → v < n → slice_index numbers v < count
+  pub last : 0 < count → (v : ℕ) × (v < n) × (slice_index numbers v + 1 ≡ count)
 
 -- the numbers of nodes and the edges of networks
 abbrev pub sizes_of : List Network → List ℕ

@@ -3,7 +3,7 @@
 ghost use Rattle.std.specs.Prelude.{◌≡◌, ◌+◌, ◌<◌, ◌≤◌, ◌^◌, ◌++◌, ◌∷◌, [], ℕ, List, length, slice_index, slice_set, IfOk, OnOk};
 ghost use Rattle.layering_laws.specs.declared.network.NetEdge.{NetEdge as EdgeOf};
 ghost use Rattle.layering_laws.specs.Network.{EndsBelow};
-ghost use Rattle.part_layers.specs.Dividing.{AreNumbersBelow, ArePlaces, HoldEdges, HoldNodes, row_at, rows_of, sizes_of};
+ghost use Rattle.part_layers.specs.Dividing.{AreCounted, ArePlaces, HoldEdges, HoldNodes, row_at, rows_of, sizes_of};
 
 use layering_laws::{NetEdge, Network};
 use std::alloc::{AllocError, Global};
@@ -11,7 +11,7 @@ use std::alloc::{AllocError, Global};
 /// How many parts there are, by the number of each node's part.
 pub(crate) fn count_parts(numbers: &[u32]) -> u32
     requires { (v : ℕ) → v < length numbers.now → slice_index numbers.now v < 2 ^ 23 }
-    ensures { AreNumbersBelow numbers.now result }
+    ensures { AreCounted numbers.now (length numbers.now) result }
 {
     let mut count = 0;
     for number in numbers {

@@ -1,11 +1,12 @@
 //! The answers for the parts of a network, put together.
 
 ghost use Rattle.std.specs.Prelude.{◌≡◌, ◌+◌, ◌<◌, ◌≤◌, ◌^◌, ℕ, pos, ◌<ℤ◌, length, slice_index, slice_set, IfOk};
-ghost use Rattle.std.specs.List.{sum};
+ghost use Rattle.std.specs.List.{sum_by};
 ghost use Rattle.layering_laws.specs.Network.{EndsBelow, edge_at};
 ghost use Rattle.layering_laws.specs.Layering.{layer_of};
 ghost use Rattle.part_layers.specs.Divided.{links_of, links_to};
-ghost use Rattle.part_layers.specs.Answers.{costs_of, flow_in, layers_in};
+ghost use Rattle.part_layers.specs.Answers.{flow_in, layers_in};
+ghost use Rattle.layering_laws.specs.declared.network.Solution.{Solution as SolutionOf};
 
 use layering_laws::{NetEdge, Solution};
 use std::alloc::{AllocError, Global};
@@ -108,8 +109,8 @@ pub(crate) fn join_flows(
 
 /// The costs of the parts together.
 pub(crate) fn total_cost(solutions: &[Solution]) -> u128
-    requires { sum (costs_of solutions.now) < 2 ^ 128 }
-    ensures { result ≡ sum (costs_of solutions.now) }
+    requires { sum_by (λ (s : SolutionOf). s.cost) solutions.now < 2 ^ 128 }
+    ensures { result ≡ sum_by (λ (s : SolutionOf). s.cost) solutions.now }
 {
     let mut total: u128 = 0;
     for solution in solutions {

@@ -5,8 +5,8 @@ ghost use Rattle.layering_laws.specs.Network.{IsNetwork};
 ghost use Rattle.layering_laws.specs.Layering.{IsSolution};
 ghost use Rattle.layering_laws.specs.Parts.{ArePartNumbers};
 ghost use Rattle.part_layers.specs.Answers.{AreSolved, AreWhole, IsWhole};
-ghost use Rattle.part_layers.specs.Dividing.{AreNumbersBelow, HoldEdges, HoldNodes, rows_of, sizes_of};
-ghost use Rattle.part_layers.specs.Solved.{IsSolved, IsSolvedByParts};
+ghost use Rattle.part_layers.specs.Dividing.{AreCounted, HoldEdges, HoldNodes, rows_of, sizes_of};
+ghost use Rattle.part_layers.specs.Solved.{budget, IsSolved, IsSolvedByParts};
 
 use crate::dividing::{count_parts, empty_networks, give_edges, place_nodes};
 use crate::joining::{join_flows, join_layers, total_cost};
@@ -53,7 +53,7 @@ fn solve_in(
 ) -> Result<Solution, AllocError>
     requires network { IsNetwork (length numbers.now) edges.now }
     requires parts { ArePartNumbers (length numbers.now) edges.now numbers.now }
-    requires count { AreNumbersBelow numbers.now (length nets.old) }
+    requires count { AreCounted numbers.now (length numbers.now) (length nets.old) }
     requires nodes { HoldNodes numbers.now 0 (sizes_of nets.old) }
     requires edges { HoldEdges numbers.now edges.now 0 (rows_of nets.old) }
     ensures solution { IfOk result (λ s. IsSolution (length numbers.now) edges.now s.layer.items s.flow.items s.cost) }
