@@ -1,5 +1,6 @@
 -- Networks of parts while nodes and edges are put into them.
 use Rattle.std.proofs.Common.{◌≡◌, ℕ, zero, suc, ◌+◌, ◌<◌, ◌≤◌, ◌==◌, List, [], ◌∷◌, ◌++◌, Vec, Global, length, map, get_or, set, slice_index, arith, refl, sym, ap, subst, inl, inr, ◌∙◌, eq-eqb, ne_eqb}
+use Rattle.std.specs.List.{filter, range_with_len}
 use Rattle.std.proofs.lemmas.Bool.{cases_eq, cases_lt}
 use Rattle.std.proofs.lemmas.List.{get_or-map, get_or-set_other, get_or-set_same, get_or_append_left, get_or_push, length-map, length-set, length_push, map-set, map_push, set-get_or}
 use Rattle.layering_laws.specs.declared.network.NetEdge.{NetEdge}
@@ -34,7 +35,13 @@ counted_same numbers n count are low =
       last = λ h. let found = are.last h in let less = found.1 in (found.0, omega (arith, less), found.2);
     }
 
--- ---- one write
+-- ---- one read, and one write
+
+pub size_read : (nets : List Network) (k : ℕ) (net : Network) → k < length nets → net ≡ get_or nets k net → net.nodes ≡ get_or (sizes_of nets) k 0
+size_read nets k net h is = ap (λ (n : Network). n.nodes) is ∙ sym (get_or-map (λ (n : Network). n.nodes) nets k net 0 h)
+
+pub row_read : (nets : List Network) (k : ℕ) (net : Network) → k < length nets → net ≡ get_or nets k net → net.edges.items ≡ row_at (rows_of nets) k
+row_read nets k net h is = ap (λ (n : Network). n.edges.items) is ∙ sym (get_or-map (λ (n : Network). n.edges.items) nets k net [] h)
 
 pub size_written : (nets : List Network) (k : ℕ) (d : Network) (edges : Vec NetEdge Global) → k < length nets → sizes_of (set nets k (record { nodes = (get_or nets k d).nodes + 1; edges = edges })) ≡ set (sizes_of nets) k (get_or (sizes_of nets) k 0 + 1)
 size_written nets k d edges h =
@@ -77,25 +84,27 @@ rows_more nets new net pushed is none k =
 
 -- ---- one node or edge more
 
-pub node_more : (numbers : List ℕ) (n : ℕ) (sizes new : List ℕ) → slice_index numbers n < length sizes → new ≡ set sizes (slice_index numbers n) (slice_index sizes (slice_index numbers n) + 1)
-    → HoldNodes numbers n sizes → HoldNodes numbers (n + 1) new
-node_more numbers n sizes new there write hold k h =
-    let part = slice_index numbers n in
-    let long = ap length write ∙ length-set sizes part (slice_index sizes part + 1) in
-    let inside : k < length sizes = omega (arith, h, long) in
+-- one number more is counted in its part
+pub count_more : (part : ℕ → ℕ) (n : ℕ) (counts new : List ℕ) → part n < length counts → new ≡ set counts (part n) (slice_index counts (part n) + 1)
+    → ((k : ℕ) → k < length counts → slice_index counts k ≡ length (filter (λ v. part v == k) (range_with_len 0 n)))
+    → (k : ℕ) → k < length new → slice_index new k ≡ length (filter (λ v. part v == k) (range_with_len 0 (n + 1)))
+count_more part n counts new there write hold k h =
+    let at = part n in
+    let long = ap length write ∙ length-set counts at (slice_index counts at + 1) in
+    let inside : k < length counts = omega (arith, h, long) in
     ap (λ (xs : List ℕ). slice_index xs k) write
-    ∙ elim (cases_eq k part) [
+    ∙ elim (cases_eq k at) [
       | inl same ↦
-          ap (λ i. get_or (set sizes part (slice_index sizes part + 1)) i 0) same
-          ∙ get_or-set_same sizes part (slice_index sizes part + 1) 0 there
-          ∙ ap (λ m. m + 1) (hold part there)
-          ∙ sym (length_push (nodes_to numbers part n) n)
-          ∙ sym (ap length (filter_yes (λ v. slice_index numbers v == part) n (eq-eqb part part refl)))
-          ∙ ap (λ p. length (nodes_to numbers p (n + 1))) (sym same)
+          ap (λ i. get_or (set counts at (slice_index counts at + 1)) i 0) same
+          ∙ get_or-set_same counts at (slice_index counts at + 1) 0 there
+          ∙ ap (λ m. m + 1) (hold at there)
+          ∙ sym (length_push (filter (λ v. part v == at) (range_with_len 0 n)) n)
+          ∙ sym (ap length (filter_yes (λ v. part v == at) n (eq-eqb at at refl)))
+          ∙ ap (λ p. length (filter (λ v. part v == p) (range_with_len 0 (n + 1)))) (sym same)
       | inr other ↦
-          get_or-set_other sizes part k (slice_index sizes part + 1) 0 other
+          get_or-set_other counts at k (slice_index counts at + 1) 0 other
           ∙ hold k inside
-          ∙ sym (ap length (filter_no (λ v. slice_index numbers v == k) n (ne_eqb part k (λ e. other (sym e)))))
+          ∙ sym (ap length (filter_no (λ v. part v == k) n (ne_eqb at k (λ e. other (sym e)))))
     ]
 
 pub no_places : (numbers places : List ℕ) → places ≡ [] → ArePlaces numbers 0 places
@@ -150,4 +159,23 @@ edge_more numbers places edges n part x edge rows new are read tail head is ther
           get_or-set_other rows part k (row_at rows part ++ edge ∷ []) [] other
           ∙ hold k inside
           ∙ ap (map number) (sym (filter_no (λ e. slice_index numbers (edge_at edges e).tail == k) n (ne_eqb (slice_index numbers (edge_at edges n).tail) k (λ e. other (sym (sym in_part ∙ e))))))
+    ]
+
+-- ---- the flow of one edge more
+
+pub flow_more : (numbers : List ℕ) (edges : List NetEdge) (flows : ℕ → List ℕ) (n : ℕ) (next flow new : List ℕ) (place x : ℕ) → slice_index numbers (edge_at edges n).tail < length next
+    → ((k : ℕ) → k < length next → slice_index next k ≡ length (links_to numbers edges k n)) → place ≡ slice_index next (slice_index numbers (edge_at edges n).tail) → x ≡ slice_index (flows (slice_index numbers (edge_at edges n).tail)) place → new ≡ flow ++ x ∷ []
+    → length flow ≡ n → ((e : ℕ) → e < n → slice_index flow e ≡ slice_index (flows (slice_index numbers (edge_at edges e).tail)) (length (links_to numbers edges (slice_index numbers (edge_at edges e).tail) e)))
+    → (e : ℕ) → e < n + 1 → slice_index new e ≡ slice_index (flows (slice_index numbers (edge_at edges e).tail)) (length (links_to numbers edges (slice_index numbers (edge_at edges e).tail) e))
+flow_more numbers edges flows n next flow new place x there hold is value pushed many each e h =
+    ap (λ (xs : List ℕ). slice_index xs e) pushed
+    ∙ elim (cases_lt e n) [
+      | inl less ↦ get_or_append_left flow (x ∷ []) 0 e (omega (arith, less, many)) ∙ each e less
+      | inr most ↦
+          let same : e ≡ n = omega (arith, h, most) in
+          let at = slice_index numbers (edge_at edges n).tail in
+          get_or_push flow x 0 e (many ∙ sym same)
+          ∙ value
+          ∙ ap (slice_index (flows at)) (is ∙ hold at there)
+          ∙ ap (λ i. slice_index (flows (slice_index numbers (edge_at edges i).tail)) (length (links_to numbers edges (slice_index numbers (edge_at edges i).tail) i))) (sym same)
     ]

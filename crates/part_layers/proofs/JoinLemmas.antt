@@ -170,7 +170,7 @@ module _ (numbers : List ℕ) (edges : List NetEdge) (net : IsNetwork (length nu
         let head = layer_there k x.head ends.1 (sym (one_part numbers edges net parts e h)) in
         omega (arith, ints, here, tail, head)
 
-    whole_from_zero : PartsBeginAtZero (length numbers) edges layers
+    pub whole_from_zero : PartsBeginAtZero (length numbers) edges layers
     whole_from_zero =
         record {
           none_below = λ v h.

@@ -3,3 +3,4 @@ pub mod SumLemmas
 pub mod PlaceLemmas
 pub mod JoinLemmas
 mod FillLemmas
+mod AnswerLemmas

@@ -1,4 +1,4 @@
+pub mod Answers
 pub mod Divided
 pub mod Dividing
 pub mod Solved
-pub mod Answers

@@ -4,3 +4,6 @@
 mod dividing;
 mod joining;
 mod solving;
+
+pub use layering_laws::{NetEdge, Network, Solution};
+pub use solving::solve_parts;

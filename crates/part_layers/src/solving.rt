@@ -4,8 +4,8 @@ ghost use Rattle.std.specs.Prelude.{◌≡◌, ◌<◌, ℕ, length, IfOk};
 ghost use Rattle.layering_laws.specs.Network.{IsNetwork};
 ghost use Rattle.layering_laws.specs.Layering.{IsSolution};
 ghost use Rattle.layering_laws.specs.Parts.{ArePartNumbers};
-ghost use Rattle.part_layers.specs.Answers.{AreSolved, AreWhole, IsWhole};
-ghost use Rattle.part_layers.specs.Dividing.{AreCounted, HoldEdges, HoldNodes, rows_of, sizes_of};
+ghost use Rattle.part_layers.specs.Answers.{ArePartsSolved, AreSolved, AreWhole, IsWhole};
+ghost use Rattle.part_layers.specs.Dividing.{AreCounted, ArePlaces, HoldEdges, HoldNodes, rows_of, sizes_of};
 ghost use Rattle.part_layers.specs.Solved.{budget, IsSolved, IsSolvedByParts};
 
 use crate::dividing::{count_parts, empty_networks, give_edges, place_nodes};
@@ -44,6 +44,28 @@ fn solve_each(alloc: Global, nets: &[Network]) -> Result<Vec<Solution>, AllocErr
     Ok(solutions)
 }
 
+// The layering of a network whose parts are solved.
+fn join_all(
+    alloc: Global,
+    numbers: &[u32],
+    places: &[u32],
+    edges: &[NetEdge],
+    solutions: &[Solution],
+) -> Result<Solution, AllocError>
+    requires network { IsNetwork (length numbers.now) edges.now }
+    requires parts { ArePartNumbers (length numbers.now) edges.now numbers.now }
+    requires count { AreCounted numbers.now (length numbers.now) (length solutions.now) }
+    requires places { ArePlaces numbers.now (length numbers.now) places.now }
+    requires solved { ArePartsSolved numbers.now edges.now solutions.now }
+    ensures solution { IfOk result (λ s. IsSolution (length numbers.now) edges.now s.layer.items s.flow.items s.cost) }
+    ensures parts { IfOk result (λ s. IsSolvedByParts (length numbers.now) edges.now s.layer.items s.flow.items) }
+{
+    let layer = join_layers(alloc, numbers, places, solutions)?;
+    let flow = join_flows(alloc, numbers, edges, solutions)?;
+    let cost = total_cost(solutions);
+    Ok(Solution { layer, flow, cost })
+}
+
 // The layering of a network by its parts, whose networks are still without nodes.
 fn solve_in(
     alloc: Global,
@@ -62,10 +84,13 @@ fn solve_in(
     let places = place_nodes(alloc, numbers, nets)?;
     give_edges(numbers, places.as_slice(), edges, nets)?;
     let solutions = solve_each(alloc, nets)?;
-    let layer = join_layers(alloc, numbers, places.as_slice(), solutions.as_slice())?;
-    let flow = join_flows(alloc, numbers, edges, solutions.as_slice())?;
-    let cost = total_cost(solutions.as_slice());
-    Ok(Solution { layer, flow, cost })
+    join_all(
+        alloc,
+        numbers,
+        places.as_slice(),
+        edges,
+        solutions.as_slice(),
+    )
 }
 
 /// A layering of least cost of any network, and a flow that proves it. Each connected part is solved as a network of its

@@ -2,7 +2,7 @@ use Rattle.std.proofs.Common.{◌≡◌, ◌<◌, ℕ, ◌+◌, ◌∙◌, lengt
 use Rattle.std.proofs.lemmas.List.{length-map}
 use Rattle.layering_laws.specs.declared.network.Network.{Network}
 use Rattle.part_layers.specs.Dividing.{ArePlaces, HoldNodes, sizes_of}
-use Rattle.part_layers.proofs.FillLemmas.{few_nodes, node_more, no_places, place_more}
+use Rattle.part_layers.proofs.FillLemmas.{count_more, few_nodes, no_places, place_more}
 use Rattle.part_layers.proofs.dividing.place_nodes.Goals as goal
 
 pub loop-number-init : goal.loop-number-init
@@ -17,7 +17,7 @@ loop-number-preserved c =
     let low = c.requires.below n c.loop-number-test.true in
     let there : slice_index numbers n < length (sizes_of c.loop-number.nets) = omega (arith, many, long, low) in (
       place_more numbers n (sizes_of c.loop-number.nets) c.loop-number.places.items c.push.new.self.items c.add_node.result there c.loop-number.invariant.1 c.add_node.ensures.place c.in_ok-push.ensures.items c.loop-number.invariant.0,
-      node_more numbers n (sizes_of c.loop-number.nets) (sizes_of c.add_node.new.nets) there c.add_node.ensures.sizes c.loop-number.invariant.1,
+      count_more (slice_index numbers) n (sizes_of c.loop-number.nets) (sizes_of c.add_node.new.nets) there c.add_node.ensures.sizes c.loop-number.invariant.1,
       c.add_node.ensures.edges ∙ c.loop-number.invariant.2,
     )
 
