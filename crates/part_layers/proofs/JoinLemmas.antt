@@ -107,7 +107,7 @@ module _ (numbers : List ℕ) (edges : List NetEdge) (net : IsNetwork (length nu
                       rw (
                         t,
                         ne_eqb (end (renumbered numbers x)) (place_of numbers v)
-                        (λ q. other (sym (node_place numbers k (end x) (ends e less).0 part) ∙ ap (node_at numbers k) (sym (same x) ∙ q) ∙ node_place numbers k v h is)),
+                            (λ q. other (sym (node_place numbers k (end x) (ends e less).0 part) ∙ ap (node_at numbers k) (sym (same x) ∙ q) ∙ node_place numbers k v h is)),
                         ne_eqb (end x) v other,
                       ) refl
                   | inr f ↦ rw (f, ne_eqb (end x) v other) refl

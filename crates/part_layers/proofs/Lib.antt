@@ -4,3 +4,4 @@ pub mod PlaceLemmas
 pub mod JoinLemmas
 mod FillLemmas
 mod AnswerLemmas
+mod NumberLemmas

@@ -160,14 +160,14 @@ module _ (numbers : List ℕ) (edges : List NetEdge) (net : IsNetwork (length nu
       let edge = forth_edge k has.number has.is_there tail in (
         ap (slice_index numbers) (sym has.to_is) ∙ sym (one_part has.number has.is_there) ∙ tail,
         inl (subst (λ x. HasEdge (part_edges numbers edges k) (place_of numbers a) (place_of numbers x)) has.to_is
-        (subst (λ x. HasEdge (part_edges numbers edges k) (place_of numbers x) (place_of numbers (edge_at edges has.number).head)) has.from_is edge)),
+            (subst (λ x. HasEdge (part_edges numbers edges k) (place_of numbers x) (place_of numbers (edge_at edges has.number).head)) has.from_is edge)),
       )
   forth_step k a b is (inr has) =
       let tail : slice_index numbers (edge_at edges has.number).tail ≡ k = one_part has.number has.is_there ∙ ap (slice_index numbers) has.to_is ∙ is in
       let edge = forth_edge k has.number has.is_there tail in (
         ap (slice_index numbers) (sym has.from_is) ∙ tail,
         inr (subst (λ x. HasEdge (part_edges numbers edges k) (place_of numbers b) (place_of numbers x)) has.to_is
-        (subst (λ x. HasEdge (part_edges numbers edges k) (place_of numbers x) (place_of numbers (edge_at edges has.number).head)) has.from_is edge)),
+            (subst (λ x. HasEdge (part_edges numbers edges k) (place_of numbers x) (place_of numbers (edge_at edges has.number).head)) has.from_is edge)),
       )
 
   forth_walk : (k a b n : ℕ) → slice_index numbers a ≡ k → Joined edges a b n → (slice_index numbers b ≡ k) × Joined (part_edges numbers edges k) (place_of numbers a) (place_of numbers b) n
@@ -184,9 +184,8 @@ module _ (numbers : List ℕ) (edges : List NetEdge) (net : IsNetwork (length nu
       let first = node_in numbers k 0 some in
       let here = node_in numbers k v h in
       let joined = (parts.same_part (node_at numbers k 0) (node_at numbers k v) first.0 here.0).0 (first.1 ∙ sym here.1) in
-      let walk = (forth_walk k (node_at numbers k 0) (node_at numbers k v) joined.0 first.1 joined.1).1 in
-      (
+      let walk = (forth_walk k (node_at numbers k 0) (node_at numbers k v) joined.0 first.1 joined.1).1 in (
         joined.0,
         subst (λ x. Joined (part_edges numbers edges k) 0 x joined.0) (place_node numbers k v h)
-        (subst (λ x. Joined (part_edges numbers edges k) x (place_of numbers (node_at numbers k v)) joined.0) (place_node numbers k 0 some) walk),
+            (subst (λ x. Joined (part_edges numbers edges k) x (place_of numbers (node_at numbers k v)) joined.0) (place_node numbers k 0 some) walk),
       )

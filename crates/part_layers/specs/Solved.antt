@@ -25,3 +25,8 @@ pub record IsSolvedByParts (nodes : ℕ) (edges : List NetEdge) (layers : List �
   pub numbers : List ℕ
   pub are_parts : ArePartNumbers nodes edges numbers
   pub each : (v : ℕ) → v < nodes → IsPartSolved numbers edges layers flow (slice_index numbers v)
+
+-- a network has one numbering of its parts
+abbrev pub OneNumbering : Type 0
+OneNumbering =
+    (nodes : ℕ) (edges : List NetEdge) (numbers others : List ℕ) → ArePartNumbers nodes edges numbers → ArePartNumbers nodes edges others → numbers ≡ others

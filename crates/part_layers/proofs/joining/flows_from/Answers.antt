@@ -51,5 +51,5 @@ loop-edge-preserved c =
       ap length pushed ∙ length_push c.loop-edge.flow.items _ ∙ ap (λ m. m + 1) many,
       count_more (λ e. slice_index numbers (edge_at edges e).tail) n c.loop-edge.next c.next_place-place.new.next there c.next_place-place.ensures.next c.loop-edge.invariant.1,
       flow_more numbers edges (flow_in c.args.solutions.now) n c.loop-edge.next c.loop-edge.flow.items c.push.new.self.items c.next_place-place.result c.flow_at.result there c.loop-edge.invariant.1 c.next_place-place.ensures.place c.flow_at.ensures pushed many
-      c.loop-edge.invariant.2,
+          c.loop-edge.invariant.2,
     )
