@@ -1,5 +1,5 @@
 -- The answers for the parts, as what is asked of the whole.
-use Rattle.std.proofs.Common.{◌≡◌, ◌==◌, ℕ, zero, suc, ◌+◌, ◌<◌, ◌≤◌, ◌^◌, ℤ, pos, ◌≤ℤ◌, ◌<ℤ◌, List, [], ◌∷◌, ◌++◌, length, map, get_or, slice_index, arith, refl, sym, ap, subst, inl, inr, ◌∙◌}
+use Rattle.std.proofs.Common.{◌≡◌, ◌==◌, ℕ, ◌+◌, ◌<◌, ◌^◌, ℤ, pos, ◌<ℤ◌, List, [], ◌∷◌, ◌++◌, length, map, get_or, slice_index, arith, sym, ap, subst, inl, inr, ◌∙◌}
 use Rattle.std.specs.List.{sum_by}
 use Rattle.std.proofs.lemmas.Bool.{cases_eq, cases_lt}
 use Rattle.std.proofs.lemmas.List.{ext_get_or, get_or-map, get_or_append_left, get_or_push, length-map, length_push, map_push}
@@ -7,14 +7,14 @@ use Rattle.std.proofs.lemmas.List.Sums.{sum-map}
 use Rattle.layering_laws.specs.declared.network.NetEdge.{NetEdge}
 use Rattle.layering_laws.specs.declared.network.Solution.{Solution}
 use Rattle.layering_laws.specs.Network.{edge_at, IsNetwork}
-use Rattle.layering_laws.specs.Layering.{cost, layer_of, IsSolution}
+use Rattle.layering_laws.specs.Layering.{layer_of, IsSolution}
 use Rattle.layering_laws.specs.Parts.{ArePartNumbers}
 use Rattle.layering_laws.proofs.Duality.{over_nodes}
 use Rattle.part_layers.specs.Divided.{links_of, links_to, nodes_of, part_edges, part_flow, part_layers, part_nodes, place_of}
-use Rattle.part_layers.specs.Dividing.{AreCounted, ArePlaces, HoldEdges, HoldNodes, row_at}
-use Rattle.part_layers.specs.Solved.{IsPartSolved, IsSolved, IsSolvedByParts}
+use Rattle.part_layers.specs.Dividing.{AreCounted, HoldEdges, HoldNodes, row_at}
+use Rattle.part_layers.specs.Solved.{IsSolved, IsSolvedByParts}
 use Rattle.part_layers.specs.Answers.{ArePartsSolved, AreSolved, AreWhole, IsWhole, costs_of, flow_in, layers_in}
-use Rattle.part_layers.proofs.PlaceLemmas.{link_at, link_in, link_less, link_place, many_links, node_at, node_in, part_connected, part_network, place_less, place_node}
+use Rattle.part_layers.proofs.PlaceLemmas.{link_at, link_in, many_links, node_at, node_in, part_connected, part_network, place_less, place_node}
 use Rattle.part_layers.proofs.RangeLemmas.{place_at}
 use Rattle.part_layers.proofs.SumLemmas.{sum_over}
 use Rattle.part_layers.proofs.JoinLemmas.{cost_fits, whole_cost, whole_from_zero, whole_solved}

@@ -1,12 +1,12 @@
 -- Networks of parts while nodes and edges are put into them.
-use Rattle.std.proofs.Common.{◌≡◌, ℕ, zero, suc, ◌+◌, ◌<◌, ◌≤◌, ◌==◌, List, [], ◌∷◌, ◌++◌, Vec, Global, length, map, get_or, set, slice_index, arith, refl, sym, ap, subst, inl, inr, ◌∙◌, eq-eqb, ne_eqb}
+use Rattle.std.proofs.Common.{◌≡◌, ℕ, zero, suc, ◌+◌, ◌<◌, ◌≤◌, ◌==◌, List, [], ◌∷◌, ◌++◌, Vec, Global, length, map, get_or, set, slice_index, arith, refl, sym, ap, inl, inr, ◌∙◌, eq-eqb, ne_eqb}
 use Rattle.std.specs.List.{filter, range_with_len}
 use Rattle.std.proofs.lemmas.Bool.{cases_eq, cases_lt}
-use Rattle.std.proofs.lemmas.List.{get_or-map, get_or-set_other, get_or-set_same, get_or_append_left, get_or_push, length-map, length-set, length_push, map-set, map_push, set-get_or}
+use Rattle.std.proofs.lemmas.List.{get_or-map, get_or-set_other, get_or-set_same, get_or_append_left, get_or_push, length-set, length_push, map-set, map_push, set-get_or}
 use Rattle.layering_laws.specs.declared.network.NetEdge.{NetEdge}
 use Rattle.layering_laws.specs.declared.network.Network.{Network}
 use Rattle.layering_laws.specs.Network.{edge_at}
-use Rattle.part_layers.specs.Divided.{links_to, nodes_to, place_of, renumbered}
+use Rattle.part_layers.specs.Divided.{links_to, place_of, renumbered}
 use Rattle.part_layers.specs.Dividing.{AreCounted, ArePlaces, HoldEdges, HoldNodes, row_at, rows_of, sizes_of}
 use Rattle.part_layers.proofs.RangeLemmas.{few_picked, filter_no, filter_yes}
 

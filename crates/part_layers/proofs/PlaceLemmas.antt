@@ -1,6 +1,6 @@
 -- The nodes and edges of a part by their places, and the part's own network.
-use Rattle.std.proofs.Common.{◌≡◌, ℕ, zero, suc, ◌+◌, ◌<◌, ◌≤◌, ◌==◌, ◌⊎◌, cond, Bool, true, false, List, length, map, get_or, slice_index, arith, refl, sym, ap, subst, inl, inr, ◌∙◌, eq-eqb}
-use Rattle.std.specs.List.{filter, range_with_len, sum_by}
+use Rattle.std.proofs.Common.{◌≡◌, ℕ, zero, suc, ◌<◌, ◌≤◌, ◌==◌, ◌⊎◌, cond, List, length, map, get_or, slice_index, arith, refl, sym, ap, subst, inl, inr, ◌∙◌, eq-eqb}
+use Rattle.std.specs.List.{range_with_len, sum_by}
 use Rattle.std.proofs.lemmas.Bool.{cases_Bool, eqb-true}
 use Rattle.std.proofs.lemmas.List.{get_or-map, length-map}
 use Rattle.std.proofs.lemmas.List.FromFn.{fill_by_all}

@@ -2,7 +2,7 @@
 use Rattle.std.specs.Prelude.{◌≡◌, ◌<◌, ℕ, ℤ, List, [], length, map, slice_index, slice_index_or}
 use Rattle.layering_laws.specs.declared.network.NetEdge.{NetEdge}
 use Rattle.layering_laws.specs.declared.network.Solution.{Solution}
-use Rattle.layering_laws.specs.Network.{edge_at, IsNetwork}
+use Rattle.layering_laws.specs.Network.{IsNetwork}
 use Rattle.net_simplex.specs.Grown.{IsConnected}
 use Rattle.part_layers.specs.Divided.{part_edges, part_nodes}
 use Rattle.part_layers.specs.Dividing.{row_at}

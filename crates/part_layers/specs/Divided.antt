@@ -1,5 +1,5 @@
 -- The connected parts of a network as networks of their own.
-use Rattle.std.specs.Prelude.{◌≡◌, ◌<◌, ◌==◌, ℕ, ℤ, List, [], Vec, length, map, slice_index, slice_index_or}
+use Rattle.std.specs.Prelude.{◌==◌, ℕ, ℤ, List, length, map, slice_index}
 use Rattle.std.specs.List.{filter, range_with_len}
 use Rattle.layering_laws.specs.declared.network.NetEdge.{NetEdge}
 use Rattle.layering_laws.specs.Network.{edge_at}

@@ -1,4 +1,4 @@
-use Rattle.std.proofs.Common.{◌≡◌, ◌<◌, ℕ, ◌+◌, ◌∙◌, length, arith, ap, refl, slice_index, subst, sym}
+use Rattle.std.proofs.Common.{◌≡◌, ◌<◌, ◌∙◌, length, arith, refl, slice_index, subst}
 use Rattle.std.proofs.lemmas.List.{length-map}
 use Rattle.layering_laws.specs.declared.network.Network.{Network}
 use Rattle.part_layers.specs.Dividing.{ArePlaces, HoldNodes, sizes_of}

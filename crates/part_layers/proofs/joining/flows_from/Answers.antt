@@ -1,4 +1,4 @@
-use Rattle.std.proofs.Common.{◌≡◌, ◌==◌, ◌<◌, ℕ, ◌+◌, ◌∙◌, length, arith, ap, refl, slice_index, subst, sym}
+use Rattle.std.proofs.Common.{◌==◌, ◌<◌, ◌+◌, ◌∙◌, length, arith, ap, refl, slice_index}
 use Rattle.std.proofs.lemmas.List.{length_push}
 use Rattle.layering_laws.specs.Network.{edge_at}
 use Rattle.part_layers.specs.Answers.{flow_in}

@@ -1,9 +1,9 @@
-use Rattle.std.proofs.Common.{◌≡◌, ◌<◌, List, arith, length, slice_index, subst, sym, ℕ}
+use Rattle.std.proofs.Common.{List, arith, slice_index, subst, sym, ℕ}
 use Rattle.std.proofs.lemmas.List.{length-map}
 use Rattle.layering_laws.specs.declared.network.NetEdge.{NetEdge}
 use Rattle.layering_laws.specs.declared.network.Network.{Network}
 use Rattle.part_layers.specs.Answers.{IsWhole}
-use Rattle.part_layers.specs.Dividing.{row_at, rows_of, sizes_of}
+use Rattle.part_layers.specs.Dividing.{rows_of, sizes_of}
 use Rattle.part_layers.proofs.AnswerLemmas.{none_solved, solved_more}
 use Rattle.part_layers.proofs.FillLemmas.{row_read, size_read}
 use Rattle.part_layers.proofs.solving.solve_each.Goals as goal

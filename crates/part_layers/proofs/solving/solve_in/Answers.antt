@@ -1,6 +1,5 @@
-use Rattle.std.proofs.Common.{◌≡◌, ◌<◌, ◌∙◌, List, ap, arith, length, slice_index, subst, sym, ℕ}
+use Rattle.std.proofs.Common.{◌≡◌, ◌∙◌, List, arith, length, subst, sym, ℕ}
 use Rattle.std.proofs.lemmas.List.{length-map}
-use Rattle.layering_laws.specs.declared.network.NetEdge.{NetEdge}
 use Rattle.layering_laws.specs.declared.network.Network.{Network}
 use Rattle.layering_laws.specs.declared.network.Solution.{Solution}
 use Rattle.part_layers.specs.Answers.{ArePartsSolved, AreSolved}
