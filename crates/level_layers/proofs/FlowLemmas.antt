@@ -11,7 +11,7 @@ use Rattle.level_plan.specs.Conditions.{IsLevel}
 use Rattle.level_plan.specs.Level.{PlainLevel, is_loop}
 use Rattle.level_layers.specs.Certificate.{flow_at, link_flows, links, links_to, network}
 use Rattle.level_layers.specs.Flows.{AreFlows}
-use Rattle.level_layers.proofs.ListLemmas.{map_same, one_more}
+use Rattle.part_layers.proofs.RangeLemmas.{map_same, one_more}
 use Rattle.level_layers.proofs.LowLayers.{layers_low}
 use Rattle.level_layers.proofs.NetLemmas.{ends_below, few_net, is_plain, link_no, link_yes, weight_low}
 
@@ -28,7 +28,7 @@ flow_last flows x e h = get_or_push flows x 0 e h
 kept : (l : PlainLevel) (flow : List ℕ) (n next x : ℕ) (flows : List ℕ) → AreFlows l flow n next flows → map (flow_at (flows ++ x ∷ [])) (links_to l n) ≡ take next flow
 kept l flow n next x flows are =
     let many = are.as_many in
-    map_same (λ e. not (is_loop l e)) (flow_at (flows ++ x ∷ [])) (flow_at flows) n (λ e h. flow_left flows x e (omega (arith, h, many))) ∙ are.links_are
+    map_same (λ e. not (is_loop l e)) (flow_at (flows ++ x ∷ [])) (flow_at flows) n (λ e h t. flow_left flows x e (omega (arith, h, many))) ∙ are.links_are
 
 pub flows_loop : (l : PlainLevel) (flow : List ℕ) (n next : ℕ) (flows more : List ℕ) → AreFlows l flow n next flows → IsTrue (is_loop l n) → more ≡ flows ++ 0 ∷ [] → AreFlows l flow (n + 1) next more
 flows_loop l flow n next flows more are loop pushed =

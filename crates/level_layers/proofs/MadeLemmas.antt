@@ -4,6 +4,7 @@ use Rattle.std.specs.List.{All}
 use Rattle.std.proofs.lemmas.Int.{ints}
 use Rattle.std.proofs.lemmas.List.{get_or-map, length-map}
 use Rattle.layering_laws.specs.Layering.{layer_of, IsSolution}
+use Rattle.part_layers.specs.Solved.{IsSolvedByParts}
 use Rattle.level_plan.specs.Conditions.{IsLevel}
 use Rattle.level_plan.specs.Level.{PlainLevel, is_loop}
 use Rattle.level_layers.specs.Certificate.{AreReversed, IsCertificateOf, flow_at, link_flows, network}
@@ -17,9 +18,9 @@ low_all layers zs n same low k d h =
     omega (arith, ints, is, below)
 
 pub made : (l : PlainLevel) (rs found : List ℕ) (zs : List ℤ) (layers flow flows parts : List ℕ) (total : ℕ) → IsLevel l → AreReversed l rs → IsSolution (length l.children) (network l rs) zs flow total
-    → found ≡ rs → map pos layers ≡ zs → length flows ≡ length l.edges → ((e : ℕ) → e < length l.edges → IsTrue (is_loop l e) → flow_at flows e ≡ 0) → link_flows l flows ≡ flow → parts ≡ []
+    → IsSolvedByParts (length l.children) (network l rs) zs flow → found ≡ rs → map pos layers ≡ zs → length flows ≡ length l.edges → ((e : ℕ) → e < length l.edges → IsTrue (is_loop l e) → flow_at flows e ≡ 0) → link_flows l flows ≡ flow → parts ≡ []
     → IsCertificateOf l (record { layers = layers; reversed = found; flow = flows; span = total; parts = parts })
-made l rs found zs layers flow flows parts total level reversed s same_rs same_zs long loops same_flow none =
+made l rs found zs layers flow flows parts total level reversed s by_parts same_rs same_zs long loops same_flow none =
     record {
       reversed = subst (AreReversed l) (sym same_rs) reversed;
       layer_for_each = sym (length-map layers pos) ∙ ap length same_zs ∙ s.layer_for_each;
@@ -29,5 +30,8 @@ made l rs found zs layers flow flows parts total level reversed s same_rs same_z
       solves = subst (λ (fs : List ℕ). IsSolution (length l.children) (network l found) (map pos layers) fs total) (sym same_flow)
           (subst (λ (ys : List ℤ). IsSolution (length l.children) (network l found) ys flow total) (sym same_zs)
           (subst (λ (r : List ℕ). IsSolution (length l.children) (network l r) zs flow total) (sym same_rs) s));
+      by_parts = subst (λ (fs : List ℕ). IsSolvedByParts (length l.children) (network l found) (map pos layers) fs) (sym same_flow)
+          (subst (λ (ys : List ℤ). IsSolvedByParts (length l.children) (network l found) ys flow) (sym same_zs)
+          (subst (λ (r : List ℕ). IsSolvedByParts (length l.children) (network l r) zs flow) (sym same_rs) by_parts));
       no_parts = none;
     }

@@ -12,7 +12,7 @@ use Rattle.level_plan.specs.Level.{PlainLevel, edge_at, holds, is_loop}
 use Rattle.level_layers.specs.Certificate.{AreReversed, UnlistedStep, links, links_to, net_edge, network, oriented, source_of, target_of}
 use Rattle.level_layers.specs.Marks.{is_marked, listed}
 use Rattle.level_layers.specs.Low.{IsPlainNetwork}
-use Rattle.level_layers.proofs.ListLemmas.{few_picked, filter_no, filter_yes, pick}
+use Rattle.part_layers.proofs.RangeLemmas.{few_picked, filter_no, filter_yes, pick}
 use Rattle.level_layers.proofs.TurnLemmas.{listed_at}
 
 -- ---- one edge after the other

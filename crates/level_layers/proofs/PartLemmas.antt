@@ -14,6 +14,14 @@ below_four P a b c d (suc (suc zero)) h = c
 below_four P a b c d (suc (suc (suc zero))) h = d
 below_four P a b c d (suc (suc (suc (suc k)))) h = absurd (omega (arith, h))
 
+below_five : (P : ℕ → Type 0) → P 0 → P 1 → P 2 → P 3 → P 4 → (k : ℕ) → k < 5 → P k
+below_five P a b c d e zero h = a
+below_five P a b c d e (suc zero) h = b
+below_five P a b c d e (suc (suc zero)) h = c
+below_five P a b c d e (suc (suc (suc zero))) h = d
+below_five P a b c d e (suc (suc (suc (suc zero)))) h = e
+below_five P a b c d e (suc (suc (suc (suc (suc k))))) h = absurd (omega (arith, h))
+
 a_child : IsLevelChild (square [] Free)
 a_child =
     record {
@@ -31,7 +39,8 @@ is_level =
       few_ports = omega arith;
       few_edges = omega arith;
       children = below_four (λ c. IsLevelChild (child_at two_parts c)) a_child a_child a_child a_child;
-      edges = below_four (IsLevelEdge two_parts)
+      edges = below_five (IsLevelEdge two_parts)
+          (record { source = record { child = omega arith; port = tt }; target = record { child = omega arith; port = tt }; weight_above = omega arith; weight_below = omega arith })
           (record { source = record { child = omega arith; port = tt }; target = record { child = omega arith; port = tt }; weight_above = omega arith; weight_below = omega arith })
           (record { source = record { child = omega arith; port = tt }; target = record { child = omega arith; port = tt }; weight_above = omega arith; weight_below = omega arith })
           (record { source = record { child = omega arith; port = tt }; target = record { child = omega arith; port = tt }; weight_above = omega arith; weight_below = omega arith })

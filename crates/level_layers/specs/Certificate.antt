@@ -9,6 +9,7 @@ use Rattle.level_plan.specs.Level.{PlainLevel, edge_at, holds, is_loop}
 use Rattle.level_plan.specs.declared.level.LevelEdge.{LevelEdge}
 use Rattle.layering_laws.specs.declared.network.NetEdge.{NetEdge}
 use Rattle.layering_laws.specs.Layering.{IsSolution}
+use Rattle.part_layers.specs.Solved.{IsSolvedByParts}
 
 -- the children at which an edge begins and ends, as given
 abbrev pub source_of : PlainLevel → ℕ → ℕ
@@ -72,7 +73,9 @@ link_flows l flow = map (flow_at flow) (links l)
 -- What is answered for a level: the edges that are turned round; a layer for each child, below the number of children; a flow
 -- for each edge, 0 at self-loops; and a span. Layers, flow and span are a solution of the level's network: each oriented edge
 -- leads to a higher layer, the least layer of each part is 0, the flow balances with the span as its value, and no layering of
--- the same orientation costs less.
+-- the same orientation costs less. In each connected part layers and flow are those that the chain of pivots gives for the part
+-- alone, its children and edges in document order, with 64 pivots for each of them, or a solution of the part where these don't
+-- suffice.
 pub record IsCertificateOf (l : PlainLevel) (c : Certificate) : Type 0 where
   pub reversed : AreReversed l c.reversed
   pub layer_for_each : length c.layers ≡ length l.children
@@ -80,4 +83,5 @@ pub record IsCertificateOf (l : PlainLevel) (c : Certificate) : Type 0 where
   pub flow_for_each : length c.flow ≡ length l.edges
   pub loops : (e : ℕ) → e < length l.edges → IsTrue (is_loop l e) → flow_at c.flow e ≡ 0
   pub solves : IsSolution (length l.children) (network l c.reversed) (map pos c.layers) (link_flows l c.flow) c.span
+  pub by_parts : IsSolvedByParts (length l.children) (network l c.reversed) (map pos c.layers) (link_flows l c.flow)
   pub no_parts : c.parts ≡ []

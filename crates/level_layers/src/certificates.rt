@@ -1,6 +1,7 @@
 //! The certificate of a level.
 ghost use Rattle.std.specs.Prelude.{◌≡◌, ◌<◌, ◌<ℤ◌, ◌≤ℤ◌, ℕ, pos, map, length, IfOk, IsTrue};
 ghost use Rattle.layering_laws.specs.Layering.{IsSolution, layer_of};
+ghost use Rattle.part_layers.specs.Solved.{IsSolvedByParts};
 ghost use Rattle.level_plan.specs.Conditions.{plain_level, IsLevel};
 ghost use Rattle.level_plan.specs.Level as plan;
 ghost use Rattle.level_layers.specs.Certificate.{AreReversed, IsCertificateOf, flow_at, link_flows, links, network};
@@ -10,8 +11,8 @@ use crate::networks::{is_loop, list_marked, network_of};
 use crate::orienting::orientation;
 use elk_doc::drawing::Certificate;
 use elk_doc::list::Items;
-use flow_dual::{Solution, solve};
 use level_plan::LevelIn;
+use part_layers::{Solution, solve_parts};
 use std::alloc::{AllocError, Global};
 
 // A layer that is low, as an unsigned number.
@@ -66,6 +67,7 @@ fn certificate_from(
     requires level { IsLevel (plain_level level.now) }
     requires reversed { AreReversed (plain_level level.now) reversed.items }
     requires solution { IsSolution (length level.now.children) (network (plain_level level.now) reversed.items) solution.layer.items solution.flow.items solution.cost }
+    requires by_parts { IsSolvedByParts (length level.now.children) (network (plain_level level.now) reversed.items) solution.layer.items solution.flow.items }
     ensures { IfOk result (IsCertificateOf (plain_level level.now)) }
 {
     let layers = layers_of(alloc, solution.layer.as_slice())?;
@@ -81,7 +83,9 @@ fn certificate_from(
 
 /// The certificate of a level, in the frame in which its direction runs to the right: the edges that are turned round so that
 /// no cycle is left, by number and in ascending order; by child its layer, where each part of the level begins at layer 0; by
-/// edge its flow, 0 at self-loops; and the span, which no layering of these edges goes below. Parts are left empty.
+/// edge its flow, 0 at self-loops; and the span, which no layering of these edges goes below. Each connected part is layered by
+/// itself, by network simplex (Gansner, Koutsofios, North, Vo 1993) with 64 pivots for each of its children and edges, and by
+/// the primal-dual flow where these don't suffice. Parts are left empty.
 ///
 /// The only error is want of memory.
 pub fn certificate_of(alloc: Global, level: &LevelIn) -> Result<Certificate, AllocError>
@@ -91,6 +95,6 @@ pub fn certificate_of(alloc: Global, level: &LevelIn) -> Result<Certificate, All
     let turned = orientation(alloc, level)?;
     let reversed = list_marked(alloc, turned.as_slice())?;
     let network = network_of(alloc, level, turned.as_slice())?;
-    let solution = solve(alloc, &network)?;
+    let solution = solve_parts(alloc, &network)?;
     certificate_from(alloc, level, reversed, solution)
 }

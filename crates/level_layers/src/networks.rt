@@ -5,8 +5,8 @@ ghost use Rattle.level_plan.specs.Conditions.{plain_level, IsLevel};
 ghost use Rattle.level_layers.specs.Certificate.{AreReversed, network, oriented};
 ghost use Rattle.level_layers.specs.Marks.{listed};
 
-use flow_dual::{NetEdge, Network};
 use level_plan::{LevelEdge, LevelIn};
+use part_layers::{NetEdge, Network};
 use std::alloc::{AllocError, Global};
 
 /// The numbers of the marked edges, in ascending order.

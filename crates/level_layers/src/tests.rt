@@ -1,4 +1,4 @@
-//! A level of two parts: two children joined to and fro, one of them with a self-loop, and two joined by one edge.
+//! A level of two parts: two children joined to and fro, one of them with a self-loop, and two joined by two edges.
 ghost use Rattle.std.specs.Prelude.{◌≡◌, [], IfOk};
 ghost use Rattle.elk_doc.specs.declared.document.PortRule.TheVariants.{Free};
 ghost use Rattle.level_plan.specs.Conditions.{plain_level};
@@ -60,6 +60,7 @@ fn two_parts(alloc: Global) -> Result<LevelIn, AllocError>
             edge(1, 0, 1),
             edge(0, 0, 1),
             edge(2, 3, 1),
+            edge(2, 3, 1),
         ]?),
         spacing: Spacing {
             node_node: 20,
@@ -74,26 +75,17 @@ fn two_parts(alloc: Global) -> Result<LevelIn, AllocError>
     })
 }
 
-// One of the two edges that are joined to and fro is turned round, so both lead to layer 1 and weigh 4 together. The
-// self-loop has no flow, and each part begins at layer 0.
+// One of the two edges that are joined to and fro is turned round, so both lead to layer 1 and weigh 4 together. In each part
+// the lower-numbered edge is in the first tree, so it has the flow of both. The self-loop has none.
 #[test]
 fn two_parts_with_an_edge_turned_round(rt: HostRuntime) -> Result<(), Fail> {
     let alloc = rt.alloc();
     let level = two_parts(alloc)?;
     let certificate = certificate_of(alloc, &level)?;
-    let reversed = certificate.reversed.as_slice();
-    assert_eq!(rt; reversed.len(), 1);
-    assert_eq!(rt; reversed[0], 1);
-    let layers = certificate.layers.as_slice();
-    assert_eq!(rt; layers.len(), 4);
-    for (layer, wanted) in layers.iter().zip([0, 1, 0, 1].iter()) {
-        assert_eq!(rt; *layer, *wanted);
-    }
-    let flow = certificate.flow.as_slice();
-    assert_eq!(rt; flow.len(), 4);
-    assert_eq!(rt; flow[2], 0);
-    assert_eq!(rt; flow[3], 1);
-    assert_eq!(rt; certificate.span, 5);
+    assert_eq!(rt; certificate.reversed.as_slice(), [1].as_slice());
+    assert_eq!(rt; certificate.layers.as_slice(), [0, 1, 0, 1].as_slice());
+    assert_eq!(rt; certificate.flow.as_slice(), [4, 0, 0, 2, 0].as_slice());
+    assert_eq!(rt; certificate.span, 6);
     assert_eq!(rt; certificate.parts.len(), 0);
     Ok(())
 }

@@ -25,5 +25,5 @@ returns c =
     let l = plain_level c.args.level.now in
     let loops = subst (λ (fs : List ℕ). (e : ℕ) → e < length l.edges → IsTrue (is_loop l e) → flow_at fs e ≡ 0) (sym c.from_vec-3.ensures) c.in_ok-flow.ensures.loops in
     let links = ap (λ (fs : List ℕ). link_flows l fs) c.from_vec-3.ensures ∙ c.in_ok-flow.ensures.links ∙ c.as_slice-2.ensures.value in
-    made l c.args.reversed.items c.from_vec-2.result c.args.solution.layer.items c.from_vec.result c.args.solution.flow.items c.from_vec-3.result c.from_vec-4.result c.args.solution.cost c.requires.level c.requires.reversed c.requires.solution c.from_vec-2.ensures
+    made l c.args.reversed.items c.from_vec-2.result c.args.solution.layer.items c.from_vec.result c.args.solution.flow.items c.from_vec-3.result c.from_vec-4.result c.args.solution.cost c.requires.level c.requires.reversed c.requires.solution c.requires.by_parts c.from_vec-2.ensures
     (ap (map pos) c.from_vec.ensures ∙ c.in_ok-layers.ensures ∙ c.as_slice.ensures.value) (ap length c.from_vec-3.ensures ∙ c.in_ok-flow.ensures.len) loops links (c.from_vec-4.ensures ∙ c.new.ensures.items)

@@ -1,0 +1,4 @@
+pub mod Answers
+pub mod Divided
+pub mod Dividing
+pub mod Solved

@@ -1,0 +1,13 @@
+//! Layerings of least cost of networks that fall into connected parts: each part is solved as a network of its own.
+#![tactic(auto)]
+
+mod dividing;
+mod joining;
+mod laws;
+mod solving;
+#[cfg(test)]
+mod tests;
+
+pub use laws::parts_have_one_numbering;
+pub use layering_laws::{NetEdge, Network, Solution};
+pub use solving::solve_parts;
