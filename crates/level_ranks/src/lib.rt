@@ -1,0 +1,6 @@
+//! The ranks of links' ends at children whose ports are in a fixed order or at fixed positions.
+#![tactic(auto)]
+
+mod laws;
+
+pub use laws::{fitted_units_are_units, ranks_need_no_rows};
