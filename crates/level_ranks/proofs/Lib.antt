@@ -1,1 +1,5 @@
 pub mod PlaceLemmas
+pub mod SideLemmas
+pub mod SpotLemmas
+pub mod AgreeLemmas
+pub mod UnitLemmas

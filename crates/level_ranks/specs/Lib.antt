@@ -1,3 +1,5 @@
 pub mod Ranked
 pub mod Sides
+pub mod Flows
+pub mod Ports
 pub mod Laws
