@@ -7,7 +7,7 @@ use Rattle.elk_doc.specs.declared.document.PortRule.{PortRule}
 use Rattle.elk_doc.specs.declared.document.PortRule.TheVariants.{FixedOrder}
 use Rattle.port_order.specs.declared.children.Child.{Child}
 use Rattle.port_order.specs.declared.spots.Spot.{Spot}
-use Rattle.port_order.specs.Child.{spot_at, is_pinned_at}
+use Rattle.port_order.specs.Child.{spot_at, is_pinned, is_pinned_at}
 use Rattle.port_order.specs.Sides.{is_forward, side_of}
 use Rattle.port_order.specs.Places.{HoldsOnce, place_in}
 use Rattle.port_order.specs.Order.{ComesFirst, FixedFirst, IsOrderOfSide, IsSpreadOn, PortFirst}
@@ -128,3 +128,7 @@ order_long c side s t p q sp tp same op oq =
     let up = no_more p q (apart c side s p sp op) (all_held c side s t p q same op oq) in
     let down = no_more q p (apart c side t q tp oq) (all_held c side t s q p (turned c s t same) oq op) in
     omega (arith, up, down)
+
+-- a port that is not pinned is spread on its side
+pub spread_port : (c : Child) (side : Side) (spots : List Spot) → HavePorts c spots → (k : ℕ) → IsPort c k → is_pinned c k ≡ false → side_of c (spot_at spots k) ≡ side → IsSpreadOn c side (spot_at spots k)
+spread_port c side spots ports k port spread on = record { spread = subst (λ (x : Option ℕ). IsFalse (is_pinned_at c x)) (sym (ports.port_is k port)) spread; on_side = on }

@@ -1,5 +1,5 @@
 //! How many ports of its side come before a port, and how many are ranked on a side.
-ghost use Rattle.std.specs.Prelude.{◌≡◌, ◌<◌, ◌≤◌, ◌^◌, length, map, IfOk};
+ghost use Rattle.std.specs.Prelude.{◌≡◌, ℕ, ◌<◌, ◌≤◌, ◌^◌, length, map, slice_index, IfOk};
 ghost use Rattle.std.specs.List.{All, filter};
 ghost use Rattle.elk_doc.specs.declared.shape.Side.TheVariants.{East, West};
 ghost use Rattle.port_order.specs.Child as own;
@@ -134,7 +134,7 @@ fn count_on(ports: &[PortAt], side: Side) -> u32
     ensures value { result ≡ length (filter (counts side) ports.now) }
     ensures few { result ≤ length ports.now }
 {
-    let mut count = 0;
+    let mut count: u32 = 0;
     for (k, port) in ports.iter().enumerate() {
         if counts(side, *port) {
             count += 1;
@@ -149,7 +149,7 @@ fn count_before(ports: &[PortAt], own: PortAt) -> u32
     ensures value { result ≡ length (filter (comes_before own) ports.now) }
     ensures few { result ≤ length ports.now }
 {
-    let mut count = 0;
+    let mut count: u32 = 0;
     for (k, port) in ports.iter().enumerate() {
         if comes_before(own, *port) {
             count += 1;
@@ -186,6 +186,7 @@ fn note_places(place: &mut [u32], order: &[u32])
 fn note_sides(before: &mut [u32], child: &Child, spots: &[Spot], west: &[u32], east: &[u32])
     requires spots { ArePortSpots child.now spots.now }
     requires as_many { length before.old ≡ length spots.now }
+    requires few { (k : ℕ) → slice_index before.old k ≤ length spots.now }
     requires west { IsOrderOfSide child.now West spots.now west.now }
     requires east { IsOrderOfSide child.now East spots.now east.now }
     ensures { AreOrdered child.now spots.now before.new }
