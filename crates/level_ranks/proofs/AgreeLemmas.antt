@@ -73,11 +73,11 @@ implicit_beside l p c n loop =
     by true = refl
     by false = refl
 
-either : (b d : Bool) (v w x y : ℕ) → b ≡ d → v ≡ w → (b ≡ false → x ≡ y) → cond b v x ≡ cond d w y
+pub either : (b d : Bool) (v w x y : ℕ) → b ≡ d → v ≡ w → (b ≡ false → x ≡ y) → cond b v x ≡ cond d w y
 either true d v w x y e vw xy = subst (λ z. v ≡ cond z w y) e vw
 either false d v w x y e vw xy = subst (λ z. x ≡ cond z w y) e (xy refl)
 
-off_lane : (b : Bool) (x y : ℕ) → b ≡ false → cond b x y ≡ y
+pub off_lane : (b : Bool) (x y : ℕ) → b ≡ false → cond b x y ≡ y
 off_lane b x y e = ap (λ z. cond z x y) e
 
 -- a port of a child in a fixed order is spread, and a pinned one stands where it is given

@@ -6,3 +6,7 @@ pub mod UnitLemmas
 pub mod CountLemmas
 pub mod SeenLemmas
 pub mod NoteLemmas
+pub mod ReadLemmas
+pub mod FlowLemmas
+pub mod MeaningLemmas
+pub mod RankedLemmas

@@ -20,7 +20,7 @@ passes e turned c k enters =
     meets e.source (e.source.child == e.target.child) (as_asked turned enters) c k || meets e.target (e.source.child == e.target.child) (as_asked (not turned) enters) c k
 
 abbrev pub level_edge : List LevelEdge → ℕ → LevelEdge
-level_edge edges e = slice_index_or edges e (record { source = record { child = 0; port = None }; target = record { child = 0; port = None }; weight = 1 })
+level_edge edges e = slice_index_or edges e (record { source = record { child = 0; port = None }; target = record { child = 0; port = None }; weight = 0 })
 
 -- some edge does
 abbrev pub is_passed : List LevelEdge → List Bool → ℕ → ℕ → Bool → Bool

@@ -5,7 +5,7 @@ ghost use Rattle.port_order.specs.Child.{is_pinned};
 ghost use Rattle.level_plan.specs.Conditions.{plain_level};
 ghost use Rattle.level_plan.specs.Level as plan;
 ghost use Rattle.level_plan.specs.Units as units;
-ghost use Rattle.level_ends.specs.Bounds.{IsEndIn, IsIn};
+ghost use Rattle.level_ends.specs.Bounds.{IsEndIn};
 ghost use Rattle.level_ends.specs.Lanes.{side_by};
 ghost use Rattle.level_pins.specs.Reading as pins;
 ghost use Rattle.level_pins.specs.Reading.{IsLinkIn};
@@ -31,24 +31,24 @@ pub(crate) struct Sheet<'a> {
     pub marks: &'a [bool],
 }
 
-// Whether a height is in the lower half of a box.
-fn is_lower(height: i64, y: i64) -> bool
-    requires { IsIn y }
-    ensures { result ≡ int_lt height (y +ℤ y) }
+// Whether the anchor of an end is in the lower half of its child's box.
+fn is_lower(child: &Child, end: EndAt) -> bool
+    requires { IsEndIn end }
+    ensures { result ≡ int_lt child.now.size.height (end.anchor.y +ℤ end.anchor.y) }
 {
-    height < y + y
+    child.size.height < end.anchor.y + end.anchor.y
 }
 
-// The side of a dock's lane, by the height of its anchor.
-fn lane_side(height: i64, side: Side, y: i64) -> Side
-    requires { IsIn y }
-    ensures { result ≡ side_by height side y }
+// The side of the lane of an end's dock.
+fn lane_side(child: &Child, end: EndAt) -> Side
+    requires { IsEndIn end }
+    ensures { result ≡ side_by child.now.size.height end.dock.side end.anchor.y }
 {
-    match side {
+    match end.dock.side {
         Side::North => Side::North,
-        Side::East => { if is_lower(height, y) { Side::South } else { Side::North } }
+        Side::East => { if is_lower(child, end) { Side::South } else { Side::North } }
         Side::South => Side::South,
-        Side::West => { if is_lower(height, y) { Side::South } else { Side::North } }
+        Side::West => { if is_lower(child, end) { Side::South } else { Side::North } }
     }
 }
 
@@ -112,7 +112,7 @@ fn port_rank(child: &Child, ranks: &PortRanks, end: EndAt, port: u32, enters: bo
         return last + 1;
     }
     if is_on_lane(end.dock.side, enters) {
-        return lane_rank(last, lane_side(child.size.height, end.dock.side, end.anchor.y));
+        return lane_rank(last, lane_side(child, end));
     }
     ranks.before[port as usize] + 1
 }
@@ -149,8 +149,7 @@ fn child_rank(child: &Child, ranks: &PortRanks, end: EndAt, port: Option<u32>, e
 fn end_of(sheet: &Sheet<'_>, edge: u32, at_source: bool) -> EndAt
     requires sheet { IsReadable (plain_level sheet.now.level.now) sheet.now.table.now (map plain_ranks sheet.now.ranks.now) sheet.now.marks.now }
     requires edge { edge < length sheet.now.level.now.edges }
-    ensures value { result ≡ pins.end_of sheet.now.table.now edge at_source }
-    ensures near { IsEndIn result }
+    ensures { result ≡ pins.end_of sheet.now.table.now edge at_source }
 {
     let first = 2 * edge as usize;
     let place = if at_source { first } else { first + 1 };
@@ -201,19 +200,13 @@ fn ranked_link(sheet: &Sheet<'_>, units: &[Unit], link: Link) -> Link
     ensures tail { result.tail_rank ≤ 4098 }
     ensures head { result.head_rank ≤ 4098 }
 {
-    let edge = link.edge;
-    let turned = sheet.marks[edge as usize];
-    let tail_rank = unit_rank(sheet, units[link.tail as usize], edge, !turned, false);
-    let head_rank = unit_rank(sheet, units[link.head as usize], edge, turned, true);
-    Link {
-        edge,
-        tail: link.tail,
-        head: link.head,
-        tail_rank,
-        head_rank,
-        tail_at: link.tail_at,
-        head_at: link.head_at,
-    }
+    let turned = sheet.marks[link.edge as usize];
+    let tail = units[link.tail as usize];
+    let head = units[link.head as usize];
+    let mut ranked = link;
+    ranked.tail_rank = unit_rank(sheet, tail, link.edge, !turned, false);
+    ranked.head_rank = unit_rank(sheet, head, link.edge, turned, true);
+    ranked
 }
 
 /// All links with their ranks.
