@@ -10,3 +10,4 @@ pub mod ReadLemmas
 pub mod FlowLemmas
 pub mod MeaningLemmas
 pub mod RankedLemmas
+pub mod MadeLemmas
