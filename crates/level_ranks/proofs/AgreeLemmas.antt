@@ -67,7 +67,7 @@ flow_side b = side_by_flow (list_any (λ (x : Bool). x) (b ∷ []) && not (list_
 pub implicit_beside : (l : PlainLevel) (p : PlainPlan) (c : ℕ) (n : End) → is_loop l n.edge ≡ false → lies_on_lane l p n (side_of (child_at l c) (implicit_spot l p c n)) ≡ false
 implicit_beside l p c n loop =
     subst (λ b. (is_upright (side_by_flow (list_any (λ m. enters p m) (cond (not b) (n ∷ []) []) && not (list_any (λ m. not (enters p m)) (cond (not b) (n ∷ []) []))))
-        || (not b && inverts (side_by_flow (list_any (λ m. enters p m) (cond (not b) (n ∷ []) []) && not (list_any (λ m. not (enters p m)) (cond (not b) (n ∷ []) [])))) (enters p n))) ≡ false) (sym loop) (by (enters p n))
+    || (not b && inverts (side_by_flow (list_any (λ m. enters p m) (cond (not b) (n ∷ []) []) && not (list_any (λ m. not (enters p m)) (cond (not b) (n ∷ []) [])))) (enters p n))) ≡ false) (sym loop) (by (enters p n))
   where
     by : (b : Bool) → (is_upright (side_by_flow (list_any (λ (x : Bool). x) (b ∷ []) && not (list_any (λ (x : Bool). not x) (b ∷ [])))) || inverts (side_by_flow (list_any (λ (x : Bool). x) (b ∷ []) && not (list_any (λ (x : Bool). not x) (b ∷ [])))) b) ≡ false
     by true = refl

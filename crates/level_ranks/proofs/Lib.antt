@@ -11,3 +11,4 @@ pub mod FlowLemmas
 pub mod MeaningLemmas
 pub mod RankedLemmas
 pub mod MadeLemmas
+pub mod WorkedLemmas

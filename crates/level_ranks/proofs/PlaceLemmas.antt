@@ -76,7 +76,7 @@ places_agree R F one_way (a ∷ p) (b ∷ q) up vp to from n r h =
     elim (cases_eq a n) [
       | inl same ↦ rw (eq-eqb a n same, eq-eqb b n (sym e ∙ same)) refl
       | inr differ ↦ rw (ne_eqb a n differ, ne_eqb b n (λ x. differ (e ∙ x)))
-      (ap (λ m. 1 + m) (places_agree R F one_way p q (tail_rises (Before R F) a p up) (tail_rises (Before R F) b q vp) (tail_holds R F one_way a b p q up e to) (tail_holds R F one_way b a q p vp (sym e) from) n r (rest n h differ)))
+          (ap (λ m. 1 + m) (places_agree R F one_way p q (tail_rises (Before R F) a p up) (tail_rises (Before R F) b q vp) (tail_holds R F one_way a b p q up e to) (tail_holds R F one_way b a q p vp (sym e) from) n r (rest n h differ)))
     ]
   where
     rest : (n : ℕ) → Holds (a ∷ p) n → a ≢ n → Holds p n

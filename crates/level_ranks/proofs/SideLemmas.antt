@@ -54,14 +54,15 @@ module _ (c : Child) (side : Side) (spots : List Spot) (order : List ℕ) (ports
   first_in fixed s t k n h at port is_n number first =
       elim (cases_lt k (length c.ports)) [
         | inl less ↦
-          let own : s.port ≡ Some k = ap (λ (x : Spot). x.port) (sym at) ∙ ports.port_is k less in
-          let called : s.number ≡ k = ap (λ (x : Spot). x.number) (sym at) ∙ ports.number_is k less in
-          (subst (IsPort c) (sym called) less,
-           subst (λ m. PortFirst (is_forward c.direction side) c side s.number s.number n m) number
-           (subst (λ m. PortFirst (is_forward c.direction side) c side m s.number n t.number) (sym called) (by_ports (Some k) own)))
+            let own : s.port ≡ Some k = ap (λ (x : Spot). x.port) (sym at) ∙ ports.port_is k less in
+            let called : s.number ≡ k = ap (λ (x : Spot). x.number) (sym at) ∙ ports.number_is k less in (
+              subst (IsPort c) (sym called) less,
+              subst (λ m. PortFirst (is_forward c.direction side) c side s.number s.number n m) number
+                  (subst (λ m. PortFirst (is_forward c.direction side) c side m s.number n t.number) (sym called) (by_ports (Some k) own)),
+            )
         | inr more ↦
-          let none : s.port ≡ None = ap (λ (x : Spot). x.port) (sym at) ∙ ports.behind k more h in
-          absurd (subst (λ (x : Option ℕ). FixedFirst c side s t x (Some n)) none by_target)
+            let none : s.port ≡ None = ap (λ (x : Spot). x.port) (sym at) ∙ ports.behind k more h in
+            absurd (subst (λ (x : Option ℕ). FixedFirst c side s t x (Some n)) none by_target)
       ]
     where
       by_target : FixedFirst c side s t s.port (Some n)

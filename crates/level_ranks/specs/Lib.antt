@@ -5,3 +5,4 @@ pub mod Ports
 pub mod Reading
 pub mod Levels
 pub mod Laws
+pub mod Worked

@@ -46,9 +46,21 @@ fn lane_side(child: &Child, end: EndAt) -> Side
 {
     match end.dock.side {
         Side::North => Side::North,
-        Side::East => { if is_lower(child, end) { Side::South } else { Side::North } }
+        Side::East => {
+            if is_lower(child, end) {
+                Side::South
+            } else {
+                Side::North
+            }
+        }
         Side::South => Side::South,
-        Side::West => { if is_lower(child, end) { Side::South } else { Side::North } }
+        Side::West => {
+            if is_lower(child, end) {
+                Side::South
+            } else {
+                Side::North
+            }
+        }
     }
 }
 
@@ -162,7 +174,11 @@ fn spoke_of(level: &LevelIn, edge: u32, at_source: bool) -> Spoke
     ensures { result ≡ plan.spoke (plain_level level.now) (plan.end_at edge at_source) }
 {
     let found = level.edges.at(edge as usize);
-    if at_source { found.source } else { found.target }
+    if at_source {
+        found.source
+    } else {
+        found.target
+    }
 }
 
 // The rank of a link's end, by its edge.

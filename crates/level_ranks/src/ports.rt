@@ -234,7 +234,11 @@ fn before_each(
 
 /// The ranks of a child's ports, from their spots. They are of use where the child's ports are in a fixed order or at fixed
 /// positions.
-pub(crate) fn ranks_of(alloc: Global, child: &Child, spots: &[Spot]) -> Result<PortRanks, AllocError>
+pub(crate) fn ranks_of(
+    alloc: Global,
+    child: &Child,
+    spots: &[Spot],
+) -> Result<PortRanks, AllocError>
     requires child { IsChild child.now }
     requires spots { ArePortSpots child.now spots.now }
     ensures { IfOk result (λ v. AreRanksOf child.now spots.now (plain_ranks v)) }
