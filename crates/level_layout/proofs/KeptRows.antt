@@ -177,8 +177,12 @@ module _ (a b : Plain) (kept : AreKept a b) where
 
   orders_same : (start : List (List ℕ)) → sweep_orders a start ≡ sweep_orders b start
   orders_same start =
-      rw (forward_same start, backward_same (forward_sweep b start), forward_same (backward_sweep b (forward_sweep b start)),
-          backward_same (forward_sweep b (backward_sweep b (forward_sweep b start)))) refl
+      rw (
+        forward_same start,
+        backward_same (forward_sweep b start),
+        forward_same (backward_sweep b (forward_sweep b start)),
+        backward_same (forward_sweep b (backward_sweep b (forward_sweep b start))),
+      ) refl
 
   pub reduced_for : (start rows : List (List ℕ)) → IsReduced a start rows → IsReduced b start rows
   reduced_for start rows r =

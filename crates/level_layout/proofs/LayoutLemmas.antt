@@ -24,7 +24,7 @@ use Rattle.level_pins.specs.Alike.{AreAlike}
 use Rattle.level_pins.specs.Fitted.{AreFitted, AreKept}
 use Rattle.level_draw.specs.declared.drawing.LevelOut.{LevelOut}
 use Rattle.level_draw.specs.Drawing.{IsDrawable, IsDrawn, IsMadeFrom, plan_from}
-use Rattle.level_layout.specs.Ranked.{MakeUnits}
+use Rattle.level_ranks.specs.Laws.{MakeUnits}
 use Rattle.level_layout.specs.Chosen.{ArePlaced, IsReduced}
 use Rattle.level_layout.specs.Phases.{AreNumberedAs, AreRankedUnits, IsStart}
 use Rattle.level_layout.specs.Layout.{IsLaidOut, IsLayout}

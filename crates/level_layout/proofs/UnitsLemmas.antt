@@ -20,7 +20,7 @@ use Rattle.level_units.specs.Layering.{AreLayersOf, head_child, layer_in, layeri
 use Rattle.level_units.specs.Numbered.{AreNumbered}
 use Rattle.level_pins.specs.Alike.{AreFlat}
 use Rattle.level_pins.proofs.AlikeLemmas.{no_heights}
-use Rattle.level_layout.specs.Ranked.{AreRanked, AreReranked}
+use Rattle.level_ranks.specs.Ranked.{AreRanked, AreReranked}
 use Rattle.level_units.specs.Started.{AreAscending}
 use Rattle.level_layout.specs.Phases.{AreRankedUnits, IsStart}
 use Rattle.level_plan.specs.Units.{AreLinked}

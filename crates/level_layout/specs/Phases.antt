@@ -9,7 +9,7 @@ use Rattle.level_units.specs.Layering.{layering, plan_with}
 use Rattle.level_units.specs.Numbered.{AreNumbered}
 use Rattle.level_units.specs.Started.{AreAscending}
 use Rattle.level_pins.specs.Alike.{AreAlike}
-use Rattle.level_layout.specs.Ranked.{AreRanked}
+use Rattle.level_ranks.specs.Ranked.{AreRanked}
 
 -- units and links whose numbers, layers and ends are those of a level's children and edges, from the tail of each edge on
 abbrev pub AreNumberedAs : PlainLevel → Certificate → Plain → Type 0

@@ -4,6 +4,8 @@
 
 mod layout;
 mod phases;
-mod stub;
 
 pub use layout::layout_level;
+
+#[cfg(test)]
+mod tests;

@@ -10,7 +10,7 @@ use cross_reduce::reduce;
 use elk_doc::drawing::Certificate;
 use elk_layers::{Layered, Order};
 use level_plan::LevelIn;
-use crate::stub::ranked;
+use level_ranks::ranked;
 use level_units::{start_of, units_of};
 use std::alloc::{AllocError, Global};
 

@@ -3,6 +3,7 @@ use Rattle.level_plan.specs.Conditions.{plain_level}
 use Rattle.level_draw.specs.declared.drawing.LevelOut.{LevelOut}
 use Rattle.level_draw.specs.Drawing.{IsDrawn, IsMadeFrom, plan_from}
 use Rattle.level_layout.specs.Layout.{IsLaidOut}
+use Rattle.level_ranks.proofs.UnitLemmas.{make_units}
 use Rattle.level_layout.proofs.LayoutLemmas.{drawable, if_both, laid_out, linked_by, pinned_by}
 use Rattle.level_layout.proofs.layout.layout_level.Goals as goal
 
@@ -30,5 +31,5 @@ returns c =
     (IsLaidOut c.args.level.now)
     c.draw.ensures.given c.draw.ensures.drawn
     (λ w given drawn. laid_out c.args.level.now c.in_ok-certificate.certificate c.in_ok-start.start.layered c.in_ok-layered.layered c.in_ok-start.start.rows c.in_ok-order.order c.in_ok-lines.lines w
-        make_units c.requires c.in_ok-certificate.ensures c.in_ok-start.ensures.units c.in_ok-start.ensures.start c.in_ok-order.ensures.reduced pinned
-        c.in_ok-lines.ensures.lines c.in_ok-lines.ensures.within given drawn)
+    make_units c.requires c.in_ok-certificate.ensures c.in_ok-start.ensures.units c.in_ok-start.ensures.start c.in_ok-order.ensures.reduced pinned
+    c.in_ok-lines.ensures.lines c.in_ok-lines.ensures.within given drawn)
