@@ -33,7 +33,7 @@ use Rattle.level_pins.specs.Fitted.{AreFitted, AreKept}
 use Rattle.level_pins.specs.Reading.{AreFittedLinks, AreFittedUnits, HasChildIn, IsLinkIn, IsReadable, anchor_below, end_of, is_on_lane, pin_at, pin_of, roomy}
 use Rattle.level_pins.proofs.AlikeLemmas.{child_same, no_heights, unit_same}
 use Rattle.level_pins.proofs.ChildLemmas.{head_unit, tail_unit}
-use Rattle.level_pins.proofs.ReadLemmas.{count_same, field_same, half, is_link_with, lanes_few, link_field, number_some, pin_child, pin_lane, pin_off, pin_on, room_small, with_child, with_layer, with_none, with_some}
+use Rattle.level_pins.proofs.ReadLemmas.{count_same, field_same, half, is_link_with, lanes_few, link_field, number_some, pin_child, pin_lane, pin_off, pin_on, room_low, with_child, with_layer, with_none, with_some}
 use Rattle.level_pins.proofs.SizeLemmas.{heights_least, heights_of, outline_high}
 use Rattle.level_pins.proofs.TotalLemmas.{IsCounted, first, first_double, first_heights, total_within}
 use Rattle.level_pins.proofs.WithinLemmas.{IsUpTo, end_within, inverted_is, lanes_from_zero, level_offset, off_left, outline_deep}
@@ -282,18 +282,18 @@ module _ (l : PlainLevel) (p : PlainPlan) (o : Orders) (t : Table) (marks : List
   child_below u c less is = let many = units.as_many in have_children l p made.layers made.linked u c (omega (arith, less, many)) (sym (alike.child_is u) ∙ is)
 
   abbrev bound : ℕ → ℤ
-  bound c = heights_of (child_at l c) +ℤ heights_of (child_at l c) +ℤ pos (2 ^ 42)
+  bound c = heights_of (child_at l c) +ℤ heights_of (child_at l c) +ℤ pos (2 ^ 37)
 
   -- a child's unit is not much higher than the child and its ports
-  unit_high : (c : ℕ) → c < length l.children → IsUpTo (heights_of (child_at l c) +ℤ heights_of (child_at l c) +ℤ pos (2 ^ 42)) (unit_height l r o c)
+  unit_high : (c : ℕ) → c < length l.children → IsUpTo (heights_of (child_at l c) +ℤ heights_of (child_at l c) +ℤ pos (2 ^ 37)) (unit_height l r o c)
   unit_high c h =
-      let north = room_small l.spacing (length (lanes l r o c North)) made.level.spacing (lanes_few l r o c North made.level) in
-      let south = room_small l.spacing (length (lanes l r o c South)) made.level.spacing (lanes_few l r o c South made.level) in
+      let north = room_low l.spacing (length (lanes l r o c North)) made.level.spacing (lanes_few l r o c North made.level) in
+      let south = room_low l.spacing (length (lanes l r o c South)) made.level.spacing (lanes_few l r o c South made.level) in
       sum_high (lanes_room l (length (lanes l r o c North))) (outline l r o c).height (lanes_room l (length (lanes l r o c South))) (heights_of (child_at l c)) north south
       (outline_deep l r o made.level (orders_q []) c h) (outline_high l r o made.level (orders_q []) c h)
     where
-      sum_high : (a b c s : ℤ) → IsWithin (pos 0) (pos (2 ^ 40)) a → IsWithin (pos 0) (pos (2 ^ 40)) c → pos 0 ≤ℤ b → b ≤ℤ ((s +ℤ pos (2 ^ 21)) +ℤ (s +ℤ pos (2 ^ 21)))
-          → (pos 0 ≤ℤ (a +ℤ b +ℤ c)) × ((a +ℤ b +ℤ c) ≤ℤ (s +ℤ s +ℤ pos (2 ^ 42)))
+      sum_high : (a b c s : ℤ) → IsWithin (pos 0) (pos (2 ^ 35)) a → IsWithin (pos 0) (pos (2 ^ 35)) c → pos 0 ≤ℤ b → b ≤ℤ ((s +ℤ pos (2 ^ 21)) +ℤ (s +ℤ pos (2 ^ 21)))
+          → (pos 0 ≤ℤ (a +ℤ b +ℤ c)) × ((a +ℤ b +ℤ c) ≤ℤ (s +ℤ s +ℤ pos (2 ^ 37)))
       sum_high a b c s ha hc hb hs =
           let al = ha.above in
           let ah = ha.below in
@@ -301,10 +301,10 @@ module _ (l : PlainLevel) (p : PlainPlan) (o : Orders) (t : Table) (marks : List
           let ch = hc.below in
           (omega (arith, ints, al, cl, hb), omega (arith, ints, ah, ch, hs))
 
-  height_in : (u c : ℕ) → u < length us → (unit_at us u).child ≡ Some c → IsUpTo (heights_of (child_at l c) +ℤ heights_of (child_at l c) +ℤ pos (2 ^ 42)) (unit_at us u).height
+  height_in : (u c : ℕ) → u < length us → (unit_at us u).child ≡ Some c → IsUpTo (heights_of (child_at l c) +ℤ heights_of (child_at l c) +ℤ pos (2 ^ 37)) (unit_at us u).height
   height_in u c less is =
       let h = child_below u c less is in
-      subst (IsUpTo (heights_of (child_at l c) +ℤ heights_of (child_at l c) +ℤ pos (2 ^ 42)))
+      subst (IsUpTo (heights_of (child_at l c) +ℤ heights_of (child_at l c) +ℤ pos (2 ^ 37)))
       (sym (ap (λ w. (unit_at us w).height) (child_height u c less is h) ∙ (room_is [] c h).height)) (unit_high c h)
 
   height_least : (u : ℕ) → u < length us → pos 0 ≤ℤ (unit_at us u).height
@@ -320,7 +320,7 @@ module _ (l : PlainLevel) (p : PlainPlan) (o : Orders) (t : Table) (marks : List
   bound_least : (m : ℕ) → m < length l.children → pos 0 ≤ℤ bound m
   bound_least m h = let least = heights_least l r o made.level (orders_q []) m h in twice (heights_of (child_at l m)) least
     where
-      twice : (s : ℤ) → pos 0 ≤ℤ s → pos 0 ≤ℤ (s +ℤ s +ℤ pos (2 ^ 42))
+      twice : (s : ℤ) → pos 0 ≤ℤ s → pos 0 ≤ℤ (s +ℤ s +ℤ pos (2 ^ 37))
       twice s h = omega (arith, ints, h)
 
   one_unit : (u m : ℕ) → u < length us → m < length l.children → is_number (unit_at us u).child m ≡ true → ((unit_at us u).height ≤ℤ bound m) × (u ≡ unit_of r m)
@@ -328,7 +328,7 @@ module _ (l : PlainLevel) (p : PlainPlan) (o : Orders) (t : Table) (marks : List
       let named = number_some (unit_at us u).child m is in
       ((height_in u m less named).1, child_height u m less named h)
 
-  together : total_height us <ℤ pos (2 ^ 56)
+  pub together : total_height us ≤ℤ pos (3 * 2 ^ 47)
   together =
       let total = total_within (length l.children) bound (unit_of r) us bound_least counted one_unit in
       let doubled = first_double (λ m. heights_of (child_at l m)) (length l.children) in
@@ -337,7 +337,7 @@ module _ (l : PlainLevel) (p : PlainPlan) (o : Orders) (t : Table) (marks : List
       let few = made.level.few_children in
       small (total_height us) (first bound (length l.children)) (first (λ m. heights_of (child_at l m)) (length l.children)) (level.total_height l.children) (length l.children) total doubled heights high few
     where
-      small : (a b c d : ℤ) (n : ℕ) → a ≤ℤ b → b ≡ c +ℤ c +ℤ pos (n * 2 ^ 42) → c ≡ d → d ≤ℤ pos (2 ^ 46) → n ≤ 2048 → a <ℤ pos (2 ^ 56)
+      small : (a b c d : ℤ) (n : ℕ) → a ≤ℤ b → b ≡ c +ℤ c +ℤ pos (n * 2 ^ 37) → c ≡ d → d ≤ℤ pos (2 ^ 46) → n ≤ 2048 → a ≤ℤ pos (3 * 2 ^ 47)
       small a b c d n h e f k few = omega (arith, ints, h, e, f, k, few)
 
   bodies : (u : ℕ) → u < length us → is_child (plain_with p us ks) u ≡ true → HasBodyWithin (unit_at us u)
@@ -430,7 +430,7 @@ module _ (l : PlainLevel) (p : PlainPlan) (o : Orders) (t : Table) (marks : List
         few_in_layer = λ g. let same = count_same g us p.layered.units many alike.layer_is in let most = made.sound.few_in_layer g in omega (arith, same, most);
         links_are = λ k h. sound_link k (omega (arith, h, links_many));
         heights = height_least;
-        together = together;
+        together = let high = together in omega (arith, ints, high);
         lanes_are_flat = λ u h lane. flat u (none_child (unit_at us u).child lane);
         bodies = bodies;
       }

@@ -1,5 +1,6 @@
 -- What single entries of the table give: heights and pins of one unit, of one end and of one link.
-use Rattle.std.proofs.Common.{◌≡◌, inl, inr, ⊎_elim, ◌⊎◌, ℕ, zero, suc, ◌+◌, ◌-◌, ◌*◌, ◌≤◌, ◌^◌, ◌==◌, cond, Bool, true, false, not, ℤ, pos, ◌+ℤ◌, ◌*ℤ◌, List, [], ◌∷◌, length, map, refl, sym, ap, ap₂, ◌∙◌, arith}
+use Rattle.std.proofs.Common.{◌≡◌, inl, inr, ⊎_elim, ◌⊎◌, ℕ, zero, suc, ◌+◌, ◌-◌, ◌*◌, ◌≤◌, ◌^◌, ◌==◌, cond, Bool, true, false, not, ℤ, pos, ◌+ℤ◌, ◌*ℤ◌, List, [], ◌∷◌, length, map, refl, sym, ap, ap₂, ◌∙◌, ◌≤ℤ◌, negsuc, arith}
+use Rattle.std.proofs.Math.Nat.{mul-le-mul_left}
 use Rattle.std.proofs.lemmas.Bool.{cases_lt, eqb-true, false≢true}
 use Rattle.std.proofs.lemmas.Int.{ints}
 use Rattle.std.proofs.lemmas.List.{get_or_past, length-map, length-append}
@@ -97,6 +98,26 @@ room_small s n sound few = step (n == 0)
     step true = record { above = omega (arith, ints); below = omega (arith, ints) }
     step false = sum_small s.edge_node (pos (n - 1) *ℤ s.edge_edge) sound.edge_node (times_within (n - 1) s.edge_edge (omega (arith, few)) sound.edge_edge)
 
+-- few distances together
+few_times : (n : ℕ) (z : ℤ) → n ≤ 2 ^ 14 → IsWithin (pos 1) (pos (2 ^ 20)) z → (pos n *ℤ z) ≤ℤ pos (2 ^ 34)
+few_times n (pos m) h w =
+    let most = w.below in
+    let k : m ≤ 2 ^ 20 = omega (arith, ints, most) in
+    let p = mul-le-mul_left n k in
+    omega (arith, ints, p, h)
+few_times n (negsuc m) h w = let least = w.above in absurd (omega (arith, ints, least))
+
+-- the room of few lanes
+pub room_low : (s : Spacing) (n : ℕ) → IsSoundSpacing s → n ≤ 2 ^ 14 → IsWithin (pos 0) (pos (2 ^ 35)) (room s n)
+room_low s n sound few = record { above = (room_small s n sound (omega (arith, few))).above; below = step (n == 0) }
+  where
+    low : (a b : ℤ) → IsWithin (pos 1) (pos (2 ^ 20)) a → b ≤ℤ pos (2 ^ 34) → (a +ℤ b) ≤ℤ pos (2 ^ 35)
+    low a b h k = let ha = h.below in omega (arith, ints, ha, k)
+
+    step : (b : Bool) → cond b (pos 0) (s.edge_node +ℤ (pos (n - 1) *ℤ s.edge_edge)) ≤ℤ pos (2 ^ 35)
+    step true = omega (arith, ints)
+    step false = low s.edge_node (pos (n - 1) *ℤ s.edge_edge) sound.edge_node (few_times (n - 1) s.edge_edge (omega (arith, few)) sound.edge_edge)
+
 once_short : (ds : List Dock) → length (once ds) ≤ length ds
 once_short [] = omega arith
 once_short (d ∷ ds) = let rest = once_short ds in let short = filter_short (λ k. not (dock_eq d k)) (once ds) in omega (arith, rest, short)
@@ -114,7 +135,7 @@ spots_few l p c level =
     omega (arith, both, a, b, range, ports, short, ends, few)
 
 -- a child has few lanes
-pub lanes_few : (l : PlainLevel) (p : PlainPlan) (o : Orders) (c : ℕ) (side : Side) → IsLevel l → length (lanes l p o c side) ≤ 2 ^ 17
+pub lanes_few : (l : PlainLevel) (p : PlainPlan) (o : Orders) (c : ℕ) (side : Side) → IsLevel l → length (lanes l p o c side) ≤ 2 ^ 14
 lanes_few l p o c side level =
     let loops : List ℕ = filter (λ e. list_any (is_side side) (loop_sides l p o e)) (loops_of l c) in
     let docks : List Dock = filter (λ d. is_side (lane_side l d) side) (docks_with_lane l p o c) in

@@ -146,12 +146,12 @@ first_heights [] d = refl
 first_heights (x ∷ cs) d =
     front (λ m. heights_of (get_or (x ∷ cs) m d)) (length cs) ∙ ap (λ z. heights_of x +ℤ z) (first_heights cs d)
 
-pub first_double : (f : ℕ → ℤ) (n : ℕ) → first (λ m. f m +ℤ f m +ℤ pos (2 ^ 42)) n ≡ first f n +ℤ first f n +ℤ pos (n * 2 ^ 42)
+pub first_double : (f : ℕ → ℤ) (n : ℕ) → first (λ m. f m +ℤ f m +ℤ pos (2 ^ 37)) n ≡ first f n +ℤ first f n +ℤ pos (n * 2 ^ 37)
 first_double f zero = refl
 first_double f (suc n) =
     let rest = first_double f n in
-    let more : suc n * 2 ^ 42 ≡ n * 2 ^ 42 + 2 ^ 42 = omega arith in
-    rw more (double (first (λ m. f m +ℤ f m +ℤ pos (2 ^ 42)) n) (first f n) (f n) (n * 2 ^ 42) rest)
+    let more : suc n * 2 ^ 37 ≡ n * 2 ^ 37 + 2 ^ 37 = omega arith in
+    rw more (double (first (λ m. f m +ℤ f m +ℤ pos (2 ^ 37)) n) (first f n) (f n) (n * 2 ^ 37) rest)
   where
-    double : (s t a : ℤ) (k : ℕ) → s ≡ t +ℤ t +ℤ pos k → (s +ℤ (a +ℤ a +ℤ pos (2 ^ 42))) ≡ ((t +ℤ a) +ℤ (t +ℤ a) +ℤ pos (k + 2 ^ 42))
+    double : (s t a : ℤ) (k : ℕ) → s ≡ t +ℤ t +ℤ pos k → (s +ℤ (a +ℤ a +ℤ pos (2 ^ 37))) ≡ ((t +ℤ a) +ℤ (t +ℤ a) +ℤ pos (k + 2 ^ 37))
     double s t a k e = omega (arith, ints, e)

@@ -1,6 +1,6 @@
 //! Units and links with heights and pins.
-ghost use Rattle.std.specs.Prelude.{◌≡◌, ℕ, List, [], ℤ, IfOk};
-ghost use Rattle.elk_layers.specs.Layered.{plain, rows_of, IsSound, AreRows};
+ghost use Rattle.std.specs.Prelude.{◌≡◌, ◌≤ℤ◌, ◌*◌, ◌^◌, ℕ, List, [], ℤ, pos, IfOk};
+ghost use Rattle.elk_layers.specs.Layered.{plain, rows_of, total_height, IsSound, AreRows};
 ghost use Rattle.level_plan.specs.Conditions.{plain_level, plain_plan, IsLevel};
 ghost use Rattle.level_plan.specs.Level.{Orders};
 ghost use Rattle.level_plan.specs.Units.{AreLinked};
@@ -36,6 +36,7 @@ pub fn pinned(
     requires linked { (layers : List ℕ) × AreLinked (plain_level level.now) (plain_plan layered order.now [] reversed.now) layers }
     ensures fitted { IfOk result (λ v. (o : Orders) × ((layers : List ℕ) (tops : List ℤ) → AreLinked (plain_level level.now) (plain_plan layered order.now [] reversed.now) layers → AreFitted (plain_level level.now) (plain_plan v order.now tops reversed.now) o layers)) }
     ensures sound { IfOk result (λ v. IsSound (plain v)) }
+    ensures low { IfOk result (λ v. total_height (plain v).units ≤ℤ pos (3 * 2 ^ 47)) }
     ensures rows { IfOk result (λ v. AreRows (plain v) (rows_of order.now)) }
     ensures kept { IfOk result (λ v. AreKept (plain layered) (plain v)) }
 {

@@ -1,14 +1,14 @@
-use Rattle.std.proofs.Common.{ℕ, ◌<◌, ◌∙◌, List, [], ℤ, ap, length, sym, subst}
+use Rattle.std.proofs.Common.{ℕ, ◌<◌, ◌*◌, ◌^◌, ◌∙◌, List, [], ℤ, pos, ◌≤ℤ◌, ap, length, sym, subst}
 use Rattle.elk_layers.specs.declared.units.Unit.{Unit as LayerUnit}
 use Rattle.elk_layers.specs.declared.units.Link.{Link}
-use Rattle.elk_layers.specs.Layered.{Plain, AreRows, IsSound, link_at, plain, rows_of, unit_at}
+use Rattle.elk_layers.specs.Layered.{Plain, AreRows, IsSound, link_at, plain, rows_of, total_height, unit_at}
 use Rattle.level_plan.specs.Conditions.{plain_level, plain_plan}
 use Rattle.level_plan.specs.Level.{Orders}
 use Rattle.level_plan.specs.Units.{AreLinked}
 use Rattle.level_pins.specs.Alike.{with_layered}
 use Rattle.level_pins.specs.Fitted.{AreFitted, AreKept}
 use Rattle.level_pins.specs.Reading.{HasChildIn, IsLinkIn}
-use Rattle.level_pins.proofs.FittedLemmas.{are_fitted, are_kept, are_rows, children_in, is_sound, links_in, plain_with, readable}
+use Rattle.level_pins.proofs.FittedLemmas.{are_fitted, are_kept, are_rows, children_in, is_sound, links_in, plain_with, readable, together}
 use Rattle.level_pins.proofs.MadeLemmas.{distance_read, links_read, respaced, tabled, units_read}
 use Rattle.level_pins.proofs.fitting.pinned.Goals as goal
 
@@ -70,6 +70,19 @@ returns-clause-sound c =
     respaced IsSound (plain_with (plain_plan c.args.layered c.args.order.now [] c.args.reversed.now) c.in_ok-units.units.items c.in_ok-links.links.items) _ _ _
     (distance_read c.args.layered.node_node c.requires.sound.node_node_is) (distance_read c.args.layered.edge_node c.requires.sound.edge_node_is) (distance_read c.args.layered.edge_edge c.requires.sound.edge_edge_is)
     (is_sound (plain_level c.args.level.now) (plain_plan c.args.layered c.args.order.now [] c.args.reversed.now) c.in_ok-table.ensures.table.0 c.in_ok-table.table c.as_slice.result.now c.in_ok-units.units.items c.in_ok-links.links.items made units links)
+
+pub returns-clause-low : goal.returns-clause-low
+returns-clause-low c =
+    let made = tabled c.args.level.now c.args.layered c.args.order.now c.args.reversed.now c.in_ok-table.table c.in_ok-marks.marks.items c.as_slice.result.now c.len.result c.requires.level c.requires.sound c.requires.rows
+    c.requires.node_node c.requires.edge_node c.requires.edge_edge c.requires.linked c.in_ok-table.ensures.table c.in_ok-table.ensures.numbers c.len.ensures c.in_ok-marks.ensures c.as_slice.ensures.value
+    in
+    let units = units_read c.args.level.now.spacing c.in_ok-table.table c.as_slice-2.result.now c.args.layered.units.items c.in_ok-units.units.items c.as_slice-2.ensures.value c.in_ok-units.ensures in
+    let links = links_read c.args.level.now.spacing c.in_ok-table.table c.as_slice.result.now c.as_slice-3.result.now c.in_ok-units.units.items c.as_slice-4.result.now c.args.layered.links.items c.in_ok-links.links.items
+    c.as_slice-3.ensures.value c.as_slice-4.ensures.value c.in_ok-links.ensures
+    in
+    respaced (λ (v : Plain). total_height v.units ≤ℤ pos (3 * 2 ^ 47)) (plain_with (plain_plan c.args.layered c.args.order.now [] c.args.reversed.now) c.in_ok-units.units.items c.in_ok-links.links.items) _ _ _
+    (distance_read c.args.layered.node_node c.requires.sound.node_node_is) (distance_read c.args.layered.edge_node c.requires.sound.edge_node_is) (distance_read c.args.layered.edge_edge c.requires.sound.edge_edge_is)
+    (together (plain_level c.args.level.now) (plain_plan c.args.layered c.args.order.now [] c.args.reversed.now) c.in_ok-table.ensures.table.0 c.in_ok-table.table c.as_slice.result.now c.in_ok-units.units.items c.in_ok-links.links.items made units links)
 
 pub returns-clause-rows : goal.returns-clause-rows
 returns-clause-rows c =

@@ -1,0 +1,157 @@
+-- A level can be drawn from its units, rows and lines, and its layout is what they are.
+use Rattle.std.proofs.Common.{◌≡◌, ◌∙◌, ◌+◌, ◌*◌, ◌<◌, ◌≤◌, ◌^◌, ◌==◌, ℕ, suc, List, [], ◌∷◌, ℤ, pos, ◌+ℤ◌, ◌≤ℤ◌, ◌<ℤ◌, None, Some, Result, Ok, Err, IfOk, length, refl, sym, ap, subst, arith}
+use Rattle.std.proofs.lemmas.Int.{clamps, ints}
+use Rattle.std.specs.Prelude.{Option}
+use Rattle.std.specs.declared.alloc.AllocError.{AllocError}
+use Rattle.std.specs.Int.{int_max}
+use Rattle.std.specs.List.{filter, range_with_len}
+use Rattle.elk_doc.specs.declared.document.Sweep.{Sweep}
+use Rattle.elk_doc.specs.declared.drawing.Certificate.{Certificate}
+use Rattle.elk_layers.specs.declared.units.Unit.{Unit as LayerUnit}
+use Rattle.elk_layers.specs.declared.units.Layered.{Layered}
+use Rattle.elk_layers.specs.declared.units.Order.{Order}
+use Rattle.elk_layers.specs.declared.units.Lines.{Lines}
+use Rattle.elk_layers.specs.Layered.{Plain, AreRows, IsSound, IsSpacing, plain, rows_of, total_height, unit_at}
+use Rattle.elk_layers.specs.Lines.{AreApart, top_of}
+use Rattle.block_lines.specs.Constraints.{EndsWithinStack, greatest_spacing, stacked_height}
+use Rattle.bk_place.specs.Placement.{AreLinesOf}
+use Rattle.level_plan.specs.declared.level.LevelIn.{LevelIn}
+use Rattle.level_plan.specs.Conditions.{IsLevel, plain_level, plain_plan}
+use Rattle.level_plan.specs.Level.{Orders, PlainLevel}
+use Rattle.level_plan.specs.Units.{AreLinked}
+use Rattle.level_layers.specs.Certificate.{IsCertificateOf}
+use Rattle.level_pins.specs.Alike.{AreAlike}
+use Rattle.level_pins.specs.Fitted.{AreFitted, AreKept}
+use Rattle.level_draw.specs.declared.drawing.LevelOut.{LevelOut}
+use Rattle.level_draw.specs.Drawing.{IsDrawable, IsDrawn, IsMadeFrom, plan_from}
+use Rattle.level_ranks.specs.Laws.{MakeUnits}
+use Rattle.level_layout.specs.Chosen.{ArePlaced, IsReduced}
+use Rattle.level_layout.specs.Phases.{AreNumberedAs, AreRankedUnits, IsStart}
+use Rattle.level_layout.specs.Layout.{IsLaidOut, IsLayout}
+use Rattle.level_layout.proofs.KeptRows.{filter_equal, reduced_for}
+
+-- ---- how far down units reach
+
+stack_low : (s : ℤ) (us : List LayerUnit) → s ≤ℤ pos (2 ^ 20) → stacked_height s us ≤ℤ (total_height us +ℤ pos (length us * 2 ^ 20))
+stack_low s [] h = omega (arith, ints)
+stack_low s (u ∷ us) h = let rest = stack_low s us h in more u.height s (stacked_height s us) (total_height us) (length us) h rest
+  where
+    more : (a s b t : ℤ) (n : ℕ) → s ≤ℤ pos (2 ^ 20) → b ≤ℤ (t +ℤ pos (n * 2 ^ 20)) → (a +ℤ s +ℤ b) ≤ℤ ((a +ℤ t) +ℤ pos (suc n * 2 ^ 20))
+    more a s b t n h k = omega (arith, ints, h, k)
+
+spacing_low : (l : Plain) → IsSound l → greatest_spacing l ≤ℤ pos (2 ^ 20)
+spacing_low l sound = low l.node_node l.edge_node l.edge_edge sound.node_node_is.high sound.edge_node_is.high sound.edge_edge_is.high
+  where
+    low : (a b c : ℤ) → a ≤ℤ pos (2 ^ 20) → b ≤ℤ pos (2 ^ 20) → c ≤ℤ pos (2 ^ 20) → int_max (int_max a b) c ≤ℤ pos (2 ^ 20)
+    low a b c h k m = omega (arith, ints, clamps, h, k, m)
+
+bottom_low : (l : Plain) (tops : List ℤ) → IsSound l → total_height l.units ≤ℤ pos (3 * 2 ^ 47) → EndsWithinStack l tops
+    → (u : ℕ) → u < length l.units → (top_of tops u +ℤ (unit_at l.units u).height) <ℤ pos (2 ^ 49)
+bottom_low l tops sound low ends u h =
+    small _ _ _ (length l.units) (ends u h) (stack_low (greatest_spacing l) l.units (spacing_low l sound)) low sound.few_units
+  where
+    small : (a b t : ℤ) (n : ℕ) → a ≤ℤ b → b ≤ℤ (t +ℤ pos (n * 2 ^ 20)) → t ≤ℤ pos (3 * 2 ^ 47) → n ≤ 2 ^ 24 → a <ℤ pos (2 ^ 49)
+    small a b t n h k m few = omega (arith, ints, h, k, m, few)
+
+-- ---- lines
+
+pub lines_apart : (l : Plain) (rows : List (List ℕ)) (fixed : Option Sweep) (tops : List ℤ) → AreLinesOf l rows fixed tops → AreApart l rows tops
+lines_apart l rows None tops h = h.are_least.are_lines.apart
+lines_apart l rows (Some s) tops h = h.are_lines.apart
+
+-- ---- the plan
+
+-- what is known of units with heights and pins
+pub record ArePinned (l : PlainLevel) (u v : Layered) (order : Order) (rs : List ℕ) : Type 0 where
+  pub fitted : (o : Orders) × ((layers : List ℕ) (tops : List ℤ) → AreLinked l (plain_plan u order [] rs) layers → AreFitted l (plain_plan v order tops rs) o layers)
+  pub sound : IsSound (plain v)
+  pub low : total_height (plain v).units ≤ℤ pos (3 * 2 ^ 47)
+  pub rows : AreRows (plain v) (rows_of order)
+  pub kept : AreKept (plain u) (plain v)
+
+pub drawable : (l : PlainLevel) (c : Certificate) (u v : Layered) (order : Order) (lines : Lines) (fixed : Option Sweep) → MakeUnits → IsLevel l → AreRankedUnits l c u → ArePinned l u v order c.reversed
+    → AreLinesOf (plain v) (rows_of order) fixed lines.top.items → EndsWithinStack (plain v) lines.top.items → IsDrawable l (plan_from c v order lines) c.layers
+drawable l c u v order lines fixed made level ranked pinned placed ends =
+    record {
+      orders = pinned.fitted.0;
+      ready = record {
+        level = level;
+        units = made.units l (plan_from c v order lines) pinned.fitted.0 c.layers (pinned.fitted.1 c.layers lines.top.items (ranked.linked (rows_of order) []))
+            (made.kept l (plain u) (plain v) c.reversed pinned.kept ranked.ranked);
+        sound = pinned.sound;
+        rows = pinned.rows;
+        apart = lines_apart (plain v) (rows_of order) fixed lines.top.items placed;
+        layers_are = refl;
+      };
+      few_layers = let same = pinned.kept.alike.layers_are in let few = ranked.few_layers in omega (arith, same, few);
+      bottoms = bottom_low (plain v) lines.top.items pinned.sound pinned.low ends;
+    }
+
+-- ---- what holds of the layout
+
+alike_through : (a b c : Plain) → AreAlike a b → AreAlike b c → AreAlike a c
+alike_through a b c h k =
+    record {
+      layers_are = k.layers_are ∙ h.layers_are;
+      as_many_units = k.as_many_units ∙ h.as_many_units;
+      as_many_links = k.as_many_links ∙ h.as_many_links;
+      layer_is = λ u. k.layer_is u ∙ h.layer_is u;
+      child_is = λ u. k.child_is u ∙ h.child_is u;
+      edge_is = λ m. k.edge_is m ∙ h.edge_is m;
+      tail_is = λ m. k.tail_is m ∙ h.tail_is m;
+      head_is = λ m. k.head_is m ∙ h.head_is m;
+    }
+
+-- rows that begin in the order of numbers do so for all units of the same layers
+start_alike : (a b : Plain) (rows : List (List ℕ)) → AreAlike a b → IsStart a rows → IsStart b rows
+start_alike a b rows h s =
+    record {
+      as_many = s.as_many ∙ sym h.layers_are;
+      each = λ r less.
+          s.each r (let same = h.layers_are in omega (arith, same, less))
+          ∙ filter_equal (λ u. (unit_at a.units u).layer == r) (λ u. (unit_at b.units u).layer == r) (λ u. ap (λ n. n == r) (sym (h.layer_is u))) (range_with_len 0 (length a.units))
+          ∙ ap (λ n. filter (λ u. (unit_at b.units u).layer == r) (range_with_len 0 n)) (sym h.as_many_units);
+    }
+
+-- the layout as it was made is the one of the answer
+as_answered : (level : LevelIn) (c : Certificate) (v : Layered) (start order : Order) (lines : Lines) (w : LevelOut) → IsMadeFrom c v start order lines w → IsLayout level c v start order lines w → IsLaidOut level w
+as_answered level c v start order lines w from is =
+    subst (λ x. IsLayout level x w.plan.layered w.plan.start w.plan.order w.plan.lines w) (sym from.certificate_is)
+    (subst (λ x. IsLayout level c x w.plan.start w.plan.order w.plan.lines w) (sym from.layered_is)
+    (subst (λ x. IsLayout level c v x w.plan.order w.plan.lines w) (sym from.start_is)
+    (subst (λ x. IsLayout level c v start x w.plan.lines w) (sym from.order_is)
+    (subst (λ x. IsLayout level c v start order x w) (sym from.lines_are) is))))
+
+pub laid_out : (level : LevelIn) (c : Certificate) (u v : Layered) (start order : Order) (lines : Lines) (w : LevelOut) → MakeUnits → IsLevel (plain_level level) → IsCertificateOf (plain_level level) c
+    → AreRankedUnits (plain_level level) c u → IsStart (plain u) (rows_of start) → IsReduced (plain u) (rows_of start) (rows_of order) → ArePinned (plain_level level) u v order c.reversed
+    → AreLinesOf (plain v) (rows_of order) level.fixed lines.top.items → EndsWithinStack (plain v) lines.top.items
+    → IsMadeFrom c v start order lines w → IsDrawn (plain_level level) (plan_from c v order lines) c.layers w → IsLaidOut level w
+laid_out level c u v start order lines w made sound is ranked started reduced pinned placed ends from drawn =
+    let can = drawable (plain_level level) c u v order lines level.fixed made sound ranked pinned placed ends in
+    as_answered level c v start order lines w from
+    (record {
+      certificate = is;
+      numbered = (ranked.numbered.0, ranked.numbered.1, alike_through ranked.numbered.0 (plain u) (plain v) ranked.numbered.2 pinned.kept.alike);
+      started = start_alike (plain u) (plain v) (rows_of start) pinned.kept.alike started;
+      reduced = reduced_for (plain u) (plain v) pinned.kept (rows_of start) (rows_of order) reduced;
+      placed = record { apart = lines_apart (plain v) (rows_of order) level.fixed lines.top.items placed; aligned = λ _. placed };
+      orders = can.orders;
+      ready = can.ready;
+      drawn = drawn;
+    })
+
+-- ---- with the list of turned edges as it is handed on
+
+pub linked_by : (l : PlainLevel) (c : Certificate) (u : Layered) (order : Order) (rs : List ℕ) → rs ≡ c.reversed → AreRankedUnits l c u → (layers : List ℕ) × AreLinked l (plain_plan u order [] rs) layers
+linked_by l c u order rs e ranked = (c.layers, subst (λ xs. AreLinked l (plain_plan u order [] xs) c.layers) (sym e) (ranked.linked (rows_of order) []))
+
+pub pinned_by : (l : PlainLevel) (c : Certificate) (u v : Layered) (order : Order) (rs : List ℕ) → rs ≡ c.reversed
+    → (o : Orders) × ((layers : List ℕ) (tops : List ℤ) → AreLinked l (plain_plan u order [] rs) layers → AreFitted l (plain_plan v order tops rs) o layers)
+    → IsSound (plain v) → total_height (plain v).units ≤ℤ pos (3 * 2 ^ 47) → AreRows (plain v) (rows_of order) → AreKept (plain u) (plain v) → ArePinned l u v order c.reversed
+pinned_by l c u v order rs e fitted sound low rows kept =
+    subst (ArePinned l u v order) e (record { fitted = fitted; sound = sound; low = low; rows = rows; kept = kept })
+
+-- an answer that may want memory
+pub if_both : (r : Result LevelOut AllocError) (P Q T : LevelOut → Type 0) → IfOk r P → IfOk r Q → ((w : LevelOut) → P w → Q w → T w) → IfOk r T
+if_both (Ok w) P Q T p q all = all w p q
+if_both (Err e) P Q T p q all = p

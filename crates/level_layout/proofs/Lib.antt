@@ -1,0 +1,4 @@
+pub mod KeptRows
+pub mod LayoutLemmas
+pub mod RowsLemmas
+pub mod UnitsLemmas

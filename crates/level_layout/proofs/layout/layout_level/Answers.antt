@@ -1,0 +1,35 @@
+use Rattle.elk_layers.specs.Layered.{plain, rows_of}
+use Rattle.level_plan.specs.Conditions.{plain_level}
+use Rattle.level_draw.specs.declared.drawing.LevelOut.{LevelOut}
+use Rattle.level_draw.specs.Drawing.{IsDrawn, IsMadeFrom, plan_from}
+use Rattle.level_layout.specs.Layout.{IsLaidOut}
+use Rattle.level_ranks.proofs.UnitLemmas.{make_units}
+use Rattle.level_layout.proofs.LayoutLemmas.{drawable, if_both, laid_out, linked_by, pinned_by}
+use Rattle.level_layout.proofs.layout.layout_level.Goals as goal
+
+pub pinned-requires-clause-linked : goal.pinned-requires-clause-linked
+pinned-requires-clause-linked c =
+    linked_by (plain_level c.args.level.now) c.in_ok-certificate.certificate c.in_ok-start.start.layered c.in_ok-order.order c.as_slice-reversed.result.now
+    c.as_slice-reversed.ensures.value c.in_ok-start.ensures.units
+
+pub draw-requires : goal.draw-requires
+draw-requires c =
+    let pinned = pinned_by (plain_level c.args.level.now) c.in_ok-certificate.certificate c.in_ok-start.start.layered c.in_ok-layered.layered c.in_ok-order.order c.as_slice-reversed.result.now
+    c.as_slice-reversed.ensures.value c.in_ok-layered.ensures.fitted c.in_ok-layered.ensures.sound c.in_ok-layered.ensures.low c.in_ok-layered.ensures.rows c.in_ok-layered.ensures.kept
+    in
+    drawable (plain_level c.args.level.now) c.in_ok-certificate.certificate c.in_ok-start.start.layered c.in_ok-layered.layered c.in_ok-order.order c.in_ok-lines.lines c.args.level.now.fixed
+    make_units c.requires c.in_ok-start.ensures.units pinned c.in_ok-lines.ensures.lines c.in_ok-lines.ensures.within
+
+pub returns : goal.returns
+returns c =
+    let pinned = pinned_by (plain_level c.args.level.now) c.in_ok-certificate.certificate c.in_ok-start.start.layered c.in_ok-layered.layered c.in_ok-order.order c.as_slice-reversed.result.now
+    c.as_slice-reversed.ensures.value c.in_ok-layered.ensures.fitted c.in_ok-layered.ensures.sound c.in_ok-layered.ensures.low c.in_ok-layered.ensures.rows c.in_ok-layered.ensures.kept
+    in
+    if_both c.draw.result
+    (IsMadeFrom c.in_ok-certificate.certificate c.in_ok-layered.layered c.in_ok-start.start.rows c.in_ok-order.order c.in_ok-lines.lines)
+    (IsDrawn (plain_level c.args.level.now) (plan_from c.in_ok-certificate.certificate c.in_ok-layered.layered c.in_ok-order.order c.in_ok-lines.lines) c.in_ok-certificate.certificate.layers)
+    (IsLaidOut c.args.level.now)
+    c.draw.ensures.given c.draw.ensures.drawn
+    (λ w given drawn. laid_out c.args.level.now c.in_ok-certificate.certificate c.in_ok-start.start.layered c.in_ok-layered.layered c.in_ok-start.start.rows c.in_ok-order.order c.in_ok-lines.lines w
+    make_units c.requires c.in_ok-certificate.ensures c.in_ok-start.ensures.units c.in_ok-start.ensures.start c.in_ok-order.ensures.reduced pinned
+    c.in_ok-lines.ensures.lines c.in_ok-lines.ensures.within given drawn)

@@ -1,0 +1,26 @@
+-- The rows of a level's plan, and its lines.
+use Rattle.std.specs.Prelude.{◌≡◌, ◌≤◌, ℕ, List, ℤ, Option}
+use Rattle.std.specs.List.{All}
+use Rattle.elk_doc.specs.declared.document.Placing.{Placing}
+use Rattle.elk_doc.specs.declared.document.Placing.TheVariants.{BrandesKoepf}
+use Rattle.elk_doc.specs.declared.document.Sweep.{Sweep}
+use Rattle.elk_layers.specs.Layered.{Plain}
+use Rattle.elk_layers.specs.Crossings.{crossings, HasSameRows, NoBetterSwap}
+use Rattle.elk_layers.specs.Lines.{AreApart}
+use Rattle.elk_layers.specs.Sweeps.{sweep_orders}
+use Rattle.bk_place.specs.Placement.{AreLinesOf}
+
+-- The rows of a start in an order with no more crossings than the start and each of its four sweep orders, which no exchange
+-- of two neighbours makes better, and the start itself where it has no crossings.
+pub record IsReduced (l : Plain) (start rows : List (List ℕ)) : Type 0 where
+  pub same_rows : HasSameRows start rows
+  pub no_more : crossings l rows ≤ crossings l start
+  pub sweeps : All (λ swept. crossings l rows ≤ crossings l swept) (sweep_orders l start)
+  pub settled : NoBetterSwap l rows
+  pub without_crossings : crossings l start ≡ 0 → rows ≡ start
+
+-- Lines that keep the distances; by alignment they are those of the fixed sweep, or of the first of the four that needs the
+-- least height.
+pub record ArePlaced (l : Plain) (rows : List (List ℕ)) (placing : Placing) (fixed : Option Sweep) (tops : List ℤ) : Type 0 where
+  pub apart : AreApart l rows tops
+  pub aligned : placing ≡ BrandesKoepf → AreLinesOf l rows fixed tops

@@ -1,0 +1,30 @@
+//! The layout of a level.
+ghost use Rattle.std.specs.Prelude.{IfOk};
+ghost use Rattle.level_plan.specs.Conditions.{plain_level, IsLevel};
+ghost use Rattle.level_layout.specs.Layout.{IsLaidOut};
+
+use crate::phases::{order_for, start_for};
+use bk_place::place;
+use level_draw::{LevelOut, draw};
+use level_layers::certificate_of;
+use level_pins::pinned;
+use level_plan::LevelIn;
+use std::alloc::{AllocError, Global};
+
+/// The layout of one level, in whole document units and in the frame in which its direction runs to the right.
+///
+/// Its edges are oriented so that no cycle is left, its children lie in layers of least span, rows have few crossings, and lines
+/// keep the distances. The drawing begins at 0; it comes with its plan and its certificate. The only error is want of memory.
+/// (The layered method of Sugiyama, Tagawa and Toda 1981.)
+pub fn layout_level(alloc: Global, level: &LevelIn) -> Result<LevelOut, AllocError>
+    requires { IsLevel (plain_level level.now) }
+    ensures { IfOk result (IsLaidOut level.now) }
+{
+    let certificate = certificate_of(alloc, level)?;
+    let reversed = certificate.reversed.as_slice();
+    let start = start_for(alloc, level, &certificate)?;
+    let order = order_for(alloc, &start.layered, &start.rows)?;
+    let layered = pinned(alloc, level, start.layered, &order, reversed)?;
+    let lines = place(alloc, &layered, &order, level.fixed)?;
+    draw(alloc, level, certificate, layered, start.rows, order, lines)
+}

@@ -1,0 +1,11 @@
+//! The layout of one level, in the frame in which its direction runs to the right: its edges are oriented, its children put
+//! into layers, long edges split, rows ordered and placed, and the level drawn.
+#![tactic(auto)]
+
+mod layout;
+mod phases;
+
+pub use layout::layout_level;
+
+#[cfg(test)]
+mod tests;

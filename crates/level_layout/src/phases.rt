@@ -1,0 +1,76 @@
+//! The units of a level with the ranks of pins, and the order of its rows.
+ghost use Rattle.std.specs.Prelude.{◌≡◌, IfOk};
+ghost use Rattle.elk_layers.specs.Layered.{plain, rows_of, AreRows, IsSound};
+ghost use Rattle.level_plan.specs.Conditions.{plain_level, IsLevel};
+ghost use Rattle.level_layers.specs.Certificate.{IsCertificateOf};
+ghost use Rattle.level_layout.specs.Chosen.{IsReduced};
+ghost use Rattle.level_layout.specs.Phases.{AreRankedUnits, IsStart};
+
+use cross_reduce::reduce;
+use elk_doc::drawing::Certificate;
+use elk_layers::{Layered, Order};
+use level_plan::LevelIn;
+use level_ranks::ranked;
+use level_units::{start_of, units_of};
+use std::alloc::{AllocError, Global};
+
+/// The units and links of a level with the ranks of pins, and the rows to start with.
+#[derive(Drop)]
+pub(crate) struct Start {
+    pub layered: Layered,
+    pub rows: Order,
+}
+
+/// The units and links of a level by its certificate, without heights and pins, and its rows in document order.
+pub(crate) fn start_for(
+    alloc: Global,
+    level: &LevelIn,
+    certificate: &Certificate,
+) -> Result<Start, AllocError>
+    requires level { IsLevel (plain_level level.now) }
+    requires certificate { IsCertificateOf (plain_level level.now) certificate.now }
+    ensures units { IfOk result (λ v. AreRankedUnits (plain_level level.now) certificate.now v.layered) }
+    ensures rows { IfOk result (λ v. AreRows (plain v.layered) (rows_of v.rows)) }
+    ensures start { IfOk result (λ v. IsStart (plain v.layered) (rows_of v.rows)) }
+{
+    let layers = certificate.layers.as_slice();
+    let reversed = certificate.reversed.as_slice();
+    let blank = units_of(alloc, level, layers, reversed)?;
+    let rows = start_of(alloc, &blank)?;
+    let layered = ranked(alloc, level, blank, &rows, reversed)?;
+    Ok(Start { layered, rows })
+}
+
+// A row once more.
+fn row_copy(alloc: Global, row: &[u32]) -> Result<Vec<u32>, AllocError>
+    ensures { IfOk result (λ v. v.items ≡ row.now) }
+{
+    Ok(row.to_vec(alloc)?)
+}
+
+// The same rows once more.
+fn copy_of(alloc: Global, order: &Order) -> Result<Order, AllocError>
+    ensures { IfOk result (λ v. rows_of v ≡ rows_of order.now) }
+{
+    let mut rows = Vec::with_capacity(alloc, order.rows.len())?;
+    for row in order.rows.as_slice() {
+        rows.push(row_copy(alloc, row.as_slice())?)?;
+    }
+    Ok(Order { rows })
+}
+
+/// The order of a start's rows with few crossings.
+pub(crate) fn order_for(
+    alloc: Global,
+    layered: &Layered,
+    start: &Order,
+) -> Result<Order, AllocError>
+    requires sound { IsSound (plain layered.now) }
+    requires rows { AreRows (plain layered.now) (rows_of start.now) }
+    ensures reduced { IfOk result (λ v. IsReduced (plain layered.now) (rows_of start.now) (rows_of v)) }
+    ensures rows { IfOk result (λ v. AreRows (plain layered.now) (rows_of v)) }
+{
+    let copy = copy_of(alloc, start)?;
+    let order = reduce(alloc, layered, copy)?;
+    Ok(order)
+}

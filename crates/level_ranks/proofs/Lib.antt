@@ -1,0 +1,14 @@
+pub mod PlaceLemmas
+pub mod SideLemmas
+pub mod SpotLemmas
+pub mod AgreeLemmas
+pub mod UnitLemmas
+pub mod CountLemmas
+pub mod SeenLemmas
+pub mod NoteLemmas
+pub mod ReadLemmas
+pub mod FlowLemmas
+pub mod MeaningLemmas
+pub mod RankedLemmas
+pub mod MadeLemmas
+pub mod WorkedLemmas

@@ -1,0 +1,7 @@
+use Rattle.std.proofs.Common.{◌≡◌, ◌≤◌, length, take}
+use Rattle.std.specs.List.{filter}
+use Rattle.level_ranks.specs.Ports.{counts}
+use Rattle.level_ranks.proofs.ports.count_on.Given as goal
+
+abbrev pub invariant-loop-k : goal.invariant-loop-k
+invariant-loop-k l = record { counted : l.count ≡ length (filter (counts l.side) (take l.k l.ports)); few : l.count ≤ l.k }
