@@ -20,7 +20,7 @@ abbrev pub IsPartSolved : List ℕ → List NetEdge → List ℤ → List ℕ �
 IsPartSolved numbers edges layers flow k =
     (total : ℕ) × IsSolved (part_nodes numbers k) (part_edges numbers edges k) (part_layers numbers layers k) (part_flow numbers edges flow k) total
 
--- each connected part is, that of each node
+-- so is each connected part, that of each node, where the parts have their numbers
 pub record IsSolvedByParts (nodes : ℕ) (edges : List NetEdge) (layers : List ℤ) (flow : List ℕ) : Type 0 where
   pub numbers : List ℕ
   pub are_parts : ArePartNumbers nodes edges numbers
