@@ -264,7 +264,7 @@ module _ (d : Document) (p : Placed) (n : ℕ) (o : LevelOptions) (plan : PlainP
   pub size_kept : (c : ℕ) → IsChild d n c → IsNone (node_at d c).level → box_size p c ≡ (node_at d c).size
   size_kept c child none = let kept = from.leaves c child.node_in none in same_size (box_size p c) (node_at d c).size kept.width kept.height
 
-  given_is : (i j : ℕ) → i < length (children d n) → j < length (ports_of d (child_number d n i))
+  pub given_is : (i j : ℕ) → i < length (children d n) → j < length (ports_of d (child_number d n i))
       → given_side (child_at l i) j ≡ turned_given way (document_side d (port_number d (child_number d n i) j))
   given_is i j hi hj =
       let c = child_number d n i in
