@@ -1,3 +1,4 @@
 pub mod Turned
 pub mod Drawing
 pub mod Examples
+pub mod Numbered

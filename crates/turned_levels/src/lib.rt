@@ -4,4 +4,4 @@
 
 mod laws;
 
-pub use laws::levels_turn;
+pub use laws::{ends_match, levels_are_listed, levels_turn, numbers_match};

@@ -1,0 +1,2 @@
+pub mod HullLemmas
+pub mod OutlineLemmas
