@@ -1,7 +1,6 @@
 -- Anchors and docks are those of the level.
 use Rattle.std.proofs.Common.{◌≡◌, ℕ, ◌<◌, Bool, true, false, not, ◌&&◌, ℤ, ◌+ℤ◌, ◌-ℤ◌, length, refl, sym, subst, ap, ap₂, ◌∙◌, arith}
 use Rattle.std.proofs.lemmas.Int.{ints}
-use Rattle.std.proofs.lemmas.List.{length-map}
 use Rattle.std.specs.Prelude.{Option, None, Some}
 use Rattle.elk_doc.specs.declared.shape.Point.{Point}
 use Rattle.elk_doc.specs.declared.shape.Rect.{Rect}
@@ -32,15 +31,16 @@ use Rattle.port_order.specs.Child.{port_at}
 use Rattle.port_order.specs.Sides.{side_else}
 use Rattle.port_order.specs.Places.{given_face, on_side, corner_of, face_of, anchor_at}
 use Rattle.level_plan.specs.declared.level.Spoke.{Spoke}
-use Rattle.level_plan.specs.Level.{PlainLevel, PlainPlan, Orders, End, end_at, spoke, child_at, port_spot, spot_of, spot_at_port, anchor_of_spot, dock_of, dock_of_spot, port_place}
-use Rattle.level_plan.specs.FromPlan.{Drawn, point_or, box_place, anchor, section_at}
+use Rattle.level_plan.specs.Level.{PlainLevel, PlainPlan, Orders, end_at, spoke, child_at, port_spot, spot_of, spot_at_port, anchor_of_spot, dock_of, dock_of_spot}
+use Rattle.level_plan.specs.FromPlan.{Drawn, point_or, box_place, anchor}
 use Rattle.level_stands.specs.Apart.{drawn_port}
 use Rattle.level_stands.specs.PortsKept.{port_side}
-use Rattle.turned_levels.specs.Turned.{level_of, level_port, child_number, edge_number, port_number, ports_of, place_of_port, spoke_of, turned_size, turned_place, turned_given, half_along, box_size}
+use Rattle.turned_levels.specs.Turned.{level_of, child_number, edge_number, port_number, ports_of, place_of_port, spoke_of, turned_size, turned_place, turned_given, half_along, box_size}
 use Rattle.turned_levels.specs.Drawing.{plus}
 use Rattle.turned_docks.specs.Laws.{IsFromLevel, IsAnchored, AnchorTurns, DockTurns, DocksAgree, DocksTurnBack, numbered_dock}
-use Rattle.turned_docks.proofs.Numbering.{child_there, child_place, child_back, edge_there, end_child, end_node_is, port_back, port_node, edges_many, children_many, spoke_is, spoke_child}
-use Rattle.turned_docks.proofs.SideLemmas.{child_is, port_is, given_is, port_side_turns, end_side_turns}
+use Rattle.turned_levels.proofs.NumberedLemmas.{levels_are_listed, ends_match}
+use Rattle.turned_docks.proofs.Numbering.{child_place, child_back, edge_there, end_child, end_in, end_node_is, port_back, port_node, spoke_is}
+use Rattle.turned_docks.proofs.SideLemmas.{given_is, port_side_turns, end_side_turns}
 
 -- ---- geometry
 
@@ -113,14 +113,9 @@ module _ (d : Document) (p : Placed) (n : ℕ) (o : LevelOptions) (plan : PlainP
   abbrev way : Direction
   way = o.direction
 
-  -- the j-th port of the i-th child, in the document and in the level
-  pub level_port_is : (i j : ℕ) → i < length (children d n) → j < length (ports_of d (child_number d n i))
-      → port_at (child_at l i) j ≡ level_port d way (box_size p (child_number d n i)) (port_number d (child_number d n i) j)
-  level_port_is i j hi hj = ap (λ z. port_at z j) (child_is d p n o plan v by from i hi) ∙ port_is d p n o plan v by from (child_number d n i) j hj
-
   pub size_is : (i j : ℕ) → i < length (children d n) → j < length (ports_of d (child_number d n i))
       → turned_size way (document_port d (port_number d (child_number d n i) j)).size ≡ (port_at (child_at l i) j).size
-  size_is i j hi hj = ap (λ (q : ChildPort). q.size) (sym (level_port_is i j hi hj))
+  size_is i j hi hj = ap (λ (q : ChildPort). q.size) (sym ((levels_are_listed d p n o).port i j hi hj))
 
   pub half_is : (i j : ℕ) → i < length (children d n) → j < length (ports_of d (child_number d n i))
       → half_along way (port_side l plan i j) (turned_size way (document_port d (port_number d (child_number d n i) j)).size) ≡ (port_at (child_at l i) j).half
@@ -130,10 +125,7 @@ module _ (d : Document) (p : Placed) (n : ℕ) (o : LevelOptions) (plan : PlainP
       let flow = (port_spot l plan i j).enters && not (port_spot l plan i j).leaves in
       ap (λ g. half_along way (side_else g flow) z) (given_is d p n o plan v by from i j hi hj)
       ∙ half_same way (turned_given way (document_side d k)) flow false z
-      ∙ ap (λ (q : ChildPort). q.half) (sym (level_port_is i j hi hj))
-
-  pub many_ports : (i : ℕ) → i < length (children d n) → length (child_at l i).ports ≡ length (ports_of d (child_number d n i))
-  many_ports i h = ap (λ (c : Child). length c.ports) (child_is d p n o plan v by from i h) ∙ length-map (ports_of d (child_number d n i)) _
+      ∙ ap (λ (q : ChildPort). q.half) (sym ((levels_are_listed d p n o).port i j hi hj))
 
   -- the box of a child in the frame
   pub box_turned : (i : ℕ) → i < length (children d n) → turned way (box_of p (child_number d n i)) ≡ rect_at (plus by (point_or v.boxes i)) (turned_size way (box_size p (child_number d n i)))
@@ -154,8 +146,8 @@ module _ (d : Document) (p : Placed) (n : ℕ) (o : LevelOptions) (plan : PlainP
   port_middle : (i j : ℕ) → i < length (children d n) → j < length (ports_of d (child_number d n i))
       → middle_at (port_side lv plan i j) (drawn_port v i j) (port_at (child_at lv i) j).size (port_at (child_at lv i) j).half ≡ on_side (port_side lv plan i j) (face_of (child_at lv i) (port_side lv plan i j) j) (offset_at i j)
   port_middle i j hi hj =
-      let some = children_many d p n o in
-      let many = many_ports d p n o plan v by from i hi in
+      let some = (levels_are_listed d p n o).child_count in
+      let many = (levels_are_listed d p n o).port_count i hi in
       let c = child_at lv i in
       let s = port_side lv plan i j in
       ap (λ q. middle_at s q (port_at c j).size (port_at c j).half) (anchored.placed.ports i j (omega (arith, hi, some)) (omega (arith, hj, many)))
@@ -197,26 +189,20 @@ module _ (d : Document) (p : Placed) (n : ℕ) (o : LevelOptions) (plan : PlainP
       let i = place_of_child d n (node_of_port d k) in
       let j = place_of_port d k in
       let c = child_back d n (node_of_port d k) child in
-      let q = port_back d k h in
-      let within : j < length (ports_of d (child_number d n i)) = subst (λ z. j < length (ports_of d z)) (sym c.1) q.0 in
-      let same : port_number d (child_number d n i) j ≡ k = ap (λ z. port_number d z j) c.1 ∙ q.1 in
-      subst (PortAnchored i j) same (port_anchor i j c.0 within stands)
+      let q = port_back d (child_number d n i) k h (sym c.1) in
+      subst (PortAnchored i j) q.1 (port_anchor i j c.0 q.0 stands)
 
   -- a section's end
   section_turned : (i : ℕ) (t : Bool) → i < length (edges_of d n) → turned_point to (section_end p (edge_number d n i) t) ≡ plus by (anchor lv plan orders v (end_at i t))
-  section_turned i true h = let many = edges_many d p n o in (from.drawn.sections i h).start ∙ ap (plus by) (anchored.from_source i (omega (arith, h, many)))
-  section_turned i false h = let many = edges_many d p n o in (from.drawn.sections i h).end ∙ ap (plus by) (anchored.to_target i (omega (arith, h, many)))
-
-  end_in : (e : ℕ) (t : Bool) → e < length d.edges → IsEndIn d (end_of d e t)
-  end_in e true h = (from.sound.edges e h).source_in
-  end_in e false h = (from.sound.edges e h).target_in
+  section_turned i true h = let many = (levels_are_listed d p n o).edge_count in (from.drawn.sections i h).start ∙ ap (plus by) (anchored.from_source i (omega (arith, h, many)))
+  section_turned i false h = let many = (levels_are_listed d p n o).edge_count in (from.drawn.sections i h).end ∙ ap (plus by) (anchored.to_target i (omega (arith, h, many)))
 
   -- the children of ends stand where the plan places them
   stands_at : (i : ℕ) (t : Bool) → i < length (edges_of d n) → point_or v.boxes (spoke lv (end_at i t)).child ≡ box_place lv plan orders v (spoke lv (end_at i t)).child
-  stands_at i t h = let many = edges_many d p n o in anchored.placed.boxes i t (omega (arith, h, many))
+  stands_at i t h = let many = (levels_are_listed d p n o).edge_count in anchored.placed.boxes i t (omega (arith, h, many))
 
   pub anchor_turns : (i : ℕ) (t : Bool) → i < length (edges_of d n) → AnchorTurns d p n o plan orders v by i t
-  anchor_turns i t h = step (end_of d e t) (spoke_is d p n o i t h) (end_child d n e t from.sound edge) (end_in e t edge.edge_in)
+  anchor_turns i t h = step (end_of d e t) (spoke_is d p n o i t h) (end_child d n e t from.sound edge) (end_in d e t from.sound edge.edge_in)
     where
       e : ℕ
       e = edge_number d n i
@@ -236,7 +222,7 @@ module _ (d : Document) (p : Placed) (n : ℕ) (o : LevelOptions) (plan : PlainP
 
   -- the child of an end
   spoke_place : (i : ℕ) (t : Bool) → i < length (edges_of d n) → (spoke lv (end_at i t)).child ≡ place_of_child d n (node_of_end d (end_of d (edge_number d n i) t))
-  spoke_place i t h = ap (λ (s : Spoke). s.child) (spoke_is d p n o i t h) ∙ spoke_child d n (end_of d (edge_number d n i) t)
+  spoke_place i t h = ap (λ (s : Spoke). s.child) (spoke_is d p n o i t h) ∙ (ends_match d n (edge_number d n i) from.sound (edge_there d n i h)).spoke (end_of d (edge_number d n i) t)
 
   pub spoke_in : (i : ℕ) (t : Bool) → i < length (edges_of d n) → (spoke lv (end_at i t)).child < length (children d n)
   spoke_in i t h =

@@ -1,9 +1,8 @@
 -- The sides of ports and of edges' ends are those of the level.
-use Rattle.std.proofs.Common.{◌≡◌, inl, inr, ⊎_elim, ℕ, zero, suc, ◌+◌, ◌<◌, eqb, cond, Bool, true, false, not, ◌&&◌, List, [], ◌∷◌, map, length, refl, sym, subst, ap, ap₂, ◌∙◌, arith}
+use Rattle.std.proofs.Common.{◌≡◌, ⊎_elim, ℕ, zero, suc, ◌<◌, eqb, cond, Bool, true, false, not, ◌&&◌, [], ◌∷◌, map, length, refl, sym, subst, ap, ap₂, ◌∙◌, arith}
 use Rattle.std.proofs.lemmas.Bool.{and_parts, and_from, or_cases, eqb-true, eq-eqb, false≢true}
-use Rattle.std.proofs.lemmas.List.{get_or-map}
 use Rattle.std.specs.Prelude.{Option, None, Some, is_some, is_none, IsNone, if◌then◌else◌}
-use Rattle.std.specs.List.{filter, list_any, range_with_len}
+use Rattle.std.specs.List.{list_any, range_with_len}
 use Rattle.std.specs.Option.{option_map}
 use Rattle.elk_doc.specs.declared.shape.Point.{Point}
 use Rattle.elk_doc.specs.declared.shape.Size.{Size}
@@ -15,31 +14,30 @@ use Rattle.elk_doc.specs.declared.document.PortRule.TheVariants.{Free, FixedSide
 use Rattle.elk_doc.specs.declared.document.End.{End as DocumentEnd}
 use Rattle.elk_doc.specs.declared.document.End.TheVariants.{Node as AtNode, Port as AtPort}
 use Rattle.elk_doc.specs.declared.document.LevelOptions.{LevelOptions}
-use Rattle.elk_doc.specs.declared.drawing.Certificate.{Certificate}
 use Rattle.elk_doc.specs.declared.drawing.Placed.{Placed}
-use Rattle.elk_doc.specs.Document.{Document, node_at, edge_at, node_of_port, direction_of, frame_of, parent_of, port_at as document_port}
+use Rattle.elk_doc.specs.Document.{Document, node_at, edge_at, node_of_port, direction_of, frame_of, port_at as document_port}
 use Rattle.elk_doc.specs.Level.{children, edges_of, IsChild, IsEdge, node_of_end, place_of_child, place_of_edge, is_loop as is_document_loop}
 use Rattle.elk_doc.specs.Numbers.{any_below}
 use Rattle.elk_doc.specs.Drawing.{certificate_of, lists, is_listed}
-use Rattle.elk_doc.specs.Sides.{side_from, side_by_place, side_or, side_at, side_of_port, side_of_end, is_at_port, enters_port, leaves_port, is_entered, is_left, end_of, enters_at, given_side as document_side}
-use Rattle.elk_doc.specs.Sound.{IsSound, IsEndIn}
+use Rattle.elk_doc.specs.Sides.{side_from, side_by_place, side_or, side_at, side_of_port, is_at_port, enters_port, leaves_port, is_entered, is_left, end_of, enters_at, given_side as document_side}
+use Rattle.elk_doc.specs.Sound.{IsEndIn}
 use Rattle.elk_doc.proofs.NumberLaws.{any_below-true}
 use Rattle.turning_laws.specs.Turning.{turned_side}
 use Rattle.turning_laws.proofs.TurningLaws.{sides}
-use Rattle.port_order.specs.declared.children.Child.{Child}
 use Rattle.port_order.specs.Child.{port_at}
 use Rattle.port_order.specs.Sides.{side_of_place, given_side, side_else, side_of}
 use Rattle.port_order.proofs.TurnedLemmas.{directions_turn}
 use Rattle.level_plan.specs.declared.level.Spoke.{Spoke}
-use Rattle.level_plan.specs.Level.{PlainLevel, PlainPlan, Orders, End, end_at, spoke, child_at, holds, is_loop, enters, is_port, all_ends, ends_at_port, linked, port_spot, implicit_spot, spot_at_port, dock_of}
+use Rattle.level_plan.specs.Level.{PlainLevel, PlainPlan, Orders, End, end_at, spoke, child_at, holds, is_loop, enters, is_port, all_ends, ends_at_port, linked, port_spot, spot_at_port}
 use Rattle.level_plan.specs.FromPlan.{Drawn}
 use Rattle.level_stands.specs.PortsKept.{port_side}
 use Rattle.level_stands.proofs.Lists.{Has, has_filter, filter_has, has_map, map_has, below_has, any_has, has_any}
 use Rattle.level_stands.proofs.NameLemmas.{ends_edge}
 use Rattle.level_stands.proofs.SpotLemmas.{at_port}
-use Rattle.turned_levels.specs.Turned.{level_of, level_child, level_port, child_number, edge_number, port_number, ports_of, place_of_port, spoke_of, turned_size, turned_place, turned_given, box_size}
+use Rattle.turned_levels.specs.Turned.{level_of, level_child, child_number, edge_number, port_number, ports_of, place_of_port, spoke_of, turned_size, turned_place, turned_given, box_size}
 use Rattle.turned_docks.specs.Laws.{IsFromLevel, PortSideTurns, EndSideTurns, SidesTurnBack}
-use Rattle.turned_docks.proofs.Numbering.{child_there, child_place, child_back, child_parent, same_child, edge_there, edge_place, edge_back, edge_level, end_child, edge_of_child, port_there, port_node, port_place_is, port_back, edges_many, spoke_is, loop_is, same_test}
+use Rattle.turned_levels.proofs.NumberedLemmas.{levels_are_listed}
+use Rattle.turned_docks.proofs.Numbering.{child_there, child_place, child_back, child_parent, same_child, edge_there, edge_place, edge_back, edge_level, end_child, edge_of_child, port_node, port_place_is, port_back, end_in, spoke_is, same_test}
 
 -- ---- tests
 
@@ -167,10 +165,6 @@ module _ (d : Document) (p : Placed) (n : ℕ) (o : LevelOptions) (plan : PlainP
           has_any (λ x. eqb x (edge_number d n i)) (map (edge_number d n) plan.reversed) (edge_number d n f.0) (has_map (edge_number d n) plan.reversed f.0 f.1)
           (eq-eqb (edge_number d n f.0) (edge_number d n i) (ap (edge_number d n) (eqb-true f.0 i f.2)))
 
-  end_in : (e : ℕ) (t : Bool) → e < length d.edges → IsEndIn d (end_of d e t)
-  end_in e true h = (from.sound.edges e h).source_in
-  end_in e false h = (from.sound.edges e h).target_in
-
   -- an end of the level's edge at the j-th port of the i-th child is one at that port in the document
   end_at_port : (i j : ℕ) → i < length (children d n) → j < length (ports_of d (child_number d n i)) → (x : DocumentEnd) → (spoke_of d n x).child ≡ i → is_port (spoke_of d n x).port j ≡ true
       → IsChild d n (node_of_end d x) → IsEndIn d x → x ≡ AtPort (port_number d (child_number d n i) j)
@@ -179,7 +173,7 @@ module _ (d : Document) (p : Placed) (n : ℕ) (o : LevelOptions) (plan : PlainP
       let c = child_number d n i in
       let node : node_of_port d k ≡ c = same_child d n (node_of_port d k) c is_child (child_there d n i hi) (child ∙ sym (child_place d n i hi)) in
       let place : place_of_port d k ≡ j = eqb-true (place_of_port d k) j port in
-      ap AtPort (sym (port_back d k within).1 ∙ ap₂ (port_number d) node place)
+      ap AtPort (sym (port_back d c k within node).1 ∙ ap (port_number d c) place)
 
   -- Whether an edge that is no self-loop has its entering end, or its leaving one, at a port is the same in the level.
   flow_same : (i j : ℕ) → i < length (children d n) → j < length (ports_of d (child_number d n i))
@@ -208,12 +202,12 @@ module _ (d : Document) (p : Placed) (n : ℕ) (o : LevelOptions) (plan : PlainP
           let spoke_at : spoke l (end_at m t) ≡ spoke_of d n (AtPort k) = spoke_is d p n o m t back.0 ∙ ap (spoke_of d n) one in
           let child : (spoke l (end_at m t)).child ≡ i = ap (λ (z : Spoke). z.child) spoke_at ∙ ap (place_of_child d n) (port_node d c j hj) ∙ child_place d n i hi in
           let port : (spoke l (end_at m t)).port ≡ Some j = ap (λ (z : Spoke). z.port) spoke_at ∙ ap Some (port_place_is d c j hj) in
-          let many = edges_many d p n o in
+          let many = (levels_are_listed d p n o).edge_count in
           let less = back.0 in
           let within : m < length l.edges = omega (arith, many, less) in
           let has : Has (ends_at_port l i j) (end_at m t) = subst (λ z. Has (ends_at_port l z j) (end_at m t)) child (at_port l m t j within port) in
           has_any hits (linked l (ends_at_port l i j)) (end_at m t)
-          (has_filter (λ z. not (is_loop l z.edge)) (ends_at_port l i j) (end_at m t) has (ap not (loop_is d p n o m from.sound back.0 ∙ ap (is_document_loop d) back.1) ∙ q.1))
+          (has_filter (λ z. not (is_loop l z.edge)) (ends_at_port l i j) (end_at m t) has (ap not ((levels_are_listed d p n o).loop m from.sound back.0 ∙ ap (is_document_loop d) back.1) ∙ q.1))
           (hit m)
 
       back : list_any hits (linked l (ends_at_port l i j)) ≡ true → any_below touches (length d.edges) ≡ true
@@ -223,7 +217,7 @@ module _ (d : Document) (p : Placed) (n : ℕ) (o : LevelOptions) (plan : PlainP
           let free = filter_has (λ z. not (is_loop l z.edge)) (ends_at_port l i j) m f.1 in
           let end = filter_has (λ z. eqb (spoke l z).child i && is_port (spoke l z).port j) (all_ends l) m free.0 in
           let less = below_has (length l.edges) m.edge (ends_edge (range_with_len 0 (length l.edges)) m end.0) in
-          let many = edges_many d p n o in
+          let many = (levels_are_listed d p n o).edge_count in
           let within : m.edge < length (edges_of d n) = omega (arith, many, less) in
           let e = edge_number d n m.edge in
           let t = m.at_source in
@@ -232,13 +226,13 @@ module _ (d : Document) (p : Placed) (n : ℕ) (o : LevelOptions) (plan : PlainP
           let spoke_at : spoke l m ≡ spoke_of d n (end_of d e t) = spoke_is d p n o m.edge t within in
           let x = end_of d e t in
           let at : x ≡ AtPort (port_number d (child_number d n i) j) =
-          end_at_port i j hi hj x (sym (ap (λ (z : Spoke). z.child) spoke_at) ∙ eqb-true (spoke l m).child i q.0) (ap (λ (z : Spoke). is_port z.port j) (sym spoke_at) ∙ q.1) (end_child d n e t from.sound edge) (end_in e t edge.edge_in)
+          end_at_port i j hi hj x (sym (ap (λ (z : Spoke). z.child) spoke_at) ∙ eqb-true (spoke l m).child i q.0) (ap (λ (z : Spoke). is_port z.port j) (sym spoke_at) ∙ q.1) (end_child d n e t from.sound edge) (end_in d e t from.sound edge.edge_in)
           in
           let turn : t ≡ which (is_listed d p e) = only m f.2 ∙ ap which (sym (listed_is m.edge within)) in
           let there : is_at_port (end_of d e (which (is_listed d p e))) (port_number d (child_number d n i) j) ≡ true =
           is_at_port-from (end_of d e (which (is_listed d p e))) (port_number d (child_number d n i) j) (ap (end_of d e) (sym turn) ∙ at)
           in
-          let no_loop : not (is_document_loop d e) ≡ true = ap not (sym (loop_is d p n o m.edge from.sound within)) ∙ free.1 in
+          let no_loop : not (is_document_loop d e) ≡ true = ap not (sym ((levels_are_listed d p n o).loop m.edge from.sound within)) ∙ free.1 in
           any_below-true touches e (length d.edges) edge.edge_in
           (touch e ∙ and_from (is_at_port (end_of d e (which (is_listed d p e))) (port_number d (child_number d n i) j)) (not (is_document_loop d e)) there no_loop)
 
@@ -254,13 +248,7 @@ module _ (d : Document) (p : Placed) (n : ℕ) (o : LevelOptions) (plan : PlainP
       flow_same i j hi hj not (λ m. not (enters plan m)) (leaves_port d p (port_number d (child_number d n i) j)) (λ m k. leaves_is m.at_source (holds plan.reversed m.edge) k) (λ e. it_leaves (holds plan.reversed e))
       (λ e. ap (λ x. is_at_port x (port_number d (child_number d n i) j) && not (is_document_loop d e)) (tail_is (is_listed d p e) (edge_at d e).source (edge_at d e).target d e refl refl))
 
-  -- a child of the level, and its ports
-  pub child_is : (i : ℕ) → i < length (children d n) → child_at l i ≡ level_child d p way (child_number d n i)
-  child_is i h = get_or-map (level_child d p way) (children d n) i 0 _ h
-
-  pub port_is : (c j : ℕ) → j < length (ports_of d c) → port_at (level_child d p way c) j ≡ level_port d way (box_size p c) (port_number d c j)
-  port_is c j h = get_or-map (level_port d way (box_size p c)) (ports_of d c) j 0 _ h
-
+  -- a leaf keeps its size
   pub size_kept : (c : ℕ) → IsChild d n c → IsNone (node_at d c).level → box_size p c ≡ (node_at d c).size
   size_kept c child none = let kept = from.leaves c child.node_in none in same_size (box_size p c) (node_at d c).size kept.width kept.height
 
@@ -270,8 +258,8 @@ module _ (d : Document) (p : Placed) (n : ℕ) (o : LevelOptions) (plan : PlainP
       let c = child_number d n i in
       let k = port_number d c j in
       let x = level_child d p way c in
-      ap (λ z. given_side z j) (child_is i hi)
-      ∙ ap (λ q. side_from x.rule q.side (not x.compound) (side_of_place way x.size q.place q.size)) (port_is c j hj)
+      ap (λ z. side_from z.rule (port_at (child_at l i) j).side (not z.compound) (side_of_place z.direction z.size (port_at (child_at l i) j).place (port_at (child_at l i) j).size)) ((levels_are_listed d p n o).child i hi)
+      ∙ ap (λ q. side_from x.rule q.side (not x.compound) (side_of_place way x.size q.place q.size)) ((levels_are_listed d p n o).port i j hi hj)
       ∙ given_turned way (node_at d c).rule (document_port d k).side (node_at d c).level (node_at d c).size (box_size p c) (document_port d k).place (document_port d k).size (size_kept c (child_there d n i hi))
       ∙ ap (λ m. turned_given way (side_from (node_at d m).rule (document_port d k).side (is_none (node_at d m).level) (side_by_place (node_at d m).size (document_port d k).place (document_port d k).size))) (sym (port_node d c j hj))
 
@@ -291,13 +279,11 @@ module _ (d : Document) (p : Placed) (n : ℕ) (o : LevelOptions) (plan : PlainP
       let i = place_of_child d n (node_of_port d k) in
       let j = place_of_port d k in
       let c = child_back d n (node_of_port d k) child in
-      let q = port_back d k h in
-      let within : j < length (ports_of d (child_number d n i)) = subst (λ z. j < length (ports_of d z)) (sym c.1) q.0 in
-      let same : port_number d (child_number d n i) j ≡ k = ap (λ z. port_number d z j) c.1 ∙ q.1 in
-      subst (λ z. turned_side way (side_of_port d p z) ≡ port_side l plan i j) same (port_side_turns i j c.0 within)
+      let q = port_back d (child_number d n i) k h (sym c.1) in
+      subst (λ z. turned_side way (side_of_port d p z) ≡ port_side l plan i j) q.1 (port_side_turns i j c.0 q.0)
 
   pub end_side_turns : (orders : Orders) (i : ℕ) (t : Bool) → i < length (edges_of d n) → EndSideTurns d p n o plan orders i t
-  end_side_turns orders i t h = step (end_of d e t) (spoke_is d p n o i t h) (end_child d n e t from.sound edge) (end_in e t edge.edge_in)
+  end_side_turns orders i t h = step (end_of d e t) (spoke_is d p n o i t h) (end_child d n e t from.sound edge) (end_in d e t from.sound edge.edge_in)
     where
       e : ℕ
       e = edge_number d n i
@@ -313,7 +299,7 @@ module _ (d : Document) (p : Placed) (n : ℕ) (o : LevelOptions) (plan : PlainP
           subst (λ (s : Spoke). turned_side way (side_at d p e t (AtNode c)) ≡ side_of (child_at l s.child) (spot_at_port l plan s.child (end_at i t) s.port)) (sym at)
           (ap (λ w. turned_side way (side_or None (enters_at t (is_listed d p e) && not (is_document_loop d e)) w)) (frame_is c child)
           ∙ side_or_turned way None (enters_at t (is_listed d p e) && not (is_document_loop d e))
-          ∙ ap₂ (λ a b. side_else None (a && not b)) (enters_at_is t (is_listed d p e) ∙ ap (λ b. cond t b (not b)) (listed_is i h)) (sym (loop_is d p n o i from.sound h))
+          ∙ ap₂ (λ a b. side_else None (a && not b)) (enters_at_is t (is_listed d p e) ∙ ap (λ b. cond t b (not b)) (listed_is i h)) (sym ((levels_are_listed d p n o).loop i from.sound h))
           ∙ ap (side_else None) (sym (alone l plan (end_at i t))))
 
 pub sides_turn_back : SidesTurnBack

@@ -1,24 +1,23 @@
 -- Sides, anchors and docks in a document's drawing are those of a level, in the frame of its direction.
-use Rattle.std.specs.Prelude.{◌≡◌, ◌↔◌, ℕ, ◌<◌, Bool, true, false, ◌==◌, Option, None, Some, map, length, IsTrue}
+use Rattle.std.specs.Prelude.{◌≡◌, ◌↔◌, ℕ, ◌<◌, Bool, true, false, Some, map, length, IsTrue}
 use Rattle.elk_doc.specs.declared.shape.Point.{Point}
 use Rattle.elk_doc.specs.declared.shape.Dock.{Dock}
-use Rattle.elk_doc.specs.declared.document.End.TheVariants.{Node as AtNode, Port as AtPort}
 use Rattle.elk_doc.specs.declared.document.LevelOptions.{LevelOptions}
 use Rattle.elk_doc.specs.declared.drawing.Certificate.{Certificate}
 use Rattle.elk_doc.specs.declared.drawing.Placed.{Placed}
 use Rattle.elk_doc.specs.Document.{Document, node_at}
-use Rattle.elk_doc.specs.Level.{children, edges_of, is_loop as is_document_loop}
+use Rattle.elk_doc.specs.Level.{children, edges_of}
 use Rattle.elk_doc.specs.Drawing.{certificate_of, is_listed, box_of}
-use Rattle.elk_doc.specs.Sides.{side_of_port, side_of_end, end_of, end_node}
+use Rattle.elk_doc.specs.Sides.{side_of_port, side_of_end, end_node}
 use Rattle.elk_doc.specs.Places.{dock_of as document_dock, anchor_of as document_anchor}
 use Rattle.elk_doc.specs.Fits.{LeavesKept}
 use Rattle.elk_doc.specs.Sound.{IsSound}
 use Rattle.turning_laws.specs.Turning.{turned_side, turned_point}
 use Rattle.turning_laws.specs.Frames.{turned_dock}
-use Rattle.level_plan.specs.Level.{PlainLevel, PlainPlan, Orders, end_at, spoke, child_at, holds, is_loop, dock_of}
+use Rattle.level_plan.specs.Level.{PlainLevel, PlainPlan, Orders, end_at, holds, dock_of}
 use Rattle.level_plan.specs.FromPlan.{Drawn, section_at, anchor}
 use Rattle.level_stands.specs.PortsKept.{ArePortsPlaced, port_side}
-use Rattle.turned_levels.specs.Turned.{level_of, child_number, edge_number, port_number, ports_of, spoke_of}
+use Rattle.turned_levels.specs.Turned.{level_of, child_number, edge_number, port_number, ports_of}
 use Rattle.turned_levels.specs.Drawing.{IsTurnedDrawing, plus}
 
 -- A document's drawing at the level of n, which has these options, comes from a drawing of that level: leaves keep their
