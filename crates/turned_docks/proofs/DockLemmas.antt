@@ -34,6 +34,7 @@ use Rattle.level_plan.specs.declared.level.Spoke.{Spoke}
 use Rattle.level_plan.specs.Level.{PlainLevel, PlainPlan, Orders, end_at, spoke, child_at, port_spot, spot_of, spot_at_port, anchor_of_spot, dock_of, dock_of_spot}
 use Rattle.level_plan.specs.FromPlan.{Drawn, point_or, box_place, anchor}
 use Rattle.level_stands.specs.Apart.{drawn_port}
+use Rattle.level_stands.proofs.SameLines.{same_dock}
 use Rattle.level_stands.specs.PortsKept.{port_side}
 use Rattle.turned_levels.specs.Turned.{level_of, child_number, edge_number, port_number, ports_of, place_of_port, spoke_of, turned_size, turned_place, turned_given, half_along, box_size}
 use Rattle.turned_levels.specs.Drawing.{plus}
@@ -101,10 +102,6 @@ half_same Right None false true z = refl
 half_same Left None false true z = refl
 half_same Down None false true z = refl
 half_same Up None false true z = refl
-
-same_dock : (k m : Dock) → k.node ≡ m.node → k.side ≡ m.side → k.offset ≡ m.offset → k ≡ m
-same_dock k m n s z =
-    ap (λ (a : ℕ). let r : Dock = record { node = a; side = k.side; offset = k.offset } in r) n ∙ ap₂ (λ (t : Side) (y : ℤ). let r : Dock = record { node = m.node; side = t; offset = y } in r) s z
 
 module _ (d : Document) (p : Placed) (n : ℕ) (o : LevelOptions) (plan : PlainPlan) (v : Drawn) (by : Point) (from : IsFromLevel d p n o plan v by) where
   abbrev l : PlainLevel
@@ -193,7 +190,7 @@ module _ (d : Document) (p : Placed) (n : ℕ) (o : LevelOptions) (plan : PlainP
       subst (PortAnchored i j) q.1 (port_anchor i j c.0 q.0 stands)
 
   -- a section's end
-  section_turned : (i : ℕ) (t : Bool) → i < length (edges_of d n) → turned_point to (section_end p (edge_number d n i) t) ≡ plus by (anchor lv plan orders v (end_at i t))
+  pub section_turned : (i : ℕ) (t : Bool) → i < length (edges_of d n) → turned_point to (section_end p (edge_number d n i) t) ≡ plus by (anchor lv plan orders v (end_at i t))
   section_turned i true h = let many = (levels_are_listed d p n o).edge_count in (from.drawn.sections i h).start ∙ ap (plus by) (anchored.from_source i (omega (arith, h, many)))
   section_turned i false h = let many = (levels_are_listed d p n o).edge_count in (from.drawn.sections i h).end ∙ ap (plus by) (anchored.to_target i (omega (arith, h, many)))
 

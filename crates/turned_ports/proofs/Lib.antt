@@ -1,0 +1,4 @@
+pub mod SideGeometry
+pub mod CountLemmas
+pub mod KeptLemmas
+pub mod SpreadLemmas
