@@ -96,8 +96,8 @@ module _ (d : Document) (p : Placed) (n : ℕ) (o : LevelOptions) (plan : PlainP
 
   -- ---- the level's spread spots are no more than the document's
 
-  module_ports : (s : Side) → length (filter (λ j. is_spread_on child (turned_side way s) (port_spot l plan i j)) (range_with_len 0 (length child.ports))) ≤ count_below (is_spread_port d p m s) (length d.ports)
-  module_ports s =
+  few_ports_spread : (s : Side) → length (filter (λ j. is_spread_on child (turned_side way s) (port_spot l plan i j)) (range_with_len 0 (length child.ports))) ≤ count_below (is_spread_port d p m s) (length d.ports)
+  few_ports_spread s =
       let test : ℕ → Bool = λ j. is_spread_on child (turned_side way s) (port_spot l plan i j) in
       let total = length-numbers_below (is_spread_port d p m s) (length d.ports) in
       let less = no_more_by (port_number d m) (filter test (range_with_len 0 (length child.ports))) (numbers_below (is_spread_port d p m s) (length d.ports))
@@ -133,8 +133,8 @@ module _ (d : Document) (p : Placed) (n : ℕ) (o : LevelOptions) (plan : PlainP
   abbrev code_of : End → ℕ
   code_of k = end_code (edge_number d n k.edge) k.at_source
 
-  module_ends : (s : Side) → length (filter (λ k. is_spread_on child (turned_side way s) (implicit_spot l plan i k)) (implicit_ends l i)) ≤ count_below (is_spread_end d p m s true) (length d.edges) + count_below (is_spread_end d p m s false) (length d.edges)
-  module_ends s =
+  few_ends_spread : (s : Side) → length (filter (λ k. is_spread_on child (turned_side way s) (implicit_spot l plan i k)) (implicit_ends l i)) ≤ count_below (is_spread_end d p m s true) (length d.edges) + count_below (is_spread_end d p m s false) (length d.edges)
+  few_ends_spread s =
       let test : End → Bool = λ k. is_spread_on child (turned_side way s) (implicit_spot l plan i k) in
       let sources = length-numbers_below (is_spread_end d p m s true) (length d.edges) in
       let targets = length-numbers_below (is_spread_end d p m s false) (length d.edges) in
@@ -178,8 +178,8 @@ module _ (d : Document) (p : Placed) (n : ℕ) (o : LevelOptions) (plan : PlainP
       let parts = ap length (filter-append test at_ports at_ends) ∙ length-append (filter test at_ports) (filter test at_ends) in
       let ports = filtered_map test (port_spot l plan i) (range_with_len 0 (length child.ports)) in
       let ends = filtered_map test (implicit_spot l plan i) (implicit_ends l i) in
-      let few_ports = module_ports s in
-      let few_ends = module_ends s in
+      let few_ports = few_ports_spread s in
+      let few_ends = few_ends_spread s in
       omega (arith, parts, ports, ends, few_ports, few_ends)
 
   -- ---- spread spots of the document in the level
