@@ -38,10 +38,10 @@ outline_listed d p c (suc m) =
     (cases_Bool (is_port_of d c m))
 
 -- a port's box in a drawing of a level
-abbrev drawn_port_box : PlainLevel → Drawn → ℕ → ℕ → Rect
+abbrev pub drawn_port_box : PlainLevel → Drawn → ℕ → ℕ → Rect
 drawn_port_box l v i j = rect_at (moved_by (drawn_box l v i) (drawn_port v i j)) (laid.port_at (child_at l i) j).size
 
-drawn_listed : (l : PlainLevel) (v : Drawn) (i : ℕ) (ks : List ℕ) → drawn_outline_from l v i ks ≡ hulls (drawn_box l v i) (drawn_port_box l v i) ks
+pub drawn_listed : (l : PlainLevel) (v : Drawn) (i : ℕ) (ks : List ℕ) → drawn_outline_from l v i ks ≡ hulls (drawn_box l v i) (drawn_port_box l v i) ks
 unfolding hulls
 drawn_listed l v i [] = refl
 drawn_listed l v i (k ∷ ks) = ap (λ z. hull z (drawn_port_box l v i k)) (drawn_listed l v i ks)

@@ -100,7 +100,7 @@ ends_match d n e s h =
 
 -- the parts of a level
 
-eqb_iff : (a b c e : ℕ) → (a ≡ b → c ≡ e) → (c ≡ e → a ≡ b) → eqb a b ≡ eqb c e
+pub eqb_iff : (a b c e : ℕ) → (a ≡ b → c ≡ e) → (c ≡ e → a ≡ b) → eqb a b ≡ eqb c e
 eqb_iff a b c e f g =
     ⊎_elim
     (λ same. eq-eqb a b same ∙ sym (eq-eqb c e (f same)))
@@ -108,7 +108,7 @@ eqb_iff a b c e f g =
     (cases_eq a b)
 
 -- places of children are the same where the children are
-same_place : (d : Document) (n b c : ℕ) → IsChild d n b → IsChild d n c → place_of_child d n b ≡ place_of_child d n c → b ≡ c
+pub same_place : (d : Document) (n b c : ℕ) → IsChild d n b → IsChild d n c → place_of_child d n b ≡ place_of_child d n c → b ≡ c
 same_place d n b c hb hc e =
     let m = (numbers_match d n).children in
     sym (m.found b hb) ∙ ap (λ i. get_or (children d n) i 0) e ∙ m.found c hc
