@@ -4,4 +4,4 @@
 
 mod laws;
 
-pub use laws::ports_turn_back;
+pub use laws::{examples, ports_turn_back};
