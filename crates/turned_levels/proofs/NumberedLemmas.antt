@@ -1,5 +1,5 @@
 -- Children, edges and ports stand at their places.
-use Rattle.std.proofs.Common.{◌≡◌, ℕ, zero, suc, ◌+◌, ◌<◌, ⊎_elim, Bool, true, false, [], ◌∷◌, length, length-append, get_or, eqb, Option, Some, None, IsSome, IsTrue, unwrap_or, refl, sym, ap, ◌∙◌, subst, arith, rules, eqb-true, eq-eqb, ne_eqb}
+use Rattle.std.proofs.Common.{◌≡◌, ℕ, zero, suc, ◌+◌, ◌<◌, ◌≤◌, ⊎_elim, Bool, true, false, [], ◌∷◌, length, length-append, get_or, eqb, Option, Some, None, IsSome, IsTrue, unwrap_or, refl, sym, ap, ◌∙◌, subst, arith, rules, eqb-true, eq-eqb, ne_eqb}
 use Rattle.std.proofs.lemmas.Bool.{cases_lt, cases_Bool, cases_eq}
 use Rattle.std.proofs.lemmas.List.{get_or_push, get_or-map, length-map}
 use Rattle.std.proofs.Math.ListN.{get_or-append}
@@ -35,7 +35,7 @@ stands p (suc m) i h =
     let longer : length (numbers_below p (suc m)) ≡ length (numbers_below p m) + 1 = rw more (length-append (numbers_below p m) (m ∷ [])) in
     ⊎_elim
     (λ early. rw (more, get_or-append (numbers_below p m) (m ∷ []) 0 i early) (higher p m i _ (stands p m i early)))
-    (λ late. let last : length (numbers_below p m) ≡ i = omega (arith, late, longer, h) in
+    (λ (late : length (numbers_below p m) ≤ i). let last : length (numbers_below p m) ≡ i = omega (arith, late, longer, h) in
     rw (more, get_or_push (numbers_below p m) m 0 i last) (record { below = omega arith; passes = t; counted = sym (length-numbers_below p m) ∙ last }))
     (cases_lt i (length (numbers_below p m))))
     (λ f. let same = numbers_below-same p m f in

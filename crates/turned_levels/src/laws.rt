@@ -1,5 +1,6 @@
 //! What the definitions say, each as the contract of a function that does nothing.
 ghost use Rattle.turned_levels.specs.Examples.{LevelsTurn};
+ghost use Rattle.turned_levels.specs.Kept.{DrawingsReadLevels, LevelsReadSizes};
 ghost use Rattle.turned_levels.specs.Numbered.{EndsAlwaysMatch, LevelsAreListed, NumbersAlwaysMatch};
 
 /// The level of a small document under each of the four directions.
@@ -20,4 +21,14 @@ pub fn levels_are_listed()
 /// An edge of a level stands at two of its children, and each end names its child by its place.
 pub fn ends_match()
     ensures { EndsAlwaysMatch }
+{}
+
+/// A level of a document depends on the sizes of its children's boxes alone.
+pub fn levels_read_sizes()
+    ensures { LevelsReadSizes }
+{}
+
+/// A drawing that comes from that of a level still does when it changes elsewhere.
+pub fn drawings_read_levels()
+    ensures { DrawingsReadLevels }
 {}

@@ -4,4 +4,7 @@
 
 mod laws;
 
-pub use laws::{ends_match, levels_are_listed, levels_turn, numbers_match};
+pub use laws::{
+    drawings_read_levels, ends_match, levels_are_listed, levels_read_sizes, levels_turn,
+    numbers_match,
+};
