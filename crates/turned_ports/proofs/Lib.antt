@@ -1,0 +1,5 @@
+pub mod SideGeometry
+pub mod CountLemmas
+pub mod KeptLemmas
+pub mod SpreadLemmas
+pub mod ExampleLemmas
