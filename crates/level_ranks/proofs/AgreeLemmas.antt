@@ -1,6 +1,6 @@
 -- The rank of a link's end is the same for all plans that turn the same edges round, under any orders of their sides.
-use Rattle.std.proofs.Common.{◌≡◌, ℕ, ◌+◌, ◌<◌, ◌&&◌, ◌||◌, not, Bool, true, false, cond, List, [], ◌∷◌, length, pos, ℤ, refl, sym, subst, ap, ap₂, ◌∙◌, arith, IfSome}
-use Rattle.std.specs.Prelude.{Option, None, Some, int_lt, is_some, IsFalse}
+use Rattle.std.proofs.Common.{◌≡◌, ℕ, ◌+◌, ◌<◌, ◌&&◌, ◌||◌, not, Bool, true, false, cond, List, [], ◌∷◌, length, pos, ℤ, refl, sym, subst, ap, ap₂, ◌∙◌, IfSome}
+use Rattle.std.specs.Prelude.{Option, None, Some, int_lt, is_some}
 use Rattle.std.specs.Ordering.{int_eq}
 use Rattle.std.specs.List.{filter, list_any}
 use Rattle.elk_doc.specs.declared.shape.Side.{Side}
@@ -10,19 +10,17 @@ use Rattle.elk_doc.specs.declared.document.PortRule.{PortRule}
 use Rattle.elk_doc.specs.declared.document.PortRule.TheVariants.{Free, FixedSide, FixedOrder, FixedPos}
 use Rattle.elk_doc.specs.PortsKept.{pins, size_along}
 use Rattle.port_order.specs.declared.children.Child.{Child}
-use Rattle.port_order.specs.declared.spots.Spot.{Spot}
-use Rattle.port_order.specs.Child.{is_pinned, port_at, spot_at}
+use Rattle.port_order.specs.Child.{is_pinned, port_at}
 use Rattle.port_order.specs.Sides.{is_mirrored, side_by_flow, side_of}
 use Rattle.port_order.specs.Order.{IsSpreadOn}
 use Rattle.port_order.specs.Places.{offset_of, place_in, spread_offset, turned_spread}
 use Rattle.self_loops.specs.Loops.{is_upright}
-use Rattle.level_stands.proofs.Lists.{Has, filter_has}
+use Rattle.level_stands.proofs.Lists.{filter_has}
 use Rattle.level_stands.proofs.SpotLemmas.{spoke_there}
-use Rattle.level_plan.specs.Conditions.{IsLevel}
 use Rattle.level_plan.specs.Level.{End, Orders, PlainLevel, PlainPlan, child_at, dock_of_spot, enters, implicit_spot, is_loop, port_spot, spoke, spot_at_port, spots}
 use Rattle.level_plan.specs.Lanes.{lane_side}
 use Rattle.level_plan.specs.Nets.{inverts}
-use Rattle.level_plan.specs.Units.{AreOrders, is_fixed, is_pinned_port, is_spread_fixed, lane_rank, last_rank, link_side, offset_first, pinned_on, port_rank, ports_on, rank_of_end}
+use Rattle.level_plan.specs.Units.{AreOrders, is_fixed, is_pinned_port, is_spread_fixed, lane_rank, last_rank, link_side, offset_first, pinned_on, port_rank, ports_on}
 use Rattle.level_ends.proofs.WholeLemmas.{number_port}
 use Rattle.level_nets.proofs.ListLemmas.{filter_same}
 use Rattle.level_ranks.specs.Laws.{NeedNoRows}

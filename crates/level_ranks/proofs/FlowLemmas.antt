@@ -1,16 +1,16 @@
 -- The spots of ports that are read off a level's edges lie on the sides of the level's plan.
-use Rattle.std.proofs.Common.{◌≡◌, ℕ, ◌+◌, ◌<◌, ◌≤◌, ◌==◌, ◌&&◌, ◌||◌, not, cond, Bool, true, false, List, [], ◌∷◌, map, length, get_or, refl, sym, subst, ap, ap₂, ◌∙◌, arith, inl, inr}
-use Rattle.std.specs.Prelude.{Option, None, Some}
+use Rattle.std.proofs.Common.{◌≡◌, ℕ, ◌<◌, ◌≤◌, ◌==◌, ◌&&◌, ◌||◌, not, cond, Bool, true, false, List, [], ◌∷◌, map, length, refl, sym, subst, ap, ap₂, ◌∙◌, arith, inl, inr}
+use Rattle.std.specs.Prelude.{Some}
 use Rattle.std.specs.List.{filter, list_any, range_with_len}
 use Rattle.std.proofs.lemmas.List.{get_or_default}
 use Rattle.std.proofs.lemmas.List.FromFn.{length-map-range_with_len, get_or-map-range_with_len}
 use Rattle.port_order.specs.declared.children.Child.{Child}
 use Rattle.port_order.specs.declared.spots.Spot.{Spot}
 use Rattle.port_order.specs.Child.{no_spot, spot_at}
-use Rattle.port_order.specs.Conditions.{AreSpots, IsSpot}
+use Rattle.port_order.specs.Conditions.{IsSpot}
 use Rattle.port_order.specs.Sides.{given_to, side_else, side_of}
 use Rattle.level_plan.specs.declared.level.LevelEdge.{LevelEdge}
-use Rattle.level_plan.specs.Level.{End, PlainLevel, PlainPlan, all_ends, child_at, edge_at, end_at, ends_at_port, ends_of_edges, enters, holds, is_loop, is_port, linked, port_spot, spoke, spots}
+use Rattle.level_plan.specs.Level.{End, PlainLevel, PlainPlan, child_at, edge_at, end_at, ends_at_port, ends_of_edges, enters, holds, is_loop, is_port, linked, port_spot, spoke, spots}
 use Rattle.level_stands.proofs.Lists.{Has, below_has}
 use Rattle.level_ends.proofs.WholeLemmas.{number_port}
 use Rattle.level_nets.specs.Routed.{AreMarks}
@@ -18,7 +18,7 @@ use Rattle.level_pins.specs.Reading.{mark_at}
 use Rattle.level_ranks.specs.Flows.{as_asked, is_passed, level_edge, meets, passes, seen_spot}
 use Rattle.level_ranks.specs.Levels.{seen_spots}
 use Rattle.level_ranks.specs.Ports.{ArePortSpots}
-use Rattle.level_ranks.specs.Sides.{HavePorts, SamePorts}
+use Rattle.level_ranks.specs.Sides.{SamePorts}
 
 -- an end that is asked for
 abbrev pub asked : PlainPlan → Bool → End → Bool

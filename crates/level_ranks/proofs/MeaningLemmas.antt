@@ -1,28 +1,22 @@
 -- What is read off a table are the ranks of the plan.
-use Rattle.std.proofs.Common.{◌≡◌, ◌⊎◌, ⊎_elim, inl, inr, ℕ, ◌+◌, ◌*◌, ◌<◌, ◌≤◌, ◌==◌, ◌&&◌, ◌||◌, not, cond, Bool, true, false, ℤ, pos, ◌+ℤ◌, List, [], ◌∷◌, map, length, get_or, refl, sym, subst, ap, ap₂, ◌∙◌, arith, IfSome}
-use Rattle.std.specs.Prelude.{Option, None, Some, int_lt}
+use Rattle.std.proofs.Common.{◌≡◌, ◌⊎◌, ⊎_elim, inl, inr, ℕ, ◌<◌, ◌&&◌, ◌||◌, cond, Bool, true, false, ℤ, pos, List, [], ◌∷◌, map, length, get_or, refl, sym, subst, ap, ap₂, ◌∙◌, arith}
+use Rattle.std.specs.Prelude.{Some, int_lt}
 use Rattle.std.specs.Ordering.{int_eq}
 use Rattle.std.specs.List.{filter, range_with_len}
 use Rattle.std.proofs.lemmas.Bool.{and_parts}
 use Rattle.elk_doc.specs.declared.shape.Side.{Side}
-use Rattle.elk_doc.specs.declared.shape.Side.TheVariants.{North, East, South, West}
-use Rattle.elk_doc.specs.declared.shape.Dock.{Dock}
+use Rattle.elk_doc.specs.declared.shape.Side.TheVariants.{East, West}
 use Rattle.elk_doc.specs.declared.document.PortRule.{PortRule}
-use Rattle.elk_doc.specs.declared.document.PortRule.TheVariants.{Free, FixedSide, FixedOrder, FixedPos}
+use Rattle.elk_doc.specs.declared.document.PortRule.TheVariants.{FixedOrder, FixedPos}
 use Rattle.elk_doc.specs.PortsKept.{is_side}
-use Rattle.port_order.specs.declared.children.Child.{Child}
 use Rattle.port_order.specs.declared.spots.Spot.{Spot}
-use Rattle.port_order.specs.Child.{is_pinned, is_pinned_spot, spot_at}
+use Rattle.port_order.specs.Child.{is_pinned, spot_at}
 use Rattle.port_order.specs.Sides.{side_of}
 use Rattle.port_order.specs.Order.{IsOrderOfSide}
 use Rattle.port_order.specs.Places as places
 use Rattle.port_order.specs.Places.{place_in}
-use Rattle.self_loops.specs.Loops.{is_upright}
-use Rattle.level_plan.specs.Level.{End, Orders, PlainLevel, PlainPlan, child_at, dock_of_spot, port_spot, spots}
-use Rattle.level_plan.specs.Lanes.{lane_side}
+use Rattle.level_plan.specs.Level.{Orders, PlainLevel, PlainPlan, child_at, dock_of_spot, port_spot, spots}
 use Rattle.level_plan.specs.Units.{AreOrders, last_rank, offset_first, pinned_on, ports_on}
-use Rattle.level_stands.proofs.Lists.{Has, below_has}
-use Rattle.level_ends.specs.Lanes.{side_by}
 use Rattle.level_nets.specs.Routed.{AreMarks}
 use Rattle.level_nets.proofs.ListLemmas.{filter_same}
 use Rattle.level_ranks.specs.declared.ports.PortAt.{PortAt}

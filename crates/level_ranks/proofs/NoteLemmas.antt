@@ -1,5 +1,5 @@
 -- The places of ports, noted by number from the orders of the west and the east.
-use Rattle.std.proofs.Common.{◌≡◌, ◌≢◌, ◌⊎◌, inl, inr, ⊎_elim, ℕ, zero, suc, ◌<◌, ◌≤◌, List, [], ◌∷◌, map, length, get_or, refl, sym, subst, ap, ◌∙◌, arith}
+use Rattle.std.proofs.Common.{◌≡◌, ◌≢◌, ◌⊎◌, inl, inr, ⊎_elim, ℕ, zero, suc, ◌<◌, ◌≤◌, List, [], ◌∷◌, map, length, get_or, sym, subst, ap, ◌∙◌, arith}
 use Rattle.std.specs.List.{All, filter}
 use Rattle.std.proofs.lemmas.Bool.{cases_eq, cases_lt}
 use Rattle.std.proofs.lemmas.List.{get_or-map, get_or_past, length-map}
@@ -10,7 +10,7 @@ use Rattle.port_order.specs.declared.children.Child.{Child}
 use Rattle.port_order.specs.declared.spots.Spot.{Spot}
 use Rattle.port_order.specs.Child.{no_spot, spot_at}
 use Rattle.port_order.specs.Sides.{side_of}
-use Rattle.port_order.specs.Order.{IsOrderOfSide, IsSpreadOn}
+use Rattle.port_order.specs.Order.{IsOrderOfSide}
 use Rattle.port_order.specs.Places.{HoldsOnce, place_in}
 use Rattle.port_order.proofs.PlaceLemmas.{place_is}
 use Rattle.unit_places.specs.Places.{IsOnce, NotesFirst}
@@ -19,7 +19,7 @@ use Rattle.level_ends.proofs.DockLemmas.{in_order, order_few, order_once, order_
 use Rattle.level_nets.proofs.ListLemmas.{filter_short}
 use Rattle.level_ranks.specs.declared.ports.PortAt.{PortAt}
 use Rattle.level_ranks.specs.Sides.{HavePorts, SamePorts}
-use Rattle.level_ranks.specs.Ports.{AreBefore, AreOrdered, ArePortSpots, IsBeside, comes_before, port_at}
+use Rattle.level_ranks.specs.Ports.{AreBefore, AreOrdered, ArePortSpots, comes_before, port_at}
 use Rattle.level_ranks.proofs.PlaceLemmas.{Holds}
 use Rattle.level_ranks.proofs.AgreeLemmas.{fixed_spread}
 use Rattle.level_ranks.proofs.SideLemmas.{port_place_same, port_there, spread_port}

@@ -2,7 +2,7 @@
 use Rattle.std.proofs.Common.{◌≡◌, ◌≢◌, ◌⊎◌, inl, inr, ℕ, zero, suc, ◌+◌, ◌<◌, ◌≤◌, List, [], ◌∷◌, length, get_or, map, refl, sym, subst, ap, ◌∙◌, arith, eq-eqb, ne_eqb}
 use Rattle.std.proofs.lemmas.Bool.{cases_eq}
 use Rattle.std.proofs.lemmas.List.{length-map, get_or-map}
-use Rattle.port_order.specs.Places.{HoldsOnce, place_in}
+use Rattle.port_order.specs.Places.{place_in}
 use Rattle.route_slots.proofs.Lists.{few_below}
 
 abbrev pub Holds : List ℕ → ℕ → Type 0

@@ -1,7 +1,7 @@
 -- Links with ranks that are read off a table have the ranks of every plan with these units and links, and keep what is asked of
 -- units and links.
-use Rattle.std.proofs.Common.{◌≡◌, ◌⊎◌, inl, inr, ⊎_elim, ℕ, ◌+◌, ◌*◌, ◌<◌, ◌≤◌, ◌&&◌, ◌||◌, not, cond, Bool, true, false, ℤ, pos, List, [], map, length, get_or, refl, sym, subst, ap, ap₂, ◌∙◌, arith, IfSome}
-use Rattle.std.specs.Prelude.{Option, None, Some, is_some, int_lt}
+use Rattle.std.proofs.Common.{◌≡◌, ◌⊎◌, inl, inr, ⊎_elim, ℕ, ◌+◌, ◌<◌, ◌≤◌, ◌&&◌, ◌||◌, not, cond, Bool, true, false, ℤ, List, [], map, length, get_or, refl, sym, subst, ap, ap₂, ◌∙◌, arith, IfSome}
+use Rattle.std.specs.Prelude.{Option, None, Some, is_some}
 use Rattle.std.specs.List.{filter}
 use Rattle.std.proofs.lemmas.Bool.{cases_lt}
 use Rattle.std.proofs.lemmas.List.{get_or_past, length-map}
@@ -12,19 +12,18 @@ use Rattle.elk_doc.specs.declared.shape.Point.{Point}
 use Rattle.elk_doc.specs.declared.document.PortRule.{PortRule}
 use Rattle.elk_doc.specs.declared.document.PortRule.TheVariants.{Free, FixedSide, FixedOrder, FixedPos}
 use Rattle.port_order.specs.Child.{is_pinned}
-use Rattle.port_order.specs.Sides.{side_of}
 use Rattle.port_order.specs.Places.{place_in}
 use Rattle.elk_layers.specs.declared.units.Unit.{Unit as LayerUnit}
 use Rattle.elk_layers.specs.declared.units.Link.{Link}
-use Rattle.elk_layers.specs.Layered.{Plain, IsFromZero, IsSound, IsSoundLink, is_child, layer_of, link_at, unit_at}
+use Rattle.elk_layers.specs.Layered.{Plain, IsFromZero, IsSound, IsSoundLink, layer_of, link_at, unit_at}
 use Rattle.self_loops.specs.Loops.{is_upright}
 use Rattle.level_plan.specs.declared.table.Table.{Table}
 use Rattle.level_plan.specs.Conditions.{IsLevel}
-use Rattle.level_plan.specs.Level.{End, Orders, PlainLevel, PlainPlan, child_at, dock_of, dock_of_spot, end_at, enters, head_end, holds, is_loop, port_spot, spoke, spot_at_port, spot_of, tail_end}
+use Rattle.level_plan.specs.Level.{Orders, PlainLevel, PlainPlan, child_at, dock_of, dock_of_spot, end_at, enters, holds, is_loop, port_spot, spoke, spot_at_port, spot_of}
 use Rattle.level_plan.specs.Lanes.{lane_side}
 use Rattle.level_plan.specs.Nets.{inverts, unit_of}
 use Rattle.level_plan.specs.Table.{IsEndAt, IsTable}
-use Rattle.level_plan.specs.Units.{AreLinked, AreOrders, IsLaneUnit, head_rank, is_fixed, is_spread_fixed, lane_rank, last_rank, link_side, offset_first, pinned_on, port_rank, rank_of_end, tail_rank}
+use Rattle.level_plan.specs.Units.{AreLinked, AreOrders, IsLaneUnit, is_fixed, is_spread_fixed, lane_rank, last_rank, link_side, offset_first, pinned_on, port_rank, rank_of_end}
 use Rattle.level_stands.proofs.LinkLemmas.{head_enters, tail_leaves}
 use Rattle.level_stands.proofs.SpotLemmas.{spoke_there}
 use Rattle.level_ends.specs.Bounds.{AreNumbersIn}

@@ -1,6 +1,6 @@
 -- What ranks read off a table are, case by case.
 use Rattle.std.proofs.Common.{◌≡◌, ℕ, ◌+◌, ◌*◌, ◌<◌, cond, Bool, true, false, not, List, [], ◌∷◌, ◌++◌, map, length, get_or, inl, inr, refl, sym, subst, ap, ◌∙◌, arith}
-use Rattle.std.specs.Prelude.{Option, None, Some, is_some}
+use Rattle.std.specs.Prelude.{Option, Some, is_some}
 use Rattle.std.proofs.lemmas.Bool.{cases_eq}
 use Rattle.std.proofs.lemmas.List.{get_or-map, get_or_append_left, get_or_push, length_push}
 use Rattle.port_order.specs.declared.children.Child.{Child}

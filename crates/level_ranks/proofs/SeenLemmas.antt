@@ -1,5 +1,5 @@
 -- The flow of edges at ports, as it is read off a level's edges, is that of the level's plan.
-use Rattle.std.proofs.Common.{◌≡◌, ℕ, ◌==◌, ◌&&◌, ◌||◌, not, Bool, true, false, refl, sym, ap, ◌∙◌}
+use Rattle.std.proofs.Common.{◌≡◌, ℕ, ◌==◌, ◌||◌, not, Bool, true, false, sym, ap}
 use Rattle.level_plan.specs.declared.level.LevelEdge.{LevelEdge}
 use Rattle.level_ranks.specs.Flows.{as_asked, meets, passes}
 

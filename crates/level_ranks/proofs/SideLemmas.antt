@@ -1,5 +1,5 @@
 -- The places of ports under a fixed order, and the number of spots on a side, do not depend on means.
-use Rattle.std.proofs.Common.{◌≡◌, ◌≢◌, inl, inr, ℕ, ◌+◌, ◌<◌, ◌≤◌, Bool, true, false, List, length, get_or, refl, sym, subst, ap, ◌∙◌, arith}
+use Rattle.std.proofs.Common.{◌≡◌, ◌≢◌, inl, inr, ℕ, ◌<◌, Bool, true, false, List, length, get_or, refl, sym, subst, ap, ◌∙◌, arith}
 use Rattle.std.specs.Prelude.{Option, None, Some, IsFalse}
 use Rattle.std.proofs.lemmas.Bool.{cases_lt}
 use Rattle.elk_doc.specs.declared.shape.Side.{Side}
@@ -9,7 +9,7 @@ use Rattle.port_order.specs.declared.children.Child.{Child}
 use Rattle.port_order.specs.declared.spots.Spot.{Spot}
 use Rattle.port_order.specs.Child.{spot_at, is_pinned, is_pinned_at}
 use Rattle.port_order.specs.Sides.{is_forward, side_of}
-use Rattle.port_order.specs.Places.{HoldsOnce, place_in}
+use Rattle.port_order.specs.Places.{place_in}
 use Rattle.port_order.specs.Order.{ComesFirst, FixedFirst, IsOrderOfSide, IsSpreadOn, PortFirst}
 use Rattle.port_order.proofs.StrictLemmas.{clockwise_one_way}
 use Rattle.level_ranks.specs.Sides.{HavePorts, SamePorts, SameSpots}

@@ -1,13 +1,13 @@
 -- Ranks hold after heights and pins are known, and with these they make a level's units.
-use Rattle.std.proofs.Common.{◌≡◌, ℕ, ◌<◌, List, ℤ, length, sym, ◌∙◌, arith}
+use Rattle.std.proofs.Common.{ℕ, List, sym, ◌∙◌, arith}
 use Rattle.elk_layers.specs.Layered.{Plain}
 use Rattle.level_plan.specs.Level.{Orders, PlainLevel, PlainPlan}
-use Rattle.level_plan.specs.Units.{AreOrders, AreUnits}
+use Rattle.level_plan.specs.Units.{AreUnits}
 use Rattle.level_pins.specs.Alike.{AreAlike}
 use Rattle.level_pins.specs.Fitted.{AreFitted, AreKept}
 use Rattle.level_pins.proofs.AlikeLemmas.{no_heights}
 use Rattle.level_ranks.specs.Laws.{MakeUnits}
-use Rattle.level_ranks.specs.Ranked.{AreRanked, HasRanks, plan_of}
+use Rattle.level_ranks.specs.Ranked.{AreRanked, plan_of}
 
 pub alike_back : (a b : Plain) → AreAlike a b → AreAlike b a
 alike_back a b h =

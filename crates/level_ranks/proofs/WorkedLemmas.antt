@@ -1,5 +1,5 @@
 -- The level of the tests meets what is asked of a level.
-use Rattle.std.proofs.Common.{◌≡◌, ◌≢◌, ◌⊎◌, inr, ℕ, zero, suc, ◌<◌, ◌==◌, pos, ◌≤ℤ◌, List, [], ◌∷◌, length, get_or, true, IsFalse, refl, sym, subst, arith}
+use Rattle.std.proofs.Common.{◌≡◌, ◌≢◌, ◌⊎◌, inr, ℕ, zero, suc, ◌<◌, ◌==◌, pos, ◌≤ℤ◌, List, [], ◌∷◌, length, get_or, true, refl, sym, subst, arith}
 use Rattle.std.specs.Prelude.{Some}
 use Rattle.std.proofs.lemmas.Int.{ints}
 use Rattle.std.proofs.lemmas.List.Sums.{count_by-le-length}
@@ -7,7 +7,7 @@ use Rattle.elk_layers.specs.declared.units.Unit.{Unit as LayerUnit}
 use Rattle.elk_layers.specs.Layered.{AreRows, HasBodyWithin, HasUnit, IsSound, IsSoundLink, Plain, is_child, is_lane, layer_of, link_at, row_at, unit_at}
 use Rattle.port_order.specs.Conditions.{IsChildPort, IsSmall}
 use Rattle.level_plan.specs.Conditions.{IsLevel, IsLevelChild, IsLevelEdge, IsNearPort}
-use Rattle.level_plan.specs.Level.{PlainLevel, PlainPlan, child_at, is_loop}
+use Rattle.level_plan.specs.Level.{PlainLevel, PlainPlan, child_at}
 use Rattle.level_plan.specs.Units.{AreLinked, HasChain, IsLaneUnit, IsLinkOf, IsUnitOf}
 use Rattle.level_plan.specs.Nets.{unit_of}
 use Rattle.level_ranks.specs.Worked.{ported, ported_layered, ported_layers, ported_plan, ported_rows}

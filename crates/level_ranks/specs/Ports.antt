@@ -1,5 +1,5 @@
 -- How many ports of its side come before a port, and how many are ranked on a side.
-use Rattle.std.specs.Prelude.{◌≡◌, ◌⊎◌, ℕ, ◌+◌, ◌<◌, ◌≤◌, cond, Bool, true, false, ◌&&◌, ◌||◌, nat_lt, List, [], ◌∷◌, ℤ, pos, int_lt, map, length, slice_index}
+use Rattle.std.specs.Prelude.{◌≡◌, ◌⊎◌, ℕ, ◌<◌, ◌≤◌, cond, Bool, true, false, ◌&&◌, ◌||◌, List, [], pos, int_lt, map, length, slice_index}
 use Rattle.std.specs.List.{filter}
 use Rattle.std.specs.Ordering.{int_eq}
 use Rattle.elk_doc.specs.declared.shape.Side.{Side}

@@ -1,6 +1,5 @@
 -- The ranks of links' ends, read off a table and off the ranks of children's ports.
-use Rattle.std.specs.Prelude.{◌≡◌, ℕ, ◌+◌, ◌*◌, ◌<◌, ◌≤◌, cond, Bool, true, false, not, List, [], ℤ, Option, None, Some, is_some, length, slice_index, slice_index_or}
-use Rattle.elk_doc.specs.declared.shape.Side.{Side}
+use Rattle.std.specs.Prelude.{◌≡◌, ℕ, ◌+◌, ◌*◌, ◌<◌, ◌≤◌, cond, Bool, true, false, not, List, [], Option, None, Some, is_some, length, slice_index, slice_index_or}
 use Rattle.port_order.specs.declared.children.Child.{Child}
 use Rattle.port_order.specs.Child.{is_pinned}
 use Rattle.elk_layers.specs.declared.units.Unit.{Unit as LayerUnit}

@@ -237,7 +237,7 @@ pub(crate) fn ranked_links(
     ensures { IfOk result (λ ranked. AreRankedLinks (plain_level sheet.now.level.now) sheet.now.table.now (map plain_ranks sheet.now.ranks.now) units.now sheet.now.marks.now links.now (length links.now) ranked.items) }
 {
     let mut ranked: Vec<Link> = Vec::with_capacity(alloc, links.len())?;
-    for (k, link) in links.iter().enumerate() {
+    for link in links {
         ranked.push(ranked_link(sheet, units, *link))?;
     }
     Ok(ranked)

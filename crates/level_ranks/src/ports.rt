@@ -89,7 +89,7 @@ fn ports_of(alloc: Global, child: &Child, spots: &[Spot]) -> Result<Vec<PortAt>,
     ensures { IfOk result (λ ports. ports.items ≡ map (spec.port_at child.now) spots.now) }
 {
     let mut ports: Vec<PortAt> = Vec::with_capacity(alloc, spots.len())?;
-    for (k, spot) in spots.iter().enumerate() {
+    for spot in spots {
         ports.push(port_at(child, spot))?;
     }
     Ok(ports)
@@ -135,7 +135,7 @@ fn count_on(ports: &[PortAt], side: Side) -> u32
     ensures few { result ≤ length ports.now }
 {
     let mut count: u32 = 0;
-    for (k, port) in ports.iter().enumerate() {
+    for port in ports {
         if counts(side, *port) {
             count += 1;
         }
@@ -150,7 +150,7 @@ fn count_before(ports: &[PortAt], own: PortAt) -> u32
     ensures few { result ≤ length ports.now }
 {
     let mut count: u32 = 0;
-    for (k, port) in ports.iter().enumerate() {
+    for port in ports {
         if comes_before(own, *port) {
             count += 1;
         }
@@ -164,7 +164,7 @@ fn counted(alloc: Global, ports: &[PortAt]) -> Result<Vec<u32>, AllocError>
     ensures { IfOk result (λ before. before.items ≡ map (λ own. length (filter (comes_before own) ports.now)) ports.now) }
 {
     let mut before: Vec<u32> = Vec::with_capacity(alloc, ports.len())?;
-    for (k, own) in ports.iter().enumerate() {
+    for own in ports {
         before.push(count_before(ports, *own))?;
     }
     Ok(before)

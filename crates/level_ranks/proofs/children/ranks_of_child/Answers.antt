@@ -1,13 +1,10 @@
-use Rattle.std.proofs.Common.{[], ap, arith, length, map, sym, subst, ◌∙◌}
-use Rattle.std.specs.List.{range_with_len}
+use Rattle.std.proofs.Common.{[], ap, arith, length, sym, subst, ◌∙◌}
 use Rattle.std.proofs.lemmas.List.{get_or_read}
 use Rattle.port_order.specs.declared.children.Child.{Child}
-use Rattle.port_order.specs.declared.spots.Spot.{Spot}
 use Rattle.port_order.specs.Conditions.{IsChild}
 use Rattle.level_plan.specs.Conditions.{plain_level}
 use Rattle.level_plan.specs.Level.{child_at}
 use Rattle.level_ends.proofs.AddLemmas.{ports_few}
-use Rattle.level_ranks.specs.Flows.{seen_spot}
 use Rattle.level_ranks.specs.Ports.{ArePortSpots}
 use Rattle.level_ranks.proofs.FlowLemmas.{seen_are}
 use Rattle.level_ranks.proofs.children.ranks_of_child.Goals as goal

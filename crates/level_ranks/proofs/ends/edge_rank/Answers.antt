@@ -1,14 +1,14 @@
-use Rattle.std.proofs.Common.{◌≡◌, ◌<◌, ◌∙◌, [], true, length, get_or, map, arith, sym, subst}
+use Rattle.std.proofs.Common.{◌≡◌, ◌∙◌, [], true, length, get_or, map, arith, sym, subst}
 use Rattle.std.proofs.lemmas.List.{get_or_read, length-map}
 use Rattle.level_plan.specs.declared.level.Spoke.{Spoke}
 use Rattle.level_plan.specs.Conditions.{IsSpoke, plain_level}
-use Rattle.level_plan.specs.Level.{child_at, end_at, spoke}
+use Rattle.level_plan.specs.Level.{child_at}
 use Rattle.level_plan.specs.Units.{is_fixed}
 use Rattle.level_stands.proofs.SpotLemmas.{spoke_there}
 use Rattle.level_ends.specs.Bounds.{IsEndIn}
 use Rattle.port_order.specs.declared.children.Child.{Child}
 use Rattle.level_ranks.specs.Ports.{PlainRanks, plain_ranks}
-use Rattle.level_ranks.specs.Reading.{HasRanksIn, ranks_at}
+use Rattle.level_ranks.specs.Reading.{HasRanksIn}
 use Rattle.level_ranks.proofs.ReadLemmas.{edge_made, end_near, ranks_read}
 use Rattle.level_ranks.proofs.ends.edge_rank.Goals as goal
 

@@ -1,4 +1,4 @@
-use Rattle.std.proofs.Common.{◌∙◌, ap, ap₂, sym}
+use Rattle.std.proofs.Common.{◌∙◌, ap₂, sym}
 use Rattle.level_plan.specs.Units.{lane_rank}
 use Rattle.level_ranks.specs.Ports.{plain_ranks}
 use Rattle.level_ranks.proofs.ReadLemmas.{on_lane}

@@ -4,5 +4,5 @@ use Rattle.level_ranks.specs.Ports.{plain_ranks}
 use Rattle.level_ranks.specs.Reading.{AreRankedLinks}
 use Rattle.level_ranks.proofs.ends.ranked_links.Given as goal
 
-abbrev pub invariant-loop-k : goal.invariant-loop-k
-invariant-loop-k l = AreRankedLinks (plain_level l.sheet.level.now) l.sheet.table.now (map plain_ranks l.sheet.ranks.now) l.units l.sheet.marks.now l.links l.k l.ranked.items
+abbrev pub invariant-loop-link : goal.invariant-loop-link
+invariant-loop-link l = AreRankedLinks (plain_level l.sheet.level.now) l.sheet.table.now (map plain_ranks l.sheet.ranks.now) l.units l.sheet.marks.now l.links l.link-index l.ranked.items

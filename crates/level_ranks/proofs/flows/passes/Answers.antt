@@ -1,4 +1,4 @@
-use Rattle.std.proofs.Common.{◌≡◌, ◌==◌, ◌∙◌, true, false, not, sym, ap, subst}
+use Rattle.std.proofs.Common.{◌≡◌, ◌==◌, ◌∙◌, true, false, sym, ap, subst}
 use Rattle.level_ranks.specs.Flows.{meets}
 use Rattle.level_ranks.proofs.SeenLemmas.{first_passes, second_passes}
 use Rattle.level_ranks.proofs.flows.passes.Goals as goal

@@ -1,4 +1,3 @@
-use Rattle.std.proofs.Common.{List}
 use Rattle.std.proofs.lemmas.Result.{IfOk-weaker}
 use Rattle.level_ranks.proofs.NoteLemmas.{counted_before}
 use Rattle.level_ranks.proofs.ports.before_each.Goals as goal

@@ -3,5 +3,5 @@ use Rattle.std.specs.List.{filter}
 use Rattle.level_ranks.specs.Ports.{comes_before}
 use Rattle.level_ranks.proofs.ports.counted.Given as goal
 
-abbrev pub invariant-loop-k : goal.invariant-loop-k
-invariant-loop-k l = l.before.items ≡ map (λ own. length (filter (comes_before own) l.ports)) (take l.k l.ports)
+abbrev pub invariant-loop-own : goal.invariant-loop-own
+invariant-loop-own l = l.before.items ≡ map (λ own. length (filter (comes_before own) l.ports)) (take l.own-index l.ports)
