@@ -64,7 +64,7 @@ module _ (nodes : ℕ) (edges : List NetEdge) (old tree : List Bool) (order plac
   late : (u : ℕ) → D child u ≡ true → 0 < at u
   late u h = let a = (between_is (at child) m (at u) h).0 in let b = x.child_hangs in omega (arith, a, b)
 
-  own_child : D child child ≡ true
+  pub own_child : D child child ≡ true
   own_child = own nodes order place size up w child x.child_there
 
   begun : Begins (at child) m (at to) base
@@ -106,8 +106,8 @@ module _ (nodes : ℕ) (edges : List NetEdge) (old tree : List Bool) (order plac
       let c = ap (λ z. cond z m 0) no_to in
       omega (arith, a, b, c)
 
-  pub way_up : (resized : List ℕ) → length resized ≡ nodes → AreResized nodes place size m (up child) to resized → IsWayUp nodes edges order place size parent child from resized
-  way_up resized n sizes = record {
+  pub is_way_up : (resized : List ℕ) → length resized ≡ nodes → AreResized nodes place size m (up child) to resized → IsWayUp nodes edges order place size parent child from resized
+  is_way_up resized n sizes = record {
     walk = w;
     parent_each = x.rooted.parent_each;
     edges_there = λ v l b. (x.rooted.hangs v l refl b).is_there;

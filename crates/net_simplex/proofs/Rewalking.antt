@@ -460,82 +460,86 @@ module _ (nodes : ℕ) (order place size : List ℕ) (up : ℕ → ℕ) (w : IsW
             ]
 
 -- the same, as the code does it
-module _ (nodes : ℕ) (edges : List NetEdge) (order place size parent : List ℕ) (child from base by : ℕ) (resized : List ℕ) (y : IsWayUp nodes edges order place size parent child from resized) where
+module _ (nodes : ℕ) (edges : List NetEdge) (order place size parent : List ℕ) (child from : ℕ) (resized : List ℕ) (y : IsWayUp nodes edges order place size parent child from resized) where
   abbrev above_v : ℕ → ℕ
   above_v v = above edges parent v
 
   pub way_distinct : AreDistinct nodes order place
   way_distinct = record { nodes_are = λ p l. let n = y.walk.order_each in y.walk.in_order p (omega (arith, l, n)) }
 
+  pub own_child : part place size child child ≡ true
+  own_child = own nodes order place size above_v y.walk child y.child_there
+
   pub way_small : (v : ℕ) → v < nodes → part place size child v ≡ true → get_or resized v 0 ≤ get_or resized child 0
   way_small v l h =
       let a = y.as_before v l h in
-      let b = y.as_before child y.child_there (own nodes order place size above_v y.walk child y.child_there) in
+      let b = y.as_before child y.child_there own_child in
       let c = within nodes order place size above_v y.walk child v y.child_there l h in
       let d = (between_is (get_or place child 0) (get_or size child 0) (get_or place v 0) h).0 in
       omega (arith, a, b, c, d)
 
-  pub way_begins : (next place' next' : List ℕ) → length next ≡ nodes → base + get_or resized child 0 ≤ nodes → Plants order (get_or place from 0) (get_or place from 0 + get_or resized from 0) base next place next' place' → IsTurnedTo nodes place size parent (above edges parent) child from base by from resized place' (set resized from (get_or resized child 0)) (set parent from by) next'
-  way_begins next place' next' ln room p =
-      let f = y.as_before from y.from_there y.from_below in
-      let c = y.as_before child y.child_there (own nodes order place size above_v y.walk child y.child_there) in
-      let s = way_small from y.from_there y.from_below in
-      subst (λ m. IsTurnedTo nodes place size parent (above edges parent) child from base by from resized place' (set resized from m) (set parent from by) next') (sym c)
-      (way_start nodes order place size above_v y.walk parent child from base by y.child_there y.child_hangs y.from_there y.from_below resized next place' next' resized (subst (λ m. Plants order (get_or place from 0) (get_or place from 0 + m) base next place next' place') f p) ln (omega (arith, f, s, room)) y.resized_each y.parent_each)
+  module _ (base by : ℕ) where
+    pub way_begins : (next place' next' : List ℕ) → length next ≡ nodes → base + get_or resized child 0 ≤ nodes → Plants order (get_or place from 0) (get_or place from 0 + get_or resized from 0) base next place next' place' → IsTurnedTo nodes place size parent (above edges parent) child from base by from resized place' (set resized from (get_or resized child 0)) (set parent from by) next'
+    way_begins next place' next' ln room p =
+        let f = y.as_before from y.from_there y.from_below in
+        let c = y.as_before child y.child_there own_child in
+        let s = way_small from y.from_there y.from_below in
+        subst (λ m. IsTurnedTo nodes place size parent (above edges parent) child from base by from resized place' (set resized from m) (set parent from by) next') (sym c)
+        (way_start nodes order place size above_v y.walk parent child from base by y.child_there y.child_hangs y.from_there y.from_below resized next place' next' resized (subst (λ m. Plants order (get_or place from 0) (get_or place from 0 + m) base next place next' place') f p) ln (omega (arith, f, s, room)) y.resized_each y.parent_each)
 
-  module _ (v : ℕ) (place1 size1 parent1 next1 : List ℕ) (t : IsTurnedTo nodes place size parent (above edges parent) child from base by v resized place1 size1 parent1 next1) (ne : v ≢ child) where
-    abbrev x : ℕ
-    x = above edges parent v
+    module _ (v : ℕ) (place1 size1 parent1 next1 : List ℕ) (t : IsTurnedTo nodes place size parent (above edges parent) child from base by v resized place1 size1 parent1 next1) (ne : v ≢ child) where
+      abbrev upper_v : ℕ
+      upper_v = above edges parent v
 
-    pub up_there : x < nodes
-    up_there = next_there nodes order place size above_v y.walk parent child from base by y.child_there y.child_hangs y.from_there y.from_below resized v place1 size1 parent1 next1 t ne
+      pub up_there : upper_v < nodes
+      up_there = next_there nodes order place size above_v y.walk parent child from base by y.child_there y.child_hangs y.from_there y.from_below resized v place1 size1 parent1 next1 t ne
 
-    pub up_earlier : get_or place x 0 < get_or place v 0
-    up_earlier = next_earlier nodes order place size above_v y.walk parent child from base by y.child_there y.child_hangs y.from_there y.from_below resized v place1 size1 parent1 next1 t ne
+      pub up_earlier : get_or place upper_v 0 < get_or place v 0
+      up_earlier = next_earlier nodes order place size above_v y.walk parent child from base by y.child_there y.child_hangs y.from_there y.from_below resized v place1 size1 parent1 next1 t ne
 
-    pub up_wide : get_or place v 0 + get_or size v 0 ≤ get_or place x 0 + get_or size x 0
-    up_wide = next_wide nodes order place size above_v y.walk parent child from base by y.child_there y.child_hangs y.from_there y.from_below resized v place1 size1 parent1 next1 t ne
+      pub up_wide : get_or place v 0 + get_or size v 0 ≤ get_or place upper_v 0 + get_or size upper_v 0
+      up_wide = next_wide nodes order place size above_v y.walk parent child from base by y.child_there y.child_hangs y.from_there y.from_below resized v place1 size1 parent1 next1 t ne
 
-    pub up_small : get_or size v 0 < get_or size x 0
-    up_small = next_small nodes order place size above_v y.walk parent child from base by y.child_there y.child_hangs y.from_there y.from_below resized v place1 size1 parent1 next1 t ne
+      pub up_small : get_or size v 0 < get_or size upper_v 0
+      up_small = next_small nodes order place size above_v y.walk parent child from base by y.child_there y.child_hangs y.from_there y.from_below resized v place1 size1 parent1 next1 t ne
 
-    pub up_within : get_or size x 0 ≤ get_or size child 0
-    up_within = next_within nodes order place size above_v y.walk parent child from base by y.child_there y.child_hangs y.from_there y.from_below resized v place1 size1 parent1 next1 t ne
+      pub up_within : get_or size upper_v 0 ≤ get_or size child 0
+      up_within = next_within nodes order place size above_v y.walk parent child from base by y.child_there y.child_hangs y.from_there y.from_below resized v place1 size1 parent1 next1 t ne
 
-    pub up_place : get_or place1 x 0 ≡ get_or place x 0
-    up_place = next_place nodes order place size above_v y.walk parent child from base by y.child_there y.child_hangs y.from_there y.from_below resized v place1 size1 parent1 next1 t ne
+      pub up_place : get_or place1 upper_v 0 ≡ get_or place upper_v 0
+      up_place = next_place nodes order place size above_v y.walk parent child from base by y.child_there y.child_hangs y.from_there y.from_below resized v place1 size1 parent1 next1 t ne
 
-    pub up_parent : get_or parent1 x 0 ≡ get_or parent x 0
-    up_parent = next_parent nodes order place size above_v y.walk parent child from base by y.child_there y.child_hangs y.from_there y.from_below resized v place1 size1 parent1 next1 t ne
+      pub up_parent : get_or parent1 upper_v 0 ≡ get_or parent upper_v 0
+      up_parent = next_parent nodes order place size above_v y.walk parent child from base by y.child_there y.child_hangs y.from_there y.from_below resized v place1 size1 parent1 next1 t ne
 
-    pub up_size : get_or size1 x 0 ≡ get_or size x 0
-    up_size =
-        next_size nodes order place size above_v y.walk parent child from base by y.child_there y.child_hangs y.from_there y.from_below resized v place1 size1 parent1 next1 t ne
-        ∙ y.as_before x up_there (next_in nodes order place size above_v y.walk parent child from base by y.child_there y.child_hangs y.from_there y.from_below resized v place1 size1 parent1 next1 t ne)
+      pub up_size : get_or size1 upper_v 0 ≡ get_or size upper_v 0
+      up_size =
+          next_size nodes order place size above_v y.walk parent child from base by y.child_there y.child_hangs y.from_there y.from_below resized v place1 size1 parent1 next1 t ne
+          ∙ y.as_before upper_v up_there (next_in nodes order place size above_v y.walk parent child from base by y.child_there y.child_hangs y.from_there y.from_below resized v place1 size1 parent1 next1 t ne)
 
-    pub edge_there : get_or parent v 0 < length edges
-    edge_there =
-        let b = (between_is (get_or place child 0) (get_or size child 0) (get_or place v 0) t.in_part).0 in
-        let l = y.child_hangs in
-        y.edges_there v t.there (omega (arith, b, l))
+      pub edge_there : get_or parent v 0 < length edges
+      edge_there =
+          let b = (between_is (get_or place child 0) (get_or size child 0) (get_or place v 0) t.in_part).0 in
+          let l = y.child_hangs in
+          y.edges_there v t.there (omega (arith, b, l))
 
-    pub way_goes_on : (z link low held many : ℕ) (place3 size3 parent3 next3 : List ℕ) → z ≡ x → link ≡ get_or parent v 0 → low ≡ get_or place v 0 → held ≡ get_or size v 0 → many ≡ get_or size child 0 → TurnsNext order z link low held base many place1 size1 parent1 next1 place3 size3 parent3 next3 → IsTurnedTo nodes place size parent (above edges parent) child from base by z resized place3 size3 parent3 next3
-    way_goes_on z link low held many place3 size3 parent3 next3 ez el eo eh em r =
-        let at = get_or place v 0 in
-        let wide = get_or size v 0 in
-        let r1 : TurnsNext order x (get_or parent v 0) at wide base (get_or size child 0) place1 size1 parent1 next1 place3 size3 parent3 next3 =
-        subst (λ j. TurnsNext order x (get_or parent v 0) at wide base j place1 size1 parent1 next1 place3 size3 parent3 next3) em
-        (subst (λ j. TurnsNext order x (get_or parent v 0) at j base many place1 size1 parent1 next1 place3 size3 parent3 next3) eh
-        (subst (λ j. TurnsNext order x (get_or parent v 0) j held base many place1 size1 parent1 next1 place3 size3 parent3 next3) eo
-        (subst (λ j. TurnsNext order x j low held base many place1 size1 parent1 next1 place3 size3 parent3 next3) el
-        (subst (λ j. TurnsNext order j link low held base many place1 size1 parent1 next1 place3 size3 parent3 next3) ez r))))
-        in
-        let p : Plants order (get_or place x 0) at (base + wide) next1 place1 r1.next_between r1.place_between = subst (λ j. Plants order j at (base + wide) next1 place1 r1.next_between r1.place_between) up_place r1.before in
-        let q : Plants order (at + wide) (get_or place x 0 + get_or size x 0) (base + wide + (at - get_or place x 0)) r1.next_between r1.place_between next3 place3 =
-        subst (λ j. Plants order (at + wide) (get_or place x 0 + j) (base + wide + (at - get_or place x 0)) r1.next_between r1.place_between next3 place3) up_size
-        (subst (λ j. Plants order (at + wide) (j + get_or size1 x 0) (base + wide + (at - j)) r1.next_between r1.place_between next3 place3) up_place r1.behind)
-        in
-        let m = way_more nodes order place size above_v y.walk parent child from base by y.child_there y.child_hangs y.from_there y.from_below resized v place1 size1 parent1 next1 t ne r1.next_between r1.place_between next3 place3 p q in
-        subst (λ j. IsTurnedTo nodes place size parent (above edges parent) child from base by j resized place3 size3 parent3 next3) (sym ez)
-        (subst (λ j. IsTurnedTo nodes place size parent (above edges parent) child from base by x resized place3 j parent3 next3) (sym r1.size_is)
-        (subst (λ j. IsTurnedTo nodes place size parent (above edges parent) child from base by x resized place3 (set size1 x (get_or size child 0 - wide)) j next3) (sym r1.parent_is) m))
+      pub way_goes_on : (z link low held many : ℕ) (place3 size3 parent3 next3 : List ℕ) → z ≡ upper_v → link ≡ get_or parent v 0 → low ≡ get_or place v 0 → held ≡ get_or size v 0 → many ≡ get_or size child 0 → TurnsNext order z link low held base many place1 size1 parent1 next1 place3 size3 parent3 next3 → IsTurnedTo nodes place size parent (above edges parent) child from base by z resized place3 size3 parent3 next3
+      way_goes_on z link low held many place3 size3 parent3 next3 ez el eo eh em r =
+          let at = get_or place v 0 in
+          let wide = get_or size v 0 in
+          let r1 : TurnsNext order upper_v (get_or parent v 0) at wide base (get_or size child 0) place1 size1 parent1 next1 place3 size3 parent3 next3 =
+          subst (λ j. TurnsNext order upper_v (get_or parent v 0) at wide base j place1 size1 parent1 next1 place3 size3 parent3 next3) em
+          (subst (λ j. TurnsNext order upper_v (get_or parent v 0) at j base many place1 size1 parent1 next1 place3 size3 parent3 next3) eh
+          (subst (λ j. TurnsNext order upper_v (get_or parent v 0) j held base many place1 size1 parent1 next1 place3 size3 parent3 next3) eo
+          (subst (λ j. TurnsNext order upper_v j low held base many place1 size1 parent1 next1 place3 size3 parent3 next3) el
+          (subst (λ j. TurnsNext order j link low held base many place1 size1 parent1 next1 place3 size3 parent3 next3) ez r))))
+          in
+          let p : Plants order (get_or place upper_v 0) at (base + wide) next1 place1 r1.next_between r1.place_between = subst (λ j. Plants order j at (base + wide) next1 place1 r1.next_between r1.place_between) up_place r1.before in
+          let q : Plants order (at + wide) (get_or place upper_v 0 + get_or size upper_v 0) (base + wide + (at - get_or place upper_v 0)) r1.next_between r1.place_between next3 place3 =
+          subst (λ j. Plants order (at + wide) (get_or place upper_v 0 + j) (base + wide + (at - get_or place upper_v 0)) r1.next_between r1.place_between next3 place3) up_size
+          (subst (λ j. Plants order (at + wide) (j + get_or size1 upper_v 0) (base + wide + (at - j)) r1.next_between r1.place_between next3 place3) up_place r1.behind)
+          in
+          let m = way_more nodes order place size above_v y.walk parent child from base by y.child_there y.child_hangs y.from_there y.from_below resized v place1 size1 parent1 next1 t ne r1.next_between r1.place_between next3 place3 p q in
+          subst (λ j. IsTurnedTo nodes place size parent (above edges parent) child from base by j resized place3 size3 parent3 next3) (sym ez)
+          (subst (λ j. IsTurnedTo nodes place size parent (above edges parent) child from base by upper_v resized place3 j parent3 next3) (sym r1.size_is)
+          (subst (λ j. IsTurnedTo nodes place size parent (above edges parent) child from base by upper_v resized place3 (set size1 upper_v (get_or size child 0 - wide)) j next3) (sym r1.parent_is) m))
