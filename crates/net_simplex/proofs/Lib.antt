@@ -18,6 +18,8 @@ pub mod Rewalking
 pub mod Replanting
 pub mod Filling
 pub mod Resizing
+pub mod Sizing
+pub mod Placing
 pub mod FirstTree
 pub mod Spreading
 pub mod Stepping
