@@ -1,8 +1,8 @@
 -- What holds of a tree that hangs from node 0.
-use Rattle.std.proofs.Common.{◌≡◌, ◌≢◌, ℕ, zero, suc, ◌+◌, ◌<◌, ◌≤◌, eqb, eq-eqb, cond, Bool, true, false, ◌||◌, ◌⊎◌, List, length, set, get_or, arith, refl, sym, ap, subst, ◌∙◌, inl, inr}
+use Rattle.std.proofs.Common.{◌≡◌, ◌≢◌, ℕ, zero, suc, ◌<◌, eqb, eq-eqb, cond, Bool, true, false, ◌⊎◌, List, length, set, get_or, arith, refl, sym, ap, subst, ◌∙◌, inl, inr}
 use Rattle.std.proofs.lemmas.Bool.{cases_eq, cases_Bool}
 use Rattle.std.proofs.lemmas.Bool.Decides.{nat_tests}
-use Rattle.std.proofs.lemmas.List.{get_or-set_same, get_or-set_other, length-set}
+use Rattle.std.proofs.lemmas.List.{get_or-set_other}
 use Rattle.layering_laws.specs.declared.network.NetEdge.{NetEdge}
 use Rattle.layering_laws.specs.Network.{edge_at, EndsBelow}
 use Rattle.layering_laws.specs.Linked.{is_marked, Linked}

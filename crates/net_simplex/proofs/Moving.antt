@@ -1,9 +1,9 @@
 -- The places of the nodes outside a block, where the block goes to another place.
-use Rattle.std.proofs.Common.{◌≡◌, ℕ, ◌+◌, ◌-◌, ◌<◌, ◌≤◌, cond, Bool, true, false, ltb, ◌⊎◌, arith, refl, sym, ap, ◌∙◌, inl, inr}
-use Rattle.std.proofs.lemmas.Bool.{cases_lt, cases_Bool}
+use Rattle.std.proofs.Common.{◌≡◌, ℕ, ◌+◌, ◌-◌, ◌<◌, ◌≤◌, ◌⊎◌, arith, refl, sym, ◌∙◌, inl, inr}
+use Rattle.std.proofs.lemmas.Bool.{cases_lt}
 use Rattle.std.proofs.lemmas.Bool.Decides.{nat_tests}
 use Rattle.net_simplex.specs.Walks.{between, moved, first_place}
-use Rattle.net_simplex.proofs.Walking.{between_is, is_between, before_it, behind_it, same_test}
+use Rattle.net_simplex.proofs.Walking.{between_is, is_between, same_test}
 
 -- the block of m places from a on, which goes to behind place t
 module _ (a m t : ℕ) where
@@ -86,23 +86,25 @@ module _ (a m t : ℕ) where
     stays_in h k =
         let o = gp.outside in
         let n = w.nested in
-        let r = gq.outside in
-        (grind (arith, h, k, off, o, n, r, gp.up, gp.before, gp.down, gp.behind, gq.up, gq.before, gq.down, gq.behind),
-         grind (arith, h, k, off, o, n, r, gp.up, gp.before, gp.down, gp.behind, gq.up, gq.before, gq.down, gq.behind, w.both, w.loses, w.gains, w.none))
+        let r = gq.outside in (
+          grind (arith, h, k, off, o, n, r, gp.up, gp.before, gp.down, gp.behind, gq.up, gq.before, gq.down, gq.behind),
+          grind (arith, h, k, off, o, n, r, gp.up, gp.before, gp.down, gp.behind, gq.up, gq.before, gq.down, gq.behind, w.both, w.loses, w.gains, w.none),
+        )
 
     stays_out : p' ≤ q' → q' < p' + s' → (p ≤ q) × (q < p + s)
     stays_out h k =
         let o = gp.outside in
         let n = w.nested in
-        let r = gq.outside in
-        (grind (arith, h, k, off, o, n, r, gp.up, gp.before, gp.down, gp.behind, gq.up, gq.before, gq.down, gq.behind, w.both, w.loses, w.gains, w.none),
-         grind (arith, h, k, off, o, n, r, gp.up, gp.before, gp.down, gp.behind, gq.up, gq.before, gq.down, gq.behind, w.both, w.loses, w.gains, w.none))
+        let r = gq.outside in (
+          grind (arith, h, k, off, o, n, r, gp.up, gp.before, gp.down, gp.behind, gq.up, gq.before, gq.down, gq.behind, w.both, w.loses, w.gains, w.none),
+          grind (arith, h, k, off, o, n, r, gp.up, gp.before, gp.down, gp.behind, gq.up, gq.before, gq.down, gq.behind, w.both, w.loses, w.gains, w.none),
+        )
 
     -- what is outside stays in it or out of it
     pub stays : between p' s' q' ≡ between p s q
     stays = same_test (between p' s' q') (between p s q)
-      (λ e. let b = between_is p' s' q' e in let r = stays_out b.0 b.1 in is_between p s q r.0 r.1)
-      (λ e. let b = between_is p s q e in let r = stays_in b.0 b.1 in is_between p' s' q' r.0 r.1)
+        (λ e. let b = between_is p' s' q' e in let r = stays_out b.0 b.1 in is_between p s q r.0 r.1)
+        (λ e. let b = between_is p s q e in let r = stays_in b.0 b.1 in is_between p' s' q' r.0 r.1)
 
   pub record Begins (base : ℕ) : Type 0 where
     pub from_up : t < a → base ≡ t + 1
@@ -120,21 +122,23 @@ module _ (a m t : ℕ) where
       comes_in : p ≤ t → t < p + s → (p' ≤ q) × (q < p' + s')
       comes_in h k =
           let o = gp.outside in
-          let n = w.nested in
-          (grind (arith, h, k, off, o, n, l, r, gp.up, gp.before, gp.down, gp.behind, b.from_up, b.from_down),
-           grind (arith, h, k, off, o, n, l, r, gp.up, gp.before, gp.down, gp.behind, b.from_up, b.from_down, w.both, w.gains))
+          let n = w.nested in (
+            grind (arith, h, k, off, o, n, l, r, gp.up, gp.before, gp.down, gp.behind, b.from_up, b.from_down),
+            grind (arith, h, k, off, o, n, l, r, gp.up, gp.before, gp.down, gp.behind, b.from_up, b.from_down, w.both, w.gains),
+          )
 
       came_in : p' ≤ q → q < p' + s' → (p ≤ t) × (t < p + s)
       came_in h k =
           let o = gp.outside in
-          let n = w.nested in
-          (grind (arith, h, k, off, o, n, l, r, gp.up, gp.before, gp.down, gp.behind, b.from_up, b.from_down, w.both, w.loses, w.gains, w.none),
-           grind (arith, h, k, off, o, n, l, r, gp.up, gp.before, gp.down, gp.behind, b.from_up, b.from_down, w.both, w.loses, w.gains, w.none))
+          let n = w.nested in (
+            grind (arith, h, k, off, o, n, l, r, gp.up, gp.before, gp.down, gp.behind, b.from_up, b.from_down, w.both, w.loses, w.gains, w.none),
+            grind (arith, h, k, off, o, n, l, r, gp.up, gp.before, gp.down, gp.behind, b.from_up, b.from_down, w.both, w.loses, w.gains, w.none),
+          )
 
       pub comes : between p' s' q ≡ between p s t
       comes = same_test (between p' s' q) (between p s t)
-        (λ e. let x = between_is p' s' q e in let y = came_in x.0 x.1 in is_between p s t y.0 y.1)
-        (λ e. let x = between_is p s t e in let y = comes_in x.0 x.1 in is_between p' s' q y.0 y.1)
+          (λ e. let x = between_is p' s' q e in let y = came_in x.0 x.1 in is_between p s t y.0 y.1)
+          (λ e. let x = between_is p s t e in let y = comes_in x.0 x.1 in is_between p' s' q y.0 y.1)
 
     -- outside the block's new places
     pub goes_off : (p p' : ℕ) → Goes p p' → (p' < base) ⊎ (base + m ≤ p')

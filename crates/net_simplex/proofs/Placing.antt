@@ -3,12 +3,12 @@ use Rattle.std.proofs.Common.{◌≡◌, ◌≢◌, ℕ, zero, suc, ◌+◌, ◌
 use Rattle.std.proofs.lemmas.Bool.{cases_eq, cases_lt, cases_Bool}
 use Rattle.std.proofs.lemmas.List.{get_or-set_same, get_or-set_other, length-set}
 use Rattle.layering_laws.specs.declared.network.NetEdge.{NetEdge}
-use Rattle.layering_laws.specs.Network.{EndsBelow, edge_at}
-use Rattle.net_simplex.specs.Rooted.{above, beyond, holding, HangsBy, IsRooted, all_held}
+use Rattle.layering_laws.specs.Network.{EndsBelow}
+use Rattle.net_simplex.specs.Rooted.{above, holding, IsRooted, all_held}
 use Rattle.net_simplex.specs.Walks.{part, between, hung_size, IsWalk, AreSizes, ArePlacedTo, ArePlaced, TakesPlace}
 use Rattle.net_simplex.proofs.Hanging.{ne_eqb, root_place, is_root, not_root, same_place, above_there, above_earlier}
 use Rattle.net_simplex.proofs.Planting.{holding_more, holding_none, holding_room, holding_all}
-use Rattle.net_simplex.proofs.Walking.{clash, same_test, is_between, between_is, between_not, before_it, behind_it, earlier}
+use Rattle.net_simplex.proofs.Walking.{clash, same_test, is_between, between_is, before_it, behind_it, earlier}
 use Rattle.net_simplex.proofs.Sizing.{hung_none}
 
 module _ (nodes : ℕ) (edges : List NetEdge) (tree : List Bool) (order old parent : List ℕ) (r : IsRooted nodes edges tree order old parent) (ends : EndsBelow nodes edges) (size : List ℕ) (sizes : AreSizes nodes order (above edges parent) size) where
@@ -131,24 +131,24 @@ module _ (nodes : ℕ) (edges : List NetEdge) (tree : List Bool) (order old pare
               subst (λ y. D y p ≡ between (at y) (wide y) (on p)) (sym same)
               (is_between (at p) (wide p) (at p) (omega arith) (omega (arith, z)) ∙ sym (is_between (at p) (wide p) (on p) (omega (arith, e)) (omega (arith, f, g))))
           | inr ne ↦ same_test (D x p) (between (at x) (wide x) (on p))
-            (λ h.
-                let n = s.nested x p l p_there b p_was ne h in
-                let n0 = n.0 in
-                let n1 = n.1 in
-                is_between (at x) (wide x) (on p) (omega (arith, n0, e)) (omega (arith, f, g, n1, k)))
-            (λ h.
-                let q = between_is (at x) (wide x) (on p) h in
-                let q0 = q.0 in
-                let q1 = q.1 in
-                elim (cases_lt (at p) (at x)) [
-                  | inr a ↦ elim (cases_lt (at p) (at x + wide x)) [
-                    | inl c ↦ is_between (at x) (wide x) (at p) a c
-                    | inr c ↦ absurd (omega (arith, c, e, q1))
-                  ]
-                  | inl a ↦
-                      let n = (s.nested p x p_there l p_was b (λ z. ne (sym z)) (is_between (at p) (wide p) (at x) (omega (arith, a)) (omega (arith, q0, f, g)))).1 in
-                      absurd (omega (arith, n, q1))
-                ])
+              (λ h.
+              let n = s.nested x p l p_there b p_was ne h in
+              let n0 = n.0 in
+              let n1 = n.1 in
+              is_between (at x) (wide x) (on p) (omega (arith, n0, e)) (omega (arith, f, g, n1, k)))
+              (λ h.
+              let q = between_is (at x) (wide x) (on p) h in
+              let q0 = q.0 in
+              let q1 = q.1 in
+              elim (cases_lt (at p) (at x)) [
+                | inr a ↦ elim (cases_lt (at p) (at x + wide x)) [
+                  | inl c ↦ is_between (at x) (wide x) (at p) a c
+                  | inr c ↦ absurd (omega (arith, c, e, q1))
+                ]
+                | inl a ↦
+                    let n = (s.nested p x p_there l p_was b (λ z. ne (sym z)) (is_between (at p) (wide p) (at x) (omega (arith, a)) (omega (arith, q0, f, g)))).1 in
+                    absurd (omega (arith, n, q1))
+              ])
         ]
 
     abbrev place' : List ℕ
@@ -221,12 +221,12 @@ module _ (nodes : ℕ) (edges : List NetEdge) (tree : List Bool) (order old pare
         let split : i + count ≡ nodes - 1 = omega (arith, all) in
         let begin : 1 + i ≡ suc i = omega arith in
         let h = hung_none order (above edges parent) size v i count 1 (λ j a b e.
-            let o = r.in_order j (omega (arith, b, all)) in
-            let o1 = o.1 in
-            let z = above_earlier nodes edges tree order old parent r (get_or order j 0) o.0 (omega (arith, o1, a)) in
-            let y = ap was e in
-            let q = v_was in
-            omega (arith, z, y, q, o1, b))
+        let o = r.in_order j (omega (arith, b, all)) in
+        let o1 = o.1 in
+        let z = above_earlier nodes edges tree order old parent r (get_or order j 0) o.0 (omega (arith, o1, a)) in
+        let y = ap was e in
+        let q = v_was in
+        omega (arith, z, y, q, o1, b))
         in
         sym (ap (hung_size order (above edges parent) size v 1) (sym split) ∙ (h ∙ ap (λ j. hung_size order (above edges parent) size v j count) begin))
 
@@ -387,9 +387,9 @@ count_stood place nodes (suc n) there apart =
     let r = count_stood place nodes n (λ v l. there v (omega (arith, l))) (λ u v a b e. apart u v (omega (arith, a)) (omega (arith, b)) e) in
     let q = get_or place n 0 in
     let m = holding_more (stands place n) (stands place (suc n)) nodes q (there n (omega arith))
-      (not_stood place n q (λ v l e. let z = apart v n (omega (arith, l)) (omega arith) e in omega (arith, z, l)))
-      (ap (λ z. z || stands place n q) (eq-eqb q q refl))
-      (λ u l ne. ap (λ z. z || stands place n u) (ne_eqb q u (λ e. ne (sym e))))
+    (not_stood place n q (λ v l e. let z = apart v n (omega (arith, l)) (omega arith) e in omega (arith, z, l)))
+    (ap (λ z. z || stands place n q) (eq-eqb q q refl))
+    (λ u l ne. ap (λ z. z || stands place n u) (ne_eqb q u (λ e. ne (sym e))))
     in
     omega (arith, r, m)
 

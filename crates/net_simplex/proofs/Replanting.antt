@@ -5,9 +5,9 @@ use Rattle.layering_laws.specs.declared.network.NetEdge.{NetEdge}
 use Rattle.layering_laws.specs.Network.{edge_at, EndsBelow}
 use Rattle.layering_laws.specs.Linked.{is_marked}
 use Rattle.net_simplex.specs.Rooted.{beyond, above, HangsBy, IsRooted, all_held}
-use Rattle.net_simplex.specs.Walks.{between, part, IsWalk, moved, first_place}
+use Rattle.net_simplex.specs.Walks.{part, IsWalk, moved, first_place}
 use Rattle.net_simplex.specs.Turning.{Exchanges, AreResized, AreDistinct, IsTurned, IsTurnedTo, IsWayUp, Settles}
-use Rattle.net_simplex.proofs.Hanging.{beyond_is_end, beyond_back, from_tail, from_head, parent_once}
+use Rattle.net_simplex.proofs.Hanging.{beyond_is_end, beyond_back, parent_once}
 use Rattle.net_simplex.proofs.Planting.{holding_all}
 use Rattle.net_simplex.proofs.Walking.{clash, is_between, between_is, between_not, before_it, behind_it, same_test, own, alone, root_at, is_root, earlier, passes, within}
 use Rattle.net_simplex.proofs.Moving.{Goes, goes, goes_once, Widens, still_fits, stays, Begins, begins, comes, goes_off, comes_from}
@@ -203,10 +203,13 @@ module _ (nodes : ℕ) (edges : List NetEdge) (old tree : List Bool) (order plac
               | inl i ↦
                   let b = (between_is (at v) (wide v) (at child) i).0 in
                   let c = within nodes order place size up w v child lv x.child_there i in
-                  inl (elim (cases_eq (at v) (at child)) [
-                    | inl e ↦ clash (D child v) (ap (D child) (alone nodes order place size up w v child lv x.child_there e) ∙ own_child) out
-                    | inr ne ↦ omega (arith, b, ne)
-                  ], c)
+                  inl (
+                    elim (cases_eq (at v) (at child)) [
+                      | inl e ↦ clash (D child v) (ap (D child) (alone nodes order place size up w v child lv x.child_there e) ∙ own_child) out
+                      | inr ne ↦ omega (arith, b, ne)
+                    ],
+                    c,
+                  )
               | inr i ↦ inr (elim (between_not (at v) (wide v) (at child) i) [
                 | inl b ↦ inr (elim (aside v out) [
                   | inl c ↦ absurd (omega (arith, b, c))
@@ -273,25 +276,25 @@ module _ (nodes : ℕ) (edges : List NetEdge) (old tree : List Bool) (order plac
           let e = off_size in
           same_test (D' v u) (D v u)
           (λ k.
-              let b = between_is (at' v) (wide' v) (at' u) k in
-              let b0 = b.0 in
-              let b1 = b.1 in
-              let f = w.fits v lv in
-              let i = at v + (at' u - at' v) in
-              let o = w.in_order i (omega (arith, b0, b1, e, f)) in
-              let o1 = o.1 in
-              let z = get_or order i 0 in
-              let h : D v z ≡ true = is_between (at v) (wide v) (at z) (omega (arith, o1, b0)) (omega (arith, o1, b0, b1, e)) in
-              let a = off_shift z o.0 h in
-              let same : at' z ≡ at' u = omega (arith, a, o1, b0) in
-              let zu : z ≡ u = sym (node_in z o.0 (passes nodes order place size up w child v z x.child_there lv o.0 inside h)) ∙ (ap (λ p. get_or next1 p 0) same ∙ node_in u lu hu) in
-              subst (λ y. D v y ≡ true) zu h)
+          let b = between_is (at' v) (wide' v) (at' u) k in
+          let b0 = b.0 in
+          let b1 = b.1 in
+          let f = w.fits v lv in
+          let i = at v + (at' u - at' v) in
+          let o = w.in_order i (omega (arith, b0, b1, e, f)) in
+          let o1 = o.1 in
+          let z = get_or order i 0 in
+          let h : D v z ≡ true = is_between (at v) (wide v) (at z) (omega (arith, o1, b0)) (omega (arith, o1, b0, b1, e)) in
+          let a = off_shift z o.0 h in
+          let same : at' z ≡ at' u = omega (arith, a, o1, b0) in
+          let zu : z ≡ u = sym (node_in z o.0 (passes nodes order place size up w child v z x.child_there lv o.0 inside h)) ∙ (ap (λ p. get_or next1 p 0) same ∙ node_in u lu hu) in
+          subst (λ y. D v y ≡ true) zu h)
           (λ k.
-              let b = between_is (at v) (wide v) (at u) k in
-              let b0 = b.0 in
-              let b1 = b.1 in
-              let a = off_shift u lu k in
-              is_between (at' v) (wide' v) (at' u) (omega (arith, a, b0)) (omega (arith, a, b0, b1, e)))
+          let b = between_is (at v) (wide v) (at u) k in
+          let b0 = b.0 in
+          let b1 = b.1 in
+          let a = off_shift u lu k in
+          is_between (at' v) (wide' v) (at' u) (omega (arith, a, b0)) (omega (arith, a, b0, b1, e)))
 
       off_out : (u : ℕ) → u < nodes → D child u ≡ false → D' v u ≡ false
       off_out u lu hu =

@@ -1,10 +1,10 @@
 -- The sizes on the way between two nodes change, where a block goes from what the one hangs on to what the other hangs on.
-use Rattle.std.proofs.Common.{◌≡◌, ◌≢◌, ℕ, ◌+◌, ◌-◌, ◌<◌, ◌≤◌, cond, Bool, true, false, List, length, set, get_or, arith, refl, sym, ap, subst, ◌∙◌, inl, inr}
-use Rattle.std.proofs.lemmas.Bool.{cases_eq, cases_Bool}
+use Rattle.std.proofs.Common.{◌≡◌, ◌≢◌, ℕ, ◌+◌, ◌-◌, ◌<◌, ◌≤◌, cond, Bool, true, false, List, set, get_or, arith, sym, ap, subst, ◌∙◌, inl, inr}
+use Rattle.std.proofs.lemmas.Bool.{cases_eq}
 use Rattle.std.proofs.lemmas.List.{get_or-set_same, get_or-set_other, length-set}
 use Rattle.net_simplex.specs.Walks.{part, IsWalk}
 use Rattle.net_simplex.specs.Turning.{AreResized, AreResizedTo}
-use Rattle.net_simplex.proofs.Walking.{clash, between_is, before_it, own, alone, earlier, passes}
+use Rattle.net_simplex.proofs.Walking.{before_it, own, alone, earlier, passes}
 
 counted : (b : Bool) (n : ℕ) → b ≡ true → cond b n 0 ≡ n
 counted b n h = ap (λ z. cond z n 0) h

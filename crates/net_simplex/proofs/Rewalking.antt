@@ -6,7 +6,7 @@ use Rattle.layering_laws.specs.declared.network.NetEdge.{NetEdge}
 use Rattle.net_simplex.specs.Rooted.{above}
 use Rattle.net_simplex.specs.Walks.{part, IsWalk}
 use Rattle.net_simplex.specs.Turning.{AreDistinct, Plants, IsTurned, IsTurnedTo, IsWayUp, TurnsNext}
-use Rattle.net_simplex.proofs.Walking.{clash, is_between, between_is, between_not, before_it, behind_it, own, alone, earlier, passes, within}
+use Rattle.net_simplex.proofs.Walking.{clash, is_between, between_is, between_not, before_it, own, alone, earlier, passes, within}
 
 module _ (nodes : ℕ) (order place size : List ℕ) (up : ℕ → ℕ) (w : IsWalk nodes order place size up) where
   abbrev at : ℕ → ℕ

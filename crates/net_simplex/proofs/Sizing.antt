@@ -1,5 +1,5 @@
 -- The sizes of the parts, summed from the last node of an order to the first.
-use Rattle.std.proofs.Common.{◌≡◌, ◌≢◌, ℕ, zero, suc, ◌+◌, ◌-◌, ◌<◌, ◌≤◌, eqb, eq-eqb, cond, Bool, true, false, List, length, set, get_or, arith, refl, sym, ap, subst, ◌∙◌, inl, inr}
+use Rattle.std.proofs.Common.{◌≡◌, ◌≢◌, ℕ, zero, suc, ◌+◌, ◌-◌, ◌<◌, ◌≤◌, eqb, eq-eqb, cond, Bool, List, length, set, get_or, arith, refl, sym, ap, subst, ◌∙◌, inl, inr}
 use Rattle.std.proofs.lemmas.Bool.{cases_eq}
 use Rattle.std.proofs.lemmas.List.{get_or-set_same, get_or-set_other, length-set}
 use Rattle.layering_laws.specs.declared.network.NetEdge.{NetEdge}
@@ -154,8 +154,8 @@ module _ (nodes : ℕ) (edges : List NetEdge) (tree : List Bool) (order place pa
       total =
           let t = s.total in
           let a = sum_more f (λ j. get_or size' (get_or order j 0) 0) p (get_or place u 0) (get_or size v 0) u_early
-            (ap (λ z. get_or size' z 0) (r.placed u u_there refl).1 ∙ (same_node ∙ ap (λ z. z + get_or size v 0) (sym at_u)))
-            (λ j l ne. other_node (get_or order j 0) (not_u j (omega (arith, l, there)) ne))
+          (ap (λ z. get_or size' z 0) (r.placed u u_there refl).1 ∙ (same_node ∙ ap (λ z. z + get_or size v 0) (sym at_u)))
+          (λ j l ne. other_node (get_or order j 0) (not_u j (omega (arith, l, there)) ne))
           in
           omega (arith, t, a);
     }

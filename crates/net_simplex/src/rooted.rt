@@ -4,7 +4,7 @@
 ghost use Rattle.std.specs.Prelude.{◌≡◌, ◌≢◌, ◌<◌, length, set, slice_index};
 ghost use Rattle.layering_laws.specs.Network.{edge_at};
 ghost use Rattle.net_simplex.specs.Rooted.{above, beyond};
-ghost use Rattle.net_simplex.specs.Walks.{between, part};
+ghost use Rattle.net_simplex.specs.Walks.{between};
 
 use layering_laws::NetEdge;
 
@@ -59,21 +59,11 @@ pub fn child_of(parent: &[u32], e: NetEdge, k: u32) -> u32
 }
 
 /// Whether `q` is one of the `many` numbers from `p` on.
-fn is_between(p: u32, many: u32, q: u32) -> bool
+pub fn is_between(p: u32, many: u32, q: u32) -> bool
     ensures { result ≡ between p many q }
 {
     if q < p {
         return false;
     }
     q - p < many
-}
-
-/// Whether `u` hangs on `v`, or is `v`.
-pub fn hangs_on(place: &[u32], size: &[u32], v: u32, u: u32) -> bool
-    requires place { v < length place.now }
-    requires size { v < length size.now }
-    requires other { u < length place.now }
-    ensures { result ≡ part place.now size.now v u }
-{
-    is_between(place[v as usize], size[v as usize], place[u as usize])
 }

@@ -16,8 +16,8 @@ ghost use Rattle.net_simplex.specs.declared.solving.Way.TheVariants.{Simplex, Fl
 
 use crate::chain::{leaving, pivot};
 use crate::cuts::sum_cuts;
-use crate::growing::grow;
 use crate::first_walk::walk_tree;
+use crate::growing::grow;
 use flow_dual::finish;
 use layering_laws::{NetEdge, Network, Solution, greatest_sums};
 use std::alloc::{AllocError, Global};

@@ -115,14 +115,7 @@ fn begin_at(start: u32, many: u32, after: u32) -> u32
 
 /// The block of `many` places from `start` on has its new places in `next` already; the nodes that it passes get theirs,
 /// and the order is told of all.
-fn settle(
-    order: &mut [u32],
-    start: u32,
-    many: u32,
-    after: u32,
-    next: &mut [u32],
-    place: &mut [u32],
-)
+fn settle(order: &mut [u32], start: u32, many: u32, after: u32, next: &mut [u32], place: &mut [u32])
     requires few { length order.old ≤ 2 ^ 23 }
     requires next { length next.old ≡ length order.old }
     requires place { length place.old ≡ length order.old }
@@ -174,7 +167,14 @@ fn turn_next(
     let first = place[v as usize];
     let last = first + size[v as usize];
     plant_all(order, first, low, base + held, next, place);
-    plant_all(order, low + held, last, base + held + (low - first), next, place);
+    plant_all(
+        order,
+        low + held,
+        last,
+        base + held + (low - first),
+        next,
+        place,
+    );
     parent[v as usize] = link;
     size[v as usize] = many - held;
 }
@@ -216,7 +216,9 @@ fn turn_path(
         let first = place[y as usize];
         let wide = size[y as usize];
         up = parent[y as usize];
-        turn_next(order, y, link, low, held, base, many, place, size, parent, next);
+        turn_next(
+            order, y, link, low, held, base, many, place, size, parent, next,
+        );
         v = y;
         low = first;
         held = wide;
@@ -251,6 +253,8 @@ pub fn turn(
     let above = upper(edges, parent, child);
     resize(edges, order, place, parent, above, to, many, size);
     let base = begin_at(start, many, after);
-    turn_path(edges, order, child, from, by, base, place, size, parent, next);
+    turn_path(
+        edges, order, child, from, by, base, place, size, parent, next,
+    );
     settle(order, start, many, after, next, place);
 }

@@ -11,7 +11,7 @@ use Rattle.net_simplex.specs.Turning.{Exchanges}
 use Rattle.net_simplex.specs.Cuts.{AreCutValues}
 use Rattle.net_simplex.specs.Kept.{kept_state, StandsFor}
 use Rattle.net_simplex.proofs.FirstTree.{tells_some, tells_none, tells_slack}
-use Rattle.net_simplex.proofs.Stepping.{out_there, out_marked, crosses_part, child_there, child_other, some_enters, by_there, pivot_is, gap_small, new_stands, new_state, new_root, new_small, exchanges}
+use Rattle.net_simplex.proofs.Stepping.{out_there, out_marked, crosses_part, child_there, some_enters, by_there, pivot_is, gap_small, new_stands, new_state, new_root, new_small, exchanges}
 use Rattle.net_simplex.proofs.chain.pivot.Goals as goal
 
 pub bounds-edges-out : goal.bounds-edges-out

@@ -1,4 +1,4 @@
-use Rattle.std.proofs.Common.{◌≡◌, suc, ◌+◌, ◌-◌, ◌<◌, ◌∙◌, length, get_or, set, arith, refl, ap, sym, subst}
+use Rattle.std.proofs.Common.{◌≡◌, suc, ◌+◌, ◌-◌, ◌∙◌, length, get_or, arith, ap, sym, subst}
 use Rattle.net_simplex.specs.Rooted.{above}
 use Rattle.net_simplex.specs.Walks.{ArePlacedTo}
 use Rattle.net_simplex.proofs.Placing.{placed_start, v_there, v_edge, p_there, ends_before, placed_more, placed_end, some_wide}

@@ -1,4 +1,4 @@
-use Rattle.std.proofs.Common.{◌-◌, ◌<◌, length}
+use Rattle.std.proofs.Common.{◌-◌, length}
 use Rattle.net_simplex.specs.Rooted.{above}
 use Rattle.net_simplex.specs.Walks.{ArePlacedTo}
 use Rattle.net_simplex.proofs.first_walk.place_all.Given as goal

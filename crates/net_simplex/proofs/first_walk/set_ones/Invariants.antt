@@ -1,4 +1,4 @@
-use Rattle.std.proofs.Common.{◌≡◌, ℕ, ◌<◌, length, get_or}
+use Rattle.std.proofs.Common.{◌≡◌, ℕ, ◌<◌, get_or}
 use Rattle.net_simplex.proofs.first_walk.set_ones.Given as goal
 
 abbrev pub invariant-loop-v : goal.invariant-loop-v

@@ -1,4 +1,4 @@
-use Rattle.std.proofs.Common.{◌≡◌, suc, ◌+◌, ◌-◌, ◌<◌, ◌∙◌, length, get_or, set, arith, refl, ap, sym, subst}
+use Rattle.std.proofs.Common.{◌≡◌, suc, ◌+◌, ◌-◌, ◌∙◌, length, get_or, set, arith, ap, sym, subst}
 use Rattle.net_simplex.specs.Rooted.{above}
 use Rattle.net_simplex.specs.Walks.{AreSizesTo}
 use Rattle.net_simplex.proofs.Sizing.{sizes_start, v_there, v_edge, u_there, sizes_fit, sizes_more, sizes_end}

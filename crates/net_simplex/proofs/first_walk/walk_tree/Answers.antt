@@ -1,4 +1,4 @@
-use Rattle.std.proofs.Common.{◌≡◌, ◌<◌, ◌∙◌, length, get_or, arith, sym}
+use Rattle.std.proofs.Common.{length, arith}
 use Rattle.net_simplex.proofs.Placing.{all_there, first_walk, first_rooted}
 use Rattle.net_simplex.proofs.first_walk.walk_tree.Goals as goal
 

@@ -1,5 +1,4 @@
-use Rattle.std.proofs.Common.{◌∙◌, Some, None, false, refl, length, arith, sym, subst, ap}
-use Rattle.std.proofs.lemmas.List.{length-replicate}
+use Rattle.std.proofs.Common.{◌∙◌, Some, None, refl, length, arith, sym, subst}
 use Rattle.layering_laws.specs.Network.{EndsBelow, IsNetwork}
 use Rattle.net_simplex.specs.Rooted.{above, IsRooted}
 use Rattle.net_simplex.specs.Walks.{IsWalk}

@@ -1,4 +1,4 @@
-use Rattle.std.proofs.Common.{◌≡◌, ℕ, ◌<◌, ◌≤◌, ◌⊎◌, length, get_or}
+use Rattle.std.proofs.Common.{◌≡◌, ℕ, ◌<◌, ◌≤◌, ◌⊎◌, get_or}
 use Rattle.net_simplex.proofs.turning.copy_range.Given as goal
 
 abbrev pub invariant-loop-p : goal.invariant-loop-p

@@ -1,6 +1,6 @@
 use Rattle.std.proofs.Common.{◌+◌, ◌-◌, length, get_or, set, arith, sym, subst, refl}
 use Rattle.net_simplex.specs.Turning.{Plants}
-use Rattle.net_simplex.proofs.Filling.{plants_none, node_there, plants_more}
+use Rattle.net_simplex.proofs.Filling.{plants_none, plants_more}
 use Rattle.net_simplex.proofs.turning.plant_all.Goals as goal
 
 pub loop-i-init : goal.loop-i-init

@@ -1,4 +1,4 @@
-use Rattle.std.proofs.Common.{◌∙◌, ◌+◌, ◌-◌, length, get_or, set, arith, ap, sym, subst, inl, inr}
+use Rattle.std.proofs.Common.{◌∙◌, length, get_or, arith, ap, sym, subst, inl, inr}
 use Rattle.net_simplex.specs.Rooted.{above}
 use Rattle.net_simplex.specs.Turning.{AreResizedTo, ResizesLater}
 use Rattle.net_simplex.proofs.Resizing.{resize_start, low_late, low_earlier, low_enough, low_more, high_late, high_earlier, high_fits, high_more, resize_end}

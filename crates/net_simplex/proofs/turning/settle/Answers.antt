@@ -1,4 +1,4 @@
-use Rattle.std.proofs.Common.{◌∙◌, length, arith, sym, subst, inl, inr}
+use Rattle.std.proofs.Common.{length, arith, subst}
 use Rattle.net_simplex.specs.Turning.{AreDistinct}
 use Rattle.net_simplex.proofs.Filling.{settle_down, settle_up}
 use Rattle.net_simplex.proofs.turning.settle.Goals as goal

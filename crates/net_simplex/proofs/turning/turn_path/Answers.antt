@@ -1,4 +1,4 @@
-use Rattle.std.proofs.Common.{◌≡◌, ◌+◌, ◌-◌, ◌∙◌, refl, length, get_or, set, arith, ap, sym, subst}
+use Rattle.std.proofs.Common.{◌≡◌, ◌∙◌, refl, length, get_or, arith, ap, sym, subst}
 use Rattle.layering_laws.specs.Network.{edge_at}
 use Rattle.net_simplex.specs.Rooted.{above, beyond}
 use Rattle.net_simplex.specs.Turning.{AreDistinct, IsTurnedTo}
