@@ -32,14 +32,15 @@ fn slack_between(low: i128, high: i128, least: u64) -> i128
 fn leads_back_to(place: &[u32], first: u32, many: u32, root_in: bool, e: NetEdge) -> bool
     requires tail { e.tail < length place.now }
     requires head { e.head < length place.now }
+    requires fits { first + many < 2 ^ 32 }
     ensures { result ≡ leads_back (part_from root_in (λ v. between first many (slice_index place.now v))) e }
 {
-    let tail_in = is_between(first, many, place[e.tail as usize]);
-    let head_in = is_between(first, many, place[e.head as usize]);
     if root_in {
-        return tail_in && !head_in;
+        return is_between(first, many, place[e.tail as usize])
+            && !is_between(first, many, place[e.head as usize]);
     }
-    !tail_in && head_in
+    !is_between(first, many, place[e.tail as usize])
+        && is_between(first, many, place[e.head as usize])
 }
 
 /// Of the edges from the head's part to the tail's part the one of least slack, ties by the number. The part without the
@@ -56,6 +57,7 @@ pub fn entering(
     requires place { length place.now ≡ length layers.now }
     requires size { length size.now ≡ length layers.now }
     requires child { child < length layers.now }
+    requires fits { slice_index place.now child + slice_index size.now child < 2 ^ 32 }
     requires ends { EndsBelow (length layers.now) edges.now }
     requires layering { IsLayering edges.now layers.now }
     ensures { Tells (λ k. slack layers.now (edge_at edges.now k)) (least_slack_edge edges.now layers.now (leads_back (part_from root_in (part place.now size.now child)))) result }

@@ -1,7 +1,7 @@
 //! The tree as it hangs from node 0: each node's edge upwards, and the places of the nodes in a walk over the tree, in
 //! which what hangs on a node has the places behind the node's own.
 
-ghost use Rattle.std.specs.Prelude.{◌≡◌, ◌≢◌, ◌<◌, length, set, slice_index};
+ghost use Rattle.std.specs.Prelude.{◌≡◌, ◌≢◌, ◌+◌, ◌<◌, ◌^◌, ℕ, length, set, slice_index};
 ghost use Rattle.layering_laws.specs.Network.{edge_at};
 ghost use Rattle.net_simplex.specs.Rooted.{above, beyond};
 ghost use Rattle.net_simplex.specs.Walks.{between};
@@ -58,12 +58,10 @@ pub fn child_of(parent: &[u32], e: NetEdge, k: u32) -> u32
     e.head
 }
 
-/// Whether `q` is one of the `many` numbers from `p` on.
+/// Whether `q` is one of the `many` numbers from `p` on. There is no branch on `q`, which is as random as the edges are.
 pub fn is_between(p: u32, many: u32, q: u32) -> bool
+    requires { p + many < 2 ^ 32 }
     ensures { result ≡ between p many q }
 {
-    if q < p {
-        return false;
-    }
-    q - p < many
+    q.wrapping_sub(p) < many
 }

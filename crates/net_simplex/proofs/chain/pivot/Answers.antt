@@ -60,6 +60,7 @@ entering-requires c =
       few = net.few_edges;
       place = c.requires.walk.place_each;
       size = c.requires.walk.size_each;
+      fits = let l = child_there n edges net tree layers order place parent kept out c.requires.leaves c.child_of-child.result c.child_of-child.ensures.hangs c.child_of-child.ensures.holds in let f = c.requires.walk.fits c.child_of-child.result l in let few = net.few_nodes in omega (arith, f, few);
       child = child_there n edges net tree layers order place parent kept out c.requires.leaves c.child_of-child.result c.child_of-child.ensures.hangs c.child_of-child.ensures.holds;
       ends = net.ends;
       layering = kept.is.layering;
