@@ -179,9 +179,6 @@ module _ (nodes : ℕ) (edges : List NetEdge) (net : IsNetwork nodes edges) (tre
     pub child_hung : get_or parent child 0 ≡ out
     child_hung = hung.1
 
-    pub child_other : child ≢ 0
-    child_other c = let a = ap (λ y. get_or place y 0) c in let z = root_place nodes edges tree order place parent root in let b = child_late in omega (arith, a, z, b)
-
     -- the other end comes earlier
     upper_early : get_or place (beyond e child) 0 < get_or place child 0
     upper_early = subst (λ k. get_or place (beyond (edge_at edges k) child) 0 < get_or place child 0) child_hung (root.hangs child child_there refl child_late).earlier

@@ -116,19 +116,3 @@ module _ (nodes : ℕ) (order place size : List ℕ) (up : ℕ → ℕ) (w : IsW
       let k : D x (get_or order q 0) ≡ true = is_between (at x) (wide x) (at (get_or order q 0)) (omega (arith, o1, s)) (omega (arith, o1, s)) in
       let p = (between_is (at v) (wide v) (at (get_or order q 0)) (passes v x (get_or order q 0) lv lx o.0 h k)).1 in
       omega (arith, o1, s, p)
-
-  all_from : (n u : ℕ) → 0 < nodes → u < nodes → at u < n → D 0 u ≡ true
-  all_from zero u some lu b = absurd (omega (arith, b))
-  all_from (suc n) u some lu b = elim (cases_eq u 0) [
-    | inl e ↦ subst (λ y. D 0 y ≡ true) (sym e) (own 0 some)
-    | inr ne ↦
-        let late : 0 < at u = elim (cases_eq (at u) 0) [
-          | inl e ↦ absurd (ne (is_root u lu e))
-          | inr no_root ↦ omega (arith, no_root)
-        ] in
-        let low = earlier u lu late in
-        w.climbs 0 u some lu late ne ∙ all_from n (up u) some (w.up_there u lu late) (omega (arith, low, b))
-  ]
-
-  pub all_on_root : (u : ℕ) → u < nodes → D 0 u ≡ true
-  all_on_root u lu = all_from (suc (at u)) u (omega (arith, lu)) lu (omega arith)
