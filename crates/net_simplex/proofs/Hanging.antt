@@ -1,15 +1,14 @@
 -- What holds of a tree that hangs from node 0.
-use Rattle.std.proofs.Common.{◌≡◌, ◌≢◌, ℕ, zero, suc, ◌+◌, ◌<◌, ◌≤◌, eqb, eq-eqb, cond, Bool, true, false, ◌||◌, ◌⊎◌, List, length, set, get_or, arith, refl, sym, ap, subst, ◌∙◌, inl, inr}
+use Rattle.std.proofs.Common.{◌≡◌, ◌≢◌, ℕ, zero, suc, ◌<◌, eqb, eq-eqb, cond, Bool, true, false, ◌⊎◌, List, length, set, get_or, arith, refl, sym, ap, subst, ◌∙◌, inl, inr}
 use Rattle.std.proofs.lemmas.Bool.{cases_eq, cases_Bool}
 use Rattle.std.proofs.lemmas.Bool.Decides.{nat_tests}
-use Rattle.std.proofs.lemmas.List.{get_or-set_same, get_or-set_other, length-set}
+use Rattle.std.proofs.lemmas.List.{get_or-set_other}
 use Rattle.layering_laws.specs.declared.network.NetEdge.{NetEdge}
 use Rattle.layering_laws.specs.Network.{edge_at, EndsBelow}
 use Rattle.layering_laws.specs.Linked.{is_marked, Linked}
 use Rattle.layering_laws.proofs.Linking.{link_stay, link_back, link_join, link_one}
 use Rattle.net_simplex.specs.Tree.{IsSpanningTree, IsCut}
-use Rattle.net_simplex.specs.Pivots.{is_in}
-use Rattle.net_simplex.specs.Rooted.{beyond, above, HangsBy, IsRooted, all_held, IsBelow, IsBelowTo}
+use Rattle.net_simplex.specs.Rooted.{beyond, above, HangsBy, IsRooted, all_held}
 
 pub ne_eqb : (m n : ℕ) → m ≢ n → eqb m n ≡ false
 ne_eqb m n h = grind (arith, nat_tests, h)
@@ -50,64 +49,26 @@ module _ (nodes : ℕ) (edges : List NetEdge) (tree : List Bool) (order place pa
   pub above_earlier : (v : ℕ) → v < nodes → 0 < get_or place v 0 → get_or place (above edges parent v) 0 < get_or place v 0
   above_earlier v l b = (r.hangs v l refl b).earlier
 
-  module _ (child : ℕ) (there : child < nodes) (hangs : child ≢ 0) where
-    pub below_start : (below : List Bool) → length below ≡ nodes → IsBelowTo nodes edges place parent child 1 (set below 0 false)
-    below_start below n = record {
-      mark_each = length-set below 0 false ∙ n;
-      at_child = λ l. let b = not_root child there hangs in absurd (omega (arith, l, b));
-      at_root = get_or-set_same below 0 false false (omega (arith, n, there));
-      others = λ v l b o ne. absurd (omega (arith, b, o));
-    }
-
-    pub below_more : (i : ℕ) (below : List Bool) → EndsBelow nodes edges → 0 < i → i < nodes → IsBelowTo nodes edges place parent child i below → IsBelowTo nodes edges place parent child (i + 1) (set below (get_or order i 0) (eqb (get_or order i 0) child || is_in below (above edges parent (get_or order i 0))))
-    below_more i below ends some l s =
-        let v = get_or order i 0 in
-        let b = eqb v child || is_in below (above edges parent v) in
-        let o = r.in_order i l in
-        let n = s.mark_each in
-        let here : is_in (set below v b) v ≡ b = get_or-set_same below v b false (let x = o.0 in omega (arith, n, x)) in
-        let there' : (u : ℕ) → u ≢ v → is_in (set below v b) u ≡ is_in below u = λ u ne. get_or-set_other below v u b false ne in
-        let late : (u : ℕ) → get_or place u 0 < i → u ≢ v = λ u lu e. let x = ap (λ y. get_or place y 0) e ∙ o.1 in omega (arith, lu, x) in
-        record {
-          mark_each = length-set below v b ∙ n;
-          at_child = λ lc. elim (cases_eq child v) [
-            | inl e ↦ ap (is_in (set below v b)) e ∙ (here ∙ ap (λ x. x || is_in below (above edges parent v)) (eq-eqb v child (sym e)))
-            | inr ne ↦ there' child ne ∙ s.at_child (elim (cases_eq (get_or place child 0) i) [
-              | inl e ↦ absurd (ne (same_place child v there o.0 (e ∙ sym o.1)))
-              | inr other ↦ omega (arith, lc, other)
-            ])
-          ];
-          at_root = there' 0 (λ e. let x = ap (λ y. get_or place y 0) e ∙ o.1 in let z = root_place in omega (arith, x, z, some)) ∙ s.at_root;
-          others = λ u lu pu iu ne. elim (cases_eq u v) [
-            | inl e ↦
-                let v_other : v ≢ child = λ q. ne (e ∙ q) in
-                let low = above_earlier v o.0 (let p = o.1 in omega (arith, p, some)) in
-                let q = there' (above edges parent v) (late (above edges parent v) (let p = o.1 in omega (arith, p, low))) in
-                subst (λ x. is_in (set below v b) x ≡ is_in (set below v b) (above edges parent x)) (sym e) (here ∙ (ap (λ x. x || is_in below (above edges parent v)) (ne_eqb v child v_other) ∙ sym q))
-            | inr other ↦
-                let before : get_or place u 0 < i = elim (cases_eq (get_or place u 0) i) [
-                  | inl e ↦ absurd (other (same_place u v lu o.0 (e ∙ sym o.1)))
-                  | inr no_same ↦ omega (arith, iu, no_same)
-                ] in
-                let low = above_earlier u lu pu in
-                there' u other ∙ (s.others u lu pu before ne ∙ sym (there' (above edges parent u) (late (above edges parent u) (omega (arith, low, before)))))
-          ];
-        }
-
-    pub below_done : (below : List Bool) (i : ℕ) → nodes ≤ i → IsBelowTo nodes edges place parent child i below → IsBelow nodes edges place parent child below
-    below_done below i all s = record {
-      mark_each = s.mark_each;
-      at_child = s.at_child (let p = (r.placed child there refl).0 in omega (arith, p, all));
-      at_root = s.at_root;
-      others = λ v l b ne. s.others v l b (let p = (r.placed v l refl).0 in omega (arith, p, all)) ne;
-    }
-
 -- an edge's ends, each seen from the other
 pub from_tail : (e : NetEdge) (v : ℕ) → e.tail ≡ v → beyond e v ≡ e.head
 from_tail e v h = ap (λ b. cond b e.head e.tail) (eq-eqb e.tail v h)
 
 pub from_head : (e : NetEdge) (v : ℕ) → e.tail ≢ v → beyond e v ≡ e.tail
 from_head e v h = ap (λ b. cond b e.head e.tail) (ne_eqb e.tail v h)
+
+-- the other end sees the one
+pub beyond_back : (e : NetEdge) (v : ℕ) → ((e.tail ≡ v) ⊎ (e.head ≡ v)) → beyond e v ≢ v → beyond e (beyond e v) ≡ v
+beyond_back e v at ne =
+    elim (cases_eq e.tail v) [
+      | inl t ↦
+          let b = from_tail e v t in
+          let q : e.tail ≢ e.head = λ s. ne (b ∙ (sym s ∙ t)) in
+          ap (beyond e) b ∙ (from_head e e.head q ∙ t)
+      | inr nt ↦ elim at [
+        | inl t ↦ absurd (nt t)
+        | inr t ↦ ap (beyond e) (from_head e v nt) ∙ (from_tail e e.tail refl ∙ t)
+      ]
+    ]
 
 -- a set that holds both ends or none
 pub across : (inside : ℕ → Bool) (e : NetEdge) (v : ℕ) → ((e.tail ≡ v) ⊎ (e.head ≡ v)) → inside e.tail ≡ inside e.head → inside v ≡ inside (beyond e v)

@@ -12,7 +12,14 @@ pub mod Lifting
 pub mod Folding
 pub mod Looking
 pub mod Planting
-pub mod Rehanging
+pub mod Walking
+pub mod Moving
+pub mod Rewalking
+pub mod Replanting
+pub mod Filling
+pub mod Resizing
+pub mod Sizing
+pub mod Placing
 pub mod FirstTree
 pub mod Spreading
 pub mod Stepping

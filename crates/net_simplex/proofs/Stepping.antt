@@ -9,8 +9,9 @@ use Rattle.layering_laws.specs.Network.{edge_at, EndsBelow, IsNetwork}
 use Rattle.layering_laws.specs.Layering.{layer_of}
 use Rattle.layering_laws.specs.Linked.{is_marked}
 use Rattle.net_simplex.specs.Tree.{State, IsState, IsSpanningTree, IsCut, tail_part, cut_value}
-use Rattle.net_simplex.specs.Pivots.{slack, shifted, is_in, lesser, least_of, least_slack_edge, is_negative, leaving_edge, leads_back, entering_edge, exchanged, pivot_at, pivot}
-use Rattle.net_simplex.specs.Rooted.{beyond, IsRooted, IsBelow, part_from}
+use Rattle.net_simplex.specs.Pivots.{slack, shifted, lesser, least_of, least_slack_edge, is_negative, leaving_edge, leads_back, entering_edge, exchanged, pivot_at, pivot}
+use Rattle.net_simplex.specs.Rooted.{beyond, above, IsRooted, IsBelow, part_from}
+use Rattle.net_simplex.specs.Walks.{part as part_of, IsWalk}
 use Rattle.net_simplex.specs.Cuts.{AreCutValues}
 use Rattle.net_simplex.specs.Grown.{IsSmall}
 use Rattle.net_simplex.specs.Turning.{Exchanges}
@@ -20,6 +21,7 @@ use Rattle.net_simplex.proofs.Cutting.{tail_parts_cut}
 use Rattle.net_simplex.proofs.Exchanging.{all_or_none}
 use Rattle.net_simplex.proofs.Pivoting.{length_shifted, shifted_at, slack_is, pivot_keeps, pivot_goes_on}
 use Rattle.net_simplex.proofs.Spreading.{near_root}
+use Rattle.net_simplex.proofs.Walking.{before_it, between_is, between_not, own, alone}
 use Rattle.net_simplex.proofs.Hanging.{ne_eqb, root_place, not_root, above_there, from_tail, from_head, along, before_same, edge_hangs, hung_node}
 
 clash : {P : Type 0} (b : Bool) → b ≡ true → b ≡ false → P
@@ -177,9 +179,6 @@ module _ (nodes : ℕ) (edges : List NetEdge) (net : IsNetwork nodes edges) (tre
     pub child_hung : get_or parent child 0 ≡ out
     child_hung = hung.1
 
-    pub child_other : child ≢ 0
-    child_other c = let a = ap (λ y. get_or place y 0) c in let z = root_place nodes edges tree order place parent root in let b = child_late in omega (arith, a, z, b)
-
     -- the other end comes earlier
     upper_early : get_or place (beyond e child) 0 < get_or place child 0
     upper_early = subst (λ k. get_or place (beyond (edge_at edges k) child) 0 < get_or place child 0) child_hung (root.hangs child child_there refl child_late).earlier
@@ -197,37 +196,47 @@ module _ (nodes : ℕ) (edges : List NetEdge) (net : IsNetwork nodes edges) (tre
       | inr c ↦ inr (c, eq-eqb child e.head c)
     ]
 
-    module _ (below : List Bool) (marks : IsBelow nodes edges place parent child below) where
+    module _ (size : List ℕ) (walk : IsWalk nodes order place size (above edges parent)) where
+      abbrev below : ℕ → Bool
+      below v = part_of place size child v
+
+      pub marks : IsBelow nodes edges place parent child below
+      marks = record {
+        at_child = own nodes order place size (above edges parent) walk child child_there;
+        at_root = let z = root_place nodes edges tree order place parent root in let l = child_late in before_it (get_or place child 0) (get_or size child 0) (get_or place 0 0) (omega (arith, z, l));
+        others = λ v l late ne. walk.climbs child v child_there l late ne;
+      }
+
       abbrev part : ℕ → Bool
       part = part_from root_in below
 
-      early_off : (v : ℕ) → v < nodes → get_or place v 0 < get_or place child 0 → is_in below v ≡ false
-      early_off v l b = before_same nodes edges tree order place parent root (is_in below) net.ends child (λ w lw pw ne. marks.others w lw pw ne) v l b ∙ marks.at_root
+      early_off : (v : ℕ) → v < nodes → get_or place v 0 < get_or place child 0 → below v ≡ false
+      early_off v l b = before_same nodes edges tree order place parent root below net.ends child (λ w lw pw ne. marks.others w lw pw ne) v l b ∙ marks.at_root
 
-      upper_off : is_in below (beyond e child) ≡ false
+      upper_off : below (beyond e child) ≡ false
       upper_off = early_off (beyond e child) (subst (λ k. beyond (edge_at edges k) child < nodes) child_hung (above_there nodes edges tree order place parent root child net.ends child_there child_late)) upper_early
 
-      both_sides : (j : ℕ) → j < length edges → is_marked tree j ≡ true → j ≢ out → is_in below (edge_at edges j).tail ≡ is_in below (edge_at edges j).head
+      both_sides : (j : ℕ) → j < length edges → is_marked tree j ≡ true → j ≢ out → below (edge_at edges j).tail ≡ below (edge_at edges j).head
       both_sides j l m ne =
           let w = hung_node nodes edges tree order place parent root spanning net.ends j l m in
           let o = marks.others w.0 w.1 w.2 (λ q. ne (sym w.3 ∙ (ap (λ y. get_or parent y 0) q ∙ child_hung))) in
           let h = root.hangs w.0 w.1 refl w.2 in
-          subst (λ k. is_in below (edge_at edges k).tail ≡ is_in below (edge_at edges k).head) w.3 (along (is_in below) (edge_at edges (get_or parent w.0 0)) w.0 h.at_end o)
+          subst (λ k. below (edge_at edges k).tail ≡ below (edge_at edges k).head) w.3 (along below (edge_at edges (get_or parent w.0 0)) w.0 h.at_end o)
 
       pub part_cut : IsCut edges tree out part
       part_cut = elim sides [
         | inl c ↦
-            let is_as : (v : ℕ) → part v ≡ is_in below v = λ v. ap (λ b. cond b (not (is_in below v)) (is_in below v)) c.1 in
+            let is_as : (v : ℕ) → part v ≡ below v = λ v. ap (λ b. cond b (not (below v)) (below v)) c.1 in
             record {
-              tail_in = is_as e.tail ∙ (ap (is_in below) (sym c.0) ∙ marks.at_child);
-              head_out = is_as e.head ∙ (ap (is_in below) (sym (from_tail e child (sym c.0))) ∙ upper_off);
+              tail_in = is_as e.tail ∙ (ap below (sym c.0) ∙ marks.at_child);
+              head_out = is_as e.head ∙ (ap below (sym (from_tail e child (sym c.0))) ∙ upper_off);
               others = λ j l m ne. is_as (edge_at edges j).tail ∙ (both_sides j l m ne ∙ sym (is_as (edge_at edges j).head));
             }
         | inr c ↦
-            let is_as : (v : ℕ) → part v ≡ not (is_in below v) = λ v. ap (λ b. cond b (not (is_in below v)) (is_in below v)) c.1 in
+            let is_as : (v : ℕ) → part v ≡ not (below v) = λ v. ap (λ b. cond b (not (below v)) (below v)) c.1 in
             record {
-              tail_in = is_as e.tail ∙ ap not (ap (is_in below) (sym (from_head e child (λ q. two_ends (q ∙ c.0)))) ∙ upper_off);
-              head_out = is_as e.head ∙ ap not (ap (is_in below) (sym c.0) ∙ marks.at_child);
+              tail_in = is_as e.tail ∙ ap not (ap below (sym (from_head e child (λ q. two_ends (q ∙ c.0)))) ∙ upper_off);
+              head_out = is_as e.head ∙ ap not (ap below (sym c.0) ∙ marks.at_child);
               others = λ j l m ne. is_as (edge_at edges j).tail ∙ (ap not (both_sides j l m ne) ∙ sym (is_as (edge_at edges j).head));
             }
       ]
@@ -302,13 +311,13 @@ module _ (nodes : ℕ) (edges : List NetEdge) (net : IsNetwork nodes edges) (tre
 
         module _ (move : ℤ) (up : root_in ≡ true → move ≡ pos gap) (down : root_in ≡ false → move ≡ pos 0 -ℤ pos gap) where
           abbrev layers' : List ℤ
-          layers' = shifted (is_in below) move layers
+          layers' = shifted below move layers
 
           long : length layers ≡ nodes
           long = kept.is.layer_for_each
 
-          at_new : (v : ℕ) → v < nodes → layer_of layers' v ≡ cond (is_in below v) (layer_of layers v +ℤ move) (layer_of layers v)
-          at_new v l = shifted_at (is_in below) move layers v (let n = long in omega (arith, n, l))
+          at_new : (v : ℕ) → v < nodes → layer_of layers' v ≡ cond (below v) (layer_of layers v +ℤ move) (layer_of layers v)
+          at_new v l = shifted_at below move layers v (let n = long in omega (arith, n, l))
 
           at_t : (v : ℕ) → v < nodes → layer_of t.layers v ≡ cond (not (part v)) (layer_of layers v +ℤ pos gap) (layer_of layers v)
           at_t v l = shifted_at (λ x. not (tail_part nodes edges tree out x)) (pos gap) layers v (let n = long in omega (arith, n, l)) ∙ ap (λ b. cond (not b) (layer_of layers v +ℤ pos gap) (layer_of layers v)) (sym (part_is v l))
@@ -325,8 +334,8 @@ module _ (nodes : ℕ) (edges : List NetEdge) (net : IsNetwork nodes edges) (tre
                   | inl r ↦
                       let m = up r in
                       let z = ap (λ b. cond b (pos 0) (pos gap)) r in
-                      let p = ap (λ b. cond (not (cond b (not (is_in below v)) (is_in below v))) (layer_of layers v +ℤ pos gap) (layer_of layers v)) r in
-                      elim (cases_Bool (is_in below v)) [
+                      let p = ap (λ b. cond (not (cond b (not (below v)) (below v))) (layer_of layers v +ℤ pos gap) (layer_of layers v)) r in
+                      elim (cases_Bool (below v)) [
                         | inl i ↦
                             let x = ap (λ b. cond b (layer_of layers v +ℤ move) (layer_of layers v)) i in
                             let y = ap (λ b. cond (not (not b)) (layer_of layers v +ℤ pos gap) (layer_of layers v)) i in
@@ -339,8 +348,8 @@ module _ (nodes : ℕ) (edges : List NetEdge) (net : IsNetwork nodes edges) (tre
                   | inr r ↦
                       let m = down r in
                       let z = ap (λ b. cond b (pos 0) (pos gap)) r in
-                      let p = ap (λ b. cond (not (cond b (not (is_in below v)) (is_in below v))) (layer_of layers v +ℤ pos gap) (layer_of layers v)) r in
-                      elim (cases_Bool (is_in below v)) [
+                      let p = ap (λ b. cond (not (cond b (not (below v)) (below v))) (layer_of layers v +ℤ pos gap) (layer_of layers v)) r in
+                      elim (cases_Bool (below v)) [
                         | inl i ↦
                             let x = ap (λ b. cond b (layer_of layers v +ℤ move) (layer_of layers v)) i in
                             let y = ap (λ b. cond (not b) (layer_of layers v +ℤ pos gap) (layer_of layers v)) i in
@@ -354,14 +363,14 @@ module _ (nodes : ℕ) (edges : List NetEdge) (net : IsNetwork nodes edges) (tre
           }
 
           pub new_state : IsState nodes edges (kept_state (set (set tree out false) by true) layers')
-          new_state = moved_state nodes edges t (set (set tree out false) by true) layers' net.ends t_state new_stands (length_shifted (is_in below) move layers ∙ long)
+          new_state = moved_state nodes edges t (set (set tree out false) by true) layers' net.ends t_state new_stands (length_shifted below move layers ∙ long)
 
           pub new_root : layer_of layers' 0 ≡ pos 0
           new_root =
               let l : 0 < nodes = let a = root.begun in a in
               at_new 0 l ∙ (ap (λ b. cond b (layer_of layers 0 +ℤ move) (layer_of layers 0)) marks.at_root ∙ kept.root)
 
-          pub new_small : (v : ℕ) → v < nodes → is_in below v ≡ true → IsSmall (layer_of layers v +ℤ move)
+          pub new_small : (v : ℕ) → v < nodes → below v ≡ true → IsSmall (layer_of layers v +ℤ move)
           new_small v l i =
               let a = near_root nodes edges (kept_state (set (set tree out false) by true) layers') net.ends new_state v l in
               let a0 = a.0 in
@@ -372,13 +381,13 @@ module _ (nodes : ℕ) (edges : List NetEdge) (net : IsNetwork nodes edges) (tre
               record { from = omega (arith, ints, a1, z, n, m); to = omega (arith, ints, a0, z, n, m) }
 
         module _ (from : ℕ) (up : root_in ≡ true → from ≡ f.tail) (down : root_in ≡ false → from ≡ f.head) where
-          side : ((root_in ≡ true) × (is_in below f.tail ≡ true) × (is_in below f.head ≡ false)) ⊎ ((root_in ≡ false) × (is_in below f.tail ≡ false) × (is_in below f.head ≡ true))
+          side : ((root_in ≡ true) × (below f.tail ≡ true) × (below f.head ≡ false)) ⊎ ((root_in ≡ false) × (below f.tail ≡ false) × (below f.head ≡ true))
           side = elim (cases_Bool root_in) [
             | inl r ↦
-                let is_as : (v : ℕ) → part v ≡ not (is_in below v) = λ v. ap (λ b. cond b (not (is_in below v)) (is_in below v)) r in
-                inl (r, turned (is_in below f.tail) true (sym (is_as f.tail) ∙ crosses.0), turned (is_in below f.head) false (sym (is_as f.head) ∙ crosses.1))
+                let is_as : (v : ℕ) → part v ≡ not (below v) = λ v. ap (λ b. cond b (not (below v)) (below v)) r in
+                inl (r, turned (below f.tail) true (sym (is_as f.tail) ∙ crosses.0), turned (below f.head) false (sym (is_as f.head) ∙ crosses.1))
             | inr r ↦
-                let is_as : (v : ℕ) → part v ≡ is_in below v = λ v. ap (λ b. cond b (not (is_in below v)) (is_in below v)) r in
+                let is_as : (v : ℕ) → part v ≡ below v = λ v. ap (λ b. cond b (not (below v)) (below v)) r in
                 inr (r, sym (is_as f.tail) ∙ crosses.0, sym (is_as f.head) ∙ crosses.1)
           ]
             where
@@ -390,14 +399,14 @@ module _ (nodes : ℕ) (edges : List NetEdge) (net : IsNetwork nodes edges) (tre
 
           other_end : f.tail ≢ f.head
           other_end q = elim side [
-            | inl x ↦ clash (is_in below f.head) (subst (λ y. is_in below y ≡ true) q x.1) x.2
-            | inr x ↦ clash (is_in below f.head) x.2 (subst (λ y. is_in below y ≡ false) q x.1)
+            | inl x ↦ clash (below f.head) (subst (λ y. below y ≡ true) q x.1) x.2
+            | inr x ↦ clash (below f.head) x.2 (subst (λ y. below y ≡ false) q x.1)
           ]
 
-          pub exchanges : Exchanges nodes edges tree (set (set tree out false) by true) order place parent below child from by
+          pub exchanges : Exchanges nodes edges tree (set (set tree out false) by true) order place size parent child from by
           exchanges = record {
             rooted = root;
-            marks = marks;
+            walk = walk;
             child_there = child_there;
             child_hangs = child_late;
             from_there = elim side [
@@ -405,8 +414,8 @@ module _ (nodes : ℕ) (edges : List NetEdge) (net : IsNetwork nodes edges) (tre
               | inr x ↦ subst (λ y. y < nodes) (sym (down x.0)) (net.ends by by_there).1
             ];
             from_below = elim side [
-              | inl x ↦ ap (is_in below) (up x.0) ∙ x.1
-              | inr x ↦ ap (is_in below) (down x.0) ∙ x.2
+              | inl x ↦ ap below (up x.0) ∙ x.1
+              | inr x ↦ ap below (down x.0) ∙ x.2
             ];
             by_there = by_there;
             by_end = elim side [
@@ -414,8 +423,8 @@ module _ (nodes : ℕ) (edges : List NetEdge) (net : IsNetwork nodes edges) (tre
               | inr x ↦ inr (sym (down x.0))
             ];
             by_outside = elim side [
-              | inl x ↦ ap (is_in below) (from_tail f from (sym (up x.0))) ∙ x.2
-              | inr x ↦ ap (is_in below) (from_head f from (λ q. other_end (q ∙ down x.0))) ∙ x.1
+              | inl x ↦ ap below (from_tail f from (sym (up x.0))) ∙ x.2
+              | inr x ↦ ap below (from_head f from (λ q. other_end (q ∙ down x.0))) ∙ x.1
             ];
             by_marked = get_or-set_same (set tree out false) by true false (let a = length-set tree out false in let b = spanning.mark_for_each in let c = by_there in omega (arith, a, b, c));
             others_stay = λ k l m ne. elim (cases_eq k by) [
@@ -435,41 +444,57 @@ no_more test k before f j l =
 pub none_before : (test : ℕ → Bool) (k n : ℕ) → n ≤ k → ((j : ℕ) → j < k → test j ≡ false) → least_of test (λ i. 0) n ≡ None
 none_before test k n l before = none_chosen test (λ i. 0) n (λ j b. before j (omega (arith, b, l)))
 
--- the marked nodes so far are moved
-pub record IsShifted (inside : ℕ → Bool) (by : ℤ) (old : List ℤ) (i : ℕ) (new : List ℤ) : Type 0 where
+-- the nodes at the places from `low` to before i are moved
+pub record IsShifted (place : List ℕ) (low : ℕ) (by : ℤ) (old : List ℤ) (i : ℕ) (new : List ℤ) : Type 0 where
   pub as_long : length new ≡ length old
-  pub done : (u : ℕ) → u < i → layer_of new u ≡ cond (inside u) (layer_of old u +ℤ by) (layer_of old u)
-  pub kept : (u : ℕ) → i ≤ u → layer_of new u ≡ layer_of old u
+  pub done : (u : ℕ) → u < length old → low ≤ get_or place u 0 → get_or place u 0 < i → layer_of new u ≡ layer_of old u +ℤ by
+  pub kept : (u : ℕ) → u < length old → ((get_or place u 0 < low) ⊎ (i ≤ get_or place u 0)) → layer_of new u ≡ layer_of old u
 
-pub shift_start : (inside : ℕ → Bool) (by : ℤ) (old : List ℤ) → IsShifted inside by old 0 old
-shift_start inside by old = record { as_long = refl; done = λ u l. absurd (omega (arith, l)); kept = λ u l. refl }
+module _ (order place size : List ℕ) (up : ℕ → ℕ) (by : ℤ) (old : List ℤ) (w : IsWalk (length old) order place size up) where
+  pub shift_start : (low : ℕ) → IsShifted place low by old low old
+  shift_start low = record { as_long = refl; done = λ u l a b. absurd (omega (arith, a, b)); kept = λ u l o. refl }
 
-pub shift_one : (inside : ℕ → Bool) (by : ℤ) (old : List ℤ) (i : ℕ) (new : List ℤ) (z : ℤ) → i < length old → IsShifted inside by old i new → inside i ≡ true → z ≡ layer_of new i +ℤ by → IsShifted inside by old (i + 1) (set new i z)
-shift_one inside by old i new z l s m is = record {
-  as_long = length-set new i z ∙ s.as_long;
-  done = λ u lu. elim (cases_eq u i) [
-    | inl e ↦
-        let a = ap (layer_of (set new i z)) e ∙ get_or-set_same new i z (pos 0) (let n = s.as_long in omega (arith, n, l)) in
-        let b = s.kept i (omega arith) in
-        let d = ap (layer_of old) e in
-        let q = ap (λ b. cond b (layer_of old u +ℤ by) (layer_of old u)) (ap inside e ∙ m) in
-        omega (arith, ints, a, b, d, q, is)
-    | inr ne ↦ get_or-set_other new i u z (pos 0) ne ∙ s.done u (omega (arith, lu, ne))
-  ];
-  kept = λ u lu. get_or-set_other new i u z (pos 0) (omega (arith, lu)) ∙ s.kept u (omega (arith, lu));
-}
+  pub shift_more : (low i : ℕ) (new : List ℤ) (z : ℤ) → low ≤ i → i < length old → IsShifted place low by old i new → z ≡ layer_of new (get_or order i 0) +ℤ by → IsShifted place low by old (i + 1) (set new (get_or order i 0) z)
+  shift_more low i new z from l s is =
+      let v = get_or order i 0 in
+      let o = w.in_order i l in
+      let o0 = o.0 in
+      let o1 = o.1 in
+      let n = s.as_long in
+      record {
+        as_long = length-set new v z ∙ s.as_long;
+        done = λ u lu a b. elim (cases_eq u v) [
+          | inl e ↦
+              let here = get_or-set_same new v z (pos 0) (omega (arith, n, o0)) in
+              let was = s.kept v o.0 (inr (omega (arith, o1))) in
+              subst (λ x. layer_of (set new v z) x ≡ layer_of old x +ℤ by) (sym e) (here ∙ (is ∙ ap (λ y. y +ℤ by) was))
+          | inr ne ↦
+              let other : get_or place u 0 ≢ i = λ e. ne (alone (length old) order place size up w u v lu o.0 (e ∙ sym o.1)) in
+              get_or-set_other new v u z (pos 0) ne ∙ s.done u lu a (omega (arith, b, other))
+        ];
+        kept = λ u lu out.
+            let ne : u ≢ v = λ e. let x = ap (λ y. get_or place y 0) e in absurd (omega (arith, x, o1, out, from)) in
+            get_or-set_other new v u z (pos 0) ne ∙ s.kept u lu (elim out [
+              | inl a ↦ inl a
+              | inr a ↦ inr (omega (arith, a))
+            ]);
+      }
 
-pub shift_past : (inside : ℕ → Bool) (by : ℤ) (old : List ℤ) (i : ℕ) (new : List ℤ) → IsShifted inside by old i new → inside i ≡ false → IsShifted inside by old (i + 1) new
-shift_past inside by old i new s m = record {
-  as_long = s.as_long;
-  done = λ u lu. elim (cases_eq u i) [
-    | inl e ↦ s.kept u (omega (arith, e)) ∙ sym (ap (λ b. cond b (layer_of old u +ℤ by) (layer_of old u)) (ap inside e ∙ m))
-    | inr ne ↦ s.done u (omega (arith, lu, ne))
-  ];
-  kept = λ u lu. s.kept u (omega (arith, lu));
-}
-
-pub shift_end : (inside : ℕ → Bool) (by : ℤ) (old : List ℤ) (i : ℕ) (new : List ℤ) → length old ≤ i → IsShifted inside by old i new → new ≡ shifted inside by old
-shift_end inside by old i new all s =
-    let n = s.as_long in
-    ext_get_or (pos 0) new (shifted inside by old) (n ∙ sym (length_shifted inside by old)) (λ u l. s.done u (omega (arith, n, l, all)) ∙ sym (shifted_at inside by old u (omega (arith, n, l))))
+  pub shift_end : (child i : ℕ) (new : List ℤ) → get_or place child 0 + get_or size child 0 ≡ i → IsShifted place (get_or place child 0) by old i new → new ≡ shifted (part_of place size child) by old
+  shift_end child i new all s =
+      let n = s.as_long in
+      ext_get_or (pos 0) new (shifted (part_of place size child) by old) (n ∙ sym (length_shifted (part_of place size child) by old)) (λ u l.
+      let lu : u < length old = omega (arith, n, l) in
+      let at = shifted_at (part_of place size child) by old u lu in
+      elim (cases_Bool (part_of place size child u)) [
+        | inl m ↦
+            let b = between_is (get_or place child 0) (get_or size child 0) (get_or place u 0) m in
+            let b1 = b.1 in
+            s.done u lu b.0 (omega (arith, b1, all)) ∙ sym (at ∙ ap (λ x. cond x (layer_of old u +ℤ by) (layer_of old u)) m)
+        | inr m ↦
+            let o = between_not (get_or place child 0) (get_or size child 0) (get_or place u 0) m in
+            s.kept u lu (elim o [
+              | inl a ↦ inl a
+              | inr a ↦ inr (omega (arith, a, all))
+            ]) ∙ sym (at ∙ ap (λ x. cond x (layer_of old u +ℤ by) (layer_of old u)) m)
+      ])

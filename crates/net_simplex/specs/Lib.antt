@@ -3,6 +3,7 @@ pub mod Pivots
 pub mod Answer
 pub mod SixNodes
 pub mod Rooted
+pub mod Walks
 pub mod Cuts
 pub mod Chosen
 pub mod Turning

@@ -3,7 +3,6 @@ use Rattle.std.specs.Prelude.{◌≡◌, ◌≢◌, ℕ, zero, suc, ◌+◌, ◌
 use Rattle.layering_laws.specs.declared.network.NetEdge.{NetEdge}
 use Rattle.layering_laws.specs.Network.{edge_at}
 use Rattle.layering_laws.specs.Linked.{is_marked}
-use Rattle.net_simplex.specs.Pivots.{is_in}
 
 -- the end of an edge that is not v
 abbrev pub beyond : NetEdge → ℕ → ℕ
@@ -46,20 +45,12 @@ all_held v = true
 abbrev pub IsRooted : ℕ → List NetEdge → List Bool → List ℕ → List ℕ → List ℕ → Type 0
 IsRooted nodes edges tree order place parent = IsPlanted nodes edges tree all_held nodes order place parent
 
--- the nodes that hang on `child`, with itself
-pub record IsBelow (nodes : ℕ) (edges : List NetEdge) (place parent : List ℕ) (child : ℕ) (below : List Bool) : Type 0 where
-  pub mark_each : length below ≡ nodes
-  pub at_child : is_in below child ≡ true
-  pub at_root : is_in below 0 ≡ false
-  pub others : (v : ℕ) → v < nodes → 0 < slice_index place v → v ≢ child → is_in below v ≡ is_in below (above edges parent v)
-
--- the same of the nodes at the first places
-pub record IsBelowTo (nodes : ℕ) (edges : List NetEdge) (place parent : List ℕ) (child i : ℕ) (below : List Bool) : Type 0 where
-  pub mark_each : length below ≡ nodes
-  pub at_child : slice_index place child < i → is_in below child ≡ true
-  pub at_root : is_in below 0 ≡ false
-  pub others : (v : ℕ) → v < nodes → 0 < slice_index place v → slice_index place v < i → v ≢ child → is_in below v ≡ is_in below (above edges parent v)
+-- the nodes that hang on `child`, with itself, as a test
+pub record IsBelow (nodes : ℕ) (edges : List NetEdge) (place parent : List ℕ) (child : ℕ) (below : ℕ → Bool) : Type 0 where
+  pub at_child : below child ≡ true
+  pub at_root : below 0 ≡ false
+  pub others : (v : ℕ) → v < nodes → 0 < slice_index place v → v ≢ child → below v ≡ below (above edges parent v)
 
 -- the tail's part, where the root is in it and where it isn't
-abbrev pub part_from : Bool → List Bool → ℕ → Bool
-part_from root_in below v = cond root_in (not (is_in below v)) (is_in below v)
+abbrev pub part_from : Bool → (ℕ → Bool) → ℕ → Bool
+part_from root_in below v = cond root_in (not (below v)) (below v)

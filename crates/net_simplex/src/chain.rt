@@ -4,9 +4,10 @@ ghost use Rattle.std.specs.Prelude.{◌≡◌, ◌≢◌, ◌+◌, ◌<◌, ◌�
 ghost use Rattle.layering_laws.specs.Network.{EndsBelow, IsNetwork};
 ghost use Rattle.layering_laws.specs.Layering.{layer_of};
 ghost use Rattle.layering_laws.specs.Linked.{is_marked};
-ghost use Rattle.net_simplex.specs.Pivots.{is_in, shifted, least_of, leaving_edge};
+ghost use Rattle.net_simplex.specs.Pivots.{shifted, least_of, leaving_edge};
 ghost use Rattle.net_simplex.specs.Tree.{IsSpanningTree};
-ghost use Rattle.net_simplex.specs.Rooted.{IsRooted};
+ghost use Rattle.net_simplex.specs.Rooted.{above, IsRooted};
+ghost use Rattle.net_simplex.specs.Walks.{part, IsWalk};
 ghost use Rattle.net_simplex.specs.Cuts.{AreCutValues};
 ghost use Rattle.net_simplex.specs.Grown.{IsSmall};
 ghost use Rattle.net_simplex.specs.Kept.{IsKept, PivotsTo, kept_state};
@@ -14,7 +15,7 @@ ghost use Rattle.net_simplex.specs.Kept.{IsKept, PivotsTo, kept_state};
 use crate::choice::lower;
 use crate::entering::entering;
 use crate::passing::change_cuts;
-use crate::rooted::{child_of, mark_below};
+use crate::rooted::child_of;
 use crate::turning::turn;
 use layering_laws::NetEdge;
 
@@ -55,16 +56,19 @@ fn moved(layer: i64, by: i64) -> i64
     layer + by
 }
 
-/// Moves the marked nodes.
-fn shift(layers: &mut [i64], below: &[bool], by: i64)
-    requires marks { length below.now ≡ length layers.old }
-    requires small { (v : ℕ) → v < length layers.old → is_in below.now v ≡ true → IsSmall (layer_of layers.old v +ℤ by) }
-    ensures { layers.new ≡ shifted (is_in below.now) by layers.old }
+/// Moves the nodes that hang on `child`, with itself.
+fn shift(layers: &mut [i64], order: &[u32], place: &[u32], size: &[u32], child: u32, by: i64)
+    requires few { length layers.old ≤ 2 ^ 23 }
+    requires walk { (up : ℕ → ℕ) × IsWalk (length layers.old) order.now place.now size.now up }
+    requires child { child < length layers.old }
+    requires small { (v : ℕ) → v < length layers.old → part place.now size.now child v ≡ true → IsSmall (layer_of layers.old v +ℤ by) }
+    ensures { layers.new ≡ shifted (part place.now size.now child) by layers.old }
 {
-    for v in 0..layers.len() {
-        if below[v] {
-            layers[v] = moved(layers[v], by);
-        }
+    let first = place[child as usize];
+    let last = first + size[child as usize];
+    for i in first..last {
+        let v = order[i as usize];
+        layers[v as usize] = moved(layers[v as usize], by);
     }
 }
 
@@ -108,36 +112,41 @@ pub fn pivot(
     layers: &mut [i64],
     order: &mut [u32],
     place: &mut [u32],
+    size: &mut [u32],
     parent: &mut [u32],
-    below: &mut [bool],
     next: &mut [u32],
-    spot: &mut [u32],
     cut: &mut [i64],
 )
     requires network { IsNetwork (length layers.old) edges.now }
     requires kept { IsKept (length layers.old) edges.now tree.old layers.old order.old place.old parent.old }
     requires leaves { leaving_edge (length layers.old) edges.now (kept_state tree.old layers.old) ≡ Some out }
     requires values { AreCutValues (length layers.old) edges.now tree.old cut.old }
-    requires below { length below.old ≡ length layers.old }
+    requires walk { IsWalk (length layers.old) order.old place.old size.old (above edges.now parent.old) }
     requires next { length next.old ≡ length layers.old }
-    requires spot { length spot.old ≡ length layers.old }
     ensures kept { IsKept (length layers.old) edges.now tree.new layers.new order.new place.new parent.new }
+    ensures walk { IsWalk (length layers.old) order.new place.new size.new (above edges.now parent.new) }
     ensures values { AreCutValues (length layers.old) edges.now tree.new cut.new }
     ensures pivots { PivotsTo (length layers.old) edges.now tree.old layers.old tree.new layers.new }
 {
     let e = edges[out as usize];
     let child = child_of(parent, e, out);
     let root_in = child == e.head;
-    mark_below(edges, tree, order, place, parent, child, below);
-    match entering(edges, layers, below, root_in) {
+    match entering(edges, layers, place, size, child, root_in) {
         Some(choice) => {
             let by = choice.edge;
             let from = lower_end(root_in, edges[by as usize]);
             change_cuts(edges, tree, order, place, parent, out, by, cut);
-            shift(layers, below, move_by(root_in, choice.slack));
+            shift(
+                layers,
+                order,
+                place,
+                size,
+                child,
+                move_by(root_in, choice.slack),
+            );
             exchange(tree, out, by);
             turn(
-                edges, tree, child, from, by, order, place, parent, below, next, spot,
+                edges, tree, child, from, by, order, place, size, parent, next,
             );
         }
         None => {}

@@ -1,16 +1,18 @@
 //! The edge that enters the tree, and the one that joins it while it grows.
 
-ghost use Rattle.std.specs.Prelude.{◌≡◌, ◌+◌, ◌<◌, ◌≤◌, ◌^◌, ℕ, pos, ◌+ℤ◌, ◌-ℤ◌, ◌≤ℤ◌, length, true, false};
+ghost use Rattle.std.specs.Prelude.{◌≡◌, ◌+◌, ◌<◌, ◌≤◌, ◌^◌, ℕ, pos, ◌+ℤ◌, ◌-ℤ◌, ◌≤ℤ◌, length, slice_index, true, false};
 ghost use Rattle.layering_laws.specs.Network.{EndsBelow, edge_at};
 ghost use Rattle.layering_laws.specs.Layering.{layer_of, IsLayering};
 ghost use Rattle.net_simplex.specs.Pivots.{slack, is_in, borders, leads_back, least_slack_edge, shifted};
 ghost use Rattle.net_simplex.specs.Rooted.{part_from};
+ghost use Rattle.net_simplex.specs.Walks.{between, part};
 ghost use Rattle.net_simplex.specs.Chosen.{Tells};
 ghost use Rattle.net_simplex.specs.Outward.{IsNearest, AreQueues, nearer_of};
 ghost use Rattle.std.specs.BinaryHeap.{heap_items};
 ghost use Rattle.layering_laws.specs.declared.links.End.TheVariants.{Tail, Head};
 
 use crate::choice::{Choice, better};
+use crate::rooted::is_between;
 use crate::waiting::{Waiting, nearest};
 use layering_laws::{End, NetEdge};
 use std::collections::BinaryHeap;
@@ -25,30 +27,47 @@ fn slack_between(low: i128, high: i128, least: u64) -> i128
     high - low - i128::from(least)
 }
 
-/// Whether the edge leads from the head's part to the tail's part, where `below` marks the part without the root.
-fn leads_back_to(below: &[bool], root_in: bool, e: NetEdge) -> bool
-    requires tail { e.tail < length below.now }
-    requires head { e.head < length below.now }
-    ensures { result ≡ leads_back (part_from root_in below.now) e }
+/// Whether the edge leads from the head's part to the tail's part, where the part without the root has the `many` places
+/// from `first` on.
+fn leads_back_to(place: &[u32], first: u32, many: u32, root_in: bool, e: NetEdge) -> bool
+    requires tail { e.tail < length place.now }
+    requires head { e.head < length place.now }
+    requires fits { first + many < 2 ^ 32 }
+    ensures { result ≡ leads_back (part_from root_in (λ v. between first many (slice_index place.now v))) e }
 {
     if root_in {
-        return below[e.tail as usize] && !below[e.head as usize];
+        return is_between(first, many, place[e.tail as usize])
+            && !is_between(first, many, place[e.head as usize]);
     }
-    !below[e.tail as usize] && below[e.head as usize]
+    !is_between(first, many, place[e.tail as usize])
+        && is_between(first, many, place[e.head as usize])
 }
 
-/// Of the edges from the head's part to the tail's part the one of least slack, ties by the number.
-pub fn entering(edges: &[NetEdge], layers: &[i64], below: &[bool], root_in: bool) -> Option<Choice>
+/// Of the edges from the head's part to the tail's part the one of least slack, ties by the number. The part without the
+/// root hangs on `child`.
+pub fn entering(
+    edges: &[NetEdge],
+    layers: &[i64],
+    place: &[u32],
+    size: &[u32],
+    child: u32,
+    root_in: bool,
+) -> Option<Choice>
     requires few { length edges.now ≤ 2 ^ 24 }
-    requires marks { length below.now ≡ length layers.now }
+    requires place { length place.now ≡ length layers.now }
+    requires size { length size.now ≡ length layers.now }
+    requires child { child < length layers.now }
+    requires fits { slice_index place.now child + slice_index size.now child < 2 ^ 32 }
     requires ends { EndsBelow (length layers.now) edges.now }
     requires layering { IsLayering edges.now layers.now }
-    ensures { Tells (λ k. slack layers.now (edge_at edges.now k)) (least_slack_edge edges.now layers.now (leads_back (part_from root_in below.now))) result }
+    ensures { Tells (λ k. slack layers.now (edge_at edges.now k)) (least_slack_edge edges.now layers.now (leads_back (part_from root_in (part place.now size.now child)))) result }
 {
+    let first = place[child as usize];
+    let many = size[child as usize];
     let mut best: Option<Choice> = None;
     for k in 0..edges.len() {
         let e = edges[k];
-        if leads_back_to(below, root_in, e) {
+        if leads_back_to(place, first, many, root_in, e) {
             let slack = slack_between(
                 i128::from(layers[e.tail as usize]),
                 i128::from(layers[e.head as usize]),

@@ -5,6 +5,7 @@ mod chain;
 mod choice;
 mod cuts;
 mod entering;
+mod first_walk;
 mod growing;
 mod laws;
 mod passing;

@@ -1,9 +1,10 @@
-//! The tree as it hangs from node 0: each node's edge upwards, and an order in which each node comes after the one
-//! that it hangs on.
+//! The tree as it hangs from node 0: each node's edge upwards, and the places of the nodes in a walk over the tree, in
+//! which what hangs on a node has the places behind the node's own.
 
-ghost use Rattle.std.specs.Prelude.{◌≡◌, ◌≢◌, ◌+◌, ◌<◌, ◌≤◌, ◌^◌, ℕ, ◌||◌, length, set, slice_index};
-ghost use Rattle.layering_laws.specs.Network.{EndsBelow};
-ghost use Rattle.net_simplex.specs.Rooted.{beyond, IsRooted, IsBelow};
+ghost use Rattle.std.specs.Prelude.{◌≡◌, ◌≢◌, ◌+◌, ◌<◌, ◌^◌, ℕ, length, set, slice_index};
+ghost use Rattle.layering_laws.specs.Network.{edge_at};
+ghost use Rattle.net_simplex.specs.Rooted.{above, beyond};
+ghost use Rattle.net_simplex.specs.Walks.{between};
 
 use layering_laws::NetEdge;
 
@@ -15,6 +16,23 @@ pub fn other_end(e: NetEdge, v: u32) -> u32
         return e.head;
     }
     e.tail
+}
+
+/// The end of edge `k` that is not `v`.
+pub fn far_end(edges: &[NetEdge], k: u32, v: u32) -> u32
+    requires { k < length edges.now }
+    ensures { result ≡ beyond (edge_at edges.now k) v }
+{
+    other_end(edges[k as usize], v)
+}
+
+/// The node on which `v` hangs.
+pub fn upper(edges: &[NetEdge], parent: &[u32], v: u32) -> u32
+    requires node { v < length parent.now }
+    requires there { slice_index parent.now v < length edges.now }
+    ensures { result ≡ above edges.now parent.now v }
+{
+    far_end(edges, parent[v as usize], v)
 }
 
 /// Gives a node the next place.
@@ -40,36 +58,10 @@ pub fn child_of(parent: &[u32], e: NetEdge, k: u32) -> u32
     e.head
 }
 
-/// Whether one of the two holds.
-fn either(a: bool, b: bool) -> bool
-    ensures { result ≡ (a || b) }
+/// Whether `q` is one of the `many` numbers from `p` on. There is no branch on `q`, which is as random as the edges are.
+pub fn is_between(p: u32, many: u32, q: u32) -> bool
+    requires { p + many < 2 ^ 32 }
+    ensures { result ≡ between p many q }
 {
-    a || b
-}
-
-/// Marks the nodes that hang on `child`, with itself.
-pub fn mark_below(
-    edges: &[NetEdge],
-    tree: &[bool],
-    order: &[u32],
-    place: &[u32],
-    parent: &[u32],
-    child: u32,
-    below: &mut [bool],
-)
-    requires marks { length below.old ≡ length parent.now }
-    requires ends { EndsBelow (length parent.now) edges.now }
-    requires rooted { IsRooted (length parent.now) edges.now tree.now order.now place.now parent.now }
-    requires child { child < length parent.now }
-    requires hangs { child ≢ 0 }
-    ensures { IsBelow (length parent.now) edges.now place.now parent.now child below.new }
-{
-    let _places = place.len();
-    let _marks = tree.len();
-    below[0] = false;
-    for i in 1..order.len() {
-        let v = order[i];
-        let upper = other_end(edges[parent[v as usize] as usize], v);
-        below[v as usize] = either(v == child, below[upper as usize]);
-    }
+    q.wrapping_sub(p) < many
 }

@@ -9,11 +9,14 @@ ghost use Rattle.net_simplex.specs.Pivots.{lowered};
 ghost use Rattle.net_simplex.specs.Answer.{EndsInTime, RunsOut};
 ghost use Rattle.net_simplex.specs.Grown.{IsConnected, IsSmall};
 ghost use Rattle.net_simplex.specs.Kept.{IsKept};
+ghost use Rattle.net_simplex.specs.Rooted.{above};
+ghost use Rattle.net_simplex.specs.Walks.{IsWalk};
 ghost use Rattle.net_simplex.specs.Outcome.{Leads, Outcome};
 ghost use Rattle.net_simplex.specs.declared.solving.Way.TheVariants.{Simplex, Flow};
 
 use crate::chain::{leaving, pivot};
 use crate::cuts::sum_cuts;
+use crate::first_walk::walk_tree;
 use crate::growing::grow;
 use flow_dual::finish;
 use layering_laws::{NetEdge, Network, Solution, greatest_sums};
@@ -110,18 +113,16 @@ fn run(
     layers: &mut [i64],
     order: &mut [u32],
     place: &mut [u32],
+    size: &mut [u32],
     parent: &mut [u32],
-    below: &mut [bool],
     next: &mut [u32],
-    spot: &mut [u32],
     excess: &mut [i64],
     cut: &mut [i64],
 ) -> Option<u64>
     requires network { IsNetwork (length layers.old) edges.now }
     requires kept { IsKept (length layers.old) edges.now tree.old layers.old order.old place.old parent.old }
-    requires below { length below.old ≡ length layers.old }
+    requires walk { IsWalk (length layers.old) order.old place.old size.old (above edges.now parent.old) }
     requires next { length next.old ≡ length layers.old }
-    requires spot { length spot.old ≡ length layers.old }
     requires excess { length excess.old ≡ length layers.old }
     requires cut { length cut.old ≡ length edges.now }
     ensures kept { IsKept (length layers.old) edges.now tree.new layers.new order.new place.new parent.new }
@@ -136,7 +137,7 @@ fn run(
                     return None;
                 }
                 pivot(
-                    edges, out, tree, layers, order, place, parent, below, next, spot, cut,
+                    edges, out, tree, layers, order, place, size, parent, next, cut,
                 );
                 made += 1;
             }
@@ -156,9 +157,9 @@ fn run_on(
     reached: &mut [bool],
     order: &mut [u32],
     place: &mut [u32],
+    size: &mut [u32],
     parent: &mut [u32],
     next: &mut [u32],
-    spot: &mut [u32],
     excess: &mut [i64],
     cut: &mut [i64],
 ) -> Result<Option<u64>, AllocError>
@@ -172,16 +173,17 @@ fn run_on(
     requires reached { reached.old ≡ replicate (length layers.old) false }
     requires order { length order.old ≡ length layers.old }
     requires place { length place.old ≡ length layers.old }
+    requires size { length size.old ≡ length layers.old }
     requires parent { length parent.old ≡ length layers.old }
     requires next { length next.old ≡ length layers.old }
-    requires spot { length spot.old ≡ length layers.old }
     requires excess { length excess.old ≡ length layers.old }
     requires cut { length cut.old ≡ length edges.now }
     ensures { IfOk result (λ o. Outcome (length layers.old) edges.now budget o layers.new flow.new) }
 {
     grow(alloc, edges, tree, reached, layers, order, place, parent)?;
+    walk_tree(edges, tree, order, place, parent, size, next);
     let ended = run(
-        edges, budget, tree, layers, order, place, parent, reached, next, spot, excess, cut,
+        edges, budget, tree, layers, order, place, size, parent, next, excess, cut,
     );
     match ended {
         Some(pivots) => {
@@ -216,9 +218,9 @@ fn run_from(
     let mut reached: Vec<bool> = vec![in alloc; false; nodes]?;
     let mut order: Vec<u32> = vec![in alloc; 0; nodes]?;
     let mut place: Vec<u32> = vec![in alloc; 0; nodes]?;
+    let mut size: Vec<u32> = vec![in alloc; 0; nodes]?;
     let mut parent: Vec<u32> = vec![in alloc; 0; nodes]?;
     let mut next: Vec<u32> = vec![in alloc; 0; nodes]?;
-    let mut spot: Vec<u32> = vec![in alloc; 0; nodes]?;
     let mut excess: Vec<i64> = vec![in alloc; 0; nodes]?;
     let mut cut: Vec<i64> = vec![in alloc; 0; edges.len()]?;
     as_layers(sums, layers);
@@ -232,9 +234,9 @@ fn run_from(
         reached.as_mut_slice(),
         order.as_mut_slice(),
         place.as_mut_slice(),
+        size.as_mut_slice(),
         parent.as_mut_slice(),
         next.as_mut_slice(),
-        spot.as_mut_slice(),
         excess.as_mut_slice(),
         cut.as_mut_slice(),
     )

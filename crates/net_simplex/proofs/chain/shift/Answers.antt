@@ -1,50 +1,59 @@
-use Rattle.std.proofs.Common.{rules, ◌+◌, ◌+ℤ◌, FitsSigned, w64, to_z, of_z, arith, sym, subst}
+use Rattle.std.proofs.Common.{rules, ◌+◌, ◌+ℤ◌, set, get_or, FitsSigned, w64, to_z, of_z, arith, sym, subst, inr}
 use Rattle.std.proofs.lemmas.Int.{to_z-of_z}
 use Rattle.layering_laws.specs.Layering.{layer_of}
-use Rattle.net_simplex.specs.Pivots.{is_in}
 use Rattle.net_simplex.specs.Grown.{IsSmall}
-use Rattle.net_simplex.proofs.Stepping.{IsShifted, shift_start, shift_one, shift_past, shift_end}
+use Rattle.net_simplex.proofs.Walking.{is_between}
+use Rattle.net_simplex.proofs.Stepping.{IsShifted, shift_start, shift_more, shift_end}
 use Rattle.net_simplex.proofs.chain.shift.Goals as goal
-use Rattle.net_simplex.proofs.chain.shift.Goals.{then-below-v, else-below-v}
 
-pub loop-v-init : goal.loop-v-init
-loop-v-init c = shift_start (is_in c.args.below.now) (to_z w64 (of_z w64 c.args.by)) c.args.layers.now
-
-pub loop-v-preserved : goal.loop-v-preserved
-loop-v-preserved c =
-    let inside = is_in c.args.below.now in
-    let by = c.args.by in
-    let fb : FitsSigned w64 by = search rules in
-    let old = c.args.layers.now in
-    let v = c.loop-v.v in
-    let s = subst (λ b. IsShifted inside b old v c.loop-v.layers) (to_z-of_z w64 by fb) c.loop-v.invariant in
-    subst (λ b. IsShifted inside b old (v + 1) c.if-below-v.layers) (sym (to_z-of_z w64 by fb))
-    (elim c.if-below-v.branch [
-      | then-below-v w ↦
-          let z = w.moved.result in
-          let fz : FitsSigned w64 z = search rules in
-          let fl : FitsSigned w64 (layer_of c.loop-v.layers v) = search rules in
-          let is = rw (to_z-of_z w64 (layer_of c.loop-v.layers v) fl, to_z-of_z w64 by fb) at w.moved.ensures in
-          let e = rw (to_z-of_z w64 z fz) at w.layers-is in
-          subst (λ xs. IsShifted inside by old (v + 1) xs) (sym e) (shift_one inside by old v c.loop-v.layers z c.loop-v-test.true s w.if-below-v.true is)
-      | else-below-v w ↦ subst (λ xs. IsShifted inside by old (v + 1) xs) (sym w.layers-is) (shift_past inside by old v c.loop-v.layers s w.if-below-v.false)
-    ])
+pub loop-i-init : goal.loop-i-init
+loop-i-init c = shift_start c.args.order.now c.args.place.now c.args.size.now c.requires.walk.0 (to_z w64 (of_z w64 c.args.by)) c.args.layers.now c.requires.walk.1 (get_or c.args.place.now c.args.child 0)
 
 pub moved-requires : goal.moved-requires
 moved-requires c =
-    let inside = is_in c.args.below.now in
+    let w = c.requires.walk.1 in
+    let by = c.args.by in
+    let fb : FitsSigned w64 by = search rules in
+    let i = c.loop-i.i in
+    let t = c.loop-i-test.true in
+    let from = c.loop-i.auto.i in
+    let f = w.fits c.args.child c.requires.child in
+    let o = w.in_order i (omega (arith, t, f)) in
+    let v = get_or c.args.order.now i 0 in
+    let o1 = o.1 in
+    let m = is_between (get_or c.args.place.now c.args.child 0) (get_or c.args.size.now c.args.child 0) (get_or c.args.place.now v 0) (omega (arith, o1, from)) (omega (arith, o1, t)) in
+    let fl : FitsSigned w64 (layer_of c.loop-i.layers v) = search rules in
+    let k = c.loop-i.invariant.kept v o.0 (inr (omega (arith, o1))) in
+    rw (to_z-of_z w64 (layer_of c.loop-i.layers v) fl, to_z-of_z w64 by fb) (subst (λ z. IsSmall (z +ℤ by)) (sym k) (c.requires.small v o.0 m))
+
+pub loop-i-preserved : goal.loop-i-preserved
+loop-i-preserved c =
+    let w = c.requires.walk.1 in
     let by = c.args.by in
     let fb : FitsSigned w64 by = search rules in
     let old = c.args.layers.now in
-    let v = c.loop-v.v in
-    let fl : FitsSigned w64 (layer_of c.loop-v.layers v) = search rules in
-    let k = c.loop-v.invariant.kept v (omega arith) in
-    rw (to_z-of_z w64 (layer_of c.loop-v.layers v) fl, to_z-of_z w64 by fb) (subst (λ z. IsSmall (z +ℤ by)) (sym k) (c.requires.small v c.loop-v-test.true c.if-below-v.true))
+    let i = c.loop-i.i in
+    let t = c.loop-i-test.true in
+    let from = c.loop-i.auto.i in
+    let f = w.fits c.args.child c.requires.child in
+    let v = get_or c.args.order.now i 0 in
+    let low = get_or c.args.place.now c.args.child 0 in
+    let s = subst (λ b. IsShifted c.args.place.now low b old i c.loop-i.layers) (to_z-of_z w64 by fb) c.loop-i.invariant in
+    let z = c.moved.result in
+    let fz : FitsSigned w64 z = search rules in
+    let fl : FitsSigned w64 (layer_of c.loop-i.layers v) = search rules in
+    let is = rw (to_z-of_z w64 (layer_of c.loop-i.layers v) fl, to_z-of_z w64 by fb) at c.moved.ensures in
+    let more = shift_more c.args.order.now c.args.place.now c.args.size.now c.requires.walk.0 by old w low i c.loop-i.layers z from (omega (arith, t, f)) s is in
+    subst (λ b. IsShifted c.args.place.now low b old (i + 1) (set c.loop-i.layers v (to_z w64 (of_z w64 z)))) (sym (to_z-of_z w64 by fb))
+    (subst (λ y. IsShifted c.args.place.now low by old (i + 1) (set c.loop-i.layers v y)) (sym (to_z-of_z w64 z fz)) more)
 
 pub returns : goal.returns
 returns c =
-    let inside = is_in c.args.below.now in
+    let w = c.requires.walk.1 in
     let by = c.args.by in
     let fb : FitsSigned w64 by = search rules in
     let old = c.args.layers.now in
-    shift_end inside by old c.loop-v.v c.loop-v.layers c.loop-v-test.false (subst (λ b. IsShifted inside b old c.loop-v.v c.loop-v.layers) (to_z-of_z w64 by fb) c.loop-v.invariant)
+    let t = c.loop-i-test.false in
+    let b = c.loop-i.auto.i-end in
+    let some = w.some c.args.child c.requires.child in
+    shift_end c.args.order.now c.args.place.now c.args.size.now c.requires.walk.0 by old w c.args.child c.loop-i.i c.loop-i.layers (omega (arith, t, b, some)) (subst (λ y. IsShifted c.args.place.now (get_or c.args.place.now c.args.child 0) y old c.loop-i.i c.loop-i.layers) (to_z-of_z w64 by fb) c.loop-i.invariant)

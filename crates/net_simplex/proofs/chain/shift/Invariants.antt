@@ -1,6 +1,6 @@
-use Rattle.net_simplex.specs.Pivots.{is_in}
+use Rattle.std.proofs.Common.{get_or}
 use Rattle.net_simplex.proofs.Stepping.{IsShifted}
 use Rattle.net_simplex.proofs.chain.shift.Given as goal
 
-abbrev pub invariant-loop-v : goal.invariant-loop-v
-invariant-loop-v l = IsShifted (is_in l.below) l.by l.initial.layers l.v l.layers
+abbrev pub invariant-loop-i : goal.invariant-loop-i
+invariant-loop-i l = IsShifted l.place (get_or l.place l.child 0) l.by l.initial.layers l.i l.layers

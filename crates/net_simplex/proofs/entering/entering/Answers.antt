@@ -5,6 +5,7 @@ use Rattle.layering_laws.specs.Network.{edge_at}
 use Rattle.layering_laws.specs.Layering.{layer_of}
 use Rattle.net_simplex.specs.Pivots.{slack, leads_back, least_of}
 use Rattle.net_simplex.specs.Rooted.{part_from}
+use Rattle.net_simplex.specs.Walks.{part}
 use Rattle.net_simplex.specs.Chosen.{Tells}
 use Rattle.net_simplex.proofs.Looking.{passed_over, looked_at, slack_value}
 use Rattle.net_simplex.proofs.entering.entering.Goals as goal
@@ -15,7 +16,7 @@ loop-k-preserved c =
     let edges = c.args.edges.now in
     let layers = c.args.layers.now in
     let i = c.loop-k.k in
-    let inside = part_from c.args.root_in c.args.below.now in
+    let inside = part_from c.args.root_in (part c.args.place.now c.args.size.now c.args.child) in
     elim c.if-leads_back_to.branch [
       | then-leads_back_to w ↦
           let e = edge_at edges i in
@@ -39,6 +40,6 @@ pub returns : goal.returns
 returns c =
     let edges = c.args.edges.now in
     let layers = c.args.layers.now in
-    let inside = part_from c.args.root_in c.args.below.now in
+    let inside = part_from c.args.root_in (part c.args.place.now c.args.size.now c.args.child) in
     let e : c.loop-k.k ≡ length edges = let t = c.loop-k-test.false in let a = c.loop-k.auto.k-end in omega (arith, t, a) in
     subst (λ n. Tells (λ k. slack layers (edge_at edges k)) (least_of (λ k. leads_back inside (edge_at edges k)) (λ k. slack layers (edge_at edges k)) n) c.loop-k.best) e c.loop-k.invariant

@@ -1,7 +1,8 @@
 use Rattle.std.proofs.Common.{◌≡◌, ◌∙◌, Some, length, arith, sym, subst}
 use Rattle.layering_laws.specs.Network.{EndsBelow, IsNetwork}
 use Rattle.net_simplex.specs.Tree.{IsSpanningTree}
-use Rattle.net_simplex.specs.Rooted.{IsRooted}
+use Rattle.net_simplex.specs.Rooted.{above, IsRooted}
+use Rattle.net_simplex.specs.Walks.{IsWalk}
 use Rattle.net_simplex.specs.Pivots.{leaving_edge}
 use Rattle.net_simplex.specs.Cuts.{AreCutValues}
 use Rattle.net_simplex.specs.Kept.{IsKept, kept_state, PivotsTo}
@@ -16,6 +17,7 @@ pivots-init c = (
   c.requires.kept,
   reach_none (length c.args.layers.now) c.args.edges.now c.args.tree.now c.args.layers.now,
   subst (λ m. AreCutValues m c.args.edges.now c.args.tree.now c.sum_cuts.new.cut) c.requires.kept.rooted.order_each c.sum_cuts.ensures,
+  c.requires.walk,
 )
 
 pub leaving-requires : goal.leaving-requires
@@ -40,17 +42,14 @@ pivot-requires c =
     let l = kept.is.layer_for_each in
     let values = c.pivots.invariant.3 in
     let leaves = sym (leaves_by n edges tree layers c.pivots.cut kept.is.spanning.mark_for_each values) ∙ (sym c.leaving.ensures ∙ c.in-Some.is) in
-    let a = c.pivots.auto.below in
     let b = c.pivots.auto.next in
-    let d = c.pivots.auto.spot in
     record {
       network = subst (λ m. IsNetwork m edges) (sym l) c.requires.network;
       kept = subst (λ m. IsKept m edges tree layers c.pivots.order c.pivots.place c.pivots.parent) (sym l) kept;
       values = subst (λ m. AreCutValues m edges tree c.pivots.cut) (sym l) values;
       leaves = subst (λ m. leaving_edge m edges (kept_state tree layers) ≡ Some c.in-Some.out) (sym l) leaves;
-      below = let q = c.requires.below in omega (arith, a, q, l);
+      walk = subst (λ m. IsWalk m c.pivots.order c.pivots.place c.pivots.size (above edges c.pivots.parent)) (sym l) c.pivots.invariant.4;
       next = let q = c.requires.next in omega (arith, b, q, l);
-      spot = let q = c.requires.spot in omega (arith, d, q, l);
     }
 
 pub pivots-preserved : goal.pivots-preserved
@@ -66,6 +65,7 @@ pivots-preserved c =
       reach_more n edges c.pivots.made c.args.tree.now c.pivots.tree c.pivot.new.tree c.args.layers.now c.pivots.layers c.pivot.new.layers c.requires.network.ends l c.pivots.invariant.2
           (subst (λ q. PivotsTo q edges c.pivots.tree c.pivots.layers c.pivot.new.tree c.pivot.new.layers) l c.pivot.ensures.pivots),
       subst (λ q. AreCutValues q edges c.pivot.new.tree c.pivot.new.cut) l c.pivot.ensures.values,
+      subst (λ q. IsWalk q c.pivot.new.order c.pivot.new.place c.pivot.new.size (above edges c.pivot.new.parent)) l c.pivot.ensures.walk,
     )
 
 pub returns-then-made-budget-clause-leads : goal.returns-then-made-budget-clause-leads

@@ -1,4 +1,6 @@
 use Rattle.std.proofs.Common.{◌-◌, ◌≤◌, length}
+use Rattle.net_simplex.specs.Rooted.{above}
+use Rattle.net_simplex.specs.Walks.{IsWalk}
 use Rattle.net_simplex.specs.Cuts.{AreCutValues}
 use Rattle.net_simplex.specs.Kept.{IsKept}
 use Rattle.net_simplex.specs.Outcome.{Reaches}
@@ -10,6 +12,7 @@ invariant-pivots l =
     × IsKept (length l.initial.layers) l.edges l.tree l.layers l.order l.place l.parent
     × Reaches (length l.initial.layers) l.edges l.made l.initial.tree l.initial.layers l.tree l.layers
     × AreCutValues (length l.initial.layers) l.edges l.tree l.cut
+    × IsWalk (length l.initial.layers) l.order l.place l.size (above l.edges l.parent)
 
 abbrev pub decreases-pivots : goal.decreases-pivots
 decreases-pivots l = l.budget - l.made

@@ -21,9 +21,9 @@ run_on-requires c =
     let e_reached = c.as_mut_slice-2.ensures.value ∙ c.in_ok-reached.ensures.items_if_clones_equal (λ y e. e) in
     let e_order = c.as_mut_slice-3.ensures.value ∙ c.in_ok-order.ensures.items_if_clones_equal (λ y e. e) in
     let e_place = c.as_mut_slice-4.ensures.value ∙ c.in_ok-place.ensures.items_if_clones_equal (λ y e. e) in
-    let e_parent = c.as_mut_slice-5.ensures.value ∙ c.in_ok-parent.ensures.items_if_clones_equal (λ y e. e) in
-    let e_next = c.as_mut_slice-6.ensures.value ∙ c.in_ok-next.ensures.items_if_clones_equal (λ y e. e) in
-    let e_spot = c.as_mut_slice-7.ensures.value ∙ c.in_ok-spot.ensures.items_if_clones_equal (λ y e. e) in
+    let e_size = c.as_mut_slice-5.ensures.value ∙ c.in_ok-size.ensures.items_if_clones_equal (λ y e. e) in
+    let e_parent = c.as_mut_slice-6.ensures.value ∙ c.in_ok-parent.ensures.items_if_clones_equal (λ y e. e) in
+    let e_next = c.as_mut_slice-7.ensures.value ∙ c.in_ok-next.ensures.items_if_clones_equal (λ y e. e) in
     let e_excess = c.as_mut_slice-8.ensures.value ∙ c.in_ok-excess.ensures.items_if_clones_equal (λ y e. e) in
     let e_cut = c.as_mut_slice-9.ensures.value ∙ c.in_ok-cut.ensures.items_if_clones_equal (λ y e. e) in
     record {
@@ -39,7 +39,7 @@ run_on-requires c =
       place = ap length e_place ∙ (length-replicate n 0 ∙ sym m);
       parent = ap length e_parent ∙ (length-replicate n 0 ∙ sym m);
       next = ap length e_next ∙ (length-replicate n 0 ∙ sym m);
-      spot = ap length e_spot ∙ (length-replicate n 0 ∙ sym m);
+      size = ap length e_size ∙ (length-replicate n 0 ∙ sym m);
       excess = ap length e_excess ∙ (length-replicate n (pos 0) ∙ sym m);
       cut = ap length e_cut ∙ length-replicate (length edges) (pos 0);
     }

@@ -1,23 +1,45 @@
-use Rattle.std.proofs.Common.{◌∙◌, Some, None, false, refl, length, arith, sym, subst, ap}
-use Rattle.std.proofs.lemmas.List.{length-replicate}
-use Rattle.layering_laws.specs.Network.{IsNetwork}
+use Rattle.std.proofs.Common.{◌∙◌, Some, None, refl, length, arith, sym, subst}
+use Rattle.layering_laws.specs.Network.{EndsBelow, IsNetwork}
+use Rattle.net_simplex.specs.Rooted.{above, IsRooted}
+use Rattle.net_simplex.specs.Walks.{IsWalk}
 use Rattle.net_simplex.specs.Pivots.{first_state, lowered}
 use Rattle.net_simplex.specs.Kept.{IsKept}
 use Rattle.net_simplex.specs.Outcome.{Leads, Outcome}
 use Rattle.net_simplex.proofs.AtEnd.{last_small, from_zero, flow_is, ended, ran_out}
 use Rattle.net_simplex.proofs.solving.run_on.Goals as goal
 
+pub walk_tree-requires : goal.walk_tree-requires
+walk_tree-requires c =
+    let edges = c.args.edges.now in
+    let kept = c.in_ok-grow.ensures.kept in
+    let o = kept.rooted.order_each in
+    let net = c.requires.network in
+    let few = net.few_nodes in
+    record {
+      few = omega (arith, o, few);
+      ends = subst (λ m. EndsBelow m edges) (sym o) net.ends;
+      rooted = subst (λ m. IsRooted m edges c.grow.new.tree c.grow.new.order c.grow.new.place c.grow.new.parent) (sym o) kept.rooted;
+      size = c.requires.size ∙ sym o;
+      next = c.requires.next ∙ sym o;
+    }
+
 pub run-ended-requires : goal.run-ended-requires
 run-ended-requires c =
     let edges = c.args.edges.now in
     let l = c.grow.auto.layers in
-    let r = c.grow.auto.reached in
+    let kept = c.in_ok-grow.ensures.kept in
+    let o = kept.rooted.order_each in
+    let walked : IsKept (length c.args.layers.now) edges c.grow.new.tree c.grow.new.layers c.walk_tree.new.order c.walk_tree.new.place c.grow.new.parent = record {
+      is = kept.is;
+      root = kept.root;
+      rooted = subst (λ m. IsRooted m edges c.grow.new.tree c.walk_tree.new.order c.walk_tree.new.place c.grow.new.parent) o c.walk_tree.ensures.rooted;
+    } in
+    let walk = subst (λ m. IsWalk m c.walk_tree.new.order c.walk_tree.new.place c.walk_tree.new.size (above edges c.grow.new.parent)) o c.walk_tree.ensures.walk in
     record {
       network = subst (λ m. IsNetwork m edges) (sym l) c.requires.network;
-      kept = subst (λ m. IsKept m edges c.grow.new.tree c.grow.new.layers c.grow.new.order c.grow.new.place c.grow.new.parent) (sym l) c.in_ok-grow.ensures.kept;
-      below = r ∙ (ap length c.requires.reached ∙ (length-replicate (length c.args.layers.now) false ∙ sym l));
-      next = c.requires.next ∙ sym l;
-      spot = c.requires.spot ∙ sym l;
+      kept = subst (λ m. IsKept m edges c.grow.new.tree c.grow.new.layers c.walk_tree.new.order c.walk_tree.new.place c.grow.new.parent) (sym l) walked;
+      walk = subst (λ m. IsWalk m c.walk_tree.new.order c.walk_tree.new.place c.walk_tree.new.size (above edges c.grow.new.parent)) (sym l) walk;
+      next = let q = c.walk_tree.auto.next in q ∙ (c.requires.next ∙ sym l);
       excess = c.requires.excess ∙ sym l;
       cut = c.requires.cut;
     }

@@ -1,13 +1,17 @@
-use Rattle.std.proofs.Common.{length, get_or}
-use Rattle.net_simplex.specs.Rooted.{IsPlanted}
-use Rattle.net_simplex.specs.Turning.{unmarked, IsOnPath, IsReady}
+use Rattle.std.proofs.Common.{◌≡◌, ℕ, List, length, get_or}
+use Rattle.net_simplex.specs.Rooted.{above}
+use Rattle.net_simplex.specs.Turning.{IsWayUp, IsTurnedTo}
 use Rattle.net_simplex.proofs.turning.turn_path.Given as goal
 
-abbrev pub invariant-path : goal.invariant-path
-invariant-path l =
-    IsOnPath (length l.order) l.edges l.place l.initial.parent l.initial.below l.child l.v l.parent l.below
-    × IsReady l.edges l.tree l.below l.v l.link
-    × IsPlanted (length l.order) l.edges l.tree (unmarked l.below) l.at l.next l.spot l.parent
+abbrev pub invariant-way : goal.invariant-way
+invariant-way l =
+    (was : List ℕ)
+    → IsWayUp (length l.order) l.edges l.order l.fn.place was l.fn.parent l.child l.from l.fn.size
+    → IsTurnedTo (length l.order) l.fn.place was l.fn.parent (above l.edges l.fn.parent) l.child l.from l.base l.by l.v l.fn.size l.place l.size l.parent l.next
+    × (l.up ≡ get_or l.fn.parent l.v 0)
+    × (l.low ≡ get_or l.fn.place l.v 0)
+    × (l.held ≡ get_or was l.v 0)
+    × (l.many ≡ get_or was l.child 0)
 
-abbrev pub decreases-path : goal.decreases-path
-decreases-path l = get_or l.place l.v 0
+abbrev pub decreases-way : goal.decreases-way
+decreases-way l = get_or l.fn.place l.v 0

@@ -1,0 +1,135 @@
+//! The first walk over a tree: from an order in which each node comes after the one that it hangs on, sizes are summed from
+//! the last node to the first, and places are given from the first to the last.
+
+ghost use Rattle.std.specs.Prelude.{◌≡◌, ◌≢◌, ◌+◌, ◌<◌, ◌≤◌, ◌^◌, ℕ, length, set, slice_index};
+ghost use Rattle.layering_laws.specs.Network.{EndsBelow};
+ghost use Rattle.net_simplex.specs.Rooted.{above, IsRooted};
+ghost use Rattle.net_simplex.specs.Walks.{IsWalk, AreSizes, ArePlaced, TakesPlace};
+
+use crate::rooted::upper;
+use layering_laws::NetEdge;
+
+/// Each node is its own part.
+fn set_ones(size: &mut [u32])
+    ensures same { length size.new ≡ length size.old }
+    ensures one { (v : ℕ) → v < length size.old → slice_index size.new v ≡ 1 }
+{
+    for v in 0..size.len() {
+        size[v] = 1;
+    }
+}
+
+/// Adds the size of a node to that of the one on which it hangs.
+fn add_size(size: &mut [u32], v: u32, u: u32)
+    requires node { v < length size.old }
+    requires upper { u < length size.old }
+    requires fits { slice_index size.old u + slice_index size.old v < 2 ^ 32 }
+    ensures { size.new ≡ set size.old u (slice_index size.old u + slice_index size.old v) }
+{
+    size[u as usize] += size[v as usize];
+}
+
+/// Counts what hangs on each node, with itself.
+fn sum_sizes(
+    edges: &[NetEdge],
+    tree: &[bool],
+    order: &[u32],
+    place: &[u32],
+    parent: &[u32],
+    size: &mut [u32],
+)
+    requires few { length order.now ≤ 2 ^ 23 }
+    requires ends { EndsBelow (length order.now) edges.now }
+    requires rooted { IsRooted (length order.now) edges.now tree.now order.now place.now parent.now }
+    requires size { length size.old ≡ length order.now }
+    ensures same { length size.new ≡ length order.now }
+    ensures sizes { AreSizes (length order.now) order.now (above edges.now parent.now) size.new }
+{
+    let _lists = tree.len() + place.len();
+    set_ones(size);
+    let mut left = order.len();
+    while left > 1 {
+        left -= 1;
+        let v = order[left];
+        add_size(size, v, upper(edges, parent, v));
+    }
+}
+
+/// A node takes the next place of the part of `u`, on which it hangs.
+fn take_place(size: &[u32], v: u32, u: u32, place: &mut [u32], next: &mut [u32])
+    requires node { v < length place.old }
+    requires upper { u < length place.old }
+    requires size { length size.now ≡ length place.old }
+    requires next { length next.old ≡ length place.old }
+    requires fits { slice_index next.old u + slice_index size.now v < 2 ^ 32 }
+    requires more { slice_index next.old u + 1 < 2 ^ 32 }
+    ensures { TakesPlace v u size.now place.old next.old place.new next.new }
+{
+    let at = next[u as usize];
+    place[v as usize] = at;
+    next[u as usize] = at + size[v as usize];
+    next[v as usize] = at + 1;
+}
+
+/// Gives each node its place in the walk.
+fn place_all(
+    edges: &[NetEdge],
+    tree: &[bool],
+    order: &[u32],
+    parent: &[u32],
+    size: &[u32],
+    place: &mut [u32],
+    next: &mut [u32],
+)
+    requires few { length order.now ≤ 2 ^ 23 }
+    requires ends { EndsBelow (length order.now) edges.now }
+    requires rooted { IsRooted (length order.now) edges.now tree.now order.now place.old parent.now }
+    requires sizes { AreSizes (length order.now) order.now (above edges.now parent.now) size.now }
+    requires next { length next.old ≡ length order.now }
+    ensures { ArePlaced (length order.now) (above edges.now parent.now) size.now place.new }
+{
+    let _marks = tree.len();
+    place[0] = 0;
+    next[0] = 1;
+    for i in 1..order.len() {
+        let v = order[i];
+        take_place(size, v, upper(edges, parent, v), place, next);
+    }
+}
+
+/// Tells the order of the places.
+fn order_all(place: &[u32], order: &mut [u32])
+    requires same { length place.now ≡ length order.old }
+    requires there { (v : ℕ) → v < length place.now → slice_index place.now v < length order.old }
+    requires apart { (u v : ℕ) → u < length place.now → v < length place.now → slice_index place.now u ≡ slice_index place.now v → u ≡ v }
+    requires few { length place.now ≤ 2 ^ 23 }
+    ensures { (v : ℕ) → v < length place.now → slice_index order.new (slice_index place.now v) ≡ v }
+{
+    for v in 0..place.len() {
+        order[place[v] as usize] = v as u32;
+    }
+}
+
+/// Walks over a tree: from an order in which each node comes after the one that it hangs on to one in which what hangs on
+/// a node comes right behind it.
+pub fn walk_tree(
+    edges: &[NetEdge],
+    tree: &[bool],
+    order: &mut [u32],
+    place: &mut [u32],
+    parent: &[u32],
+    size: &mut [u32],
+    next: &mut [u32],
+)
+    requires few { length order.old ≤ 2 ^ 23 }
+    requires ends { EndsBelow (length order.old) edges.now }
+    requires rooted { IsRooted (length order.old) edges.now tree.now order.old place.old parent.now }
+    requires size { length size.old ≡ length order.old }
+    requires next { length next.old ≡ length order.old }
+    ensures rooted { IsRooted (length order.old) edges.now tree.now order.new place.new parent.now }
+    ensures walk { IsWalk (length order.old) order.new place.new size.new (above edges.now parent.now) }
+{
+    sum_sizes(edges, tree, order, place, parent, size);
+    place_all(edges, tree, order, parent, size, place, next);
+    order_all(place, order);
+}
