@@ -59,9 +59,6 @@ beside West true h = refl
 beside West false h = absurd (let bad : true ≡ false = h in cc)
 
 -- an implicit end of a link lies on no lane
-flow_side : Bool → Side
-flow_side b = side_by_flow (list_any (λ (x : Bool). x) (b ∷ []) && not (list_any (λ (x : Bool). not x) (b ∷ [])))
-
 pub implicit_beside : (l : PlainLevel) (p : PlainPlan) (c : ℕ) (n : End) → is_loop l n.edge ≡ false → lies_on_lane l p n (side_of (child_at l c) (implicit_spot l p c n)) ≡ false
 implicit_beside l p c n loop =
     subst (λ b. (is_upright (side_by_flow (list_any (λ m. enters p m) (cond (not b) (n ∷ []) []) && not (list_any (λ m. not (enters p m)) (cond (not b) (n ∷ []) []))))

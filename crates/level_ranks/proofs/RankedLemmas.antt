@@ -32,7 +32,7 @@ use Rattle.level_ends.proofs.AddLemmas.{ports_few}
 use Rattle.level_nets.specs.Routed.{AreMarks}
 use Rattle.level_nets.proofs.ListLemmas.{filter_short}
 use Rattle.level_pins.specs.Alike.{AreAlike, AreFlat}
-use Rattle.level_pins.specs.Reading.{IsLinkIn, end_of, is_on_lane}
+use Rattle.level_pins.specs.Reading.{end_of, is_on_lane}
 use Rattle.level_pins.proofs.AlikeLemmas.{no_heights}
 use Rattle.level_pins.proofs.WithinLemmas.{level_offset}
 use Rattle.level_ranks.specs.Levels.{AreRanksTo, seen_spots}
@@ -104,9 +104,6 @@ module _ (l : PlainLevel) (p : PlainPlan) (o : Orders) (t : Table) (marks : List
         numbers = made.numbers;
         ranks = ranks_in;
       }
-
-  pub links_in : (k : ℕ) → k < length p.layered.links → IsLinkIn l p.layered.units (link_at p.layered.links k)
-  links_in k h = let is = made.sound.links_are k h in record { edge = (made.linked.links k h).edge_in; tail = is.tail; head = is.head }
 
   -- ---- what is read of an edge's end
 
