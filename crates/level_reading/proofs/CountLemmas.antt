@@ -37,16 +37,20 @@ count_split key N (suc m) =
     ]
 
 ports_append : (xs ys : List Child) → total_ports (xs ++ ys) ≡ total_ports xs + total_ports ys
-ports_append [] ys = refl
+ports_append [] ys = omega arith
 ports_append (x ∷ xs) ys = let h = ports_append xs ys in omega (arith, h)
 
 port_count : (d : Document) (p : Placed) (way : Direction) (c : ℕ) → length (level_child d p way c).ports ≡ count_below (is_port_of d c) (length d.ports)
 port_count d p way c = length-map (ports_of d c) (level_port d way (box_size p c)) ∙ length-numbers_below (is_port_of d c) (length d.ports)
 
+none_below : (test : ℕ → Bool) → numbers_below test zero ≡ []
+unfolding numbers_below
+none_below test = refl
+
 -- the ports of children below N are among those of nodes below N
 ports_below : (d : Document) (p : Placed) (way : Direction) (test : ℕ → Bool) (N : ℕ)
     → total_ports (map (level_child d p way) (numbers_below test N)) ≤ count_below (λ k. nat_lt (node_of_port d k) N) (length d.ports)
-ports_below d p way test zero = omega arith
+ports_below d p way test zero = rw (none_below test) (omega arith)
 ports_below d p way test (suc N) =
     let f : ℕ → Child = level_child d p way in
     let before = ports_below d p way test N in

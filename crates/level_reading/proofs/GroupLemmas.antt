@@ -78,7 +78,7 @@ pub grouped_same : (keys : List (Option ℕ)) (n : ℕ) (rows : List (List ℕ))
 grouped_same keys n rows key hold j h = hold j h ∙ sym (numbers_same (is_in keys j) n (in_none keys n j key))
 
 -- a group of numbers below n has no more than n
-count_few : (p : ℕ → Bool) (n : ℕ) → count_below p n ≤ n
+pub count_few : (p : ℕ → Bool) (n : ℕ) → count_below p n ≤ n
 unfolding count_below
 count_few p zero = omega arith
 count_few p (suc n) =

@@ -7,14 +7,11 @@
 mod given;
 mod grouping;
 mod index;
-
+mod laws;
 mod reading;
 mod turning;
 
 pub use grouping::Groups;
 pub use index::{Index, index_of};
-
+pub use laws::{levels_are_levels, levels_of_leaves_are_levels};
 pub use reading::level_in;
-
-
-
