@@ -87,7 +87,7 @@ parents_below d keys s are i k h e =
     let same : parent_of d i ≡ k = ap (λ o. unwrap_or o 0) (sym (are.each i here) ∙ e) in
     subst (λ n. n < length d.nodes) same (parent_of-in d i s here)
 
-some_same : (m n : ℕ) → Some m ≡ Some n → m ≡ n
+pub some_same : (m n : ℕ) → Some m ≡ Some n → m ≡ n
 some_same m n e = ap (λ o. unwrap_or o 0) e
 
 pub nodes_below : (d : Document) (keys : List (Option ℕ)) → IsSound d → AreKeys (λ k. Some (node_of_port d k)) (length d.ports) keys

@@ -6,3 +6,4 @@ pub mod PortLemmas
 pub mod TotalLemmas
 pub mod ChildLemmas
 pub mod LevelLemmas
+pub mod SmallLemmas

@@ -15,3 +15,6 @@ pub use grouping::Groups;
 pub use index::{Index, index_of};
 pub use laws::{levels_are_levels, levels_of_leaves_are_levels};
 pub use reading::level_in;
+
+#[cfg(test)]
+mod tests;
