@@ -1,0 +1,4 @@
+pub mod Grouping
+pub mod Indexed
+pub mod Read
+pub mod Levels
