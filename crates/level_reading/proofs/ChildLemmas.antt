@@ -167,7 +167,7 @@ port_sound d p way c j s small kept h =
         leaf_y = λ leaf. subst (λ (q : ChildPort). IsNear (turned_size way (box_size p c)).height q.place.y) (sym e) (near_leaf d way box c m s of small kept leaf).y;
         pinned =
             subst (λ (q : ChildPort). IsTrue (pins (node_at d c).rule (not (is_some (node_at d c).level)) (is_some q.side)) → IsNear (size_along (framed.side_else (given_at (level_child d p way c) q) false) (turned_size way (box_size p c))) (along (framed.side_else (given_at (level_child d p way c) q) false) q.place)) (sym e)
-                (near_pinned d way box c m s of small kept);
+            (near_pinned d way box c m s of small kept);
       },
     )
 

@@ -33,6 +33,7 @@ place_turned way box place size = framed way box place size ∙ mapped way (side
     mapped : (way : Direction) (o : Option Side) → option_map (turned_side way) o ≡ turned_given way o
     mapped way None = refl
     mapped way (Some s) = refl
+
     framed : (way : Direction) (box : Size) (place : Point) (size : Size)
         → side_of_place way (turned_size way box) (turned_place way box size place) (turned_size way size) ≡ option_map (turned_side way) (side_by_place box place size)
     framed Right box place size = directions_turn.side Right box place size
