@@ -1,6 +1,6 @@
 -- A port of a document in the frame of a direction.
-use Rattle.std.proofs.Common.{◌≡◌, ℕ, ◌<◌, ◌^◌, Bool, true, false, not, ℤ, pos, neg_ℤ, ◌+ℤ◌, ◌-ℤ◌, ◌≤ℤ◌, Option, None, Some, is_some, is_none, cond, arith, refl, sym, ap, subst, ◌∙◌, rules}
-use Rattle.std.specs.Prelude.{IsSome, IsNone, IsSomeAnd, IfSome, IsTrue, IsFalse}
+use Rattle.std.proofs.Common.{◌≡◌, ◌^◌, Bool, true, false, ℤ, pos, neg_ℤ, ◌+ℤ◌, ◌-ℤ◌, ◌≤ℤ◌, Option, None, Some, cond, arith, refl, ◌∙◌, rules}
+use Rattle.std.specs.Prelude.{IsSomeAnd}
 use Rattle.std.specs.Option.{option_map}
 use Rattle.std.proofs.lemmas.Int.{ints}
 use Rattle.elk_doc.specs.declared.shape.Point.{Point}
@@ -33,6 +33,7 @@ place_turned way box place size = framed way box place size ∙ mapped way (side
     mapped : (way : Direction) (o : Option Side) → option_map (turned_side way) o ≡ turned_given way o
     mapped way None = refl
     mapped way (Some s) = refl
+
     framed : (way : Direction) (box : Size) (place : Point) (size : Size)
         → side_of_place way (turned_size way box) (turned_place way box size place) (turned_size way size) ≡ option_map (turned_side way) (side_by_place box place size)
     framed Right box place size = directions_turn.side Right box place size

@@ -72,11 +72,7 @@ fn add(rows: &mut [Vec<u32>], keys: &[Option<u32>], number: u32) -> Result<u32, 
 }
 
 // Adds each number to the group of its key, and gives its place there.
-fn fill(
-    alloc: Global,
-    keys: &[Option<u32>],
-    rows: &mut [Vec<u32>],
-) -> Result<Vec<u32>, AllocError>
+fn fill(alloc: Global, keys: &[Option<u32>], rows: &mut [Vec<u32>]) -> Result<Vec<u32>, AllocError>
     requires there { (i k : ℕ) → i < length keys.now → key_at keys.now i ≡ Some k → k < length rows.old }
     requires few { length keys.now ≤ 2 ^ 13 }
     requires empty { AreGrouped keys.now 0 (rows_in rows.old) }
@@ -91,11 +87,7 @@ fn fill(
 }
 
 /// So many groups, each with the numbers of the keys that name it.
-pub(crate) fn group(
-    alloc: Global,
-    keys: &[Option<u32>],
-    count: usize,
-) -> Result<Groups, AllocError>
+pub(crate) fn group(alloc: Global, keys: &[Option<u32>], count: usize) -> Result<Groups, AllocError>
     requires below { (i k : ℕ) → i < length keys.now → key_at keys.now i ≡ Some k → k < count }
     requires few { length keys.now ≤ 2 ^ 13 }
     ensures { IfOk result (IsGrouping keys.now count) }
