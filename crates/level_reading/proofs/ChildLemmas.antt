@@ -1,5 +1,5 @@
 -- A child of a document's level is a child of a level.
-use Rattle.std.proofs.Common.{◌≡◌, ℕ, ◌<◌, ◌^◌, Bool, true, false, not, ℤ, pos, neg_ℤ, ◌≤ℤ◌, map, length, Option, None, Some, is_some, is_none, arith, refl, sym, ap, ap₂, subst, ◌∙◌, inl, inr, rules}
+use Rattle.std.proofs.Common.{◌≡◌, ℕ, ◌<◌, ◌^◌, Bool, true, false, not, ℤ, pos, neg_ℤ, length, Option, None, Some, is_some, is_none, arith, refl, sym, ap, ap₂, subst, ◌∙◌, inl, inr, rules}
 use Rattle.std.proofs.lemmas.Bool.{cases_Bool}
 use Rattle.std.proofs.lemmas.Int.{ints}
 use Rattle.std.specs.Prelude.{IsSome, IsNone, IsSomeAnd, IfSome, IsTrue, IsFalse}
@@ -13,7 +13,7 @@ use Rattle.elk_doc.specs.declared.document.Node.{Node}
 use Rattle.elk_doc.specs.declared.document.PortRule.{PortRule}
 use Rattle.elk_doc.specs.declared.document.PortRule.TheVariants.{Free, FixedSide, FixedOrder, FixedPos}
 use Rattle.elk_doc.specs.declared.drawing.Placed.{Placed}
-use Rattle.elk_doc.specs.Document.{Document, node_at, node_of_port, port_at}
+use Rattle.elk_doc.specs.Document.{Document, node_at, port_at}
 use Rattle.elk_doc.specs.Drawing.{box_of}
 use Rattle.elk_doc.specs.Fits.{KeepsSize}
 use Rattle.elk_doc.specs.PortsKept.{pins, size_along}
@@ -23,7 +23,7 @@ use Rattle.turning_laws.specs.Turning.{turned_side}
 use Rattle.port_order.specs.declared.children.ChildPort.{ChildPort}
 use Rattle.port_order.specs.declared.children.Child.{Child}
 use Rattle.port_order.specs.Child as laid
-use Rattle.port_order.specs.Conditions.{IsChild, IsChildPort, IsSmall}
+use Rattle.port_order.specs.Conditions.{IsChildPort, IsSmall}
 use Rattle.port_order.specs.Sides as framed
 use Rattle.level_plan.specs.Conditions.{IsLevelChild, IsNear, IsNearPort}
 use Rattle.turned_levels.specs.Turned.{box_size, half_along, level_child, level_port, port_number, ports_of, turned_given, turned_place, turned_size}

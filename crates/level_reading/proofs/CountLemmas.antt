@@ -1,12 +1,12 @@
 -- The children of a level are few, and so are their ports.
-use Rattle.std.proofs.Common.{◌≡◌, ℕ, zero, suc, ◌+◌, ◌<◌, ◌≤◌, Bool, true, false, nat_lt, ◌==◌, List, [], ◌∷◌, ◌++◌, map, length, arith, refl, sym, ap, inl, inr, subst, ◌∙◌, append-nil, eq-eqb, ne_eqb, lt-ltb, le-ltb}
+use Rattle.std.proofs.Common.{◌≡◌, ℕ, zero, suc, ◌+◌, ◌≤◌, Bool, true, false, nat_lt, ◌==◌, List, [], ◌∷◌, ◌++◌, map, length, arith, refl, ap, inl, inr, ◌∙◌, eq-eqb, ne_eqb, lt-ltb, le-ltb}
 use Rattle.std.proofs.lemmas.Bool.{cases_Bool, cases_order}
 use Rattle.std.proofs.lemmas.List.{length-map, map-append}
 use Rattle.elk_doc.specs.declared.document.Direction.{Direction}
 use Rattle.elk_doc.specs.declared.drawing.Placed.{Placed}
 use Rattle.elk_doc.specs.Document.{Document, node_of_port}
 use Rattle.elk_doc.specs.Numbers.{numbers_below, count_below}
-use Rattle.elk_doc.proofs.NumberLaws.{numbers_below-more, numbers_below-same, length-numbers_below, count_below-suc, count_below-suc_same}
+use Rattle.elk_doc.proofs.NumberLaws.{numbers_below-more, numbers_below-same, length-numbers_below}
 use Rattle.port_order.specs.declared.children.Child.{Child}
 use Rattle.level_plan.specs.Conditions.{total_ports}
 use Rattle.turned_levels.specs.Turned.{box_size, level_child, level_port, ports_of, is_port_of}

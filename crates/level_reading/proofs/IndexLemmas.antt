@@ -1,16 +1,16 @@
 -- The index of a document from groups of its children, edges and ports.
-use Rattle.std.proofs.Common.{◌≡◌, ℕ, zero, suc, ◌+◌, ◌<◌, ◌≤◌, Bool, true, false, List, [], ◌∷◌, ◌++◌, Option, None, Some, length, get_or, slice_index, unwrap_or, IsTrue, arith, refl, sym, ap, subst, inl, inr, ◌∙◌, eqb-true}
+use Rattle.std.proofs.Common.{◌≡◌, ℕ, zero, suc, ◌+◌, ◌<◌, Bool, true, List, [], ◌∷◌, ◌++◌, Option, None, Some, length, unwrap_or, arith, refl, sym, ap, subst, inl, inr, ◌∙◌, eqb-true}
 use Rattle.std.proofs.lemmas.Bool.{cases_lt}
 use Rattle.std.proofs.lemmas.List.{get_or_append_left, get_or_push, length-map, length_push}
 use Rattle.elk_doc.specs.Document.{Document, node_at, node_of_port, parent_of}
-use Rattle.elk_doc.specs.Level.{children, edges_of, is_number, is_child, IsChild, IsEdge, level_of_edge, place_of_child, place_of_edge}
+use Rattle.elk_doc.specs.Level.{children, is_number, level_of_edge}
 use Rattle.elk_doc.specs.Numbers.{numbers_below, count_below}
 use Rattle.elk_doc.specs.Sound.{IsSound}
 use Rattle.elk_doc.proofs.NumberLaws.{is_true}
 use Rattle.elk_doc.proofs.SoundLaws.{node_of_end-in, parent_of-in}
 use Rattle.level_reading.specs.declared.grouping.Groups.{Groups}
 use Rattle.level_reading.specs.declared.index.Index.{Index}
-use Rattle.level_reading.specs.Grouping.{AreGrouped, ArePlaced, IsGrouping, key_at, is_in, row_at, rows_in}
+use Rattle.level_reading.specs.Grouping.{IsGrouping, key_at, is_in}
 use Rattle.level_reading.specs.Indexed.{AreKeys, HasRows, IsIndex, place_in}
 
 -- one key more
@@ -87,7 +87,7 @@ parents_below d keys s are i k h e =
     let same : parent_of d i ≡ k = ap (λ o. unwrap_or o 0) (sym (are.each i here) ∙ e) in
     subst (λ n. n < length d.nodes) same (parent_of-in d i s here)
 
-pub some_same : (m n : ℕ) → Some m ≡ Some n → m ≡ n
+some_same : (m n : ℕ) → Some m ≡ Some n → m ≡ n
 some_same m n e = ap (λ o. unwrap_or o 0) e
 
 pub nodes_below : (d : Document) (keys : List (Option ℕ)) → IsSound d → AreKeys (λ k. Some (node_of_port d k)) (length d.ports) keys

@@ -1,6 +1,6 @@
 -- The level of a node of a document is a level.
-use Rattle.std.proofs.Common.{◌≡◌, ℕ, ◌+◌, ◌*◌, ◌<◌, ◌≤◌, ◌^◌, ℤ, pos, ◌≤ℤ◌, map, length, get_or, [], false, Option, None, Some, arith, refl, sym, ap, subst, ◌∙◌, rules}
-use Rattle.std.specs.Prelude.{IsNone, IfSome}
+use Rattle.std.proofs.Common.{◌≡◌, ℕ, ◌+◌, ◌*◌, ◌<◌, ◌≤◌, ◌^◌, ℤ, pos, ◌≤ℤ◌, map, length, get_or, [], false, arith, refl, sym, ap, subst, ◌∙◌, rules}
+use Rattle.std.specs.Prelude.{IsNone}
 use Rattle.std.proofs.lemmas.Int.{ints}
 use Rattle.std.proofs.lemmas.List.{get_or-map, length-map}
 use Rattle.elk_doc.specs.declared.shape.Size.{Size}
@@ -15,14 +15,13 @@ use Rattle.elk_doc.specs.Document.{Document, edge_at, node_at, node_of_port, por
 use Rattle.elk_doc.specs.Drawing.{box_of}
 use Rattle.elk_doc.specs.Fits.{IsSolid, KeepsSize}
 use Rattle.elk_doc.specs.Level.{children, edges_of, IsChild, is_child, is_edge_of, node_of_end, place_of_child}
-use Rattle.elk_doc.specs.Sound.{IsEndIn, IsSound, IsSoundSize, IsSoundSpacing, IsWithin}
+use Rattle.elk_doc.specs.Sound.{IsEndIn, IsSound, IsSoundSize, IsSoundSpacing}
 use Rattle.port_order.specs.declared.children.ChildPort.{ChildPort}
 use Rattle.port_order.specs.declared.children.Child.{Child}
 use Rattle.port_order.specs.Child as laid
 use Rattle.port_order.specs.Conditions.{IsSmall}
-use Rattle.level_plan.specs.declared.level.Spoke.{Spoke}
 use Rattle.level_plan.specs.declared.level.LevelEdge.{LevelEdge}
-use Rattle.level_plan.specs.Conditions.{IsLevel, IsLevelChild, IsLevelEdge, IsSpoke, total_height, total_ports, total_width}
+use Rattle.level_plan.specs.Conditions.{IsLevel, IsLevelChild, IsLevelEdge, IsSpoke, total_ports}
 use Rattle.level_plan.specs.Level as plan
 use Rattle.turned_levels.specs.Turned.{box_size, child_number, edge_number, level_child, level_edge, level_of, level_port, port_number, ports_of, spoke_of, turned_size}
 use Rattle.turned_levels.specs.Numbered.{IsPortOf}
@@ -31,7 +30,7 @@ use Rattle.level_reading.specs.Levels.{HasLeavesAlone, HasRoom, KeepsLeaves}
 use Rattle.level_reading.proofs.ChildLemmas.{child_sound, kept_size}
 use Rattle.level_reading.proofs.CountLemmas.{few_numbers, few_ports}
 use Rattle.level_reading.proofs.ReadLemmas.{turned_sound}
-use Rattle.level_reading.proofs.TotalLemmas.{AreCounted, ArePortsShort, IsCounted, Measure, height_by, part_below, total_by, total_short, width_by}
+use Rattle.level_reading.proofs.TotalLemmas.{AreCounted, IsCounted, Measure, height_by, part_below, total_by, total_short, width_by}
 
 -- ---- lengths
 

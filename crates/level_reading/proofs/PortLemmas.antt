@@ -1,6 +1,6 @@
 -- A port of a document in the frame of a direction.
-use Rattle.std.proofs.Common.{◌≡◌, ℕ, ◌<◌, ◌^◌, Bool, true, false, not, ℤ, pos, neg_ℤ, ◌+ℤ◌, ◌-ℤ◌, ◌≤ℤ◌, Option, None, Some, is_some, is_none, cond, arith, refl, sym, ap, subst, ◌∙◌, rules}
-use Rattle.std.specs.Prelude.{IsSome, IsNone, IsSomeAnd, IfSome, IsTrue, IsFalse}
+use Rattle.std.proofs.Common.{◌≡◌, ◌^◌, Bool, true, false, ℤ, pos, neg_ℤ, ◌+ℤ◌, ◌-ℤ◌, ◌≤ℤ◌, Option, None, Some, cond, arith, refl, ◌∙◌, rules}
+use Rattle.std.specs.Prelude.{IsSomeAnd}
 use Rattle.std.specs.Option.{option_map}
 use Rattle.std.proofs.lemmas.Int.{ints}
 use Rattle.elk_doc.specs.declared.shape.Point.{Point}

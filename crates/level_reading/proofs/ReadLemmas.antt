@@ -13,9 +13,9 @@ use Rattle.port_order.specs.declared.children.Child.{Child}
 use Rattle.level_plan.specs.declared.level.LevelEdge.{LevelEdge}
 use Rattle.level_plan.specs.declared.level.Spoke.{Spoke}
 use Rattle.level_plan.specs.Level.{PlainLevel}
-use Rattle.turned_levels.specs.Turned.{box_size, level_child, level_edge, level_of, level_port, ports_of, spoke_of, turned_size}
+use Rattle.turned_levels.specs.Turned.{level_child, level_edge, level_of, level_port, ports_of, spoke_of, turned_size}
 use Rattle.turned_levels.proofs.NumberedLemmas.{ends_match, numbers_match}
-use Rattle.level_reading.specs.Read.{HasSizes, size_at, sized_child}
+use Rattle.level_reading.specs.Read.{HasSizes, sized_child}
 
 pub turned_sound : (way : Direction) (s : Size) → IsSoundSize s → IsSoundSize (turned_size way s)
 turned_sound Right s h = h

@@ -1,18 +1,15 @@
 -- The small document is sound under each direction.
-use Rattle.std.proofs.Common.{◌≡◌, ℕ, zero, suc, ◌+◌, ◌<◌, ◌≤◌, ◌^◌, [], ◌∷◌, List, Some, None, Option, length, pos, IsTrue, IsNone, IsSome, IfSome, arith, refl, subst, rules}
+use Rattle.std.proofs.Common.{◌≡◌, ℕ, zero, suc, ◌<◌, ◌≤◌, [], ◌∷◌, List, IsTrue, IsSome, IfSome, arith, refl, rules}
 use Rattle.std.proofs.lemmas.Int.{ints}
 use Rattle.elk_doc.specs.declared.shape.Size.{Size}
 use Rattle.elk_doc.specs.declared.document.Direction.{Direction}
-use Rattle.elk_doc.specs.declared.document.Direction.TheVariants.{Right, Left, Down, Up}
 use Rattle.elk_doc.specs.Document.{node_at, node_of_port, parent_of, port_at, no_size}
 use Rattle.elk_doc.specs.Examples.{options, size}
-use Rattle.elk_doc.specs.Level.{IsChild, is_child}
+use Rattle.elk_doc.specs.Level.{is_child}
 use Rattle.elk_doc.specs.Sides.{given_side}
 use Rattle.elk_doc.specs.Sound.{IsSound, IsSoundLevel, IsSoundNode, IsSoundPort, IsSoundEdge, HasParent, ancestor}
 use Rattle.port_order.specs.Conditions.{IsSmall}
 use Rattle.turned_levels.specs.Examples.{document_in}
-use Rattle.level_reading.specs.Grouping.{key_at}
-use Rattle.level_reading.proofs.IndexLemmas.{some_same}
 use Rattle.level_reading.specs.Read.{AreSizes, size_at}
 
 -- what holds at each number below a small bound
@@ -93,18 +90,3 @@ small_are_sizes way =
       as_many = refl;
       small = λ c h. below3 (λ c. IsSmall (size_at small_sizes c)) (omega (arith, ints)) (omega (arith, ints)) (omega (arith, ints)) c h.node_in;
     }
-
--- the keys of five numbers in two groups name these
-abbrev pub mixed : List (Option ℕ)
-mixed = Some 1 ∷ None ∷ Some 0 ∷ Some 1 ∷ Some 0 ∷ []
-
-few : (m k : ℕ) → m < 2 → Some m ≡ Some k → k < 2
-few m k h e = subst (λ n. n < 2) (some_same m k e) h
-
-pub mixed_below : (i k : ℕ) → i < 5 → key_at mixed i ≡ Some k → k < 2
-mixed_below zero k h e = few 1 k (omega arith) e
-mixed_below (suc zero) k h e = absurd cc
-mixed_below (suc (suc zero)) k h e = few 0 k (omega arith) e
-mixed_below (suc (suc (suc zero))) k h e = few 1 k (omega arith) e
-mixed_below (suc (suc (suc (suc zero)))) k h e = few 0 k (omega arith) e
-mixed_below (suc (suc (suc (suc (suc i))))) k h e = absurd (omega arith)

@@ -1,4 +1,4 @@
-use Rattle.std.proofs.Common.{◌≡◌, ℕ, ◌+◌, ◌∙◌, List, Vec, Global, [], length, ap, arith, refl, subst, sym}
+use Rattle.std.proofs.Common.{◌≡◌, ℕ, ◌+◌, ◌∙◌, List, Vec, Global, [], length, ap, refl, subst, sym}
 use Rattle.std.proofs.lemmas.List.{length_push}
 use Rattle.level_reading.specs.Grouping.{row_at, rows_in}
 use Rattle.level_reading.proofs.GroupLemmas.{none_grouped, rows_more}

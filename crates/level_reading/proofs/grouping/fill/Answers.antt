@@ -1,6 +1,6 @@
-use Rattle.std.proofs.Common.{◌≡◌, ◌<◌, length, arith, subst}
+use Rattle.std.proofs.Common.{arith}
 use Rattle.std.proofs.lemmas.List.{length-map}
-use Rattle.level_reading.specs.Grouping.{AreGrouped, ArePlaced, rows_in}
+use Rattle.level_reading.specs.Grouping.{rows_in}
 use Rattle.level_reading.proofs.GroupLemmas.{none_placed, placed_more}
 use Rattle.level_reading.proofs.grouping.fill.Goals as goal
 
