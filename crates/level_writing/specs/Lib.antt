@@ -1,0 +1,5 @@
+pub mod Canvas
+pub mod Ranges
+pub mod Back
+pub mod Changed
+pub mod Written
