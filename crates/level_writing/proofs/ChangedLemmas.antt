@@ -30,3 +30,9 @@ one_more numbers change none old now i x distinct so_far h is =
           let not_here : number_at numbers i ≢ m = other i (omega arith) in
           get_or-set_other now k m x none (λ e. not_here (sym e)) ∙ so_far.others m (λ j before. other j (omega (arith, before)));
     }
+
+-- changes that are the same at the first numbers
+pub same_changes : {X : Type 0} (count : ℕ) (numbers : List ℕ) (change other : ℕ → X → X) (none : X) (old now : List X)
+    → ((i : ℕ) (x : X) → i < count → change i x ≡ other i x) → AreChangedTo count numbers change none old now → AreChangedTo count numbers other none old now
+same_changes count numbers change other none old now same c =
+    record { as_many = c.as_many; at = λ i h. c.at i h ∙ same i _ h; others = c.others }

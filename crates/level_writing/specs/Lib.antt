@@ -3,3 +3,4 @@ pub mod Ranges
 pub mod Back
 pub mod Changed
 pub mod Written
+pub mod Sizes

@@ -4,9 +4,11 @@
 #![tactic(auto)]
 
 mod canvas;
+mod sizes;
 mod start;
 mod turning;
 mod writing;
 
 pub use canvas::{Canvas, blank, placed};
+pub use sizes::frame_node;
 pub use writing::{LevelNumbers, write_level};

@@ -1,8 +1,9 @@
 //! The parts of a level's drawing, written into the drawing of the document.
-ghost use Rattle.std.specs.Prelude.{◌≡◌, ℕ, ◌<◌, List, Some, length, map, slice_index_or};
+ghost use Rattle.std.specs.Prelude.{◌≡◌, ℕ, ◌<◌, List, IfSome, length, map, slice_index_or};
 ghost use Rattle.std.specs.List.{All};
 ghost use Rattle.elk_doc.specs.Document.{node_at, origin};
 ghost use Rattle.elk_doc.specs.Drawing.{no_rect, no_section};
+ghost use Rattle.elk_doc.specs.Sound.{IsSoundPadding};
 ghost use Rattle.level_shift.specs.Ranges.{IsFarPoint, IsFarSection};
 ghost use Rattle.level_writing.specs.Canvas.{drawing_of};
 ghost use Rattle.level_writing.specs.Changed.{AreChanged, AreDistinct, number_at};
@@ -59,8 +60,8 @@ fn write_ports_of(
     ensures { AreChanged numbers.now (port_change doc.now way outer numbers.now places.now) origin ports.old ports.new }
 {
     for j in 0..numbers.len() {
-        let port = numbers[j];
-        ports[port as usize] = place_back(way, outer, doc.port(port).size, places[j]);
+        let port = doc.port(numbers[j]);
+        ports[numbers[j] as usize] = place_back(way, outer, port.size, places[j]);
     }
 }
 
@@ -136,10 +137,8 @@ fn numbered(edges: &[u32], certificate: Certificate) -> Certificate
     }
 }
 
-/// Writes the drawing of a node's level into the drawing of the document: the places of the children and of their ports, the
-/// sections of the edges and the certificate, all turned back from the frame of the level's direction and moved to begin at the
-/// padding. Takes no memory.
-pub fn write_level(
+// Writes the drawing of a node's level, which has these options.
+fn write_with(
     doc: &Doc,
     node: u32,
     numbers: &LevelNumbers<'_>,
@@ -148,7 +147,7 @@ pub fn write_level(
     canvas: &mut Canvas,
 )
     requires node { node < length doc.now.nodes }
-    requires level { (node_at doc.now node).level ≡ Some options.now }
+    requires padding { IsSoundPadding options.now.padding }
     requires numbers { AreNumbersAt doc.now node numbers.now }
     requires canvas { IsDrawingOf doc.now (drawing_of canvas.old) }
     requires out { IsWritable doc.now (drawing_of canvas.old) node out }
@@ -165,21 +164,31 @@ pub fn write_level(
         canvas.boxes.as_mut_slice(),
     );
     let boxes = canvas.boxes.as_slice();
-    write_ports(
-        doc,
-        way,
-        numbers,
-        boxes,
-        out.ports.as_slice(),
-        canvas.ports.as_mut_slice(),
-    );
+    let ports = canvas.ports.as_mut_slice();
+    write_ports(doc, way, numbers, boxes, out.ports.as_slice(), ports);
     let sections = out.sections.into_vec();
-    write_sections(
-        way,
-        by,
-        numbers.edges,
-        sections,
-        canvas.sections.as_mut_slice(),
-    );
+    let written = canvas.sections.as_mut_slice();
+    write_sections(way, by, numbers.edges, sections, written);
     canvas.levels[node as usize] = Some(numbered(numbers.edges, out.certificate));
+}
+
+/// Writes the drawing of a node's level into the drawing of the document: the places of the children and of their ports, the
+/// sections of the edges and the certificate, all turned back from the frame of the level's direction and moved to begin at the
+/// padding. All else stays. Takes no memory.
+pub fn write_level(
+    doc: &Doc,
+    node: u32,
+    numbers: &LevelNumbers<'_>,
+    out: LevelOut,
+    canvas: &mut Canvas,
+)
+    requires node { node < length doc.now.nodes }
+    requires numbers { AreNumbersAt doc.now node numbers.now }
+    requires canvas { IsDrawingOf doc.now (drawing_of canvas.old) }
+    requires out { IsWritable doc.now (drawing_of canvas.old) node out }
+    ensures { IfSome (node_at doc.now node).level (λ o. IsWritten doc.now node o out (drawing_of canvas.old) (drawing_of canvas.new)) }
+{
+    if let Some(options) = &doc.node(node).level {
+        write_with(doc, node, numbers, options, out, canvas);
+    }
 }
