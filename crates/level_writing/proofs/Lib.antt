@@ -4,3 +4,6 @@ pub mod PartLemmas
 pub mod BackLemmas
 pub mod WrittenLemmas
 pub mod LevelLemmas
+pub mod SizeLemmas
+pub mod FramedLemmas
+pub mod CanvasLemmas

@@ -22,7 +22,8 @@ use Rattle.turned_levels.proofs.NumberedLemmas.{numbers_match}
 use Rattle.turned_boxes.specs.Framed.{start_of}
 use Rattle.level_writing.specs.Back.{box_back, place_back, section_back, size_of}
 use Rattle.level_writing.specs.Changed.{AreChanged, number_at}
-use Rattle.level_writing.specs.Written.{ArePortsWritten, HasCertificate, IsDrawingOf, IsWritten, KeepsElsewhere, box_change, numbered_by, section_change}
+use Rattle.level_writing.specs.Canvas.{IsDrawingOf}
+use Rattle.level_writing.specs.Written.{ArePortsWritten, HasCertificate, IsWritten, KeepsElsewhere, box_change, numbered_by, section_change}
 use Rattle.level_writing.proofs.BackLemmas.{box_keeps_size, box_there, place_there, section_there}
 use Rattle.level_writing.proofs.NumberLemmas.{StandsIn, StandsNowhere, one_level, one_parent, stands_or_not}
 

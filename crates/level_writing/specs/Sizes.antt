@@ -1,5 +1,6 @@
 -- The size that a node needs round the drawing of its level.
 use Rattle.std.specs.Prelude.{◌≡◌, ◌≢◌, ℕ, ◌<◌, ◌^◌, ◌⊎◌, Bool, true, false, cond, List, length, ℤ, pos, ◌+ℤ◌, ◌≤ℤ◌, Option, None, Some, IsTrue, slice_index_or, slice_set}
+use Rattle.std.specs.Int.{int_max}
 use Rattle.elk_doc.specs.declared.shape.Point.{Point}
 use Rattle.elk_doc.specs.declared.shape.Size.{Size}
 use Rattle.elk_doc.specs.declared.shape.Rect.{Rect}
@@ -24,7 +25,7 @@ use Rattle.turned_levels.specs.Numbered.{IsPortOf}
 use Rattle.turned_levels.specs.Turned.{box_size, turned_size}
 use Rattle.turned_boxes.specs.Framed.{IsFramed, start_of}
 use Rattle.level_writing.specs.Changed.{number_at}
-use Rattle.level_writing.specs.Written.{IsDrawingOf}
+use Rattle.level_writing.specs.Canvas.{IsDrawingOf}
 
 -- the side on which a port of a compound node is pinned: the side that it asks for, where positions are fixed
 abbrev pub pinned_under : PortRule → Option Side → Option Side
@@ -56,6 +57,11 @@ abbrev pub end_of : Document → Bool → ℕ → Option ℤ
 end_of d across k =
     cond across (end_across (pinned_side d k) (port_at d k).place (port_at d k).size) (end_down (pinned_side d k) (port_at d k).place (port_at d k).size)
 
+-- the greater of a length and of an end, where there is one
+abbrev pub raised : ℤ → Option ℤ → ℤ
+raised z None = z
+raised z (Some end) = int_max z end
+
 -- a length that is asked for: that of the padded content, or the end of one of the first ports of a list
 abbrev pub AsksListed : Document → Bool → ℤ → List ℕ → ℕ → ℤ → Type 0
 AsksListed d across base ports count z =
@@ -77,8 +83,7 @@ pub record IsSizeListed (d : Document) (ports : List ℕ) (o : LevelOptions) (ex
   pub width : IsGreatestOf (AsksListed d true (padded_width o extent) ports (length ports)) s.width
   pub height : IsGreatestOf (AsksListed d false (padded_height o extent) ports (length ports)) s.height
 
--- The size of the node n round content of this extent: the greatest width and height that are asked for. They exceed those of
--- the content by 2^21 at most.
+-- the size of the node n round content of this extent: the greatest width and height that are asked for
 pub record IsSizeRound (d : Document) (n : ℕ) (o : LevelOptions) (extent s : Size) : Type 0 where
   pub width : IsGreatestOf (Asks d true (padded_width o extent) n) s.width
   pub height : IsGreatestOf (Asks d false (padded_height o extent) n) s.height

@@ -21,9 +21,10 @@ use Rattle.turned_levels.specs.Drawing.{IsNumberedAs, IsTurnedDrawing, plus}
 use Rattle.turned_levels.specs.Kept.{AgreeAt}
 use Rattle.turned_boxes.specs.Framed.{start_of}
 use Rattle.level_writing.specs.declared.writing.LevelNumbers.{LevelNumbers}
+use Rattle.level_writing.specs.Canvas.{IsDrawingOf}
 use Rattle.level_writing.specs.Back.{box_back, place_back, section_back}
 use Rattle.level_writing.specs.Changed.{number_at}
-use Rattle.level_writing.specs.Ranges.{IsLong, IsLongBox}
+use Rattle.level_writing.specs.Ranges.{IsLongBox, IsLongSize}
 
 -- the ports of each node
 pub record ArePortsByNode (d : Document) (ports : List (List ℕ)) : Type 0 where
@@ -36,13 +37,6 @@ pub record AreNumbersAt (d : Document) (n : ℕ) (numbers : LevelNumbers) : Type
   pub edges : numbers.edges.now ≡ edges_of d n
   pub ports : ArePortsByNode d numbers.ports.now
 
--- a drawing has boxes and levels for all nodes, and places for all ports and edges
-pub record IsDrawingOf (d : Document) (p : Placed) : Type 0 where
-  pub boxes : length p.boxes ≡ length d.nodes
-  pub ports : length p.ports ≡ length d.ports
-  pub sections : length p.sections ≡ length d.edges
-  pub levels : length p.levels ≡ length d.nodes
-
 -- near places for all ports of these children, by child
 pub record ArePortPlaces (d : Document) (children : List ℕ) (places : List (List Point)) : Type 0 where
   pub as_many : length places ≡ length children
@@ -52,8 +46,7 @@ pub record ArePortPlaces (d : Document) (children : List ℕ) (places : List (Li
 -- The drawing of the level of n has a place for each child and port and a section for each edge; its numbers and the sizes of
 -- the children leave room for moving it; and its certificate turns edges of the level round.
 pub record IsWritable (d : Document) (p : Placed) (n : ℕ) (v : LevelOut) : Type 0 where
-  pub width : IsLong v.extent.width
-  pub height : IsLong v.extent.height
+  pub extent : IsLongSize v.extent
   pub box_count : length v.boxes ≡ length (children d n)
   pub boxes : All IsFarPoint v.boxes
   pub sizes : (c : ℕ) → IsChild d n c → IsLongBox (box_of p c)

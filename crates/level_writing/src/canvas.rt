@@ -2,7 +2,7 @@
 ghost use Rattle.std.specs.Prelude.{◌≡◌, IfOk, map};
 ghost use Rattle.elk_doc.specs.Document.{origin};
 ghost use Rattle.elk_doc.specs.Drawing.{no_section};
-ghost use Rattle.level_writing.specs.Canvas.{blank_box, blank_drawing, drawing_of};
+ghost use Rattle.level_writing.specs.Canvas.{IsDrawingOf, blank_box, blank_drawing, drawing_of};
 
 use elk_doc::document::{Doc, Edge, Node, Port};
 use elk_doc::drawing::{Certificate, Placed, Section};
@@ -75,7 +75,8 @@ fn no_levels(alloc: Global, nodes: &[Node]) -> Result<Vec<Option<Certificate>>, 
 /// A drawing in which nothing is placed: all is at the origin, boxes have the sizes that the document gives (none at a compound
 /// node), routes have no bends, and no level has a certificate. The only error is want of memory.
 pub fn blank(alloc: Global, doc: &Doc) -> Result<Canvas, AllocError>
-    ensures { IfOk result (λ canvas. drawing_of canvas ≡ blank_drawing doc.now) }
+    ensures value { IfOk result (λ canvas. drawing_of canvas ≡ blank_drawing doc.now) }
+    ensures complete { IfOk result (λ canvas. IsDrawingOf doc.now (drawing_of canvas)) }
 {
     Ok(Canvas {
         boxes: blank_boxes(alloc, doc.nodes())?,

@@ -4,11 +4,13 @@
 #![tactic(auto)]
 
 mod canvas;
+mod laws;
 mod sizes;
 mod start;
 mod turning;
 mod writing;
 
 pub use canvas::{Canvas, blank, placed};
+pub use laws::sizes_frame;
 pub use sizes::frame_node;
 pub use writing::{LevelNumbers, write_level};

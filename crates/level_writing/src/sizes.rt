@@ -5,12 +5,12 @@ ghost use Rattle.elk_doc.specs.Fitted.{IsGreatestOf};
 ghost use Rattle.elk_doc.specs.Sound.{IsLength, IsPlaceWithin, IsSoundPadding, IsSoundSize};
 ghost use Rattle.turned_levels.specs.Turned as turned;
 ghost use Rattle.level_shift.specs.Ranges.{IsFar};
-ghost use Rattle.level_writing.specs.Canvas.{drawing_of};
+ghost use Rattle.level_writing.specs.Canvas.{IsDrawingOf, drawing_of};
 ghost use Rattle.level_writing.specs.Changed.{AreDistinct};
-ghost use Rattle.level_writing.specs.Ranges.{IsLong};
+ghost use Rattle.level_writing.specs.Ranges.{IsLong, IsLongSize};
 ghost use Rattle.level_writing.specs.Sizes as sizes;
 ghost use Rattle.level_writing.specs.Sizes.{AsksListed, IsNodeFramed, IsSizeListed};
-ghost use Rattle.level_writing.specs.Written.{AreNumbersAt, IsDrawingOf};
+ghost use Rattle.level_writing.specs.Written.{AreNumbersAt};
 
 use crate::canvas::Canvas;
 use crate::writing::LevelNumbers;
@@ -19,7 +19,9 @@ use elk_doc::shape::{Point, Rect, Side, Size};
 
 // A size in the document of something that has this size in the frame.
 fn turned_size(way: Direction, size: Size) -> Size
-    ensures { result ≡ turned.turned_size way size }
+    requires { IsLongSize size }
+    ensures value { result ≡ turned.turned_size way size }
+    ensures long { IsLongSize result }
 {
     match way {
         Direction::Right => size,
@@ -91,6 +93,16 @@ fn end_of(doc: &Doc, across: bool, port: u32) -> Option<i64>
     }
 }
 
+// A length, and an end where there is one: the greater of them.
+fn raised(length: i64, end: Option<i64>) -> i64
+    ensures { result ≡ sizes.raised length end }
+{
+    match end {
+        Some(end) => length.max(end),
+        None => length,
+    }
+}
+
 // The greatest of a length and the ends of these ports.
 fn greatest_end(doc: &Doc, across: bool, ports: &[u32], base: i64) -> i64
     requires { AreDistinct ports.now (length doc.now.ports) }
@@ -98,9 +110,7 @@ fn greatest_end(doc: &Doc, across: bool, ports: &[u32], base: i64) -> i64
 {
     let mut greatest = base;
     for i in 0..ports.len() {
-        if let Some(end) = end_of(doc, across, ports[i]) {
-            greatest = greatest.max(end);
-        }
+        greatest = raised(greatest, end_of(doc, across, ports[i]));
     }
     greatest
 }
@@ -119,8 +129,7 @@ fn padded(before: i64, length: i64, after: i64) -> i64
 fn size_round(doc: &Doc, ports: &[u32], options: &LevelOptions, extent: Size) -> Size
     requires ports { AreDistinct ports.now (length doc.now.ports) }
     requires padding { IsSoundPadding options.now.padding }
-    requires width { IsLong extent.width }
-    requires height { IsLong extent.height }
+    requires extent { IsLongSize extent }
     ensures { IsSizeListed doc.now ports.now options.now extent result }
 {
     let content = turned_size(options.direction, extent);
@@ -130,29 +139,6 @@ fn size_round(doc: &Doc, ports: &[u32], options: &LevelOptions, extent: Size) ->
     Size {
         width: greatest_end(doc, true, ports, width),
         height: greatest_end(doc, false, ports, height),
-    }
-}
-
-/// Gives a node the size that it needs round the drawing of its level, of which `extent` is the extent in the frame: the content
-/// with the padding on all sides, and more where a pinned port ends further. The node stays at its place, and all else stays.
-/// The ports of the node are not placed.
-pub fn frame_node(
-    doc: &Doc,
-    node: u32,
-    numbers: &LevelNumbers<'_>,
-    extent: Size,
-    canvas: &mut Canvas,
-)
-    requires node { node < length doc.now.nodes }
-    requires numbers { AreNumbersAt doc.now node numbers.now }
-    requires canvas { IsDrawingOf doc.now (drawing_of canvas.old) }
-    requires width { IsLong extent.width }
-    requires height { IsLong extent.height }
-    ensures { IfSome (node_at doc.now node).level (λ o. IsNodeFramed doc.now node o extent (drawing_of canvas.old) (drawing_of canvas.new)) }
-{
-    if let Some(options) = &doc.node(node).level {
-        let size = size_round(doc, numbers.ports[node as usize].as_slice(), options, extent);
-        resize(canvas.boxes.as_mut_slice(), node, size);
     }
 }
 
@@ -168,4 +154,46 @@ fn resize(boxes: &mut [Rect], node: u32, size: Size)
         width: size.width,
         height: size.height,
     };
+}
+
+// Gives a node the size that it needs, where its level has these options.
+fn frame_with(
+    doc: &Doc,
+    node: u32,
+    numbers: &LevelNumbers<'_>,
+    options: &LevelOptions,
+    extent: Size,
+    canvas: &mut Canvas,
+)
+    requires node { node < length doc.now.nodes }
+    requires padding { IsSoundPadding options.now.padding }
+    requires numbers { AreNumbersAt doc.now node numbers.now }
+    requires canvas { IsDrawingOf doc.now (drawing_of canvas.old) }
+    requires extent { IsLongSize extent }
+    ensures { IsNodeFramed doc.now node options.now extent (drawing_of canvas.old) (drawing_of canvas.new) }
+{
+    let ports = numbers.ports[node as usize].as_slice();
+    let size = size_round(doc, ports, options, extent);
+    resize(canvas.boxes.as_mut_slice(), node, size);
+}
+
+/// Gives a node the size that it needs round the drawing of its level, of which `extent` is the extent in the frame: the content
+/// with the padding on all sides, and more where a pinned port ends further. The node stays at its place, and all else stays.
+/// The ports of the node are not placed.
+pub fn frame_node(
+    doc: &Doc,
+    node: u32,
+    numbers: &LevelNumbers<'_>,
+    extent: Size,
+    canvas: &mut Canvas,
+)
+    requires node { node < length doc.now.nodes }
+    requires numbers { AreNumbersAt doc.now node numbers.now }
+    requires canvas { IsDrawingOf doc.now (drawing_of canvas.old) }
+    requires extent { IsLongSize extent }
+    ensures { IfSome (node_at doc.now node).level (λ o. IsNodeFramed doc.now node o extent (drawing_of canvas.old) (drawing_of canvas.new)) }
+{
+    if let Some(options) = &doc.node(node).level {
+        frame_with(doc, node, numbers, options, extent, canvas);
+    }
 }

@@ -3,7 +3,7 @@ ghost use Rattle.std.specs.Prelude.{◌≡◌, ◌+ℤ◌, neg_ℤ};
 ghost use Rattle.elk_doc.specs.Sound.{IsLength, IsSoundPadding};
 ghost use Rattle.level_shift.specs.Ranges.{IsFar, IsFarPoint};
 ghost use Rattle.turned_boxes.specs.Framed as framed;
-ghost use Rattle.level_writing.specs.Ranges.{IsLong};
+ghost use Rattle.level_writing.specs.Ranges.{IsLong, IsLongSize};
 
 use elk_doc::document::{Direction, Padding};
 use elk_doc::shape::{Point, Size};
@@ -21,7 +21,7 @@ fn mirrored(low: i64, length: i64) -> i64
 /// How far the drawing of a level of this extent is moved in the frame, so that in the document it begins at the padding.
 pub(crate) fn start_of(way: Direction, padding: Padding, extent: Size) -> Point
     requires padding { IsSoundPadding padding }
-    requires width { IsLong extent.width }
+    requires extent { IsLongSize extent }
     ensures value { result ≡ framed.start_of way padding extent }
     ensures far { IsFarPoint result }
 {

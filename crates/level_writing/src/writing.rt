@@ -5,10 +5,10 @@ ghost use Rattle.elk_doc.specs.Document.{node_at, origin};
 ghost use Rattle.elk_doc.specs.Drawing.{no_rect, no_section};
 ghost use Rattle.elk_doc.specs.Sound.{IsSoundPadding};
 ghost use Rattle.level_shift.specs.Ranges.{IsFarPoint, IsFarSection};
-ghost use Rattle.level_writing.specs.Canvas.{drawing_of};
+ghost use Rattle.level_writing.specs.Canvas.{IsDrawingOf, drawing_of};
 ghost use Rattle.level_writing.specs.Changed.{AreChanged, AreDistinct, number_at};
 ghost use Rattle.level_writing.specs.Ranges.{IsLongBox};
-ghost use Rattle.level_writing.specs.Written.{AreNumbersAt, ArePortPlaces, ArePortsByNode, ArePortsWritten, IsDrawingOf, IsWritable, IsWritten, box_change, numbered_by, port_change, section_change};
+ghost use Rattle.level_writing.specs.Written.{AreNumbersAt, ArePortPlaces, ArePortsByNode, ArePortsWritten, IsWritable, IsWritten, box_change, numbered_by, port_change, section_change};
 
 use crate::canvas::Canvas;
 use crate::start::start_of;
