@@ -118,3 +118,16 @@ pub size_round : (d : Document) (n : ℕ) (ports : List ℕ) (o : LevelOptions) 
 size_round d n ports o extent s e listed =
     let l : IsSizeListed d (ports_of d n) o extent s = subst (λ ps. IsSizeListed d ps o extent s) e listed in
     record { width = all_ends d true (padded_width o extent) n s.width l.width; height = all_ends d false (padded_height o extent) n s.height l.height }
+
+-- a size by the greatest width and height, and by what they are the greatest of
+pub listed_size : (d : Document) (ports : List ℕ) (o : LevelOptions) (extent : Size) (across down w h width height : ℤ)
+    → across ≡ padded_width o extent → down ≡ padded_height o extent → width ≡ w → height ≡ h
+    → IsGreatestOf (AsksListed d true across ports (length ports)) w → IsGreatestOf (AsksListed d false down ports (length ports)) h
+    → IsSizeListed d ports o extent (record { width = width; height = height })
+listed_size d ports o extent across down w h width height a b e f by_width by_height =
+    record {
+      width = subst (λ (z : ℤ). IsGreatestOf (AsksListed d true (padded_width o extent) ports (length ports)) z) (sym e)
+          (subst (λ (z : ℤ). IsGreatestOf (AsksListed d true z ports (length ports)) w) a by_width);
+      height = subst (λ (z : ℤ). IsGreatestOf (AsksListed d false (padded_height o extent) ports (length ports)) z) (sym f)
+          (subst (λ (z : ℤ). IsGreatestOf (AsksListed d false z ports (length ports)) h) b by_height);
+    }

@@ -14,3 +14,6 @@ pub use canvas::{Canvas, blank, placed};
 pub use laws::sizes_frame;
 pub use sizes::frame_node;
 pub use writing::{LevelNumbers, write_level};
+
+#[cfg(test)]
+mod tests;

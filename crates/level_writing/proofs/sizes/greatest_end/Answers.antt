@@ -14,4 +14,4 @@ loop-i-preserved c =
     let d = c.args.doc.now in
     let fits : FitsSigned w64 c.raised-greatest.result = search rules in
     rw (to_z-of_z w64 c.raised-greatest.result fits, c.raised-greatest.ensures, c.end_of.ensures)
-    (one_more_end d c.args.across _ c.args.ports.now c.loop-i.i c.loop-i.greatest (end_of d c.args.across (number_at c.args.ports.now c.loop-i.i)) c.loop-i.invariant refl)
+    (one_more_end d c.args.across _ c.args.ports.now c.loop-i.i _ (end_of d c.args.across (number_at c.args.ports.now c.loop-i.i)) c.loop-i.invariant refl)
