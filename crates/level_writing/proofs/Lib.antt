@@ -1,0 +1,9 @@
+pub mod ChangedLemmas
+pub mod NumberLemmas
+pub mod PartLemmas
+pub mod BackLemmas
+pub mod WrittenLemmas
+pub mod LevelLemmas
+pub mod SizeLemmas
+pub mod FramedLemmas
+pub mod CanvasLemmas

@@ -1,0 +1,6 @@
+pub mod Canvas
+pub mod Ranges
+pub mod Back
+pub mod Changed
+pub mod Written
+pub mod Sizes
