@@ -7,3 +7,4 @@ pub mod LevelLemmas
 pub mod SizeLemmas
 pub mod FramedLemmas
 pub mod CanvasLemmas
+pub mod RoomLemmas

@@ -4,3 +4,4 @@ pub mod Back
 pub mod Changed
 pub mod Written
 pub mod Sizes
+pub mod Room

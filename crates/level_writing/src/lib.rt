@@ -11,7 +11,7 @@ mod turning;
 mod writing;
 
 pub use canvas::{Canvas, blank, placed};
-pub use laws::sizes_frame;
+pub use laws::{sizes_frame, tight_drawings_are_writable};
 pub use sizes::frame_node;
 pub use writing::{LevelNumbers, write_level};
 

@@ -1,0 +1,25 @@
+-- Which drawings of levels can be written.
+use Rattle.std.specs.Prelude.{ℕ, ◌<◌, length, ℤ}
+use Rattle.std.specs.List.{All}
+use Rattle.elk_doc.specs.declared.document.LevelOptions.{LevelOptions}
+use Rattle.elk_doc.specs.declared.drawing.Placed.{Placed}
+use Rattle.elk_doc.specs.Document.{Document}
+use Rattle.elk_doc.specs.Level.{edges_of, IsChild}
+use Rattle.elk_doc.specs.Drawing.{box_of}
+use Rattle.elk_doc.specs.Sound.{IsSound}
+use Rattle.level_plan.specs.Level.{PlainPlan, Orders}
+use Rattle.level_plan.specs.FromPlan.{IsDrawnFrom}
+use Rattle.level_draw.specs.declared.drawing.LevelOut.{LevelOut}
+use Rattle.level_draw.specs.Drawing.{IsTight, drawn_in}
+use Rattle.turned_levels.specs.Turned.{level_of}
+use Rattle.level_writing.specs.Ranges.{IsLongBox, IsLongSize}
+use Rattle.level_writing.specs.Written.{IsWritable}
+
+-- A drawing of a level that comes from a plan, begins at 0 and has a tight extent can be written where that extent and the boxes
+-- of the children are at most 2^59 long, and where its certificate turns edges of the level round.
+abbrev pub TightDrawingsAreWritable : Type 0
+TightDrawingsAreWritable =
+    (d : Document) (p : Placed) (n : ℕ) (o : LevelOptions) (plan : PlainPlan) (orders : Orders) (v : LevelOut) (left top : ℤ)
+    → IsSound d → IsDrawnFrom (level_of d p n o) plan orders (drawn_in v left top) → IsTight (level_of d p n o) (drawn_in v left top)
+    → IsLongSize v.extent → ((c : ℕ) → IsChild d n c → IsLongBox (box_of p c)) → All (λ e. e < length (edges_of d n)) v.certificate.reversed
+    → IsWritable d p n v
