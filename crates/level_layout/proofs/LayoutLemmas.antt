@@ -134,7 +134,7 @@ laid_out level c u v start order lines w made sound is ranked started reduced pi
       numbered = (ranked.numbered.0, ranked.numbered.1, alike_through ranked.numbered.0 (plain u) (plain v) ranked.numbered.2 pinned.kept.alike);
       started = start_alike (plain u) (plain v) (rows_of start) pinned.kept.alike started;
       reduced = reduced_for (plain u) (plain v) pinned.kept (rows_of start) (rows_of order) reduced;
-      placed = record { apart = lines_apart (plain v) (rows_of order) level.fixed lines.top.items placed; aligned = λ _. placed };
+      placed = record { apart = lines_apart (plain v) (rows_of order) level.fixed lines.top.items placed; within = ends; aligned = λ _. placed };
       orders = can.orders;
       ready = can.ready;
       drawn = drawn;
