@@ -32,14 +32,14 @@ use Rattle.level_layout.proofs.KeptRows.{filter_equal, reduced_for}
 
 -- ---- how far down units reach
 
-stack_low : (s : ℤ) (us : List LayerUnit) → s ≤ℤ pos (2 ^ 20) → stacked_height s us ≤ℤ (total_height us +ℤ pos (length us * 2 ^ 20))
+pub stack_low : (s : ℤ) (us : List LayerUnit) → s ≤ℤ pos (2 ^ 20) → stacked_height s us ≤ℤ (total_height us +ℤ pos (length us * 2 ^ 20))
 stack_low s [] h = omega (arith, ints)
 stack_low s (u ∷ us) h = let rest = stack_low s us h in more u.height s (stacked_height s us) (total_height us) (length us) h rest
   where
     more : (a s b t : ℤ) (n : ℕ) → s ≤ℤ pos (2 ^ 20) → b ≤ℤ (t +ℤ pos (n * 2 ^ 20)) → (a +ℤ s +ℤ b) ≤ℤ ((a +ℤ t) +ℤ pos (suc n * 2 ^ 20))
     more a s b t n h k = omega (arith, ints, h, k)
 
-spacing_low : (l : Plain) → IsSound l → greatest_spacing l ≤ℤ pos (2 ^ 20)
+pub spacing_low : (l : Plain) → IsSound l → greatest_spacing l ≤ℤ pos (2 ^ 20)
 spacing_low l sound = low l.node_node l.edge_node l.edge_edge sound.node_node_is.high sound.edge_node_is.high sound.edge_edge_is.high
   where
     low : (a b c : ℤ) → a ≤ℤ pos (2 ^ 20) → b ≤ℤ pos (2 ^ 20) → c ≤ℤ pos (2 ^ 20) → int_max (int_max a b) c ≤ℤ pos (2 ^ 20)

@@ -1,0 +1,6 @@
+pub mod Sums
+pub mod Framing
+pub mod Inside
+pub mod Names
+pub mod WidthLemmas
+pub mod LaneCounts
