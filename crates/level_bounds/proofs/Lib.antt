@@ -4,3 +4,5 @@ pub mod Inside
 pub mod Names
 pub mod WidthLemmas
 pub mod LaneCounts
+pub mod HeightLemmas
+pub mod Bounded

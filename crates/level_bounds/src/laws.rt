@@ -1,4 +1,5 @@
-//! How large the drawing of a level can be, as the contract of a function that does nothing.
+//! How large the drawing of a level can be.
+ghost use Rattle.level_bounds.specs.Extents.{IsBounded};
 
-/// The width and the height.
+/// One.
 pub fn extents_are_bounded() {}
