@@ -234,15 +234,13 @@ moved_bounded l v a b x y h =
 
 layers_few : (level : LevelIn) (v : LevelOut) → IsLaidOut level v → v.plan.layered.layers ≤ length (plain_level level).children
 layers_few level v laid =
-    let blank = laid.numbered.0 in
-    let same = laid.numbered.2.layers_are in
     ⊎_elim
-    (λ (none : blank.layers ≡ 0). omega (arith, none, same))
-    (λ (at : (c : ℕ) × (c < length v.certificate.layers) × (layer_in v.certificate.layers c + 1 ≡ blank.layers)).
+    (λ (none : v.plan.layered.layers ≡ 0). omega (arith, none))
+    (λ (at : (c : ℕ) × (c < length v.certificate.layers) × (layer_in v.certificate.layers c + 1 ≡ v.plan.layered.layers)).
     let low = All-get_or (λ k. k < length (plain_level level).children) v.certificate.layers at.0 0 at.1 laid.certificate.low in
     let last = at.2 in
-    omega (arith, low, last, same))
-    laid.numbered.1.count_is.reached
+    omega (arith, low, last))
+    laid.layers.reached
 
 pub extents_bounded : ExtentsAreBounded
 extents_bounded level v left top laid =

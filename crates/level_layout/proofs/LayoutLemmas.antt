@@ -22,6 +22,7 @@ use Rattle.level_plan.specs.Units.{AreLinked}
 use Rattle.level_layers.specs.Certificate.{IsCertificateOf}
 use Rattle.level_pins.specs.Alike.{AreAlike}
 use Rattle.level_pins.specs.Fitted.{AreFitted, AreKept}
+use Rattle.level_units.specs.Layering.{IsLayerCount}
 use Rattle.level_draw.specs.declared.drawing.LevelOut.{LevelOut}
 use Rattle.level_draw.specs.Drawing.{IsDrawable, IsDrawn, IsMadeFrom, plan_from}
 use Rattle.level_ranks.specs.Laws.{MakeUnits}
@@ -132,6 +133,7 @@ laid_out level c u v start order lines w made sound is ranked started reduced pi
     (record {
       certificate = is;
       numbered = (ranked.numbered.0, ranked.numbered.1, alike_through ranked.numbered.0 (plain u) (plain v) ranked.numbered.2 pinned.kept.alike);
+      layers = subst (IsLayerCount c.layers) (sym pinned.kept.alike.layers_are) ranked.layers;
       started = start_alike (plain u) (plain v) (rows_of start) pinned.kept.alike started;
       reduced = reduced_for (plain u) (plain v) pinned.kept (rows_of start) (rows_of order) reduced;
       placed = record { apart = lines_apart (plain v) (rows_of order) level.fixed lines.top.items placed; within = ends; aligned = λ _. placed };
