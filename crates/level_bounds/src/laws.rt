@@ -1,5 +1,8 @@
-//! How large the drawing of a level can be.
-ghost use Rattle.level_bounds.specs.Extents.{IsBounded};
+//! How large the drawing of a level can be, as the contract of a function that does nothing.
+ghost use Rattle.level_bounds.specs.Extents.{ExtentsAreBounded};
 
-/// One.
-pub fn extents_are_bounded() {}
+/// With c children and e edges, each side of a level that is laid out is at most as long as the outlines of its children in that
+/// direction together and 2^22 times (c + e + c e + 1).
+pub fn extents_are_bounded()
+    ensures { ExtentsAreBounded }
+{}
