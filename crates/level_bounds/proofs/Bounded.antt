@@ -4,12 +4,14 @@ use Rattle.std.proofs.Common.{◌≡◌, inl, inr, ⊎_elim, ℕ, zero, suc, ◌
 use Rattle.std.proofs.lemmas.Int.{clamps, ints}
 use Rattle.std.proofs.lemmas.List.FromFn.{length-range_with_len}
 use Rattle.std.proofs.lemmas.List.Elements.{All-get_or}
-use Rattle.std.specs.Int.{int_max}
+use Rattle.std.proofs.Math.Nat.{mul-le-mul_left}
+use Rattle.std.specs.Int.{int_max, int_min}
 use Rattle.std.specs.List.{range_with_len}
 use Rattle.elk_doc.specs.declared.shape.Point.{Point}
 use Rattle.elk_doc.specs.declared.shape.Rect.{Rect}
 use Rattle.elk_doc.specs.declared.shape.Size.{Size}
 use Rattle.elk_doc.specs.Document.{origin}
+use Rattle.elk_doc.specs.Sound.{IsWithin as IsLength}
 use Rattle.elk_doc.specs.Shapes.{bottom_of, hull, moved_by, rect_at, right_of}
 use Rattle.port_order.specs.Child.{port_at}
 use Rattle.route_slots.specs.Pieces.{Abscissa, IsAbscissa}
@@ -34,17 +36,18 @@ use Rattle.level_lawful.proofs.Whole.{routes_lawful}
 use Rattle.level_draw.specs.declared.drawing.LevelOut.{LevelOut}
 use Rattle.level_draw.specs.Drawing.{IsTight, drawn_in, outlines_in, plan_from}
 use Rattle.level_extent.specs.declared.spanning.Reach.{Reach}
-use Rattle.level_extent.specs.Reach.{points_along, reached}
+use Rattle.level_extent.specs.Reach.{abscissae, greatest, heights, least, points_along, reached}
 use Rattle.level_nets.proofs.ListLemmas.{map_same}
 use Rattle.level_units.specs.Layering.{layer_in}
 use Rattle.level_layout.specs.Layout.{IsLaidOut}
 use Rattle.level_layout.proofs.LayoutLemmas.{spacing_low, stack_low}
-use Rattle.level_bounds.specs.Extents.{ExtentsAreBounded, IsBounded, outline_heights, outline_widths, room_between}
+use Rattle.level_bounds.specs.Extents.{ExtentsAreBounded, ExtentsAreSmall, IsBounded, outline_heights, outline_widths, room_between}
 use Rattle.level_bounds.proofs.Framing.{Each, Frame, Holds, IsWithin, corners_each, reach_height, reach_width, reached_each, section_each, sections_each}
 use Rattle.level_bounds.proofs.HeightLemmas.{few_units, stack_least, units_most}
 use Rattle.level_bounds.proofs.Inside.{Spans, in_outline, route_in}
 use Rattle.level_bounds.proofs.Names.{few_links, few_names, few_nets}
-use Rattle.level_bounds.proofs.Sums.{over, over_le}
+use Rattle.level_bounds.proofs.SizeLemmas.{heights_low, widths_low}
+use Rattle.level_bounds.proofs.Sums.{over, over_same}
 use Rattle.level_bounds.proofs.WidthLemmas.{borders_most}
 
 le_le : (a b c : ℤ) → a ≤ℤ b → b ≤ℤ c → a ≤ℤ c
@@ -60,6 +63,23 @@ le_self a = omega (arith, ints)
 sum_is : (size : Rect → ℤ) (g : ℕ → Rect) (cs : List ℕ) → sum_of_ints (map size (map g cs)) ≡ over (λ c. size (g c)) cs
 sum_is size g [] = refl
 sum_is size g (c ∷ cs) = ap (λ z. size (g c) +ℤ z) (sum_is size g cs)
+
+-- the least of some numbers is no more than their greatest
+least_low : (zs : List ℤ) → least zs ≤ℤ greatest zs
+unfolding least greatest
+least_low [] = le_self _
+least_low (z ∷ []) = le_self _
+least_low (z ∷ y ∷ zs) = ends z (least (y ∷ zs)) (greatest (y ∷ zs))
+  where
+    ends : (z a b : ℤ) → int_min z a ≤ℤ int_max z b
+    ends z a b = omega (arith, ints, clamps)
+
+from_zero : (a b w : ℤ) → pos 0 ≡ a → w ≡ b → a ≤ℤ b → pos 0 ≤ℤ w
+from_zero a b w e f h = omega (arith, ints, e, f, h)
+
+-- from 0 to 2^48
+abbrev IsUpTo48 : ℤ → Type 0
+IsUpTo48 z = IsLength (pos 0) (pos (2 ^ 48)) z
 
 module _ (l : PlainLevel) (p : PlainPlan) (o : Orders) (layers : List ℕ) (d : Drawn) (ready : IsReady l p o layers) (drawn : IsDrawnFrom l p o d) (few : p.layers ≤ length l.children)
     (within : EndsWithinStack p.layered p.tops) (tight : IsTight l d) where
@@ -159,27 +179,24 @@ module _ (l : PlainLevel) (p : PlainPlan) (o : Orders) (layers : List ℕ) (d : 
       turned : (n e c : ℕ) → n ≤ e * c → n ≤ c * e
       turned n e c h = omega (arith, h)
 
-  widths_kept : over (λ c. (outline l p o c).width) (range_with_len 0 (length l.children)) ≤ℤ outline_widths l d
-  widths_kept =
-      let sum = sum_is (λ (r : Rect). r.width) (drawn_outline l d) (range_with_len 0 (length l.children)) in
-      le_le _ _ _
-      (over_le (λ c. (outline l p o c).width) (λ c. (drawn_outline l d c).width) (range_with_len 0 (length l.children))
-      (λ c has. same_le _ _ (sym (ap (λ (r : Rect). r.width) (outlines_are_drawn l p o d c (drawn.children c (below_has (length l.children) c has)))))))
-      (same_le _ _ (sym sum))
+  outline_is : (c : ℕ) → Has (range_with_len 0 (length l.children)) c → outline_at l p o d c ≡ drawn_outline l d c
+  outline_is c has = sym (outlines_are_drawn l p o d c (drawn.children c (below_has (length l.children) c has)))
 
-  heights_kept : over (λ c. (outline l p o c).height) (range_with_len 0 (length l.children)) ≤ℤ outline_heights l d
-  heights_kept =
-      let sum = sum_is (λ (r : Rect). r.height) (drawn_outline l d) (range_with_len 0 (length l.children)) in
-      le_le _ _ _
-      (over_le (λ c. (outline l p o c).height) (λ c. (drawn_outline l d c).height) (range_with_len 0 (length l.children))
-      (λ c has. same_le _ _ (sym (ap (λ (r : Rect). r.height) (outlines_are_drawn l p o d c (drawn.children c (below_has (length l.children) c has)))))))
-      (same_le _ _ (sym sum))
+  widths_are : over (λ c. (outline l p o c).width) (range_with_len 0 (length l.children)) ≡ outline_widths l d
+  widths_are =
+      over_same (λ c. (outline l p o c).width) (λ c. (drawn_outline l d c).width) (range_with_len 0 (length l.children)) (λ c has. ap (λ (r : Rect). r.width) (outline_is c has))
+      ∙ sym (sum_is (λ (r : Rect). r.width) (drawn_outline l d) (range_with_len 0 (length l.children)))
+
+  heights_are : over (λ c. (outline l p o c).height) (range_with_len 0 (length l.children)) ≡ outline_heights l d
+  heights_are =
+      over_same (λ c. (outline l p o c).height) (λ c. (drawn_outline l d c).height) (range_with_len 0 (length l.children)) (λ c has. ap (λ (r : Rect). r.height) (outline_is c has))
+      ∙ sym (sum_is (λ (r : Rect). r.height) (drawn_outline l d) (range_with_len 0 (length l.children)))
 
   width_bounded : d.extent.width ≤ℤ (outline_widths l d +ℤ pos (room_between l))
   width_bounded =
       let wide = le_le _ _ _ (wide_at 0 (omega arith)) (right_most 0 (omega arith)) in
       bound _ _ _ _ (length (all_names l p o)) (length p.layered.links) (length l.edges) (length l.children) (length l.children * length l.edges) p.layers
-      (reach_width frame (reached (outlines_in l d) d.sections) reach wide refl tight all_in) (borders_most l p o d layers ready drawn) widths_kept (few_names l p o) links_few few
+      (reach_width frame (reached (outlines_in l d) d.sections) reach wide refl tight all_in) (borders_most l p o d layers ready drawn) (same_le _ _ widths_are) (few_names l p o) links_few few
     where
       bound : (w s a b : ℤ) (n m e c x k : ℕ) → w ≤ℤ s → s ≤ℤ (a +ℤ pos (n * 2 ^ 21 + (k + 1) * 2 ^ 20)) → a ≤ℤ b → n ≤ m + 4 * e → m + e ≤ x → k ≤ c → w ≤ℤ (b +ℤ pos (2 ^ 22 * (c + e + x + 1)))
       bound w s a b n m e c x k h1 h2 h3 h4 h5 h6 = omega (arith, ints, h1, h2, h3, h4, h5, h6)
@@ -187,7 +204,7 @@ module _ (l : PlainLevel) (p : PlainPlan) (o : Orders) (layers : List ℕ) (d : 
   stack_most : stack ≤ℤ (outline_heights l d +ℤ pos (length l.edges * 2 ^ 21 + 2 * length l.edges * 2 ^ 21 + (length l.children + length p.layered.links) * 2 ^ 20))
   stack_most =
       bound _ _ _ _ (length p.layered.units) (length p.layered.links) (length l.edges) (length l.children)
-      (stack_low (greatest_spacing p.layered) p.layered.units (spacing_low p.layered ready.sound)) (few_units l p o layers ready) (units_most l p o layers ready) heights_kept
+      (stack_low (greatest_spacing p.layered) p.layered.units (spacing_low p.layered ready.sound)) (few_units l p o layers ready) (units_most l p o layers ready) (same_le _ _ heights_are)
     where
       bound : (s t a b : ℤ) (u m e c : ℕ) → s ≤ℤ (t +ℤ pos (u * 2 ^ 20)) → u ≤ c + m → t ≤ℤ (a +ℤ pos (e * 2 ^ 21 + 2 * e * 2 ^ 21)) → a ≤ℤ b → s ≤ℤ (b +ℤ pos (e * 2 ^ 21 + 2 * e * 2 ^ 21 + (c + m) * 2 ^ 20))
       bound s t a b u m e c h1 h2 h3 h4 = omega (arith, ints, h1, h2, h3, h4)
@@ -212,6 +229,28 @@ module _ (l : PlainLevel) (p : PlainPlan) (o : Orders) (layers : List ℕ) (d : 
 
   bounded : IsBounded l d
   bounded = record { width = width_bounded; height = height_bounded }
+
+  -- ---- how large that can be
+
+  side_within : (w b a : ℤ) (c e x : ℕ) → w ≤ℤ (b +ℤ pos (2 ^ 22 * (c + e + x + 1))) → a ≡ b → a ≤ℤ pos (2 ^ 33 + 2 ^ 47) → c ≤ 2048 → e ≤ 2048 → x ≤ c * 2048 → w ≤ℤ pos (2 ^ 48)
+  side_within w b a c e x h same low fc fe fx = omega (arith, ints, h, same, low, fc, fe, fx)
+
+  pairs_few : length l.children * length l.edges ≤ length l.children * 2048
+  pairs_few = mul-le-mul_left (length l.children) ready.level.few_edges
+
+  width_small : IsUpTo48 d.extent.width
+  width_small =
+      record {
+        above = from_zero _ _ _ tight.left tight.right (least_low (abscissae (reached (outlines_in l d) d.sections)));
+        below = side_within _ _ _ (length l.children) (length l.edges) (length l.children * length l.edges) width_bounded widths_are (widths_low l p o layers ready) ready.level.few_children ready.level.few_edges pairs_few;
+      }
+
+  height_small : IsUpTo48 d.extent.height
+  height_small =
+      record {
+        above = from_zero _ _ _ tight.top tight.bottom (least_low (heights (reached (outlines_in l d) d.sections)));
+        below = side_within _ _ _ (length l.children) (length l.edges) (length l.children * length l.edges) height_bounded heights_are (heights_low l p o layers ready) ready.level.few_children ready.level.few_edges pairs_few;
+      }
 
 -- ---- wherever the drawing was moved
 
@@ -247,3 +286,14 @@ extents_bounded level v left top laid =
     moved_bounded (plain_level level) v laid.drawn.left laid.drawn.top left top
     (bounded (plain_level level) (plan_from v.certificate v.plan.layered v.plan.order v.plan.lines) laid.orders v.certificate.layers (drawn_in v laid.drawn.left laid.drawn.top) laid.ready
     (laid.drawn.drawing.from_plan laid.orders laid.ready) (layers_few level v laid) laid.placed.within laid.drawn.drawing.tight)
+
+pub extents_small : ExtentsAreSmall
+extents_small level v laid =
+    let from = laid.drawn.drawing.from_plan laid.orders laid.ready in
+    let few = layers_few level v laid in
+    record {
+      width = width_small (plain_level level) (plan_from v.certificate v.plan.layered v.plan.order v.plan.lines) laid.orders v.certificate.layers (drawn_in v laid.drawn.left laid.drawn.top) laid.ready
+          from few laid.placed.within laid.drawn.drawing.tight;
+      height = height_small (plain_level level) (plan_from v.certificate v.plan.layered v.plan.order v.plan.lines) laid.orders v.certificate.layers (drawn_in v laid.drawn.left laid.drawn.top) laid.ready
+          from few laid.placed.within laid.drawn.drawing.tight;
+    }

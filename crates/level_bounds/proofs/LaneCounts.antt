@@ -137,7 +137,7 @@ module _ (l : PlainLevel) (p : PlainPlan) (o : Orders) (c : ℕ) where
       let found = any_has (λ s. dock_eq (dock_of_spot l o c s) d && asks_lane d.side s.leaves s.enters) (spots l p c) wanted in
       let both = and_parts (dock_eq (dock_of_spot l o c found.0) d) (asks_lane d.side found.0.leaves found.0.enters) found.2 in
       let from = spot_from found.0 found.1 (asks_some d.side found.0.leaves found.0.enters both.1) in
-      (from.0, from.1, ap (dock_of_spot l o c) from.2 ∙ dock_eq-same (dock_of_spot l o c found.0) d both.0)
+      (from.0, from.1, subst (λ s. dock_of_spot l o c s ≡ d) (sym from.2) (dock_eq-same (dock_of_spot l o c found.0) d both.0))
 
   -- no more docks of a child have a lane than ends are at it
   docks_few : length (docks_with_lane l p o c) ≤ length (filter (λ m. (spoke l m).child == c) (all_ends l))

@@ -5,4 +5,5 @@ pub mod Names
 pub mod WidthLemmas
 pub mod LaneCounts
 pub mod HeightLemmas
+pub mod SizeLemmas
 pub mod Bounded

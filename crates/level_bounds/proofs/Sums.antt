@@ -25,6 +25,13 @@ over_le f g (x ∷ xs) h =
     let rest = over_le f g xs (λ y k. h y (inr k)) in
     omega (arith, ints, here, rest)
 
+pub over_same : {X : Type 0} (f g : X → ℤ) (xs : List X) → ((x : X) → Has xs x → f x ≡ g x) → over f xs ≡ over g xs
+over_same f g [] h = refl
+over_same f g (x ∷ xs) h =
+    let here = h x (inl refl) in
+    let rest = over_same f g xs (λ y k. h y (inr k)) in
+    omega (arith, ints, here, rest)
+
 -- ---- sums over the first numbers
 
 pub first_le : (f g : ℕ → ℤ) (n : ℕ) → ((m : ℕ) → m < n → f m ≤ℤ g m) → first f n ≤ℤ first g n

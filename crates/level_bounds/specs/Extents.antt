@@ -1,6 +1,7 @@
 -- How large the drawing of a level can be.
 use Rattle.std.specs.Prelude.{ℕ, ◌+◌, ◌*◌, ◌^◌, map, ℤ, pos, ◌+ℤ◌, ◌≤ℤ◌, length}
 use Rattle.elk_doc.specs.declared.shape.Rect.{Rect}
+use Rattle.elk_doc.specs.Sound.{IsWithin}
 use Rattle.level_plan.specs.declared.level.LevelIn.{LevelIn}
 use Rattle.level_plan.specs.Conditions.{plain_level, sum_of_ints}
 use Rattle.level_plan.specs.FromPlan.{Drawn}
@@ -28,3 +29,11 @@ pub record IsBounded (l : PlainLevel) (d : Drawn) : Type 0 where
 -- So it is with each level that is laid out, however far its drawing was moved.
 abbrev pub ExtentsAreBounded : Type 0
 ExtentsAreBounded = (level : LevelIn) (v : LevelOut) (left top : ℤ) → IsLaidOut level v → IsBounded (plain_level level) (drawn_in v left top)
+
+-- The sides of every level that is laid out are from 0 to 2^48.
+pub record IsSmall (v : LevelOut) : Type 0 where
+  pub width : IsWithin (pos 0) (pos (2 ^ 48)) v.extent.width
+  pub height : IsWithin (pos 0) (pos (2 ^ 48)) v.extent.height
+
+abbrev pub ExtentsAreSmall : Type 0
+ExtentsAreSmall = (level : LevelIn) (v : LevelOut) → IsLaidOut level v → IsSmall v

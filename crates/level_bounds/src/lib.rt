@@ -3,4 +3,4 @@
 
 mod laws;
 
-pub use laws::extents_are_bounded;
+pub use laws::{extents_are_bounded, extents_are_small};
