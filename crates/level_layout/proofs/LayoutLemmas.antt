@@ -22,6 +22,7 @@ use Rattle.level_plan.specs.Units.{AreLinked}
 use Rattle.level_layers.specs.Certificate.{IsCertificateOf}
 use Rattle.level_pins.specs.Alike.{AreAlike}
 use Rattle.level_pins.specs.Fitted.{AreFitted, AreKept}
+use Rattle.level_units.specs.Layering.{IsLayerCount}
 use Rattle.level_draw.specs.declared.drawing.LevelOut.{LevelOut}
 use Rattle.level_draw.specs.Drawing.{IsDrawable, IsDrawn, IsMadeFrom, plan_from}
 use Rattle.level_ranks.specs.Laws.{MakeUnits}
@@ -32,14 +33,14 @@ use Rattle.level_layout.proofs.KeptRows.{filter_equal, reduced_for}
 
 -- ---- how far down units reach
 
-stack_low : (s : ℤ) (us : List LayerUnit) → s ≤ℤ pos (2 ^ 20) → stacked_height s us ≤ℤ (total_height us +ℤ pos (length us * 2 ^ 20))
+pub stack_low : (s : ℤ) (us : List LayerUnit) → s ≤ℤ pos (2 ^ 20) → stacked_height s us ≤ℤ (total_height us +ℤ pos (length us * 2 ^ 20))
 stack_low s [] h = omega (arith, ints)
 stack_low s (u ∷ us) h = let rest = stack_low s us h in more u.height s (stacked_height s us) (total_height us) (length us) h rest
   where
     more : (a s b t : ℤ) (n : ℕ) → s ≤ℤ pos (2 ^ 20) → b ≤ℤ (t +ℤ pos (n * 2 ^ 20)) → (a +ℤ s +ℤ b) ≤ℤ ((a +ℤ t) +ℤ pos (suc n * 2 ^ 20))
     more a s b t n h k = omega (arith, ints, h, k)
 
-spacing_low : (l : Plain) → IsSound l → greatest_spacing l ≤ℤ pos (2 ^ 20)
+pub spacing_low : (l : Plain) → IsSound l → greatest_spacing l ≤ℤ pos (2 ^ 20)
 spacing_low l sound = low l.node_node l.edge_node l.edge_edge sound.node_node_is.high sound.edge_node_is.high sound.edge_edge_is.high
   where
     low : (a b c : ℤ) → a ≤ℤ pos (2 ^ 20) → b ≤ℤ pos (2 ^ 20) → c ≤ℤ pos (2 ^ 20) → int_max (int_max a b) c ≤ℤ pos (2 ^ 20)
@@ -132,9 +133,10 @@ laid_out level c u v start order lines w made sound is ranked started reduced pi
     (record {
       certificate = is;
       numbered = (ranked.numbered.0, ranked.numbered.1, alike_through ranked.numbered.0 (plain u) (plain v) ranked.numbered.2 pinned.kept.alike);
+      layers = subst (IsLayerCount c.layers) (sym pinned.kept.alike.layers_are) ranked.layers;
       started = start_alike (plain u) (plain v) (rows_of start) pinned.kept.alike started;
       reduced = reduced_for (plain u) (plain v) pinned.kept (rows_of start) (rows_of order) reduced;
-      placed = record { apart = lines_apart (plain v) (rows_of order) level.fixed lines.top.items placed; aligned = λ _. placed };
+      placed = record { apart = lines_apart (plain v) (rows_of order) level.fixed lines.top.items placed; within = ends; aligned = λ _. placed };
       orders = can.orders;
       ready = can.ready;
       drawn = drawn;

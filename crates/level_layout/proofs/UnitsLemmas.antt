@@ -16,7 +16,7 @@ use Rattle.level_plan.specs.Conditions.{IsLevel}
 use Rattle.level_plan.specs.Level.{PlainLevel, edge_at, holds, is_loop}
 use Rattle.level_stands.proofs.Lists.{Has, at_has, has_filter, has_map, has_range}
 use Rattle.level_layers.specs.Certificate.{IsCertificateOf, links, net_edge, network}
-use Rattle.level_units.specs.Layering.{AreLayersOf, head_child, layer_in, layering, plan_with, tail_child}
+use Rattle.level_units.specs.Layering.{AreLayersOf, IsLayerCount, head_child, layer_in, layering, plan_with, tail_child}
 use Rattle.level_units.specs.Numbered.{AreNumbered}
 use Rattle.level_pins.specs.Alike.{AreFlat}
 use Rattle.level_pins.proofs.AlikeLemmas.{no_heights}
@@ -81,15 +81,16 @@ flat v sound u none =
     (cases_lt u (length v.units))
 
 units_with : (l : PlainLevel) (c : Certificate) (b v : Layered) → ((rows : List (List ℕ)) (tops : List ℤ) → AreLinked l (plan_with b rows tops c.reversed) c.layers)
-    → AreNumbered (layering l c.reversed c.layers) (plain b) → b.layers ≤ 2048
+    → AreNumbered (layering l c.reversed c.layers) (plain b) → b.layers ≤ 2048 → IsLayerCount c.layers b.layers
     → b.node_node ≡ l.spacing.node_node → b.edge_node ≡ l.spacing.edge_node → b.edge_edge ≡ l.spacing.edge_edge
     → AreRanked l (plain v) c.reversed → AreReranked (plain b) (plain v) → IsSound (plain v) → AreRankedUnits l c v
-units_with l c b v linked numbered few nn en ee ranked kept sound =
+units_with l c b v linked numbered few count nn en ee ranked kept sound =
     record {
       linked = λ rows tops. no_heights.linked l (plan_with b rows tops c.reversed) (plain v) tops c.layers kept.alike refl (flat (plain v) sound) (linked rows tops);
       sound = sound;
       numbered = (plain b, numbered, kept.alike);
       ranked = ranked;
+      layers = subst (IsLayerCount c.layers) (sym kept.alike.layers_are) count;
       few_layers = let same = kept.alike.layers_are in omega (arith, same, few);
       node_node = kept.node_node ∙ nn;
       edge_node = kept.edge_node ∙ en;
@@ -98,14 +99,14 @@ units_with l c b v linked numbered few nn en ee ranked kept sound =
 
 -- the same by the lists of a certificate
 pub units_ranked : (l : PlainLevel) (c : Certificate) (b v : Layered) (rs ls : List ℕ) → rs ≡ c.reversed → ls ≡ c.layers
-    → ((rows : List (List ℕ)) (tops : List ℤ) → AreLinked l (plan_with b rows tops rs) ls) → AreNumbered (layering l rs ls) (plain b) → b.layers ≤ 2048
+    → ((rows : List (List ℕ)) (tops : List ℤ) → AreLinked l (plan_with b rows tops rs) ls) → AreNumbered (layering l rs ls) (plain b) → b.layers ≤ 2048 → IsLayerCount ls b.layers
     → b.node_node ≡ l.spacing.node_node → b.edge_node ≡ l.spacing.edge_node → b.edge_edge ≡ l.spacing.edge_edge
     → AreRanked l (plain v) rs → AreReranked (plain b) (plain v) → IsSound (plain v) → AreRankedUnits l c v
-units_ranked l c b v rs ls er el linked numbered few nn en ee ranked kept sound =
+units_ranked l c b v rs ls er el linked numbered few count nn en ee ranked kept sound =
     units_with l c b v
     (λ rows tops. subst (λ xs. AreLinked l (plan_with b rows tops xs) c.layers) er (subst (λ ys. AreLinked l (plan_with b rows tops rs) ys) el (linked rows tops)))
     (subst (λ xs. AreNumbered (layering l xs c.layers) (plain b)) er (subst (λ ys. AreNumbered (layering l rs ys) (plain b)) el numbered))
-    few nn en ee (subst (λ xs. AreRanked l (plain v) xs) er ranked) kept sound
+    few (subst (λ ys. IsLayerCount ys b.layers) el count) nn en ee (subst (λ xs. AreRanked l (plain v) xs) er ranked) kept sound
 
 -- rows that start in the order of numbers do so for units with ranks
 pub started : (a b : Plain) (rows : List (List ℕ)) → AreReranked a b → IsStart a rows → IsStart b rows

@@ -8,6 +8,7 @@ use Rattle.elk_layers.specs.Layered.{Plain}
 use Rattle.elk_layers.specs.Crossings.{crossings, HasSameRows, NoBetterSwap}
 use Rattle.elk_layers.specs.Lines.{AreApart}
 use Rattle.elk_layers.specs.Sweeps.{sweep_orders}
+use Rattle.block_lines.specs.Constraints.{EndsWithinStack}
 use Rattle.bk_place.specs.Placement.{AreLinesOf}
 
 -- The rows of a start in an order with no more crossings than the start and each of its four sweep orders, which no exchange
@@ -19,8 +20,9 @@ pub record IsReduced (l : Plain) (start rows : List (List ℕ)) : Type 0 where
   pub settled : NoBetterSwap l rows
   pub without_crossings : crossings l start ≡ 0 → rows ≡ start
 
--- Lines that keep the distances; by alignment they are those of the fixed sweep, or of the first of the four that needs the
--- least height.
+-- Lines that keep the distances, and no unit of which ends lower than all units stacked with the greatest of the distances; by
+-- alignment they are those of the fixed sweep, or of the first of the four that needs the least height.
 pub record ArePlaced (l : Plain) (rows : List (List ℕ)) (placing : Placing) (fixed : Option Sweep) (tops : List ℤ) : Type 0 where
   pub apart : AreApart l rows tops
+  pub within : EndsWithinStack l tops
   pub aligned : placing ≡ BrandesKoepf → AreLinesOf l rows fixed tops

@@ -5,7 +5,7 @@ use Rattle.elk_layers.specs.declared.units.Layered.{Layered}
 use Rattle.elk_layers.specs.Layered.{Plain, plain, IsSound}
 use Rattle.level_plan.specs.Level.{PlainLevel}
 use Rattle.level_plan.specs.Units.{AreLinked}
-use Rattle.level_units.specs.Layering.{layering, plan_with}
+use Rattle.level_units.specs.Layering.{IsLayerCount, layering, plan_with}
 use Rattle.level_units.specs.Numbered.{AreNumbered}
 use Rattle.level_units.specs.Started.{AreAscending}
 use Rattle.level_pins.specs.Alike.{AreAlike}
@@ -21,6 +21,7 @@ pub record AreRankedUnits (l : PlainLevel) (c : Certificate) (v : Layered) : Typ
   pub sound : IsSound (plain v)
   pub numbered : AreNumberedAs l c (plain v)
   pub ranked : AreRanked l (plain v) c.reversed
+  pub layers : IsLayerCount c.layers v.layers
   pub few_layers : v.layers ≤ 2048
   pub node_node : v.node_node ≡ l.spacing.node_node
   pub edge_node : v.edge_node ≡ l.spacing.edge_node

@@ -14,7 +14,7 @@ ranked-requires-clause-linked c = (c.as_slice-layers.result.now, c.in_ok-blank.e
 pub returns-clause-units : goal.returns-clause-units
 returns-clause-units c =
     units_ranked (plain_level c.args.level.now) c.args.certificate.now c.in_ok-blank.blank c.in_ok-layered.layered c.as_slice-reversed.result.now c.as_slice-layers.result.now
-    c.as_slice-reversed.ensures.value c.as_slice-layers.ensures.value c.in_ok-blank.ensures.linked c.in_ok-blank.ensures.numbered c.in_ok-blank.ensures.few_layers
+    c.as_slice-reversed.ensures.value c.as_slice-layers.ensures.value c.in_ok-blank.ensures.linked c.in_ok-blank.ensures.numbered c.in_ok-blank.ensures.few_layers c.in_ok-blank.ensures.layers
     c.in_ok-blank.ensures.node_node c.in_ok-blank.ensures.edge_node c.in_ok-blank.ensures.edge_edge c.in_ok-layered.ensures.ranks c.in_ok-layered.ensures.kept c.in_ok-layered.ensures.sound
 
 pub returns-clause-rows : goal.returns-clause-rows
