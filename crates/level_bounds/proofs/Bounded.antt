@@ -147,9 +147,10 @@ module _ (l : PlainLevel) (p : PlainPlan) (o : Orders) (layers : List ℕ) (d : 
       let stands = stage_stands l p o d layers ready drawn in
       let wide = end_after _ _ _ _ child.box_left child.wide child.box_right in
       let high = end_after _ _ _ _ child.box_top child.high child.box_bottom in
-      subst (λ (r : Rect). Holds frame (record { x = r.x; y = r.y }) × Holds frame (record { x = right_of r; y = bottom_of r })) (sym (outlines_are_drawn l p o d c (drawn.children c h)))
-      (in_outline (stage l p o d) frame most stands spans c (record { x = (outline_at l p o d c).x; y = (outline_at l p o d c).y }) child (record { left = le_self _; right = wide; top = le_self _; bottom = high }),
-      in_outline (stage l p o d) frame most stands spans c (record { x = right_of (outline_at l p o d c); y = bottom_of (outline_at l p o d c) }) child (record { left = wide; right = le_self _; top = high; bottom = le_self _ }))
+      subst (λ (r : Rect). Holds frame (record { x = r.x; y = r.y }) × Holds frame (record { x = right_of r; y = bottom_of r })) (sym (outlines_are_drawn l p o d c (drawn.children c h))) (
+        in_outline (stage l p o d) frame most stands spans c (record { x = (outline_at l p o d c).x; y = (outline_at l p o d c).y }) child (record { left = le_self _; right = wide; top = le_self _; bottom = high }),
+        in_outline (stage l p o d) frame most stands spans c (record { x = right_of (outline_at l p o d c); y = bottom_of (outline_at l p o d c) }) child (record { left = wide; right = le_self _; top = high; bottom = le_self _ }),
+      )
     where
       end_after : (a b w z : ℤ) → a ≤ℤ b → pos 0 ≤ℤ w → (b +ℤ w) ≤ℤ z → a ≤ℤ z
       end_after a b w z h k m = omega (arith, ints, h, k, m)

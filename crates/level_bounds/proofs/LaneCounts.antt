@@ -69,9 +69,10 @@ filter_less f g (x ∷ xs) h =
 
 once_distinct : (ds : List Dock) → Distinct (once ds)
 once_distinct [] = tt
-once_distinct (d ∷ ds) =
-    (λ has. let found = filter_has (λ k. not (dock_eq d k)) (once ds) d has in absurd (let bad : false ≡ true = ap not (sym (dock_eq-self d)) ∙ found.1 in cc),
-    distinct_filter (λ k. not (dock_eq d k)) (once ds) (once_distinct ds))
+once_distinct (d ∷ ds) = (
+  λ has. let found = filter_has (λ k. not (dock_eq d k)) (once ds) d has in absurd (let bad : false ≡ true = ap not (sym (dock_eq-self d)) ∙ found.1 in cc),
+  distinct_filter (λ k. not (dock_eq d k)) (once ds) (once_distinct ds),
+)
 
 -- a spot that asks for a lane has a link at it
 asks_some : (side : Side) (leaves enters : Bool) → asks_lane side leaves enters ≡ true → (leaves ≡ true) ⊎ (enters ≡ true)

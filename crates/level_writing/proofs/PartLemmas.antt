@@ -1,7 +1,9 @@
 -- Ports and sections are written one after the other.
 use Rattle.std.proofs.Common.{◌≡◌, ◌≢◌, ⊎_elim, ℕ, zero, suc, ◌+◌, ◌<◌, ◌≤◌, List, [], ◌∷◌, ◌++◌, length, get_or, arith, refl, sym, ap, ◌∙◌, subst}
 use Rattle.std.proofs.lemmas.Bool.{cases_lt}
-use Rattle.std.proofs.lemmas.List.{get_or_push}
+use Rattle.std.proofs.lemmas.List.{get_or-map, get_or_push}
+use Rattle.std.specs.Prelude.{Vec}
+use Rattle.std.specs.declared.alloc.Global.{Global}
 use Rattle.std.proofs.Math.ListN.{get_or-append, set}
 use Rattle.elk_doc.specs.declared.shape.Point.{Point}
 use Rattle.elk_doc.specs.declared.shape.Rect.{Rect}
@@ -22,10 +24,11 @@ any_default (x ∷ xs) zero a b h = refl
 any_default (x ∷ xs) (suc i) a b h = any_default xs i a b (omega (arith, h))
 
 -- the ports that are listed for a node
-pub listed_ports : (d : Document) (ports : List (List ℕ)) (c : ℕ) (listed none : List ℕ) → ArePortsByNode d ports → c < length d.nodes
-    → listed ≡ get_or ports c none → listed ≡ ports_of d c
-listed_ports d ports c listed none by_node h is =
-    let many = by_node.nodes in is ∙ any_default ports c none [] (omega (arith, h, many)) ∙ by_node.each c h
+pub listed_ports : (d : Document) (ports : List (Vec ℕ Global)) (c : ℕ) (listed : List ℕ) (row : Vec ℕ Global) → ArePortsByNode d ports → c < length d.nodes
+    → listed ≡ (get_or ports c row).items → listed ≡ ports_of d c
+listed_ports d ports c listed row by_node h is =
+    let many = by_node.nodes in
+    is ∙ sym (get_or-map (λ (r : Vec ℕ Global). r.items) ports c row [] (omega (arith, h, many))) ∙ by_node.each c h
 
 module _ (d : Document) (way : Direction) (numbers : List ℕ) (boxes : List Rect) (places : List (List Point)) (old : List Point) where
   pub no_ports : ArePortsWritten 0 d way numbers boxes places old old

@@ -1,5 +1,6 @@
 -- What the drawing of a level writes into the drawing of a document.
-use Rattle.std.specs.Prelude.{◌≡◌, ◌≢◌, ℕ, ◌<◌, List, [], map, length, ℤ, Some, slice_index_or}
+use Rattle.std.specs.Prelude.{◌≡◌, ◌≢◌, ℕ, ◌<◌, List, [], map, length, ℤ, Some, Vec, slice_index_or}
+use Rattle.std.specs.declared.alloc.Global.{Global}
 use Rattle.std.specs.List.{All}
 use Rattle.elk_doc.specs.declared.shape.Point.{Point}
 use Rattle.elk_doc.specs.declared.shape.Size.{Size}
@@ -26,10 +27,14 @@ use Rattle.level_writing.specs.Back.{box_back, place_back, section_back}
 use Rattle.level_writing.specs.Changed.{number_at}
 use Rattle.level_writing.specs.Ranges.{IsLongBox, IsLongSize}
 
+-- groups of numbers as lists
+abbrev pub rows_in : List (Vec ℕ Global) → List (List ℕ)
+rows_in rows = map (λ row. row.items) rows
+
 -- the ports of each node
-pub record ArePortsByNode (d : Document) (ports : List (List ℕ)) : Type 0 where
+pub record ArePortsByNode (d : Document) (ports : List (Vec ℕ Global)) : Type 0 where
   pub nodes : length ports ≡ length d.nodes
-  pub each : (c : ℕ) → c < length d.nodes → slice_index_or ports c [] ≡ ports_of d c
+  pub each : (c : ℕ) → c < length d.nodes → slice_index_or (rows_in ports) c [] ≡ ports_of d c
 
 -- the numbers of what is at the level of n
 pub record AreNumbersAt (d : Document) (n : ℕ) (numbers : LevelNumbers) : Type 0 where

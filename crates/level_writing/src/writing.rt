@@ -25,7 +25,7 @@ use level_draw::LevelOut;
 pub struct LevelNumbers<'a> {
     pub children: &'a [u32],
     pub edges: &'a [u32],
-    pub ports: &'a [Items<u32>],
+    pub ports: &'a [Vec<u32>],
 }
 
 // Puts the boxes of children at their places in the frame, moved by `by`.

@@ -14,14 +14,14 @@ use Rattle.level_writing.proofs.sizes.frame_with.Goals as goal
 pub size_round-size-requires-clause-ports : goal.size_round-size-requires-clause-ports
 size_round-size-requires-clause-ports c =
     distinct_listed _ _ _ _ (distinct_ports c.args.doc.now c.args.node)
-    (listed_ports c.args.doc.now c.args.numbers.now.ports.now c.args.node _ _ c.requires.numbers.ports c.requires.node c.as_slice-ports.ensures.value) refl
+    (listed_ports c.args.doc.now c.args.numbers.now.ports.now c.args.node c.as_slice-ports.result.now c.index-numbers-node.result c.requires.numbers.ports c.requires.node c.as_slice-ports.ensures.value) refl
 
 pub returns : goal.returns
 returns c =
     let d = c.args.doc.now in
     let old = c.args.canvas.now in
     let listed : c.as_slice-ports.result.now ≡ ports_of d c.args.node =
-    listed_ports d c.args.numbers.now.ports.now c.args.node _ _ c.requires.numbers.ports c.requires.node c.as_slice-ports.ensures.value in
+    listed_ports d c.args.numbers.now.ports.now c.args.node c.as_slice-ports.result.now c.index-numbers-node.result c.requires.numbers.ports c.requires.node c.as_slice-ports.ensures.value in
     let written : c.resize.new.boxes ≡ resized old.boxes.items c.args.node c.size_round-size.result =
     c.resize.ensures ∙ ap (λ bs. resized bs c.args.node c.size_round-size.result) c.as_mut_slice.ensures.value in
     let boxes : (with_items old.boxes c.resize.new.boxes).items ≡ c.resize.new.boxes =

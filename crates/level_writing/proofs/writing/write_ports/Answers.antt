@@ -18,7 +18,7 @@ write_ports_of-requires-clause-numbers c =
     let d = c.args.doc.now in
     let child = number_at c.args.numbers.now.children.now c.loop-i.i in
     let listed : c.as_slice-listed.result.now ≡ ports_of d child =
-    listed_ports d c.args.numbers.now.ports.now child _ _ c.requires.by_node (c.requires.children.below c.loop-i.i c.loop-i-test.true) c.as_slice-listed.ensures.value in
+    listed_ports d c.args.numbers.now.ports.now child c.as_slice-listed.result.now c.index-numbers-child.result c.requires.by_node (c.requires.children.below c.loop-i.i c.loop-i-test.true) c.as_slice-listed.ensures.value in
     subst (λ (xs : List ℕ). AreDistinct xs (length c.loop-i.ports)) (sym listed)
     (subst (λ m. AreDistinct (ports_of d child) m) (sym (c.loop-i.invariant.as_many ∙ c.requires.all)) (distinct_ports d child))
 
@@ -32,7 +32,7 @@ loop-i-preserved c =
     let few = c.requires.places.as_many in
     let test = c.loop-i-test.true in
     let listed : c.as_slice-listed.result.now ≡ ports_of d child =
-    listed_ports d c.args.numbers.now.ports.now child _ _ c.requires.by_node (c.requires.children.below i test) c.as_slice-listed.ensures.value in
+    listed_ports d c.args.numbers.now.ports.now child c.as_slice-listed.result.now c.index-numbers-child.result c.requires.by_node (c.requires.children.below i test) c.as_slice-listed.ensures.value in
     let places : c.as_slice.result.now ≡ get_or c.args.places.now i [] =
     c.as_slice.ensures.value ∙ c.index-places-i.is ∙ any_default c.args.places.now i _ [] (omega (arith, few, test)) in
     one_more_child d c.args.way children c.args.boxes.now c.args.places.now c.args.ports.now c.loop-i.ports c.write_ports_of.new.ports i c.requires.children test c.loop-i.invariant
