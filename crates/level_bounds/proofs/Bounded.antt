@@ -1,23 +1,18 @@
 -- The drawing of a level lies in a frame from its first gap to its last and from the top of its units to the bottom of all of
 -- them stacked, and so it is bounded.
-use Rattle.std.proofs.Common.{◌≡◌, inl, inr, ⊎_elim, ℕ, zero, suc, ◌+◌, ◌*◌, ◌<◌, ◌≤◌, ◌^◌, List, [], ◌∷◌, map, length, ℤ, pos, ◌+ℤ◌, ◌-ℤ◌, ◌≤ℤ◌, refl, sym, ap, subst, ◌∙◌, arith}
+use Rattle.std.proofs.Common.{◌≡◌, ⊎_elim, ℕ, zero, suc, ◌+◌, ◌*◌, ◌<◌, ◌≤◌, ◌^◌, List, [], ◌∷◌, map, length, ℤ, pos, ◌+ℤ◌, ◌-ℤ◌, ◌≤ℤ◌, refl, sym, ap, subst, ◌∙◌, arith}
 use Rattle.std.proofs.lemmas.Int.{clamps, ints}
-use Rattle.std.proofs.lemmas.List.FromFn.{length-range_with_len}
 use Rattle.std.proofs.lemmas.List.Elements.{All-get_or}
 use Rattle.std.proofs.Math.Nat.{mul-le-mul_left}
 use Rattle.std.specs.Int.{int_max, int_min}
 use Rattle.std.specs.List.{range_with_len}
-use Rattle.elk_doc.specs.declared.shape.Point.{Point}
 use Rattle.elk_doc.specs.declared.shape.Rect.{Rect}
-use Rattle.elk_doc.specs.declared.shape.Size.{Size}
 use Rattle.elk_doc.specs.Document.{origin}
-use Rattle.elk_doc.specs.Sound.{IsWithin as IsLength}
+use Rattle.elk_doc.specs.Sound.{IsWithin}
 use Rattle.elk_doc.specs.Shapes.{bottom_of, hull, moved_by, rect_at, right_of}
 use Rattle.port_order.specs.Child.{port_at}
-use Rattle.route_slots.specs.Pieces.{Abscissa, IsAbscissa}
-use Rattle.route_lines.specs.Points.{gap_in, stand}
+use Rattle.route_lines.specs.Points.{gap_in}
 use Rattle.block_lines.specs.Constraints.{EndsWithinStack, greatest_spacing, stacked_height}
-use Rattle.level_stage.specs.Stage.{ChildStands}
 use Rattle.level_plan.specs.Conditions.{plain_level, sum_of_ints}
 use Rattle.level_plan.specs.declared.level.LevelIn.{LevelIn}
 use Rattle.level_plan.specs.Drawing.{outline_at, stage}
@@ -42,16 +37,13 @@ use Rattle.level_units.specs.Layering.{layer_in}
 use Rattle.level_layout.specs.Layout.{IsLaidOut}
 use Rattle.level_layout.proofs.LayoutLemmas.{spacing_low, stack_low}
 use Rattle.level_bounds.specs.Extents.{ExtentsAreBounded, ExtentsAreSmall, IsBounded, outline_heights, outline_widths, room_between}
-use Rattle.level_bounds.proofs.Framing.{Each, Frame, Holds, IsWithin, corners_each, reach_height, reach_width, reached_each, section_each, sections_each}
+use Rattle.level_bounds.proofs.Framing.{Each, Frame, Holds, corners_each, reach_height, reach_width, reached_each, section_each, sections_each}
 use Rattle.level_bounds.proofs.HeightLemmas.{few_units, stack_least, units_most}
 use Rattle.level_bounds.proofs.Inside.{Spans, in_outline, route_in}
 use Rattle.level_bounds.proofs.Names.{few_links, few_names, few_nets}
 use Rattle.level_bounds.proofs.SizeLemmas.{heights_low, widths_low}
-use Rattle.level_bounds.proofs.Sums.{over, over_same}
+use Rattle.level_bounds.proofs.Sums.{le_le, over, over_same}
 use Rattle.level_bounds.proofs.WidthLemmas.{borders_most}
-
-le_le : (a b c : ℤ) → a ≤ℤ b → b ≤ℤ c → a ≤ℤ c
-le_le a b c h k = omega (arith, ints, h, k)
 
 same_le : (a b : ℤ) → a ≡ b → a ≤ℤ b
 same_le a b e = omega (arith, ints, e)
@@ -78,8 +70,8 @@ from_zero : (a b w : ℤ) → pos 0 ≡ a → w ≡ b → a ≤ℤ b → pos 0 �
 from_zero a b w e f h = omega (arith, ints, e, f, h)
 
 -- from 0 to 2^48
-abbrev IsUpTo48 : ℤ → Type 0
-IsUpTo48 z = IsLength (pos 0) (pos (2 ^ 48)) z
+abbrev IsSide : ℤ → Type 0
+IsSide z = IsWithin (pos 0) (pos (2 ^ 48)) z
 
 module _ (l : PlainLevel) (p : PlainPlan) (o : Orders) (layers : List ℕ) (d : Drawn) (ready : IsReady l p o layers) (drawn : IsDrawnFrom l p o d) (few : p.layers ≤ length l.children)
     (within : EndsWithinStack p.layered p.tops) (tight : IsTight l d) where
@@ -239,14 +231,14 @@ module _ (l : PlainLevel) (p : PlainPlan) (o : Orders) (layers : List ℕ) (d : 
   pairs_few : length l.children * length l.edges ≤ length l.children * 2048
   pairs_few = mul-le-mul_left (length l.children) ready.level.few_edges
 
-  width_small : IsUpTo48 d.extent.width
+  width_small : IsSide d.extent.width
   width_small =
       record {
         above = from_zero _ _ _ tight.left tight.right (least_low (abscissae (reached (outlines_in l d) d.sections)));
         below = side_within _ _ _ (length l.children) (length l.edges) (length l.children * length l.edges) width_bounded widths_are (widths_low l p o layers ready) ready.level.few_children ready.level.few_edges pairs_few;
       }
 
-  height_small : IsUpTo48 d.extent.height
+  height_small : IsSide d.extent.height
   height_small =
       record {
         above = from_zero _ _ _ tight.top tight.bottom (least_low (heights (reached (outlines_in l d) d.sections)));

@@ -1,5 +1,5 @@
 -- A frame round a drawing: what it holds, and that the drawing is no larger.
-use Rattle.std.proofs.Common.{◌≡◌, inl, inr, ⊎_elim, ℕ, zero, suc, ◌+◌, ◌<◌, ◌≤◌, true, false, List, [], ◌∷◌, ◌++◌, map, length, ℤ, pos, ◌+ℤ◌, ◌-ℤ◌, ◌≤ℤ◌, refl, sym, ap, subst, ◌∙◌, arith}
+use Rattle.std.proofs.Common.{◌≡◌, inl, inr, ℕ, suc, ◌<◌, List, [], ◌∷◌, ◌++◌, map, length, ℤ, pos, ◌-ℤ◌, ◌≤ℤ◌, refl, sym, subst, ◌∙◌, arith}
 use Rattle.std.proofs.lemmas.Int.{clamps, ints}
 use Rattle.std.specs.Prelude.{slice_index_or}
 use Rattle.std.specs.Int.{int_max, int_min}
@@ -7,28 +7,23 @@ use Rattle.elk_doc.specs.declared.shape.Point.{Point}
 use Rattle.elk_doc.specs.declared.shape.Rect.{Rect}
 use Rattle.elk_doc.specs.declared.drawing.Section.{Section}
 use Rattle.elk_doc.specs.Shapes.{bottom_of, right_of}
+use Rattle.elk_doc.specs.Sound.{IsWithin}
 use Rattle.elk_doc.specs.Segments.{IsBetween}
 use Rattle.route_lines.specs.Tidied.{Drops, equal, middle, later, DropsSome, none, more, IsSectionOf, one, many}
 use Rattle.level_extent.specs.declared.spanning.Reach.{Reach}
 use Rattle.level_stands.proofs.Lists.{Has}
 use Rattle.level_extent.specs.Reach.{IsReach, abscissae, corners_of, greatest, heights, least, points_along, points_of, reached}
 
+-- a rectangle by its sides, with its border
 pub record Frame : Type 0 where
   pub left : ℤ
   pub right : ℤ
   pub top : ℤ
   pub bottom : ℤ
 
-pub record IsWithin (low high z : ℤ) : Type 0 where
-  pub above : low ≤ℤ z
-  pub below : z ≤ℤ high
-
 pub record Holds (f : Frame) (p : Point) : Type 0 where
   pub x : IsWithin f.left f.right p.x
   pub y : IsWithin f.top f.bottom p.y
-
-pub holds_at : (f : Frame) (p : Point) (x y : ℤ) → p.x ≡ x → p.y ≡ y → IsWithin f.left f.right x → IsWithin f.top f.bottom y → Holds f p
-holds_at f p x y ex ey wx wy = record { x = subst (IsWithin f.left f.right) (sym ex) wx; y = subst (IsWithin f.top f.bottom) (sym ey) wy }
 
 pub between : (low high a b z : ℤ) → IsWithin low high a → IsWithin low high b → IsBetween a b z → IsWithin low high z
 between low high a b z wa wb h =

@@ -1,5 +1,5 @@
 -- All units together are no higher than all outlines and lanes, and there are few units.
-use Rattle.std.proofs.Common.{◌≡◌, ◌⊎◌, inl, inr, ⊎_elim, ℕ, zero, suc, ◌+◌, ◌*◌, ◌<◌, ◌≤◌, ◌^◌, ◌==◌, not, Bool, true, false, List, [], ◌∷◌, ◌++◌, map, length, ℤ, pos, ◌+ℤ◌, ◌≤ℤ◌, refl, sym, ap, subst, ◌∙◌, arith, cond}
+use Rattle.std.proofs.Common.{◌≡◌, ⊎_elim, ℕ, zero, suc, ◌+◌, ◌*◌, ◌<◌, ◌≤◌, ◌^◌, ◌==◌, not, true, List, [], ◌∷◌, ◌++◌, map, length, ℤ, pos, ◌+ℤ◌, ◌≤ℤ◌, refl, sym, ap, subst, ◌∙◌, arith}
 use Rattle.std.proofs.lemmas.Int.{ints}
 use Rattle.std.proofs.lemmas.List.{length-append, length-map}
 use Rattle.std.proofs.lemmas.List.FromFn.{length-range_with_len}
@@ -23,9 +23,6 @@ use Rattle.level_nets.proofs.Holding.{ends_long}
 use Rattle.level_bounds.proofs.LaneCounts.{lanes_few}
 use Rattle.level_bounds.proofs.Sums.{counted, first_add, first_le, ones, over, part, parts_within}
 use Rattle.level_bounds.proofs.WidthLemmas.{outer_most}
-
-at_most : (a b c : ℤ) → a ≤ℤ b → b ≤ℤ c → a ≤ℤ c
-at_most a b c h k = omega (arith, ints, h, k)
 
 -- ---- the first numbers as a list
 
@@ -139,7 +136,6 @@ module _ (l : PlainLevel) (p : PlainPlan) (o : Orders) (layers : List ℕ) (read
 
   pub units_most : total_height p.layered.units ≤ℤ (over (λ c. (outline l p o c).height) (range_with_len 0 (length l.children)) +ℤ pos (length l.edges * 2 ^ 21 + 2 * length l.edges * 2 ^ 21))
   units_most =
-      let n = length l.children in
       let total = total_within (length l.children) (λ c. unit_height l p o c) (unit_of p) p.layered.units height_least counted_unit one_unit in
       let each = first_le (λ c. unit_height l p o c) (λ c. (outline l p o c).height +ℤ (loops_part c +ℤ ends_part c)) (length l.children) (λ c less. unit_most c) in
       let two = first_add (λ c. (outline l p o c).height) (λ c. loops_part c +ℤ ends_part c) (length l.children) in

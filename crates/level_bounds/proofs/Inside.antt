@@ -1,22 +1,21 @@
 -- Where a frame holds the columns, the gaps and the units of a stage, it holds all outlines and all routes.
-use Rattle.std.proofs.Common.{◌≡◌, inl, inr, ⊎_elim, ℕ, zero, suc, ◌+◌, ◌<◌, ◌≤◌, Bool, true, false, List, [], ◌∷◌, length, get_or, ℤ, pos, ◌+ℤ◌, ◌-ℤ◌, ◌≤ℤ◌, refl, sym, ap, subst, ◌∙◌, arith}
-use Rattle.std.proofs.lemmas.Bool.{cases_Bool}
+use Rattle.std.proofs.Common.{◌≡◌, inl, inr, ⊎_elim, ℕ, zero, suc, ◌+◌, ◌<◌, ◌≤◌, Bool, true, List, [], ◌∷◌, length, ℤ, pos, ◌+ℤ◌, ◌≤ℤ◌, refl, sym, subst, arith}
 use Rattle.std.proofs.lemmas.Int.{clamps, ints}
 use Rattle.std.specs.Int.{int_max, int_min}
 use Rattle.elk_doc.specs.declared.shape.Point.{Point}
-use Rattle.elk_doc.specs.declared.shape.Rect.{Rect}
-use Rattle.elk_doc.specs.Shapes.{bottom_of, right_of}
+use Rattle.elk_doc.specs.Sound.{IsWithin}
 use Rattle.route_slots.specs.declared.Pin.{Pin}
 use Rattle.route_slots.specs.declared.Net.{Net}
 use Rattle.route_slots.specs.declared.NetRoute.{NetRoute}
 use Rattle.route_slots.specs.declared.NetRoute.TheVariants.{Straight, One, Two}
-use Rattle.route_slots.specs.Pieces.{Abscissa, Corner, IsAbscissa, IsPieceOf, corner_at, corners, net_at, route_at}
+use Rattle.route_slots.specs.Pieces.{Abscissa, Corner, IsAbscissa, corner_at, corners, net_at, route_at}
 use Rattle.route_slots.specs.GapFree.{HasPin}
-use Rattle.route_lines.specs.Points.{gap_in, point_at, stand}
+use Rattle.route_lines.specs.Points.{gap_in, stand}
 use Rattle.route_lines.specs.Tidied.{EachSegment, StartsAt}
-use Rattle.level_stage.specs.Stage.{ChildStands, EndStands, InUse, IsInOutline, Stage, Stands, unit_of_line}
+use Rattle.level_stage.specs.Stage.{ChildStands, IsInOutline, Stage, Stands, unit_of_line}
 use Rattle.level_stage.specs.Law.{IsBorderPart, IsLanePart, IsLawful, IsNetPart, IsPart, IsStub, border_part, lane_part, net_part, stub}
-use Rattle.level_bounds.proofs.Framing.{Each, Frame, Holds, IsWithin, between, drops_each, holds_at}
+use Rattle.level_bounds.proofs.Sums.{le_le}
+use Rattle.level_bounds.proofs.Framing.{Each, Frame, Holds, between, drops_each}
 
 -- The frame holds the columns and the gaps, and the units with room for the nets of a gap below.
 pub record Spans (s : Stage) (f : Frame) (most : ℕ) : Type 0 where
@@ -35,9 +34,6 @@ inside_below low high a b z most h k m n = record { above = omega (arith, ints, 
 
 module _ (s : Stage) (f : Frame) (most : ℕ) (stands : Stands s) (spans : Spans s f most) where
   -- ---- outlines and anchors
-
-  le_le : (a b c : ℤ) → a ≤ℤ b → b ≤ℤ c → a ≤ℤ c
-  le_le a b c h k = omega (arith, ints, h, k)
 
   less_most : (a b c : ℤ) (n : ℕ) → a ≤ℤ b → (b +ℤ pos n) ≤ℤ c → a ≤ℤ c
   less_most a b c n h k = omega (arith, ints, h, k)

@@ -1,9 +1,7 @@
--- How many lanes the children of a level have: two for each end of an edge, at most.
-use Rattle.std.proofs.Common.{◌≡◌, ◌⊎◌, inl, inr, ⊎_elim, ℕ, zero, suc, ◌+◌, ◌*◌, ◌<◌, ◌≤◌, ◌^◌, ◌==◌, ◌&&◌, ◌||◌, not, cond, Bool, true, false, List, [], ◌∷◌, ◌++◌, map, length, ℤ, pos, ◌+ℤ◌, ◌≤ℤ◌, refl, sym, ap, subst, ◌∙◌, arith, eqb}
-use Rattle.std.proofs.lemmas.Bool.{and_from, and_parts, cases_Bool, not_from_false, or_cases, eqb-true, eq-eqb, false≢true}
-use Rattle.std.proofs.lemmas.Int.{ints}
+-- How many lanes a child has on a side: one for each self-loop and each end of an edge at it, at most.
+use Rattle.std.proofs.Common.{◌≡◌, ◌⊎◌, inl, inr, ⊎_elim, ℕ, ◌+◌, ◌≤◌, ◌==◌, ◌&&◌, not, Bool, true, false, List, [], ◌∷◌, map, length, refl, sym, ap, subst, ◌∙◌, arith, eqb}
+use Rattle.std.proofs.lemmas.Bool.{and_parts, cases_Bool, or_cases, eqb-true, false≢true}
 use Rattle.std.proofs.lemmas.List.{length-append, length-map}
-use Rattle.std.proofs.lemmas.List.FromFn.{length-range_with_len}
 use Rattle.std.specs.Prelude.{Option, None, Some, is_none}
 use Rattle.std.specs.List.{filter, list_any, range_with_len}
 use Rattle.elk_doc.specs.declared.shape.Side.{Side}
@@ -11,13 +9,12 @@ use Rattle.elk_doc.specs.declared.shape.Side.TheVariants.{North, East, South, We
 use Rattle.elk_doc.specs.declared.shape.Dock.{Dock}
 use Rattle.elk_doc.specs.PortsKept.{is_side}
 use Rattle.port_order.specs.declared.spots.Spot.{Spot}
-use Rattle.level_stage.specs.Stage.{Line, dock_lane, loop_lane}
-use Rattle.level_plan.specs.Level.{End, Orders, PlainLevel, PlainPlan, all_ends, child_at, dock_of_spot, edge_at, end_at, ends_at_port, ends_of_edges, enters, implicit_ends, implicit_spot, is_loop, is_port, linked, port_spot, spoke, spot_at_port, spots}
+use Rattle.level_stage.specs.Stage.{dock_lane, loop_lane}
+use Rattle.level_plan.specs.Level.{End, Orders, PlainLevel, PlainPlan, all_ends, child_at, dock_of_spot, edge_at, ends_at_port, enters, implicit_ends, implicit_spot, is_loop, is_port, linked, port_spot, spoke, spot_at_port, spots}
 use Rattle.level_plan.specs.Lanes.{asks_lane, dock_eq, docks_with_lane, has_lane, lane_side, lanes, loop_sides, loops_of, once}
 use Rattle.level_stands.proofs.Lists.{Has, any_has, append_has, filter_has, has_filter, map_has}
 use Rattle.level_stands.proofs.FirstPlaces.{Distinct, distinct_filter}
 use Rattle.level_stands.proofs.SameLines.{dock_eq-same, dock_eq-self}
-use Rattle.level_nets.proofs.Holding.{ends_long}
 use Rattle.level_nets.proofs.ListLemmas.{filter_short}
 
 -- ---- lists that hold nothing twice
@@ -43,7 +40,6 @@ module _ {X : Type 0} (eq : X → X → Bool) (same : (x y : X) → eq x y ≡ t
   no_more_of f [] ys h known = omega arith
   no_more_of f (x ∷ xs) [] h known = absurd ((known x (inl refl)).1)
   no_more_of f (x ∷ xs) (y ∷ ys) h known =
-      let all : List X = x ∷ xs in
       let most = others (f y) (x ∷ xs) h in
       let rest = no_more_of f (filter (λ z. not (eq (f y) z)) (x ∷ xs)) ys (distinct_filter (λ z. not (eq (f y) z)) (x ∷ xs) h)
       (λ z has.
@@ -82,9 +78,6 @@ asks_some South leaves enters h = or_cases leaves enters h
 asks_some West leaves enters h = inl h
 
 module _ (l : PlainLevel) (p : PlainPlan) (o : Orders) (c : ℕ) where
-  abbrev at_child : End → Bool
-  at_child n = (spoke l n).child == c
-
   -- the dock of an end of this child
   abbrev end_dock : End → Dock
   end_dock n = dock_of_spot l o c (spot_at_port l p c n (spoke l n).port)
@@ -132,13 +125,19 @@ module _ (l : PlainLevel) (p : PlainPlan) (o : Orders) (c : ℕ) where
       subst IsFrom at.2 (implicit_from at.0 at.1))
       (append_has (map (port_spot l p c) (range_with_len 0 (length (child_at l c).ports))) (map (implicit_spot l p c) (implicit_ends l c)) s has)
 
+  -- a dock for which a spot asks for a lane is that of an end
+  dock_by : (d : Dock) (s : Spot) → Has (spots l p c) s → (dock_eq (dock_of_spot l o c s) d && asks_lane d.side s.leaves s.enters) ≡ true
+      → (n : End) × Has (filter (λ m. (spoke l m).child == c) (all_ends l)) n × (end_dock n ≡ d)
+  dock_by d s has h =
+      let both = and_parts (dock_eq (dock_of_spot l o c s) d) (asks_lane d.side s.leaves s.enters) h in
+      let from = spot_from s has (asks_some d.side s.leaves s.enters both.1) in
+      (from.0, from.1, ap (dock_of_spot l o c) from.2 ∙ dock_eq-same (dock_of_spot l o c s) d both.0)
+
   dock_from : (d : Dock) → Has (docks_with_lane l p o c) d → (n : End) × Has (filter (λ m. (spoke l m).child == c) (all_ends l)) n × (end_dock n ≡ d)
   dock_from d has =
       let wanted = (filter_has (has_lane l p o c) (once (map (dock_of_spot l o c) (spots l p c))) d has).1 in
       let found = any_has (λ s. dock_eq (dock_of_spot l o c s) d && asks_lane d.side s.leaves s.enters) (spots l p c) wanted in
-      let both = and_parts (dock_eq (dock_of_spot l o c found.0) d) (asks_lane d.side found.0.leaves found.0.enters) found.2 in
-      let from = spot_from found.0 found.1 (asks_some d.side found.0.leaves found.0.enters both.1) in
-      (from.0, from.1, subst (λ s. dock_of_spot l o c s ≡ d) (sym from.2) (dock_eq-same (dock_of_spot l o c found.0) d both.0))
+      dock_by d found.0 found.1 found.2
 
   -- no more docks of a child have a lane than ends are at it
   docks_few : length (docks_with_lane l p o c) ≤ length (filter (λ m. (spoke l m).child == c) (all_ends l))

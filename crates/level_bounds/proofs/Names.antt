@@ -1,19 +1,18 @@
 -- How many links and nets a level has, and how many slots its gaps.
-use Rattle.std.proofs.Common.{◌≡◌, inl, inr, ⊎_elim, ℕ, zero, suc, ◌+◌, ◌*◌, ◌<◌, ◌≤◌, ◌==◌, ◌&&◌, cond, Bool, true, false, List, [], ◌∷◌, ◌++◌, map, length, refl, sym, ap, subst, ◌∙◌, arith}
+use Rattle.std.proofs.Common.{◌≡◌, inl, inr, ℕ, zero, suc, ◌+◌, ◌*◌, ◌<◌, ◌≤◌, ◌==◌, ◌&&◌, Bool, true, false, List, [], ◌∷◌, ◌++◌, map, length, refl, sym, ap, ◌∙◌, arith}
 use Rattle.std.proofs.Math.Nat.{mul-le-mul_left}
 use Rattle.std.proofs.lemmas.Bool.{cases_order}
 use Rattle.std.proofs.lemmas.List.{length-append, length-map}
 use Rattle.std.proofs.lemmas.List.FromFn.{length-range_with_len}
 use Rattle.std.specs.List.{filter, range_with_len}
-use Rattle.elk_doc.specs.declared.shape.Side.{Side}
 use Rattle.elk_doc.specs.declared.shape.Side.TheVariants.{East, West}
 use Rattle.elk_layers.specs.Layered.{layer_of, link_at}
 use Rattle.self_loops.specs.Loops.{passes_left, passes_right}
 use Rattle.route_slots.specs.declared.Net.{Net}
 use Rattle.route_lines.specs.Points.{gap_in}
-use Rattle.level_plan.specs.Level.{End, Orders, PlainLevel, PlainPlan, all_ends, dock_of, end_at, ends_of_edges, is_loop}
+use Rattle.level_plan.specs.Level.{Orders, PlainLevel, PlainPlan, all_ends, dock_of, end_at, is_loop}
 use Rattle.level_plan.specs.Lanes.{has_one_dock}
-use Rattle.level_plan.specs.Nets.{Name, all_names, gap_of, if_passed, is_inverted, loop_names, names_in, net_of, nets_in, of_dock, of_link}
+use Rattle.level_plan.specs.Nets.{Name, all_names, gap_of, if_passed, is_inverted, loop_names, names_in, net_of, of_dock, of_link}
 use Rattle.level_plan.specs.FromPlan.{Drawn, IsDrawnFrom}
 use Rattle.level_stands.specs.Ready.{IsReady}
 use Rattle.level_nets.proofs.Chains.{one_link}

@@ -1,10 +1,10 @@
 -- From the left border of the first gap to the right border of the last it is no further than all outlines and slots are wide.
-use Rattle.std.proofs.Common.{◌≡◌, inl, inr, ⊎_elim, ℕ, zero, suc, ◌+◌, ◌-◌, ◌*◌, ◌<◌, ◌≤◌, ◌^◌, ◌==◌, ◌||◌, cond, Bool, true, false, List, [], ◌∷◌, length, ℤ, pos, negsuc, ◌+ℤ◌, ◌-ℤ◌, ◌*ℤ◌, ◌≤ℤ◌, refl, sym, ap, subst, ◌∙◌, arith}
+use Rattle.std.proofs.Common.{◌≡◌, inl, inr, ℕ, zero, suc, ◌+◌, ◌-◌, ◌*◌, ◌<◌, ◌≤◌, ◌^◌, ◌==◌, ◌||◌, cond, Bool, true, false, List, [], ◌∷◌, length, ℤ, pos, negsuc, ◌+ℤ◌, ◌-ℤ◌, ◌*ℤ◌, ◌≤ℤ◌, refl, arith}
 use Rattle.std.proofs.Math.Nat.{mul-le-mul_left}
 use Rattle.std.proofs.lemmas.Bool.{cases_Bool, cond_both, ne_eqb}
 use Rattle.std.proofs.lemmas.Int.{clamps, ints}
 use Rattle.std.specs.Int.{int_max}
-use Rattle.std.specs.List.{filter, range_with_len}
+use Rattle.std.specs.List.{range_with_len}
 use Rattle.elk_doc.specs.Sound.{IsDistance}
 use Rattle.route_lines.specs.Points.{gap_in}
 use Rattle.level_plan.specs.Level.{Orders, PlainLevel, PlainPlan, outline}
@@ -16,7 +16,7 @@ use Rattle.level_stands.proofs.Widths.{inner_room, outer_room}
 use Rattle.level_nets.proofs.WidthLemmas.{outline_least}
 use Rattle.level_pins.proofs.TotalLemmas.{first}
 use Rattle.level_bounds.proofs.Names.{count_few}
-use Rattle.level_bounds.proofs.Sums.{counted, first_add, first_le, first_same, ones, over, over_least, part, parts_within}
+use Rattle.level_bounds.proofs.Sums.{counted, first_add, first_le, first_same, le_le, ones, over, over_least, part, parts_within}
 
 -- ---- the room of slots
 
@@ -89,10 +89,7 @@ module _ (l : PlainLevel) (p : PlainPlan) (o : Orders) (d : Drawn) (layers : Lis
   columns_most n =
       let parts = first_le (column_width l p o) (part (layer_of_child p) (λ c. (outline l p o c).width) all) n (λ r less. widest_most l p o r all width_least) in
       let within = parts_within (layer_of_child p) (λ c. (outline l p o c).width) all n width_least in
-      at_most _ _ _ parts within
-    where
-      at_most : (a b c : ℤ) → a ≤ℤ b → b ≤ℤ c → a ≤ℤ c
-      at_most a b c h k = omega (arith, ints, h, k)
+      le_le _ _ _ parts within
 
   -- ---- gaps
 
