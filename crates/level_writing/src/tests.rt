@@ -4,8 +4,10 @@ ghost use Rattle.elk_doc.specs.declared.document.Direction.TheVariants.{Right};
 ghost use Rattle.elk_doc.specs.Examples.{leaf_named, root, two_nodes};
 
 use crate::canvas::{blank, placed};
+use crate::sizes::frame_node;
 use crate::start::start_of;
 use crate::turning::{box_back, place_back, section_back};
+use crate::writing::LevelNumbers;
 use elk_doc::document::{
     Direction, Doc, Edge, End, Id, LevelOptions, Node, Padding, Placing, PortRule, Spacing,
 };
@@ -205,5 +207,30 @@ fn nothing_is_placed_at_first(rt: HostRuntime) -> Result<(), Fail> {
         let found = boxes.get(i).map(|r| (r.x, r.width, r.height));
         assert_eq!(rt; found, Some((0, *width, *width)));
     }
+    Ok(())
+}
+
+#[test]
+fn a_node_gets_the_size_of_its_content(rt: HostRuntime) -> Result<(), Fail> {
+    let alloc = rt.alloc();
+    let doc = make_two_nodes(alloc)?;
+    let mut canvas = blank(alloc, &doc)?;
+    let ports: Vec<Vec<u32>> = vec![in alloc; Vec::new(alloc), Vec::new(alloc), Vec::new(alloc)]?;
+    let numbers = LevelNumbers {
+        children: &[1, 2],
+        edges: &[0],
+        ports: ports.as_slice(),
+    };
+    let extent = Size {
+        width: 80,
+        height: 30,
+    };
+    frame_node(&doc, 0, &numbers, extent, &mut canvas);
+    let framed = placed(canvas);
+    let found = framed.boxes.as_slice().first();
+    assert_eq!(rt;
+        found.map(|r| (r.x, r.y, r.width, r.height)),
+        Some((0, 0, 104, 54))
+    );
     Ok(())
 }
