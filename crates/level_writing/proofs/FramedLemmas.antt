@@ -1,5 +1,5 @@
 -- A node that has its size is framed round the drawing of its level.
-use Rattle.std.proofs.Common.{◌≡◌, ◌≢◌, ◌⊎◌, inl, inr, ⊎_elim, ℕ, ◌<◌, Bool, true, false, not, ◌&&◌, List, length, ℤ, ◌+ℤ◌, ◌≤ℤ◌, Option, Some, None, IsTrue, is_some, is_none, get_or, set, arith, rules, refl, sym, ap, ap₂, ◌∙◌, subst}
+use Rattle.std.proofs.Common.{◌≡◌, ◌≢◌, ◌⊎◌, inl, inr, ⊎_elim, ℕ, ◌<◌, Bool, true, false, not, ◌&&◌, length, ℤ, ◌+ℤ◌, Option, Some, None, IsTrue, is_some, is_none, get_or, rules, refl, sym, ap, ap₂, ◌∙◌, subst}
 use Rattle.std.proofs.lemmas.List.{get_or-set_same, get_or-set_other, length-set}
 use Rattle.elk_doc.specs.declared.shape.Point.{Point}
 use Rattle.elk_doc.specs.declared.shape.Size.{Size}
@@ -19,7 +19,6 @@ use Rattle.elk_doc.specs.PortsKept.{is_pinned, pins}
 use Rattle.elk_doc.specs.Sides.{given_side, is_entered, is_leaf, is_left, side_by_place, side_from, side_of_port, side_or}
 use Rattle.elk_doc.specs.Sound.{along}
 use Rattle.level_plan.specs.FromPlan.{Drawn}
-use Rattle.turned_levels.specs.Kept.{AgreeAt}
 use Rattle.turned_levels.specs.Numbered.{IsPortOf}
 use Rattle.turned_levels.specs.Turned.{box_size, turned_size}
 use Rattle.turned_boxes.specs.Framed.{AsksHeight, AsksWidth, IsFramed, start_of}

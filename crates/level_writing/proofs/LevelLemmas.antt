@@ -1,5 +1,5 @@
 -- The parts of a level that are written, by the lists of its document.
-use Rattle.std.proofs.Common.{◌≡◌, ℕ, ◌<◌, List, length, get_or, Some, sym, ap, subst}
+use Rattle.std.proofs.Common.{◌≡◌, ℕ, ◌<◌, List, length, get_or, sym, subst}
 use Rattle.elk_doc.specs.declared.shape.Point.{Point}
 use Rattle.elk_doc.specs.declared.shape.Rect.{Rect}
 use Rattle.elk_doc.specs.declared.document.Direction.{Direction}
@@ -13,7 +13,7 @@ use Rattle.level_plan.specs.FromPlan.{point_or}
 use Rattle.turned_levels.specs.Drawing.{plus}
 use Rattle.turned_levels.proofs.NumberedLemmas.{numbers_match}
 use Rattle.level_writing.specs.Back.{box_back}
-use Rattle.level_writing.specs.Changed.{AreChanged, AreChangedTo, AreDistinct, number_at}
+use Rattle.level_writing.specs.Changed.{AreChanged, AreDistinct, number_at}
 use Rattle.level_writing.specs.Ranges.{IsLongBox}
 use Rattle.level_writing.specs.Written.{ArePortsWritten, box_change, section_change}
 

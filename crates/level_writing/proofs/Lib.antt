@@ -8,3 +8,4 @@ pub mod SizeLemmas
 pub mod FramedLemmas
 pub mod CanvasLemmas
 pub mod RoomLemmas
+pub mod ExampleLemmas

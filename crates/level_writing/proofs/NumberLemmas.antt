@@ -1,5 +1,5 @@
 -- Children, edges and ports by number: each once, and at one level alone.
-use Rattle.std.proofs.Common.{◌≡◌, ◌≢◌, ◌⊎◌, inl, inr, ⊎_elim, ℕ, zero, suc, ◌+◌, ◌<◌, List, [], ◌∷◌, length, get_or, Option, Some, None, IsTrue, sym, ap, ◌∙◌, subst, rules, arith, eqb-true}
+use Rattle.std.proofs.Common.{◌≡◌, ◌≢◌, ◌⊎◌, inl, inr, ⊎_elim, ℕ, zero, suc, ◌<◌, List, [], ◌∷◌, length, Option, Some, None, IsTrue, sym, ap, ◌∙◌, rules, arith, eqb-true}
 use Rattle.std.proofs.lemmas.Bool.{cases_eq}
 use Rattle.elk_doc.specs.Document.{Document, node_at, node_of_port}
 use Rattle.elk_doc.specs.Level.{children, edges_of, is_number, IsChild, IsEdge}

@@ -1,5 +1,5 @@
 -- A drawing that begins at 0 and has a tight extent lies within it.
-use Rattle.std.proofs.Common.{◌≡◌, ◌⊎◌, inl, inr, ⊎_elim, ℕ, ◌+◌, ◌<◌, List, [], ◌∷◌, ◌++◌, map, length, get_or, ℤ, pos, ◌+ℤ◌, ◌-ℤ◌, ◌≤ℤ◌, refl, sym, ap, ◌∙◌, subst, arith}
+use Rattle.std.proofs.Common.{◌≡◌, inl, inr, ⊎_elim, ℕ, ◌<◌, List, [], ◌∷◌, length, get_or, ℤ, pos, ◌+ℤ◌, ◌-ℤ◌, ◌≤ℤ◌, refl, sym, ap, ◌∙◌, subst, arith}
 use Rattle.std.specs.List.{All, range_with_len}
 use Rattle.std.specs.Int.{int_min, int_max}
 use Rattle.std.proofs.lemmas.Int.{ints, clamps}
@@ -11,10 +11,10 @@ use Rattle.elk_doc.specs.declared.document.Direction.TheVariants.{Right, Left, D
 use Rattle.elk_doc.specs.declared.document.LevelOptions.{LevelOptions}
 use Rattle.elk_doc.specs.declared.drawing.Section.{Section}
 use Rattle.elk_doc.specs.declared.drawing.Placed.{Placed}
-use Rattle.elk_doc.specs.Document.{Document, node_at, port_at, node_of_port}
+use Rattle.elk_doc.specs.Document.{Document, port_at}
 use Rattle.elk_doc.specs.Level.{children, edges_of, IsChild}
 use Rattle.elk_doc.specs.Drawing.{box_of}
-use Rattle.elk_doc.specs.Shapes.{hull, moved_by, point_rect, rect_at, right_of, bottom_of}
+use Rattle.elk_doc.specs.Shapes.{hull, point_rect, right_of, bottom_of}
 use Rattle.elk_doc.specs.Fits.{IsSolid}
 use Rattle.elk_doc.specs.Sound.{IsSound}
 use Rattle.port_order.specs.Child as laid

@@ -1,26 +1,23 @@
 -- A level that is written is drawn as in its own drawing, and all other levels as before.
-use Rattle.std.proofs.Common.{◌≡◌, ◌≢◌, ⊎_elim, ℕ, ◌<◌, List, [], ℤ, length, get_or, set, Option, Some, None, refl, sym, ap, ap₂, ◌∙◌, subst, arith}
+use Rattle.std.proofs.Common.{◌≡◌, ◌≢◌, ⊎_elim, ℕ, ◌<◌, [], ℤ, length, get_or, set, Some, None, refl, sym, ap, ◌∙◌, subst}
 use Rattle.std.proofs.lemmas.List.{get_or-set_same, get_or-set_other, length-set}
 use Rattle.elk_doc.specs.declared.shape.Point.{Point}
-use Rattle.elk_doc.specs.declared.shape.Size.{Size}
-use Rattle.elk_doc.specs.declared.shape.Rect.{Rect}
 use Rattle.elk_doc.specs.declared.document.LevelOptions.{LevelOptions}
 use Rattle.elk_doc.specs.declared.drawing.Section.{Section}
-use Rattle.elk_doc.specs.declared.drawing.Certificate.{Certificate}
 use Rattle.elk_doc.specs.declared.drawing.Placed.{Placed}
-use Rattle.elk_doc.specs.Document.{Document, node_of_port, port_at}
+use Rattle.elk_doc.specs.Document.{Document, port_at}
 use Rattle.elk_doc.specs.Level.{children, edges_of, IsChild, IsEdge}
-use Rattle.elk_doc.specs.Drawing.{box_of, no_rect, no_section, port_place, section_of}
+use Rattle.elk_doc.specs.Drawing.{box_of, no_rect, no_section, section_of}
 use Rattle.elk_doc.specs.Shapes.{turned, rect_at}
-use Rattle.level_plan.specs.FromPlan.{Drawn, point_or, section_at}
+use Rattle.level_plan.specs.FromPlan.{point_or, section_at}
 use Rattle.level_draw.specs.declared.drawing.LevelOut.{LevelOut}
 use Rattle.level_draw.specs.Drawing.{drawn_in}
-use Rattle.turned_levels.specs.Turned.{box_size, child_number, edge_number, port_number, ports_of, turned_place, turned_size}
-use Rattle.turned_levels.specs.Drawing.{IsTurnedChild, IsTurnedDrawing, IsTurnedSection, plus}
+use Rattle.turned_levels.specs.Turned.{box_size, child_number, edge_number, port_number, turned_place, turned_size}
+use Rattle.turned_levels.specs.Drawing.{IsTurnedChild, IsTurnedSection, plus}
 use Rattle.turned_levels.specs.Kept.{AgreeAt}
 use Rattle.turned_levels.proofs.NumberedLemmas.{numbers_match}
 use Rattle.turned_boxes.specs.Framed.{start_of}
-use Rattle.level_writing.specs.Back.{box_back, place_back, section_back, size_of}
+use Rattle.level_writing.specs.Back.{size_of}
 use Rattle.level_writing.specs.Changed.{AreChanged, number_at}
 use Rattle.level_writing.specs.Canvas.{IsDrawingOf}
 use Rattle.level_writing.specs.Written.{ArePortsWritten, HasCertificate, IsWritten, KeepsElsewhere, box_change, numbered_by, section_change}

@@ -1,5 +1,5 @@
 -- The size that a node needs round the drawing of its level.
-use Rattle.std.specs.Prelude.{◌≡◌, ◌≢◌, ℕ, ◌<◌, ◌^◌, ◌⊎◌, Bool, true, false, cond, List, length, ℤ, pos, ◌+ℤ◌, ◌≤ℤ◌, Option, None, Some, IsTrue, slice_index_or, slice_set}
+use Rattle.std.specs.Prelude.{◌≡◌, ◌≢◌, ℕ, ◌<◌, ◌⊎◌, Bool, true, false, cond, List, length, ℤ, ◌+ℤ◌, Option, None, Some, IsTrue, slice_index_or, slice_set}
 use Rattle.std.specs.Int.{int_max}
 use Rattle.elk_doc.specs.declared.shape.Point.{Point}
 use Rattle.elk_doc.specs.declared.shape.Size.{Size}
@@ -18,7 +18,7 @@ use Rattle.elk_doc.specs.Fitted.{IsGreatestOf}
 use Rattle.elk_doc.specs.PortsKept.{is_pinned}
 use Rattle.elk_doc.specs.Shapes.{rect_at}
 use Rattle.elk_doc.specs.Sides.{side_of_port}
-use Rattle.elk_doc.specs.Sound.{IsSound, along}
+use Rattle.elk_doc.specs.Sound.{along}
 use Rattle.level_plan.specs.FromPlan.{Drawn}
 use Rattle.turned_levels.specs.Kept.{AgreeAt}
 use Rattle.turned_levels.specs.Numbered.{IsPortOf}

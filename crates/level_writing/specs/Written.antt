@@ -3,7 +3,6 @@ use Rattle.std.specs.Prelude.{◌≡◌, ◌≢◌, ℕ, ◌<◌, List, [], map,
 use Rattle.std.specs.declared.alloc.Global.{Global}
 use Rattle.std.specs.List.{All}
 use Rattle.elk_doc.specs.declared.shape.Point.{Point}
-use Rattle.elk_doc.specs.declared.shape.Size.{Size}
 use Rattle.elk_doc.specs.declared.shape.Rect.{Rect}
 use Rattle.elk_doc.specs.declared.document.Direction.{Direction}
 use Rattle.elk_doc.specs.declared.document.LevelOptions.{LevelOptions}
@@ -17,7 +16,7 @@ use Rattle.level_plan.specs.FromPlan.{point_or}
 use Rattle.level_shift.specs.Ranges.{IsFarPoint, IsFarSection}
 use Rattle.level_draw.specs.declared.drawing.LevelOut.{LevelOut}
 use Rattle.level_draw.specs.Drawing.{drawn_in}
-use Rattle.turned_levels.specs.Turned.{box_size, child_number, port_number, ports_of}
+use Rattle.turned_levels.specs.Turned.{box_size, port_number, ports_of}
 use Rattle.turned_levels.specs.Drawing.{IsNumberedAs, IsTurnedDrawing, plus}
 use Rattle.turned_levels.specs.Kept.{AgreeAt}
 use Rattle.turned_boxes.specs.Framed.{start_of}

@@ -1,8 +1,7 @@
 use Rattle.std.proofs.Common.{FitsSigned, refl, rules, w64}
 use Rattle.std.proofs.lemmas.Int.{to_z-of_z}
-use Rattle.elk_doc.specs.Fitted.{IsGreatestOf}
 use Rattle.level_writing.specs.Changed.{number_at}
-use Rattle.level_writing.specs.Sizes.{AsksListed, end_of, raised}
+use Rattle.level_writing.specs.Sizes.{end_of}
 use Rattle.level_writing.proofs.SizeLemmas.{no_end, one_more_end}
 use Rattle.level_writing.proofs.sizes.greatest_end.Goals as goal
 

@@ -1,5 +1,5 @@
 use Rattle.std.proofs.Common.{arith, refl}
-use Rattle.level_shift.proofs.MapLemmas.{change_next, not_yet, all_changed}
+use Rattle.level_shift.proofs.MapLemmas.{change_next}
 use Rattle.level_writing.specs.Changed.{number_at}
 use Rattle.level_writing.proofs.writing.rename.Goals as goal
 

@@ -1,4 +1,3 @@
-use Rattle.std.proofs.Common.{arith}
 use Rattle.elk_doc.specs.Drawing.{no_rect}
 use Rattle.level_writing.specs.Written.{box_change}
 use Rattle.level_writing.proofs.ChangedLemmas.{none_changed, one_more}

@@ -1,4 +1,4 @@
-use Rattle.std.proofs.Common.{◌≡◌, ◌∙◌, ◌∷◌, [], ◌<◌, ◌+◌, ◌++◌, length, length-append, arith, sym}
+use Rattle.std.proofs.Common.{◌∙◌, ◌∷◌, [], length-append, arith}
 use Rattle.std.proofs.lemmas.Iterator.Adapters.{YieldsList-from_vec}
 use Rattle.std.proofs.lemmas.Iterator.Consumers.{YieldsList-turn}
 use Rattle.level_writing.proofs.PartLemmas.{one_more_section}
