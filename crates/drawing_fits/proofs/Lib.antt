@@ -1,0 +1,5 @@
+pub mod ParentLemmas
+pub mod BoxLemmas
+pub mod PortLemmas
+pub mod SectionLemmas
+pub mod HeldLemmas
