@@ -1,0 +1,6 @@
+pub mod SumLemmas
+pub mod OutlineLemmas
+pub mod ListLemmas
+pub mod ExtentLemmas
+pub mod NodeLemmas
+pub mod NestedLemmas
