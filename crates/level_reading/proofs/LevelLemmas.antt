@@ -47,7 +47,7 @@ back_small Left s h = h
 back_small Down s h = record { width = h.height; height = h.width }
 back_small Up s h = record { width = h.height; height = h.width }
 
-port_short : (d : Document) (way : Direction) (box : Size) (c j : ℕ) → IsSound d → j < length (map (level_port d way box) (ports_of d c))
+pub port_short : (d : Document) (way : Direction) (box : Size) (c j : ℕ) → IsSound d → j < length (map (level_port d way box) (ports_of d c))
     → IsSoundSize (get_or (map (level_port d way box) (ports_of d c)) j laid.no_port).size
 port_short d way box c j s h =
     let long = length-map (ports_of d c) (level_port d way box) in

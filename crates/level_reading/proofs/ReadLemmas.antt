@@ -1,21 +1,21 @@
 -- Children and edges of a level as they are read.
-use Rattle.std.proofs.Common.{◌≡◌, ℕ, suc, ◌<◌, List, [], ◌∷◌, map, length, get_or, is_some, slice_index, arith, refl, sym, ap, ap₂, subst, ◌∙◌}
+use Rattle.std.proofs.Common.{◌≡◌, ℕ, suc, ◌<◌, List, [], ◌∷◌, map, length, get_or, slice_index, arith, refl, sym, ap, ap₂, subst, ◌∙◌}
 use Rattle.elk_doc.specs.declared.shape.Size.{Size}
 use Rattle.elk_doc.specs.declared.document.Direction.{Direction}
 use Rattle.elk_doc.specs.declared.document.Direction.TheVariants.{Right, Left, Down, Up}
 use Rattle.elk_doc.specs.declared.document.LevelOptions.{LevelOptions}
 use Rattle.elk_doc.specs.declared.document.Edge.{Edge}
 use Rattle.elk_doc.specs.declared.drawing.Placed.{Placed}
-use Rattle.elk_doc.specs.Document.{Document, edge_at, node_at}
+use Rattle.elk_doc.specs.Document.{Document, edge_at}
 use Rattle.elk_doc.specs.Level.{children, edges_of, IsChild, IsEdge, node_of_end}
 use Rattle.elk_doc.specs.Sound.{IsSound, IsSoundSize}
 use Rattle.port_order.specs.declared.children.Child.{Child}
 use Rattle.level_plan.specs.declared.level.LevelEdge.{LevelEdge}
 use Rattle.level_plan.specs.declared.level.Spoke.{Spoke}
 use Rattle.level_plan.specs.Level.{PlainLevel}
-use Rattle.turned_levels.specs.Turned.{level_child, level_edge, level_of, level_port, ports_of, spoke_of, turned_size}
+use Rattle.turned_levels.specs.Turned.{level_child, level_edge, level_of, ports_of, spoke_of, turned_size}
 use Rattle.turned_levels.proofs.NumberedLemmas.{ends_match, numbers_match}
-use Rattle.level_reading.specs.Read.{HasSizes, sized_child}
+use Rattle.level_reading.specs.Read.{HasSizes, child_with, sized_child}
 
 pub turned_sound : (way : Direction) (s : Size) → IsSoundSize s → IsSoundSize (turned_size way s)
 turned_sound Right s h = h
@@ -51,27 +51,15 @@ edge_same d n e x s t sound is same source target =
     let with_weight : ℕ → LevelEdge = λ w. record { source = spoke_of d n (edge_at d e).source; target = spoke_of d n (edge_at d e).target; weight = w } in
     ap with_source s_is ∙ ap with_target t_is ∙ ap with_weight (ap (λ (y : Edge). y.weight) same)
 
--- a child by the size of its box
-child_with : Document → Direction → ℕ → Size → Child
-child_with d way c s =
-    record {
-      size = turned_size way s;
-      compound = is_some (node_at d c).level;
-      rule = (node_at d c).rule;
-      direction = way;
-      ports = map (level_port d way s) (ports_of d c);
-    }
-
 map_same : (f g : ℕ → Child) (xs : List ℕ) → ((i : ℕ) → i < length xs → f (get_or xs i 0) ≡ g (get_or xs i 0)) → map f xs ≡ map g xs
 map_same f g [] same = refl
 map_same f g (x ∷ xs) same = ap₂ (λ y ys. y ∷ ys) (same 0 (omega arith)) (map_same f g xs (λ i h. same (suc i) (omega (arith, h))))
 
 children_same : (d : Document) (p : Placed) (n : ℕ) (way : Direction) (sizes : List Size) → HasSizes d p n sizes
     → map (sized_child d way sizes) (children d n) ≡ map (level_child d p way) (children d n)
-unfolding child_with
 children_same d p n way sizes has =
     map_same (sized_child d way sizes) (level_child d p way) (children d n)
-    (λ i h. let c = get_or (children d n) i 0 in ap (child_with d way c) (sym (has c ((numbers_match d n).children.meant i h))))
+    (λ i h. let c = get_or (children d n) i 0 in ap (λ s. child_with d way s c) (sym (has c ((numbers_match d n).children.meant i h))))
 
 -- the level that is read
 pub level_same : (d : Document) (p : Placed) (n : ℕ) (o : LevelOptions) (sizes : List Size) (numbers edges : List ℕ) (cs : List Child) (es : List LevelEdge)

@@ -13,16 +13,19 @@ use Rattle.turned_levels.specs.Turned.{box_size, level_port, ports_of, turned_si
 abbrev pub size_at : List Size → ℕ → Size
 size_at sizes c = slice_index_or sizes c no_size
 
--- a child whose box has this size, in the frame
-abbrev pub sized_child : Document → Direction → List Size → ℕ → Child
-sized_child d way sizes c =
+-- a node as a child whose box has this size, in the frame
+abbrev pub child_with : Document → Direction → Size → ℕ → Child
+child_with d way s c =
     record {
-      size = turned_size way (size_at sizes c);
+      size = turned_size way s;
       compound = is_some (node_at d c).level;
       rule = (node_at d c).rule;
       direction = way;
-      ports = map (level_port d way (size_at sizes c)) (ports_of d c);
+      ports = map (level_port d way s) (ports_of d c);
     }
+
+abbrev pub sized_child : Document → Direction → List Size → ℕ → Child
+sized_child d way sizes c = child_with d way (size_at sizes c) c
 
 -- a size for each node, and those of the children of n from 0 to 2^47
 pub record AreSizes (d : Document) (n : ℕ) (sizes : List Size) : Type 0 where

@@ -7,7 +7,7 @@ ghost use Rattle.port_order.specs.Conditions.{IsSmall};
 ghost use Rattle.level_plan.specs.Conditions.{plain_level};
 ghost use Rattle.turned_levels.specs.Turned.{level_edge, level_of, level_port, spoke_of};
 ghost use Rattle.level_reading.specs.Indexed.{IsIndex};
-ghost use Rattle.level_reading.specs.Read.{AreSizes, HasSizes, size_at, sized_child};
+ghost use Rattle.level_reading.specs.Read.{AreSizes, HasSizes, child_with, size_at, sized_child};
 
 use crate::given::given_side;
 use crate::index::Index;
@@ -63,24 +63,26 @@ fn read_ports(
     Ok(ports)
 }
 
-// A child of the level of a node.
-fn read_child(
+/// A node as a child of a level, in the frame in which this direction runs to the right: its size, its rule and its ports in
+/// document order, all lengths in whole document units.
+///
+/// `outer` is the size of the node's box in the document's frame. The only error is want of memory.
+pub fn read_child(
     alloc: Global,
-    source: &Source<'_>,
-    sizes: &[Size],
+    doc: &Doc,
+    index: &Index,
+    outer: Size,
     way: Direction,
     child: u32,
 ) -> Result<Child, AllocError>
-    requires child { child < length source.now.doc.now.nodes }
-    requires index { IsIndex source.now.doc.now source.now.index.now }
-    requires sizes { length sizes.now ≡ length source.now.doc.now.nodes }
-    requires small { IsSmall (size_at sizes.now child) }
-    ensures { IfOk result (λ c. c ≡ sized_child source.now.doc.now way sizes.now child) }
+    requires child { child < length doc.now.nodes }
+    requires index { IsIndex doc.now index.now }
+    requires outer { IsSmall outer }
+    ensures { IfOk result (λ c. c ≡ child_with doc.now way outer child) }
 {
-    let outer = sizes[child as usize];
-    let numbers = source.index.ports.row(child);
-    let ports = read_ports(alloc, source.doc, way, outer, numbers)?;
-    let node = source.doc.node(child);
+    let numbers = index.ports.row(child);
+    let ports = read_ports(alloc, doc, way, outer, numbers)?;
+    let node = doc.node(child);
     Ok(Child {
         size: turned_size(way, outer),
         compound: node.level.is_some(),
@@ -106,7 +108,9 @@ fn read_children(
 {
     let mut found = Vec::with_capacity(alloc, numbers.len())?;
     for child in numbers {
-        found.push(read_child(alloc, source, sizes, way, *child)?)?;
+        let outer = sizes[*child as usize];
+        let read = read_child(alloc, source.doc, source.index, outer, way, *child)?;
+        found.push(read)?;
     }
     Ok(found)
 }

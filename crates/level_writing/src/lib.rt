@@ -13,7 +13,7 @@ mod writing;
 pub use canvas::{Canvas, blank, placed};
 pub use laws::{sizes_frame, tight_drawings_are_writable};
 pub use sizes::frame_node;
-pub use writing::{LevelNumbers, write_level};
+pub use writing::{LevelNumbers, write_level, write_ports_of};
 
 #[cfg(test)]
 mod tests;

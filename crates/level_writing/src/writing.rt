@@ -43,8 +43,9 @@ fn write_boxes(way: Direction, by: Point, children: &[u32], places: &[Point], bo
     }
 }
 
-// Puts the ports of one child at their places in its box.
-fn write_ports_of(
+/// Puts the ports of one node, by their numbers, at their places in its box: each place is turned back from the frame in which
+/// this direction runs to the right. All other ports stay. Takes no memory.
+pub fn write_ports_of(
     doc: &Doc,
     way: Direction,
     outer: Rect,

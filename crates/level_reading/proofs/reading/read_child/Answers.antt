@@ -4,4 +4,4 @@ use Rattle.level_reading.proofs.reading.read_child.Goals as goal
 
 pub read_ports-requires-clause-ports : goal.read_ports-requires-clause-ports
 read_ports-requires-clause-ports c =
-    port_numbers c.args.source.now.doc.now c.args.child c.row-numbers.result.now (c.row-numbers.ensures ∙ c.requires.index.ports.each c.args.child c.requires.child)
+    port_numbers c.args.doc.now c.args.child c.row-numbers.result.now (c.row-numbers.ensures ∙ c.requires.index.ports.each c.args.child c.requires.child)
