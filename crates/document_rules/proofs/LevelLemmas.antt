@@ -1,0 +1,111 @@
+-- One level of a drawing that comes from layouts: what its layout gives of it, and that its ports are kept.
+use Rattle.std.proofs.Common.{◌≡◌, ℕ, length, sym, subst, ◌∙◌, ap, arith}
+use Rattle.std.specs.Prelude.{Some}
+use Rattle.elk_doc.specs.declared.shape.Point.{Point}
+use Rattle.elk_doc.specs.declared.document.LevelOptions.{LevelOptions}
+use Rattle.elk_doc.specs.declared.drawing.Certificate.{Certificate}
+use Rattle.elk_doc.specs.declared.drawing.Placed.{Placed}
+use Rattle.elk_doc.specs.Document.{Document, node_at}
+use Rattle.elk_doc.specs.Level.{edges_of, IsChild}
+use Rattle.elk_doc.specs.Drawing.{box_of, certificate_of}
+use Rattle.elk_doc.specs.Fits.{IsSolid, LeavesKept}
+use Rattle.elk_doc.specs.PortsKept.{KeepsPorts}
+use Rattle.elk_doc.specs.Sound.{IsSound}
+use Rattle.level_plan.specs.Level.{Orders, PlainLevel, PlainPlan}
+use Rattle.level_plan.specs.FromPlan.{Drawn}
+use Rattle.level_stands.specs.Ready.{IsReady}
+use Rattle.level_layers.specs.Certificate.{IsCertificateOf}
+use Rattle.level_draw.specs.Drawing.{drawn_in, IsDrawing, plan_from}
+use Rattle.turned_levels.specs.Turned.{level_of}
+use Rattle.turned_levels.proofs.NumberedLemmas.{levels_are_listed}
+use Rattle.turned_boxes.specs.Framed.{IsFramed, start_of}
+use Rattle.turned_certificates.specs.Certified.{IsCertified}
+use Rattle.turned_docks.specs.Laws.{IsFromLevel}
+use Rattle.turned_ports.proofs.SpreadLemmas.{ports_turn_back}
+use Rattle.turned_drawings.specs.Levels.{IsWellDrawn}
+use Rattle.turned_drawings.proofs.LevelLemmas.{anchored, levels_are_drawn, ports_placed}
+use Rattle.level_writing.specs.Sizes.{KeepsPinned}
+use Rattle.level_writing.proofs.FramedLemmas.{framed}
+use Rattle.document_plan.specs.Planned.{IsPlannedLevel}
+use Rattle.document_rules.specs.Whole.{IsLayered}
+
+module _ (d : Document) (p : Placed) (n : ℕ) (o : LevelOptions) (sound : IsSound d) (leaves : LeavesKept d p) (options : (node_at d n).level ≡ Some o) (planned : IsPlannedLevel d p n o) where
+  abbrev laid : PlainLevel
+  laid = level_of d p n o
+
+  abbrev made : Certificate
+  made = planned.out.certificate
+
+  pub written : Certificate
+  written = planned.certificate.written
+
+  abbrev plan : PlainPlan
+  plan = plan_from planned.out.certificate planned.out.plan.layered planned.out.plan.order planned.out.plan.lines
+
+  abbrev orders : Orders
+  orders = planned.laid_out.orders
+
+  abbrev drawing : Drawn
+  drawing = drawn_in planned.out planned.laid_out.drawn.left planned.laid_out.drawn.top
+
+  abbrev move : Point
+  move = start_of o.direction o.padding planned.out.extent
+
+  of_level : IsCertificateOf laid made
+  of_level = subst (λ (l : PlainLevel). IsCertificateOf l made) planned.is planned.laid_out.certificate
+
+  ready : IsReady laid plan orders written.layers
+  unfolding written
+  ready =
+      subst (λ layers. IsReady laid plan orders layers) (sym planned.certificate.numbered.layers)
+      (subst (λ (l : PlainLevel). IsReady l plan orders made.layers) planned.is planned.laid_out.ready)
+
+  drawn : IsDrawing laid plan written.layers drawing
+  unfolding written
+  drawn =
+      subst (λ layers. IsDrawing laid plan layers drawing) (sym planned.certificate.numbered.layers)
+      (subst (λ (l : PlainLevel). IsDrawing l plan made.layers drawing) planned.is planned.laid_out.drawn.drawing)
+
+  from_level : IsFromLevel d p n o plan drawing move
+  from_level =
+      let many = (levels_are_listed d p n o).edge_count in
+      record {
+        sound = sound;
+        options = options;
+        leaves = leaves;
+        drawn = planned.drawn planned.laid_out.drawn.left planned.laid_out.drawn.top;
+        certificate = planned.certificate.written;
+        written = planned.certificate.is_written;
+        numbered = planned.certificate.numbered.reversed;
+        reversed_in = λ i h. let there = (of_level.reversed.closes i h).of_level in omega (arith, there, many);
+      }
+
+  -- the ports of the children are kept
+  pub ports_kept : (m : ℕ) → IsChild d n m → KeepsPorts d p m
+  ports_kept =
+      let placed = ports_placed laid plan orders drawing ready.level (drawn.from_plan orders ready) in
+      ports_turn_back d p n o plan orders drawing move from_level (anchored laid plan orders drawing placed (drawn.routes orders ready)) (drawn.ports orders ready)
+
+  pub certified : IsCertified d p n o made written
+  unfolding written
+  certified = record { of_level = of_level; numbered = planned.certificate.numbered; is_written = planned.certificate.is_written }
+
+  pub has_certificate : certificate_of p n ≡ Some written
+  unfolding written
+  has_certificate = planned.certificate.is_written
+
+  pub no_parts : length written.parts ≡ 0
+  unfolding written
+  no_parts = ap length (planned.certificate.parts ∙ of_level.no_parts)
+
+  section_count : length drawing.sections ≡ length (edges_of d n)
+  section_count = (drawn.from_plan orders ready).section_count ∙ (levels_are_listed d p n o).edge_count
+
+  -- with the ports of its node kept, and the boxes of its children solid, the level is drawn and fitted
+  pub well_drawn : IsLayered o → ((c : ℕ) → IsChild d n c → IsSolid (box_of p c)) → KeepsPorts d p n → IsWellDrawn d p n o written
+  well_drawn layered solid own =
+      let pinned : KeepsPinned d p n = λ k h is. (own.ports k h.port_in h.of_node).along_kept is in
+      let round : IsFramed d p n o drawing move = framed d p n o options pinned drawing section_count solid planned.size in
+      levels_are_drawn d p n o plan orders drawing move made written
+      (record { from_level = from_level; ready = ready; drawing = drawn; framed = round; certified = certified; whole = layered.whole; layered = layered.layered })
+      (λ root. subst (λ m. KeepsPorts d p m) root own)
