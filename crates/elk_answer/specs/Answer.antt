@@ -17,7 +17,8 @@ use Rattle.elk_json.specs.Keyed.{IsKeyed}
 use Rattle.elk_json.specs.Rules.{refused}
 use Rattle.elk_write.specs.Written.{IsPlacedBy}
 use Rattle.elk_write.specs.Text.{text as spelled}
-use Rattle.elk_answer.specs.Built.{IsBuilt}
+use Rattle.document_plan.specs.Planned.{Planned}
+use Rattle.compound.specs.Built.{IsBuilt}
 
 -- The value is one of a document that is not laid out: no rule refuses it, and its document is not built.
 pub record IsNotBuilt (v : Data) : Type 0 where
@@ -44,7 +45,7 @@ HasLeastSpans d p =
 
 -- The text is that of the document that the bytes are read as, placed: it is written from the same value with the members
 -- of a drawing put in, its keys ascend, and the drawing obeys the document, has no more room than it needs and the least
--- spans.
+-- spans, and comes level by level from layouts.
 pub record IsAnswer (bytes text : List ℕ) : Type 0 where
   pub value : Data
   pub doc : Document
@@ -55,6 +56,7 @@ pub record IsAnswer (bytes text : List ℕ) : Type 0 where
   pub drawn : Drawn doc placed
   pub fitted : Fitted doc placed
   pub least : HasLeastSpans doc placed
+  pub planned : Planned doc placed
   pub same : IsPlacedBy value doc placed answer
   pub ascending : IsKeyed answer
   pub written : text ≡ spelled answer

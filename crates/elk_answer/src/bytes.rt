@@ -3,7 +3,7 @@ ghost use Rattle.std.specs.Prelude.{IfErr, IfOk, OnOk};
 ghost use Rattle.elk_json.specs.Refused.{MatchFault};
 ghost use Rattle.elk_answer.specs.Answer.{IsAccepted, IsAnswer, Refuses};
 
-use crate::stack::{is_built, lay_out};
+use compound::{is_built, lay_out};
 use elk_json::{DocFault, Refusal, Rule, parse, read_doc};
 use elk_write::{answer_value, text_of};
 use std::alloc::Global;

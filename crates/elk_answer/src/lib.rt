@@ -2,6 +2,5 @@
 #![tactic(auto)]
 
 mod bytes;
-mod stack;
 
 pub use bytes::answer;

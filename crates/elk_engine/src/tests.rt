@@ -23,6 +23,9 @@ const EDGE_INPUT: &str =
 const EDGE_PLACED: &str =
     "{\"children\":[{\"height\":30,\"id\":\"a\",\"width\":30,\"x\":12,\"y\":12},{\"height\":30,\"id\":\"b\",\"width\":30,\"x\":62,\"y\":12}],\"edges\":[{\"id\":\"e\",\"sections\":[{\"endPoint\":{\"x\":62,\"y\":27},\"id\":\"e_s0\",\"startPoint\":{\"x\":42,\"y\":27}}],\"sources\":[\"a\"],\"targets\":[\"b\"]}],\"height\":54,\"id\":\"r\",\"layering\":{\"flow\":[1],\"layers\":[0,1],\"reversed\":[],\"span\":1},\"width\":104,\"x\":0,\"y\":0}";
 
+const EDGE_ANSWER: &str =
+    "{\"children\":[{\"height\":30,\"id\":\"a\",\"width\":30,\"x\":12,\"y\":12},{\"height\":30,\"id\":\"b\",\"width\":30,\"x\":62,\"y\":12}],\"edges\":[{\"id\":\"e\",\"sections\":[{\"endPoint\":{\"x\":62,\"y\":27},\"id\":\"e_s0\",\"startPoint\":{\"x\":42,\"y\":27}}],\"sources\":[\"a\"],\"targets\":[\"b\"]}],\"height\":54,\"id\":\"r\",\"layering\":{\"flow\":[1],\"layers\":[0,1],\"reversed\":[],\"span\":1},\"width\":104,\"x\":0,\"y\":0}\n";
+
 // The same with the columns one too near to each other.
 const COLUMNS_NEAR: &str =
     "{\"children\":[{\"height\":30,\"id\":\"a\",\"width\":30,\"x\":12,\"y\":12},{\"height\":30,\"id\":\"b\",\"width\":30,\"x\":61,\"y\":12}],\"edges\":[{\"id\":\"e\",\"sections\":[{\"endPoint\":{\"x\":62,\"y\":27},\"id\":\"e_s0\",\"startPoint\":{\"x\":42,\"y\":27}}],\"sources\":[\"a\"],\"targets\":[\"b\"]}],\"height\":54,\"id\":\"r\",\"layering\":{\"flow\":[1],\"layers\":[0,1],\"reversed\":[],\"span\":1},\"width\":104,\"x\":0,\"y\":0}";
@@ -39,6 +42,10 @@ const NO_START: &str =
 const ALONG_THE_SIDE: &str =
     "{\"children\":[{\"height\":30,\"id\":\"a\",\"width\":30,\"x\":12,\"y\":12},{\"height\":30,\"id\":\"b\",\"width\":30,\"x\":62,\"y\":12}],\"edges\":[{\"id\":\"e\",\"sections\":[{\"endPoint\":{\"x\":62,\"y\":22},\"id\":\"e_s0\",\"startPoint\":{\"x\":42,\"y\":22}}],\"sources\":[\"a\"],\"targets\":[\"b\"]},{\"id\":\"f\",\"sections\":[{\"bendPoints\":[{\"x\":42,\"y\":22},{\"x\":62,\"y\":22}],\"endPoint\":{\"x\":62,\"y\":32},\"id\":\"f_s0\",\"startPoint\":{\"x\":42,\"y\":32}}],\"sources\":[\"a\"],\"targets\":[\"b\"]}],\"height\":54,\"id\":\"r\",\"layering\":{\"flow\":[1,1],\"layers\":[0,1],\"reversed\":[],\"span\":2},\"width\":104,\"x\":0,\"y\":0}";
 
+// A level that is to be split into its parts, which isn't laid out yet.
+const SPLIT: &str =
+    "{\"id\":\"r\",\"layoutOptions\":{\"elk.separateConnectedComponents\":\"true\"}}";
+
 const NEVER: u64 = 99;
 
 // A run: the words, the input in pieces of ten bytes, the calls that fail, the room of `out`, and what is wanted.
@@ -54,7 +61,7 @@ struct Row {
     notes: &'static str,
 }
 
-const ROWS: [Row; 22] = [
+const ROWS: [Row; 23] = [
     Row {
         words: &["layout"],
         input: ROOT,
@@ -75,6 +82,17 @@ const ROWS: [Row; 22] = [
         room: 512,
         status: 0,
         out: PAIR_ANSWER,
+        notes: "",
+    },
+    Row {
+        words: &["layout"],
+        input: EDGE_INPUT,
+        read_fails: NEVER,
+        out_fails: NEVER,
+        notes_fail: NEVER,
+        room: 512,
+        status: 0,
+        out: EDGE_ANSWER,
         notes: "",
     },
     Row {
@@ -277,7 +295,7 @@ const ROWS: [Row; 22] = [
     },
     Row {
         words: &["layout"],
-        input: EDGE_INPUT,
+        input: SPLIT,
         read_fails: NEVER,
         out_fails: NEVER,
         notes_fail: NEVER,

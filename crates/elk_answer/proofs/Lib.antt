@@ -1,2 +1,0 @@
-pub mod StackLaws
-pub mod Stacking
