@@ -1,0 +1,9 @@
+pub mod ClosingLemmas
+pub mod PairLemmas
+pub mod SumLemmas
+pub mod NetworkLemmas
+pub mod FlowLemmas
+pub mod CostLemmas
+pub mod TopLemmas
+pub mod PlacingLemmas
+pub mod WritingLemmas

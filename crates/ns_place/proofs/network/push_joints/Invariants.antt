@@ -1,0 +1,7 @@
+use Rattle.std.proofs.Common.{◌≡◌, ◌+◌, ◌++◌, drop}
+use Rattle.ns_place.specs.Network.{joining}
+use Rattle.ns_place.proofs.network.push_joints.Given as goal
+
+abbrev pub invariant-loop-k : goal.invariant-loop-k
+invariant-loop-k l =
+    l.edges.items ++ joining (l.first + l.k) (drop l.k l.links) ≡ l.initial.edges.items ++ joining l.first l.links

@@ -1,0 +1,6 @@
+pub mod Pairs
+pub mod Heights
+pub mod Network
+pub mod Closing
+pub mod Flows
+pub mod Tops

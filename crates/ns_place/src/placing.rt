@@ -1,0 +1,72 @@
+//! A placing of least height.
+
+ghost use Rattle.std.specs.Prelude.{◌≡◌, ℕ, ◌<◌, ◌≤◌, ◌^◌, pos, ◌+ℤ◌, ◌≤ℤ◌, ◌<ℤ◌, length, IfOk};
+ghost use Rattle.elk_layers.specs.Layered.{plain, rows_of, IsSound, AreRows, total_height};
+ghost use Rattle.layering_laws.specs.Layering.{layer_of};
+ghost use Rattle.block_lines.specs.Constraints.{greatest_spacing, EndsWithinStack};
+ghost use Rattle.ns_place.specs.Heights.{pins_together, IsLeastPlacing};
+ghost use Rattle.ns_place.specs.Tops.{AreClosedTops};
+
+use crate::closing::{as_tops, close_up, standings};
+use crate::flows::{link_flows, with_flows};
+use crate::heights::total_height;
+use crate::least::LeastPlacing;
+use crate::network::network_of;
+use crate::pairs::pairs_of;
+use elk_layers::{Layered, Lines, Order};
+use flow_dual::solve;
+use std::alloc::{AllocError, Global};
+
+/// The greatest of the three spacings.
+fn spacing(layered: &Layered) -> i64
+    ensures { result ≡ greatest_spacing (plain layered.now) }
+{
+    layered
+        .node_node
+        .max(layered.edge_node)
+        .max(layered.edge_edge)
+}
+
+/// The tops of the units: their layers, with gaps closed that no unit reaches over.
+fn tops_of(alloc: Global, layered: &Layered, layers: &[i64]) -> Result<Vec<i64>, AllocError>
+    requires sound { IsSound (plain layered.now) }
+    requires as_many { length (plain layered.now).units ≤ length layers.now }
+    requires layers { (u : ℕ) → u < length (plain layered.now).units → pos 0 ≤ℤ layer_of layers.now u }
+    ensures { IfOk result (λ v. AreClosedTops (plain layered.now) layers.now v.items) }
+{
+    let standing = standings(alloc, layered.units.as_slice(), layers, spacing(layered))?;
+    let closed = close_up(alloc, standing)?;
+    as_tops(alloc, closed.as_slice())
+}
+
+/// Tops of units that keep all distances of the order and make the links least high together, with a flow that
+/// proves it and that can be added up by hand. No unit ends further down than all heights and spacings together.
+pub fn place_least(
+    alloc: Global,
+    layered: &Layered,
+    order: &Order,
+) -> Result<LeastPlacing, AllocError>
+    requires sound { IsSound (plain layered.now) }
+    requires rows { AreRows (plain layered.now) (rows_of order.now) }
+    requires few_units { length (plain layered.now).units ≤ 2 ^ 21 }
+    requires few_links { length (plain layered.now).links ≤ 2 ^ 21 }
+    requires together { (total_height (plain layered.now).units +ℤ pins_together (plain layered.now).links) <ℤ pos (2 ^ 60) }
+    ensures least { IfOk result (λ p. IsLeastPlacing (plain layered.now) (rows_of order.now) p.lines.top.items p.height p.link_flow.items p.pairs.items) }
+    ensures within { IfOk result (λ p. EndsWithinStack (plain layered.now) p.lines.top.items) }
+{
+    let pairs = pairs_of(alloc, layered, order)?;
+    let net = network_of(alloc, layered, pairs.as_slice())?;
+    let solution = solve(alloc, &net)?;
+    let links = layered.links.as_slice();
+    let flow = solution.flow.as_slice();
+    let top = tops_of(alloc, layered, solution.layer.as_slice())?;
+    let link_flow = link_flows(alloc, flow, links.len())?;
+    let pairs = with_flows(flow, 2 * links.len(), pairs);
+    let height = total_height(top.as_slice(), links);
+    Ok(LeastPlacing {
+        lines: Lines { top },
+        height,
+        link_flow,
+        pairs,
+    })
+}
