@@ -1,0 +1,2 @@
+mod DemoLaws
+mod GrownLists
