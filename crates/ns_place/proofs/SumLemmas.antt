@@ -73,8 +73,8 @@ rows_once l (row ∷ rows) from layers once u =
 
 rows_below : (n : ℕ) (rows : List (List ℕ)) → ((r : ℕ) → r < length rows → (i : ℕ) → i < length (row_at rows r) → get_or (row_at rows r) i 0 < n) → All (λ u. u < n) (concat rows)
 rows_below n [] h = All-nil (λ u. u < n)
-rows_below n (row ∷ rows) h =
-    All-append (λ u. u < n) row (concat rows) (All-from_get_or (λ u. u < n) row 0 (h 0 (omega arith))) (rows_below n rows (λ r k. h (suc r) (omega (arith, k))))
+rows_below n (first ∷ rows) h =
+    All-append (λ u. u < n) first (concat rows) (All-from_get_or (λ u. u < n) first 0 (h 0 (omega arith))) (rows_below n rows (λ r k. h (suc r) (omega (arith, k))))
 
 over_le : (f k : ℕ → ℕ) (n : ℕ) → ((v : ℕ) → v < n → f v ≤ k v) → over_nodes f n ≤ over_nodes k n
 over_le f k zero h = omega arith
