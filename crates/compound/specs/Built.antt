@@ -1,14 +1,12 @@
 -- The documents that are laid out.
-use Rattle.std.specs.Prelude.{◌≡◌, ℕ, ◌<◌, length, IsFalse, IfSome}
-use Rattle.elk_doc.specs.declared.document.Placing.TheVariants.{BrandesKoepf}
+use Rattle.std.specs.Prelude.{ℕ, ◌<◌, length, IsFalse, IfSome}
 use Rattle.elk_doc.specs.declared.document.LevelOptions.{LevelOptions}
 use Rattle.elk_doc.specs.Document.{Document, node_at}
 
--- a level that is whole and has layers, which are placed by alignment
+-- a level that is whole and has layers
 pub record IsPlainLevel (o : LevelOptions) : Type 0 where
   pub whole : IsFalse o.split
   pub layered : IsFalse o.boxes
-  pub placing : o.placing ≡ BrandesKoepf
 
 -- a document all of whose levels are such
 abbrev pub IsBuilt : Document → Type 0

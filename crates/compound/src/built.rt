@@ -2,16 +2,16 @@
 ghost use Rattle.std.specs.Prelude.{◌↔◌, IfSome, IsTrue};
 ghost use Rattle.compound.specs.Built.{IsBuilt, IsPlainLevel};
 
-use elk_doc::document::{Doc, LevelOptions, Node, Placing};
+use elk_doc::document::{Doc, LevelOptions, Node};
 
-// Whether a level is whole and has layers, which are placed by alignment.
+// Whether a level is whole and has layers.
 fn is_plain_level(options: &LevelOptions) -> bool
     ensures { IsTrue result ↔ IsPlainLevel options.now }
 {
-    if options.split || options.boxes {
+    if options.split {
         return false;
     }
-    options.placing == Placing::BrandesKoepf
+    !options.boxes
 }
 
 // Whether the level of a node is such, where it has one.
@@ -24,7 +24,7 @@ fn is_plain_node(node: &Node) -> bool
     }
 }
 
-/// Whether every level of a document is whole and has layers, which are placed by alignment.
+/// Whether every level of a document is whole and has layers.
 pub fn is_built(doc: &Doc) -> bool
     ensures { IsTrue result ↔ IsBuilt doc.now }
 {

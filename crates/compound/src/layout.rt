@@ -142,8 +142,8 @@ fn lay_out_levels(
     Ok(())
 }
 
-/// The drawing of a document whose levels are all whole and have layers, which are placed by alignment: it obeys the document,
-/// has no more room than it needs, and comes from layouts of the levels.
+/// The drawing of a document whose levels are all whole and have layers: it obeys the document, has no more room than it needs,
+/// and comes from layouts of the levels.
 ///
 /// Every level is laid out after those that lie in it, in the frame in which its direction runs to the right, and turned back.
 /// The only error is want of memory.

@@ -1,6 +1,6 @@
 -- Crossings and sweeps read only the layers of units, and the ends and ranks of links: orders that reduce crossings do so for
 -- all units and links that have these.
-use Rattle.std.proofs.Common.{◌≡◌, ℕ, suc, ◌+◌, ◌<◌, ◌≤◌, ◌*◌, ◌==◌, cond, Bool, true, false, not, ◌&&◌, ◌||◌, List, [], ◌∷◌, length, get_or, reverse, refl, sym, subst, ap, ap₂, ◌∙◌, ⊎_elim, arith}
+use Rattle.std.proofs.Common.{◌≡◌, ℕ, suc, ◌+◌, ◌≤◌, ◌*◌, ◌==◌, cond, Bool, true, false, not, ◌&&◌, ◌||◌, List, [], ◌∷◌, length, get_or, reverse, refl, sym, subst, ap, ap₂, ◌∙◌, ⊎_elim, arith}
 use Rattle.std.proofs.lemmas.Bool.{cases_Bool}
 use Rattle.std.proofs.lemmas.List.Sums.{sum_by-cons}
 use Rattle.std.specs.Prelude.{nat_lt}
@@ -8,7 +8,7 @@ use Rattle.std.specs.List.{All, count_by, filter, sum_by}
 use Rattle.elk_layers.specs.declared.units.Link.{Link}
 use Rattle.elk_layers.specs.Layered.{Plain, gap_of, head_key, layer_of, link_at, place_in, place_of, row_at, tail_key}
 use Rattle.elk_layers.specs.Crossings.{cross, crossings, crossings_among, exchanged}
-use Rattle.elk_layers.specs.Sweeps.{Ends, backward_sweep, far_count, far_sum, forward_sweep, has_links, insert_by, links_of, mean_le, ordered, refilled, sorted_by, sweep_orders, swept, swept_after, to_left, to_right}
+use Rattle.elk_layers.specs.Sweeps.{Ends, backward_sweep, far_count, far_sum, forward_sweep, has_links, insert_by, mean_le, ordered, refilled, sorted_by, sweep_orders, swept, swept_after, to_left, to_right}
 use Rattle.level_pins.specs.Fitted.{AreKept}
 use Rattle.level_layout.specs.Chosen.{IsReduced}
 

@@ -1,20 +1,21 @@
 -- A level can be drawn from its units, rows and lines, and its layout is what they are.
-use Rattle.std.proofs.Common.{◌≡◌, ◌∙◌, ◌+◌, ◌*◌, ◌<◌, ◌≤◌, ◌^◌, ◌==◌, ℕ, suc, List, [], ◌∷◌, ℤ, pos, ◌+ℤ◌, ◌≤ℤ◌, ◌<ℤ◌, None, Some, Result, Ok, Err, IfOk, length, refl, sym, ap, subst, arith}
+use Rattle.std.proofs.Common.{◌≡◌, ◌∙◌, ◌*◌, ◌<◌, ◌≤◌, ◌^◌, ◌==◌, ℕ, suc, List, [], ◌∷◌, ℤ, pos, ◌+ℤ◌, ◌≤ℤ◌, ◌<ℤ◌, Result, Ok, Err, IfOk, length, refl, sym, ap, subst, arith}
 use Rattle.std.proofs.lemmas.Int.{clamps, ints}
 use Rattle.std.specs.Prelude.{Option}
 use Rattle.std.specs.declared.alloc.AllocError.{AllocError}
 use Rattle.std.specs.Int.{int_max}
 use Rattle.std.specs.List.{filter, range_with_len}
+use Rattle.elk_doc.specs.declared.document.Placing.{Placing}
 use Rattle.elk_doc.specs.declared.document.Sweep.{Sweep}
 use Rattle.elk_doc.specs.declared.drawing.Certificate.{Certificate}
 use Rattle.elk_layers.specs.declared.units.Unit.{Unit as LayerUnit}
 use Rattle.elk_layers.specs.declared.units.Layered.{Layered}
 use Rattle.elk_layers.specs.declared.units.Order.{Order}
 use Rattle.elk_layers.specs.declared.units.Lines.{Lines}
-use Rattle.elk_layers.specs.Layered.{Plain, AreRows, IsSound, IsSpacing, plain, rows_of, total_height, unit_at}
-use Rattle.elk_layers.specs.Lines.{AreApart, top_of}
+use Rattle.elk_layers.specs.Layered.{Plain, AreRows, IsSound, plain, rows_of, total_height, unit_at}
+use Rattle.elk_layers.specs.Lines.{top_of}
 use Rattle.block_lines.specs.Constraints.{EndsWithinStack, greatest_spacing, stacked_height}
-use Rattle.bk_place.specs.Placement.{AreLinesOf}
+use Rattle.ns_place.specs.Heights.{pins_together}
 use Rattle.level_plan.specs.declared.level.LevelIn.{LevelIn}
 use Rattle.level_plan.specs.Conditions.{IsLevel, plain_level, plain_plan}
 use Rattle.level_plan.specs.Level.{Orders, PlainLevel}
@@ -26,6 +27,9 @@ use Rattle.level_units.specs.Layering.{IsLayerCount}
 use Rattle.level_draw.specs.declared.drawing.LevelOut.{LevelOut}
 use Rattle.level_draw.specs.Drawing.{IsDrawable, IsDrawn, IsMadeFrom, plan_from}
 use Rattle.level_ranks.specs.Laws.{MakeUnits}
+use Rattle.link_bounds.specs.Bounds.{AreFew}
+use Rattle.link_bounds.proofs.LinkLemmas.{links_few}
+use Rattle.link_bounds.proofs.PinLemmas.{pins_low}
 use Rattle.level_layout.specs.Chosen.{ArePlaced, IsReduced}
 use Rattle.level_layout.specs.Phases.{AreNumberedAs, AreRankedUnits, IsStart}
 use Rattle.level_layout.specs.Layout.{IsLaidOut, IsLayout}
@@ -54,12 +58,6 @@ bottom_low l tops sound low ends u h =
     small : (a b t : ℤ) (n : ℕ) → a ≤ℤ b → b ≤ℤ (t +ℤ pos (n * 2 ^ 20)) → t ≤ℤ pos (3 * 2 ^ 47) → n ≤ 2 ^ 24 → a <ℤ pos (2 ^ 49)
     small a b t n h k m few = omega (arith, ints, h, k, m, few)
 
--- ---- lines
-
-pub lines_apart : (l : Plain) (rows : List (List ℕ)) (fixed : Option Sweep) (tops : List ℤ) → AreLinesOf l rows fixed tops → AreApart l rows tops
-lines_apart l rows None tops h = h.are_least.are_lines.apart
-lines_apart l rows (Some s) tops h = h.are_lines.apart
-
 -- ---- the plan
 
 -- what is known of units with heights and pins
@@ -70,9 +68,9 @@ pub record ArePinned (l : PlainLevel) (u v : Layered) (order : Order) (rs : List
   pub rows : AreRows (plain v) (rows_of order)
   pub kept : AreKept (plain u) (plain v)
 
-pub drawable : (l : PlainLevel) (c : Certificate) (u v : Layered) (order : Order) (lines : Lines) (fixed : Option Sweep) → MakeUnits → IsLevel l → AreRankedUnits l c u → ArePinned l u v order c.reversed
-    → AreLinesOf (plain v) (rows_of order) fixed lines.top.items → EndsWithinStack (plain v) lines.top.items → IsDrawable l (plan_from c v order lines) c.layers
-drawable l c u v order lines fixed made level ranked pinned placed ends =
+pub drawable : (l : PlainLevel) (c : Certificate) (u v : Layered) (order : Order) (lines : Lines) (placing : Placing) (fixed : Option Sweep) → MakeUnits → IsLevel l → AreRankedUnits l c u
+    → ArePinned l u v order c.reversed → ArePlaced (plain v) (rows_of order) placing fixed lines.top.items → IsDrawable l (plan_from c v order lines) c.layers
+drawable l c u v order lines placing fixed made level ranked pinned placed =
     record {
       orders = pinned.fitted.0;
       ready = record {
@@ -81,11 +79,11 @@ drawable l c u v order lines fixed made level ranked pinned placed ends =
             (made.kept l (plain u) (plain v) c.reversed pinned.kept ranked.ranked);
         sound = pinned.sound;
         rows = pinned.rows;
-        apart = lines_apart (plain v) (rows_of order) fixed lines.top.items placed;
+        apart = placed.apart;
         layers_are = refl;
       };
       few_layers = let same = pinned.kept.alike.layers_are in let few = ranked.few_layers in omega (arith, same, few);
-      bottoms = bottom_low (plain v) lines.top.items pinned.sound pinned.low ends;
+      bottoms = bottom_low (plain v) lines.top.items pinned.sound pinned.low placed.within;
     }
 
 -- ---- what holds of the layout
@@ -102,6 +100,9 @@ alike_through a b c h k =
       tail_is = λ m. k.tail_is m ∙ h.tail_is m;
       head_is = λ m. k.head_is m ∙ h.head_is m;
     }
+
+numbered_through : (l : PlainLevel) (c : Certificate) (u v : Layered) → AreRankedUnits l c u → AreKept (plain u) (plain v) → AreNumberedAs l c (plain v)
+numbered_through l c u v ranked kept = (ranked.numbered.0, ranked.numbered.1, alike_through ranked.numbered.0 (plain u) (plain v) ranked.numbered.2 kept.alike)
 
 -- rows that begin in the order of numbers do so for all units of the same layers
 start_alike : (a b : Plain) (rows : List (List ℕ)) → AreAlike a b → IsStart a rows → IsStart b rows
@@ -125,22 +126,34 @@ as_answered level c v start order lines w from is =
 
 pub laid_out : (level : LevelIn) (c : Certificate) (u v : Layered) (start order : Order) (lines : Lines) (w : LevelOut) → MakeUnits → IsLevel (plain_level level) → IsCertificateOf (plain_level level) c
     → AreRankedUnits (plain_level level) c u → IsStart (plain u) (rows_of start) → IsReduced (plain u) (rows_of start) (rows_of order) → ArePinned (plain_level level) u v order c.reversed
-    → AreLinesOf (plain v) (rows_of order) level.fixed lines.top.items → EndsWithinStack (plain v) lines.top.items
-    → IsMadeFrom c v start order lines w → IsDrawn (plain_level level) (plan_from c v order lines) c.layers w → IsLaidOut level w
-laid_out level c u v start order lines w made sound is ranked started reduced pinned placed ends from drawn =
-    let can = drawable (plain_level level) c u v order lines level.fixed made sound ranked pinned placed ends in
+    → ArePlaced (plain v) (rows_of order) level.placing level.fixed lines.top.items → IsMadeFrom c v start order lines w → IsDrawn (plain_level level) (plan_from c v order lines) c.layers w → IsLaidOut level w
+laid_out level c u v start order lines w made sound is ranked started reduced pinned placed from drawn =
+    let can = drawable (plain_level level) c u v order lines level.placing level.fixed made sound ranked pinned placed in
     as_answered level c v start order lines w from
     (record {
       certificate = is;
-      numbered = (ranked.numbered.0, ranked.numbered.1, alike_through ranked.numbered.0 (plain u) (plain v) ranked.numbered.2 pinned.kept.alike);
+      numbered = numbered_through (plain_level level) c u v ranked pinned.kept;
       layers = subst (IsLayerCount c.layers) (sym pinned.kept.alike.layers_are) ranked.layers;
       started = start_alike (plain u) (plain v) (rows_of start) pinned.kept.alike started;
       reduced = reduced_for (plain u) (plain v) pinned.kept (rows_of start) (rows_of order) reduced;
-      placed = record { apart = lines_apart (plain v) (rows_of order) level.fixed lines.top.items placed; within = ends; aligned = λ _. placed };
+      placed = placed;
       orders = can.orders;
       ready = can.ready;
       drawn = drawn;
     })
+
+-- ---- how many units and links there are, and how far down their pins lie
+
+pub units_few : (l : PlainLevel) (c : Certificate) (u v : Layered) → IsLevel l → IsCertificateOf l c → AreRankedUnits l c u → AreKept (plain u) (plain v) → AreFew (plain v)
+units_few l c u v level is ranked kept =
+    let numbered = numbered_through l c u v ranked kept in
+    links_few l c numbered.0 (plain v) level is numbered.1 numbered.2
+
+pub pins_small : (l : PlainLevel) (c : Certificate) (u v : Layered) → IsLevel l → AreRankedUnits l c u → AreKept (plain u) (plain v) → IsSound (plain v) → total_height (plain v).units ≤ℤ pos (3 * 2 ^ 47)
+    → (total_height (plain v).units +ℤ pins_together (plain v).links) <ℤ pos (2 ^ 60)
+pins_small l c u v level ranked kept sound low =
+    let numbered = numbered_through l c u v ranked kept in
+    pins_low l c.reversed c.layers numbered.0 (plain v) level numbered.1 numbered.2 sound low
 
 -- ---- with the list of turned edges as it is handed on
 
@@ -154,6 +167,6 @@ pinned_by l c u v order rs e fitted sound low rows kept =
     subst (ArePinned l u v order) e (record { fitted = fitted; sound = sound; low = low; rows = rows; kept = kept })
 
 -- an answer that may want memory
-pub if_both : (r : Result LevelOut AllocError) (P Q T : LevelOut → Type 0) → IfOk r P → IfOk r Q → ((w : LevelOut) → P w → Q w → T w) → IfOk r T
-if_both (Ok w) P Q T p q all = all w p q
+pub if_both : {X : Type 0} (r : Result X AllocError) (P Q T : X → Type 0) → IfOk r P → IfOk r Q → ((x : X) → P x → Q x → T x) → IfOk r T
+if_both (Ok x) P Q T p q all = all x p q
 if_both (Err e) P Q T p q all = p

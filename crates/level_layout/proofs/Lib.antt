@@ -1,4 +1,5 @@
 pub mod KeptRows
 pub mod LayoutLemmas
+pub mod PlacedLemmas
 pub mod RowsLemmas
 pub mod UnitsLemmas

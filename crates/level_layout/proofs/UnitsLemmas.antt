@@ -1,22 +1,14 @@
--- The certificate of a level gives its children layers that its units can be made from.
-use Rattle.std.proofs.Common.{◌≡◌, ◌∙◌, ◌+◌, ◌<◌, ⊎_elim, ℕ, Bool, true, false, not, cond, List, [], ℤ, ◌≤◌, pos, None, ◌+ℤ◌, ◌≤ℤ◌, length, map, get_or, refl, sym, ap, subst, arith}
-use Rattle.std.proofs.Math.ListN.{get_or-map}
-use Rattle.std.proofs.lemmas.Int.{ints}
-use Rattle.std.specs.List.{range_with_len}
+-- Units and links of a level with the ranks of pins.
+use Rattle.std.proofs.Common.{◌≡◌, ◌∙◌, ⊎_elim, ℕ, not, List, [], ℤ, ◌≤◌, length, refl, sym, ap, subst, arith}
 use Rattle.std.proofs.lemmas.Bool.{cases_lt}
 use Rattle.std.proofs.lemmas.List.{get_or_past}
-use Rattle.std.specs.Prelude.{IsFalse, is_some}
+use Rattle.std.specs.Prelude.{is_some}
 use Rattle.elk_doc.specs.declared.drawing.Certificate.{Certificate}
 use Rattle.elk_layers.specs.declared.units.Layered.{Layered}
 use Rattle.elk_layers.specs.declared.units.Unit.{Unit as LayerUnit}
 use Rattle.elk_layers.specs.Layered.{Plain, IsSound, plain, unit_at}
-use Rattle.layering_laws.specs.declared.network.NetEdge.{NetEdge}
-use Rattle.layering_laws.specs.Layering.{layer_of}
-use Rattle.level_plan.specs.Conditions.{IsLevel}
-use Rattle.level_plan.specs.Level.{PlainLevel, edge_at, holds, is_loop}
-use Rattle.level_stands.proofs.Lists.{Has, at_has, has_filter, has_map, has_range}
-use Rattle.level_layers.specs.Certificate.{IsCertificateOf, links, net_edge, network}
-use Rattle.level_units.specs.Layering.{AreLayersOf, IsLayerCount, head_child, layer_in, layering, plan_with, tail_child}
+use Rattle.level_plan.specs.Level.{PlainLevel}
+use Rattle.level_units.specs.Layering.{IsLayerCount, layering, plan_with}
 use Rattle.level_units.specs.Numbered.{AreNumbered}
 use Rattle.level_pins.specs.Alike.{AreFlat}
 use Rattle.level_pins.proofs.AlikeLemmas.{no_heights}
@@ -24,54 +16,6 @@ use Rattle.level_ranks.specs.Ranked.{AreRanked, AreReranked}
 use Rattle.level_units.specs.Started.{AreAscending}
 use Rattle.level_layout.specs.Phases.{AreRankedUnits, IsStart}
 use Rattle.level_plan.specs.Units.{AreLinked}
-
-no_edge : NetEdge
-no_edge = record { tail = 0; head = 0; least = 0; weight = 0 }
-
--- an edge that is no self-loop is one of the network
-in_network : (l : PlainLevel) (rs : List ℕ) (e : ℕ) → e < length l.edges → is_loop l e ≡ false → Has (network l rs) (net_edge l rs e)
-in_network l rs e h loop =
-    has_map (net_edge l rs) (links l) e
-    (has_filter (λ k. not (is_loop l k)) (range_with_len 0 (length l.edges)) e (has_range 0 (length l.edges) e (omega arith) (omega (arith, h))) (ap not loop))
-
-tail_is : (l : PlainLevel) (rs : List ℕ) (e : ℕ) → (net_edge l rs e).tail ≡ tail_child l (holds rs e) e
-tail_is l rs e = step (holds rs e)
-  where
-    step : (b : Bool) → cond b (edge_at l e).target.child (edge_at l e).source.child ≡ tail_child l b e
-    step true = refl
-    step false = refl
-
-head_is : (l : PlainLevel) (rs : List ℕ) (e : ℕ) → (net_edge l rs e).head ≡ head_child l (holds rs e) e
-head_is l rs e = step (holds rs e)
-  where
-    step : (b : Bool) → cond b (edge_at l e).source.child (edge_at l e).target.child ≡ head_child l b e
-    step true = refl
-    step false = refl
-
-layer_is : (layers : List ℕ) (v : ℕ) → layer_of (map pos layers) v ≡ pos (layer_in layers v)
-layer_is layers v = get_or-map pos layers v 0
-
-rises : (a b : ℕ) (x y : ℤ) → x ≡ pos a → y ≡ pos b → (x +ℤ pos 1) ≤ℤ y → a < b
-rises a b x y e f h = omega (arith, ints, e, f, h)
-
-pub layers_from : (l : PlainLevel) (c : Certificate) → IsLevel l → IsCertificateOf l c → AreLayersOf l c.reversed c.layers
-layers_from l c level is =
-    record {
-      as_many = is.layer_for_each;
-      below = λ v h. let low = is.low v 0 h in let few = level.few_children in omega (arith, low, few);
-      onward = onward;
-    }
-  where
-    onward : (e : ℕ) → e < length l.edges → IsFalse (is_loop l e) → layer_in c.layers (tail_child l (holds c.reversed e) e) < layer_in c.layers (head_child l (holds c.reversed e) e)
-    onward e h loop =
-        let at = at_has (network l c.reversed) (record { tail = 0; head = 0; least = 0; weight = 0 }) (net_edge l c.reversed e) (in_network l c.reversed e h loop) in
-        let up = is.solves.layering at.0 at.1 in
-        rises _ _ _ _
-        (layer_is c.layers (net_edge l c.reversed e).tail ∙ ap (λ v. pos (layer_in c.layers v)) (tail_is l c.reversed e))
-        (layer_is c.layers (net_edge l c.reversed e).head ∙ ap (λ v. pos (layer_in c.layers v)) (head_is l c.reversed e))
-        (subst (λ (x : NetEdge). (layer_of (map pos c.layers) x.tail +ℤ pos x.least) ≤ℤ layer_of (map pos c.layers) x.head) at.2 up)
-
--- ---- units with ranks
 
 flat : (v : Plain) → IsSound v → AreFlat v
 flat v sound u none =

@@ -2,7 +2,7 @@
 use Rattle.std.specs.Prelude.{◌≡◌, ◌≤◌, ℕ, List, ℤ, Option}
 use Rattle.std.specs.List.{All}
 use Rattle.elk_doc.specs.declared.document.Placing.{Placing}
-use Rattle.elk_doc.specs.declared.document.Placing.TheVariants.{BrandesKoepf}
+use Rattle.elk_doc.specs.declared.document.Placing.TheVariants.{BrandesKoepf, NetworkSimplex}
 use Rattle.elk_doc.specs.declared.document.Sweep.{Sweep}
 use Rattle.elk_layers.specs.Layered.{Plain}
 use Rattle.elk_layers.specs.Crossings.{crossings, HasSameRows, NoBetterSwap}
@@ -10,6 +10,8 @@ use Rattle.elk_layers.specs.Lines.{AreApart}
 use Rattle.elk_layers.specs.Sweeps.{sweep_orders}
 use Rattle.block_lines.specs.Constraints.{EndsWithinStack}
 use Rattle.bk_place.specs.Placement.{AreLinesOf}
+use Rattle.ns_place.specs.declared.least.PairFlow.{PairFlow}
+use Rattle.ns_place.specs.Heights.{IsLeastPlacing}
 
 -- The rows of a start in an order with no more crossings than the start and each of its four sweep orders, which no exchange
 -- of two neighbours makes better, and the start itself where it has no crossings.
@@ -20,9 +22,18 @@ pub record IsReduced (l : Plain) (start rows : List (List ℕ)) : Type 0 where
   pub settled : NoBetterSwap l rows
   pub without_crossings : crossings l start ≡ 0 → rows ≡ start
 
--- Lines that keep the distances, and no unit of which ends lower than all units stacked with the greatest of the distances; by
--- alignment they are those of the fixed sweep, or of the first of the four that needs the least height.
+-- No tops that keep the distances have links that are together less high than at these, and a flow shows it.
+pub record AreLeastHigh (l : Plain) (rows : List (List ℕ)) (tops : List ℤ) : Type 0 where
+  pub height : ℕ
+  pub link_flow : List ℤ
+  pub pairs : List PairFlow
+  pub is : IsLeastPlacing l rows tops height link_flow pairs
+
+-- Lines that keep the distances, and no unit of which ends lower than all units stacked with the greatest of the distances. By
+-- alignment they are those of the fixed sweep, or of the first of the four that needs the least height; by network simplex their
+-- links are least high together.
 pub record ArePlaced (l : Plain) (rows : List (List ℕ)) (placing : Placing) (fixed : Option Sweep) (tops : List ℤ) : Type 0 where
   pub apart : AreApart l rows tops
   pub within : EndsWithinStack l tops
   pub aligned : placing ≡ BrandesKoepf → AreLinesOf l rows fixed tops
+  pub least_high : placing ≡ NetworkSimplex → AreLeastHigh l rows tops

@@ -1,3 +1,4 @@
 pub mod Chosen
 pub mod Phases
 pub mod Layout
+pub mod Examples

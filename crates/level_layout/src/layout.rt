@@ -3,8 +3,8 @@ ghost use Rattle.std.specs.Prelude.{IfOk};
 ghost use Rattle.level_plan.specs.Conditions.{plain_level, IsLevel};
 ghost use Rattle.level_layout.specs.Layout.{IsLaidOut};
 
+use crate::lines::lines_for;
 use crate::phases::{order_for, start_for};
-use bk_place::place;
 use level_draw::{LevelOut, draw};
 use level_layers::certificate_of;
 use level_pins::pinned;
@@ -14,7 +14,8 @@ use std::alloc::{AllocError, Global};
 /// The layout of one level, in whole document units and in the frame in which its direction runs to the right.
 ///
 /// Its edges are oriented so that no cycle is left, its children lie in layers of least span, rows have few crossings, and lines
-/// keep the distances. The drawing begins at 0; it comes with its plan and its certificate. The only error is want of memory.
+/// keep the distances: by alignment, or so that the links are least high together, as the level asks. The drawing begins at 0; it
+/// comes with its plan and its certificate. The only error is want of memory.
 /// (The layered method of Sugiyama, Tagawa and Toda 1981.)
 pub fn layout_level(alloc: Global, level: &LevelIn) -> Result<LevelOut, AllocError>
     requires { IsLevel (plain_level level.now) }
@@ -25,6 +26,6 @@ pub fn layout_level(alloc: Global, level: &LevelIn) -> Result<LevelOut, AllocErr
     let start = start_for(alloc, level, &certificate)?;
     let order = order_for(alloc, &start.layered, &start.rows)?;
     let layered = pinned(alloc, level, start.layered, &order, reversed)?;
-    let lines = place(alloc, &layered, &order, level.fixed)?;
+    let lines = lines_for(alloc, level, &layered, &order)?;
     draw(alloc, level, certificate, layered, start.rows, order, lines)
 }

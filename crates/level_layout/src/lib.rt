@@ -3,6 +3,7 @@
 #![tactic(auto)]
 
 mod layout;
+mod lines;
 mod phases;
 
 pub use layout::layout_level;

@@ -1,8 +1,10 @@
-//! Layouts of two small levels: two children that two parallel edges join, and three children with a long edge.
+//! Layouts of small levels: two children that two parallel edges join, three children with a long edge, and one child that is
+//! joined to two.
 ghost use Rattle.std.specs.Prelude.{◌≡◌, [], None, IfOk};
 ghost use Rattle.level_plan.specs.Conditions.{plain_level};
 ghost use Rattle.level_plan.specs.Examples.{edge, parallel, spacing, square};
 ghost use Rattle.level_stands.specs.Examples.{chained};
+ghost use Rattle.level_layout.specs.Examples.{forked};
 
 use crate::layout_level;
 use elk_doc::document::{Direction, Placing, PortRule, Spacing};
@@ -85,6 +87,20 @@ fn chained_level(alloc: Global) -> Result<LevelIn, AllocError>
     })
 }
 
+fn forked_level(alloc: Global) -> Result<LevelIn, AllocError>
+    ensures { IfOk result (λ l. plain_level l ≡ forked) }
+{
+    let children = vec![in alloc; a_square(alloc), a_square(alloc), a_square(alloc)]?;
+    let edges = vec![in alloc; an_edge(0, 1), an_edge(0, 2)]?;
+    Ok(LevelIn {
+        children: Items::from_vec(children),
+        edges: Items::from_vec(edges),
+        spacing: distances(),
+        fixed: None,
+        placing: Placing::NetworkSimplex,
+    })
+}
+
 // Both edges run straight, at a third and at two thirds of the children's height; the first is in the tree of pivots, so it
 // has the flow of both.
 #[test]
@@ -135,5 +151,21 @@ fn a_long_edge_passes_a_child(rt: HostRuntime) -> Result<(), Fail> {
     assert_eq!(rt; drawn.plan.layered.links.len(), 4);
     assert_eq!(rt; drawn.boxes.len(), 3);
     assert_eq!(rt; drawn.sections.len(), 3);
+    Ok(())
+}
+
+// Wherever the first child stands between the two others, the links are together equally high.
+#[test]
+fn one_child_stands_beside_two(rt: HostRuntime) -> Result<(), Fail> {
+    let alloc = rt.alloc();
+    let level = forked_level(alloc)?;
+    let drawn = layout_level(alloc, &level)?;
+    let boxes = drawn.boxes.as_slice();
+    assert_eq!(rt; boxes.len(), 3);
+    assert_eq!(rt; boxes[0].x, 0);
+    assert!(rt; boxes[0].y >= 5);
+    assert!(rt; boxes[0].y <= 45);
+    assert_eq!(rt; (boxes[1].x, boxes[1].y), (50, 0));
+    assert_eq!(rt; (boxes[2].x, boxes[2].y), (50, 50));
     Ok(())
 }

@@ -1,10 +1,8 @@
-use Rattle.elk_layers.specs.Layered.{plain, rows_of}
 use Rattle.level_plan.specs.Conditions.{plain_level}
-use Rattle.level_draw.specs.declared.drawing.LevelOut.{LevelOut}
 use Rattle.level_draw.specs.Drawing.{IsDrawn, IsMadeFrom, plan_from}
 use Rattle.level_layout.specs.Layout.{IsLaidOut}
 use Rattle.level_ranks.proofs.UnitLemmas.{make_units}
-use Rattle.level_layout.proofs.LayoutLemmas.{drawable, if_both, laid_out, linked_by, pinned_by}
+use Rattle.level_layout.proofs.LayoutLemmas.{drawable, if_both, laid_out, linked_by, pinned_by, pins_small, units_few}
 use Rattle.level_layout.proofs.layout.layout_level.Goals as goal
 
 pub pinned-requires-clause-linked : goal.pinned-requires-clause-linked
@@ -12,13 +10,23 @@ pinned-requires-clause-linked c =
     linked_by (plain_level c.args.level.now) c.in_ok-certificate.certificate c.in_ok-start.start.layered c.in_ok-order.order c.as_slice-reversed.result.now
     c.as_slice-reversed.ensures.value c.in_ok-start.ensures.units
 
+pub lines_for-requires-clause-few : goal.lines_for-requires-clause-few
+lines_for-requires-clause-few c =
+    units_few (plain_level c.args.level.now) c.in_ok-certificate.certificate c.in_ok-start.start.layered c.in_ok-layered.layered c.requires c.in_ok-certificate.ensures c.in_ok-start.ensures.units
+    c.in_ok-layered.ensures.kept
+
+pub lines_for-requires-clause-low : goal.lines_for-requires-clause-low
+lines_for-requires-clause-low c =
+    pins_small (plain_level c.args.level.now) c.in_ok-certificate.certificate c.in_ok-start.start.layered c.in_ok-layered.layered c.requires c.in_ok-start.ensures.units
+    c.in_ok-layered.ensures.kept c.in_ok-layered.ensures.sound c.in_ok-layered.ensures.low
+
 pub draw-requires : goal.draw-requires
 draw-requires c =
     let pinned = pinned_by (plain_level c.args.level.now) c.in_ok-certificate.certificate c.in_ok-start.start.layered c.in_ok-layered.layered c.in_ok-order.order c.as_slice-reversed.result.now
     c.as_slice-reversed.ensures.value c.in_ok-layered.ensures.fitted c.in_ok-layered.ensures.sound c.in_ok-layered.ensures.low c.in_ok-layered.ensures.rows c.in_ok-layered.ensures.kept
     in
-    drawable (plain_level c.args.level.now) c.in_ok-certificate.certificate c.in_ok-start.start.layered c.in_ok-layered.layered c.in_ok-order.order c.in_ok-lines.lines c.args.level.now.fixed
-    make_units c.requires c.in_ok-start.ensures.units pinned c.in_ok-lines.ensures.lines c.in_ok-lines.ensures.within
+    drawable (plain_level c.args.level.now) c.in_ok-certificate.certificate c.in_ok-start.start.layered c.in_ok-layered.layered c.in_ok-order.order c.in_ok-lines.lines c.args.level.now.placing c.args.level.now.fixed
+    make_units c.requires c.in_ok-start.ensures.units pinned c.in_ok-lines.ensures
 
 pub returns : goal.returns
 returns c =
@@ -32,4 +40,4 @@ returns c =
     c.draw.ensures.given c.draw.ensures.drawn
     (λ w given drawn. laid_out c.args.level.now c.in_ok-certificate.certificate c.in_ok-start.start.layered c.in_ok-layered.layered c.in_ok-start.start.rows c.in_ok-order.order c.in_ok-lines.lines w
     make_units c.requires c.in_ok-certificate.ensures c.in_ok-start.ensures.units c.in_ok-start.ensures.start c.in_ok-order.ensures.reduced pinned
-    c.in_ok-lines.ensures.lines c.in_ok-lines.ensures.within given drawn)
+    c.in_ok-lines.ensures given drawn)
