@@ -1,0 +1,7 @@
+pub mod GroupLemmas
+pub mod PartLemmas
+pub mod LevelLemmas
+pub mod EndLemmas
+pub mod SameLemmas
+pub mod SplitLemmas
+mod ExampleLemmas
