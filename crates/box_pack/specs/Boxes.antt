@@ -1,5 +1,5 @@
 -- Sizes of boxes, their places in rows, and the extent of these.
-use Rattle.std.specs.Prelude.{◌≡◌, ℕ, suc, ◌<◌, ◌≤◌, ◌^◌, List, ℤ, pos, ◌+ℤ◌, ◌≤ℤ◌, ◌<ℤ◌, length, slice_index_or, All}
+use Rattle.std.specs.Prelude.{◌≡◌, ℕ, suc, ◌-◌, ◌<◌, ◌≤◌, ◌^◌, List, ℤ, pos, ◌+ℤ◌, ◌≤ℤ◌, ◌<ℤ◌, length, slice_index_or, All}
 use Rattle.std.specs.Int.{int_max}
 use Rattle.elk_doc.specs.declared.shape.Point.{Point}
 use Rattle.elk_doc.specs.declared.shape.Size.{Size}
@@ -10,9 +10,9 @@ size_at sizes i = slice_index_or sizes i (record { width = pos 0; height = pos 0
 abbrev pub point_at : List Point → ℕ → Point
 point_at at i = slice_index_or at i (record { x = pos 0; y = pos 0 })
 
--- widths and heights from 0 to 2^47
+-- widths and heights from 0 to 2^48, less a greatest gap
 abbrev pub IsSize : Size → Type 0
-IsSize s = (pos 0 ≤ℤ s.width) × (s.width ≤ℤ pos (2 ^ 47)) × (pos 0 ≤ℤ s.height) × (s.height ≤ℤ pos (2 ^ 47))
+IsSize s = (pos 0 ≤ℤ s.width) × (s.width ≤ℤ pos (2 ^ 48 - 2 ^ 20)) × (pos 0 ≤ℤ s.height) × (s.height ≤ℤ pos (2 ^ 48 - 2 ^ 20))
 
 abbrev pub AreSizes : List Size → Type 0
 AreSizes sizes = All IsSize sizes

@@ -1,5 +1,5 @@
 //! Rows of small boxes.
-ghost use Rattle.std.specs.Prelude.{◌^◌, ◌≤ℤ◌, pos};
+ghost use Rattle.std.specs.Prelude.{◌-◌, ◌^◌, ◌≤ℤ◌, pos};
 ghost use Rattle.box_pack.specs.Boxes.{IsSize};
 
 use crate::{best, pack};
@@ -7,8 +7,8 @@ use elk_doc::shape::{Point, Size};
 use std::test::Fail;
 
 fn size(width: i64, height: i64) -> Size
-    requires width { (pos 0 ≤ℤ width) × (width ≤ℤ pos (2 ^ 47)) }
-    requires height { (pos 0 ≤ℤ height) × (height ≤ℤ pos (2 ^ 47)) }
+    requires width { (pos 0 ≤ℤ width) × (width ≤ℤ pos (2 ^ 48 - 2 ^ 20)) }
+    requires height { (pos 0 ≤ℤ height) × (height ≤ℤ pos (2 ^ 48 - 2 ^ 20)) }
     ensures { IsSize result }
 {
     Size { width, height }
