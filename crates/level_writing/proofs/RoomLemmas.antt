@@ -19,19 +19,21 @@ use Rattle.elk_doc.specs.Fits.{IsSolid}
 use Rattle.elk_doc.specs.Sound.{IsSound}
 use Rattle.port_order.specs.Child as laid
 use Rattle.level_plan.specs.Level.{PlainLevel, PlainPlan, Orders, child_at}
-use Rattle.level_plan.specs.FromPlan.{Drawn, IsDrawnFrom, point_or}
+use Rattle.route_lines.specs.Points.{PlainGap}
+use Rattle.level_plan.specs.FromPlan.{Drawn, IsDrawnFrom, PlainTrace, point_or}
 use Rattle.level_shift.specs.Ranges.{IsFar, IsFarPoint, IsFarSection}
 use Rattle.level_extent.specs.Reach.{points_along, points_of}
 use Rattle.level_stands.specs.Apart.{drawn_box, drawn_outline, drawn_outline_from, drawn_port}
 use Rattle.level_stands.proofs.Lists.{Has, below_has, has_at, has_left, has_map, has_range, has_right, map_has}
-use Rattle.level_draw.specs.declared.drawing.LevelOut.{LevelOut}
-use Rattle.level_draw.specs.Drawing.{IsTight, drawn_in, outlines_in}
+use Rattle.level_draw.specs.Drawing.{IsTight, outlines_in}
 use Rattle.turned_levels.specs.Turned.{box_size, child_number, level_of, port_number, ports_of, turned_size}
 use Rattle.turned_levels.proofs.NumberedLemmas.{levels_are_listed, numbers_match}
 use Rattle.turned_boxes.proofs.HullLemmas.{hulls}
 use Rattle.turned_boxes.proofs.OutlineLemmas.{drawn_listed, drawn_port_box}
 use Rattle.turned_boxes.proofs.ReachLemmas.{IsShape, Lies, lies}
 use Rattle.turned_boxes.proofs.ShapeLemmas.{hulls_solid}
+use Rattle.level_writing.specs.declared.figure.LevelFigure.{LevelFigure}
+use Rattle.level_writing.specs.Figure.{figure_in}
 use Rattle.level_writing.specs.Ranges.{IsLong, IsLongBox, IsLongSize}
 use Rattle.level_writing.specs.Written.{IsWritable}
 use Rattle.level_writing.proofs.PartLemmas.{any_default}
@@ -106,17 +108,17 @@ along_has (t ∷ ss) s q h k =
     (λ rest. has_right (points_along t) (points_of ss) q (along_has ss s q rest k))
     h
 
-module _ (d : Document) (p : Placed) (n : ℕ) (o : LevelOptions) (plan : PlainPlan) (orders : Orders) (v : LevelOut) (left top : ℤ)
+module _ (d : Document) (p : Placed) (n : ℕ) (o : LevelOptions) (plan : PlainPlan) (orders : Orders) (v : LevelFigure) (gaps : List PlainGap) (traces : List PlainTrace) (left top : ℤ)
     (sound : IsSound d)
-    (drawn : IsDrawnFrom (level_of d p n o) plan orders (drawn_in v left top))
-    (tight : IsTight (level_of d p n o) (drawn_in v left top))
+    (drawn : IsDrawnFrom (level_of d p n o) plan orders (figure_in v gaps traces left top))
+    (tight : IsTight (level_of d p n o) (figure_in v gaps traces left top))
     (long : IsLongSize v.extent)
     (sizes : (c : ℕ) → IsChild d n c → IsLongBox (box_of p c)) where
   abbrev l : PlainLevel
   l = level_of d p n o
 
   abbrev w : Drawn
-  w = drawn_in v left top
+  w = figure_in v gaps traces left top
 
   child_count : length l.children ≡ length (children d n)
   child_count = (levels_are_listed d p n o).child_count

@@ -1,5 +1,5 @@
 -- A level that is written is drawn as in its own drawing, and all other levels as before.
-use Rattle.std.proofs.Common.{◌≡◌, ◌≢◌, ⊎_elim, ℕ, ◌<◌, [], ℤ, length, get_or, set, Some, None, refl, sym, ap, ◌∙◌, subst}
+use Rattle.std.proofs.Common.{◌≡◌, ◌≢◌, ⊎_elim, ℕ, ◌<◌, List, [], ℤ, length, get_or, set, Some, None, refl, sym, ap, ◌∙◌, subst}
 use Rattle.std.proofs.lemmas.List.{get_or-set_same, get_or-set_other, length-set}
 use Rattle.elk_doc.specs.declared.shape.Point.{Point}
 use Rattle.elk_doc.specs.declared.document.LevelOptions.{LevelOptions}
@@ -9,22 +9,23 @@ use Rattle.elk_doc.specs.Document.{Document, port_at}
 use Rattle.elk_doc.specs.Level.{children, edges_of, IsChild, IsEdge}
 use Rattle.elk_doc.specs.Drawing.{box_of, no_rect, no_section, section_of}
 use Rattle.elk_doc.specs.Shapes.{turned, rect_at}
-use Rattle.level_plan.specs.FromPlan.{point_or, section_at}
-use Rattle.level_draw.specs.declared.drawing.LevelOut.{LevelOut}
-use Rattle.level_draw.specs.Drawing.{drawn_in}
+use Rattle.route_lines.specs.Points.{PlainGap}
+use Rattle.level_plan.specs.FromPlan.{PlainTrace, point_or, section_at}
 use Rattle.turned_levels.specs.Turned.{box_size, child_number, edge_number, port_number, turned_place, turned_size}
 use Rattle.turned_levels.specs.Drawing.{IsTurnedChild, IsTurnedSection, plus}
 use Rattle.turned_levels.specs.Kept.{AgreeAt}
 use Rattle.turned_levels.proofs.NumberedLemmas.{numbers_match}
 use Rattle.turned_boxes.specs.Framed.{start_of}
+use Rattle.level_writing.specs.declared.figure.LevelFigure.{LevelFigure}
 use Rattle.level_writing.specs.Back.{size_of}
 use Rattle.level_writing.specs.Changed.{AreChanged, number_at}
 use Rattle.level_writing.specs.Canvas.{IsDrawingOf}
+use Rattle.level_writing.specs.Figure.{figure_in}
 use Rattle.level_writing.specs.Written.{ArePortsWritten, HasCertificate, IsWritten, KeepsElsewhere, box_change, numbered_by, section_change}
 use Rattle.level_writing.proofs.BackLemmas.{box_keeps_size, box_there, place_there, section_there}
 use Rattle.level_writing.proofs.NumberLemmas.{StandsIn, StandsNowhere, one_level, one_parent, stands_or_not}
 
-module _ (d : Document) (n : ℕ) (o : LevelOptions) (v : LevelOut) (old now : Placed) where
+module _ (d : Document) (n : ℕ) (o : LevelOptions) (v : LevelFigure) (old now : Placed) where
   abbrev by : Point
   by = start_of o.direction o.padding v.extent
 
@@ -46,8 +47,8 @@ module _ (d : Document) (n : ℕ) (o : LevelOptions) (v : LevelOut) (old now : P
       (λ (s : StandsNowhere (children d n) c). ap size_of (w.boxes.others c s))
       (stands_or_not (children d n) c)
 
-  child : AreWritten → (left top : ℤ) (i : ℕ) → i < length (children d n) → IsTurnedChild d now o.direction (drawn_in v left top) by i (child_number d n i)
-  child w left top i h =
+  child : AreWritten → (gaps : List PlainGap) (traces : List PlainTrace) (left top : ℤ) (i : ℕ) → i < length (children d n) → IsTurnedChild d now o.direction (figure_in v gaps traces left top) by i (child_number d n i)
+  child w gaps traces left top i h =
       let c = child_number d n i in
       record {
         box = ap (turned o.direction) (w.boxes.at i h) ∙ box_there o.direction (plus by (point_or v.boxes i)) (get_or old.boxes c no_rect)
@@ -57,10 +58,10 @@ module _ (d : Document) (n : ℕ) (o : LevelOptions) (v : LevelOut) (old now : P
             ∙ place_there o.direction (box_of now c) (port_at d (port_number d c j)).size (point_or (get_or v.ports i []) j);
       }
 
-  section : AreWritten → (left top : ℤ) (i : ℕ) → i < length (edges_of d n) → IsTurnedSection o.direction by (section_of now (edge_number d n i)) (section_at (drawn_in v left top) i)
-  section w left top i h =
-      subst (λ (s : Section). IsTurnedSection o.direction by s (section_at (drawn_in v left top) i)) (sym (w.sections.at i h))
-      (section_there o.direction by (section_at (drawn_in v left top) i))
+  section : AreWritten → (gaps : List PlainGap) (traces : List PlainTrace) (left top : ℤ) (i : ℕ) → i < length (edges_of d n) → IsTurnedSection o.direction by (section_of now (edge_number d n i)) (section_at (figure_in v gaps traces left top) i)
+  section w gaps traces left top i h =
+      subst (λ (s : Section). IsTurnedSection o.direction by s (section_at (figure_in v gaps traces left top) i)) (sym (w.sections.at i h))
+      (section_there o.direction by (section_at (figure_in v gaps traces left top) i))
 
   agrees : AreWritten → (m : ℕ) → m ≢ n → AgreeAt d old now m
   agrees w m other =
@@ -102,7 +103,7 @@ module _ (d : Document) (n : ℕ) (o : LevelOptions) (v : LevelOut) (old now : P
   pub is_written : AreWritten → IsDrawingOf d old → n < length old.levels → IsWritten d n o v old now
   is_written w was h =
       record {
-        turned = λ left top. record { children = child w left top; sections = section w left top };
+        turned = λ gaps traces left top. record { children = child w gaps traces left top; sections = section w gaps traces left top };
         certificate = certificate w h;
         elsewhere = elsewhere w;
         complete = complete w was;

@@ -1,4 +1,5 @@
 pub mod Canvas
+pub mod Figure
 pub mod Ranges
 pub mod Back
 pub mod Changed

@@ -1,5 +1,5 @@
 -- Which drawings of levels can be written.
-use Rattle.std.specs.Prelude.{ℕ, ◌<◌, length, ℤ}
+use Rattle.std.specs.Prelude.{ℕ, ◌<◌, List, length, ℤ}
 use Rattle.std.specs.List.{All}
 use Rattle.elk_doc.specs.declared.document.LevelOptions.{LevelOptions}
 use Rattle.elk_doc.specs.declared.drawing.Placed.{Placed}
@@ -7,11 +7,13 @@ use Rattle.elk_doc.specs.Document.{Document}
 use Rattle.elk_doc.specs.Level.{edges_of, IsChild}
 use Rattle.elk_doc.specs.Drawing.{box_of}
 use Rattle.elk_doc.specs.Sound.{IsSound}
+use Rattle.route_lines.specs.Points.{PlainGap}
 use Rattle.level_plan.specs.Level.{PlainPlan, Orders}
-use Rattle.level_plan.specs.FromPlan.{IsDrawnFrom}
-use Rattle.level_draw.specs.declared.drawing.LevelOut.{LevelOut}
-use Rattle.level_draw.specs.Drawing.{IsTight, drawn_in}
+use Rattle.level_plan.specs.FromPlan.{IsDrawnFrom, PlainTrace}
+use Rattle.level_draw.specs.Drawing.{IsTight}
 use Rattle.turned_levels.specs.Turned.{level_of}
+use Rattle.level_writing.specs.declared.figure.LevelFigure.{LevelFigure}
+use Rattle.level_writing.specs.Figure.{figure_in}
 use Rattle.level_writing.specs.Ranges.{IsLongBox, IsLongSize}
 use Rattle.level_writing.specs.Written.{IsWritable}
 
@@ -19,7 +21,7 @@ use Rattle.level_writing.specs.Written.{IsWritable}
 -- of the children are at most 2^59 long, and where its certificate turns edges of the level round.
 abbrev pub TightDrawingsAreWritable : Type 0
 TightDrawingsAreWritable =
-    (d : Document) (p : Placed) (n : ℕ) (o : LevelOptions) (plan : PlainPlan) (orders : Orders) (v : LevelOut) (left top : ℤ)
-    → IsSound d → IsDrawnFrom (level_of d p n o) plan orders (drawn_in v left top) → IsTight (level_of d p n o) (drawn_in v left top)
+    (d : Document) (p : Placed) (n : ℕ) (o : LevelOptions) (plan : PlainPlan) (orders : Orders) (v : LevelFigure) (gaps : List PlainGap) (traces : List PlainTrace) (left top : ℤ)
+    → IsSound d → IsDrawnFrom (level_of d p n o) plan orders (figure_in v gaps traces left top) → IsTight (level_of d p n o) (figure_in v gaps traces left top)
     → IsLongSize v.extent → ((c : ℕ) → IsChild d n c → IsLongBox (box_of p c)) → All (λ e. e < length (edges_of d n)) v.certificate.reversed
     → IsWritable d p n v

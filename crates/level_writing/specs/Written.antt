@@ -12,18 +12,19 @@ use Rattle.elk_doc.specs.declared.drawing.Placed.{Placed}
 use Rattle.elk_doc.specs.Document.{Document, origin, port_at, node_of_port}
 use Rattle.elk_doc.specs.Level.{children, edges_of, IsChild, IsEdge}
 use Rattle.elk_doc.specs.Drawing.{box_of, certificate_of, no_rect, no_section, port_place, section_of}
-use Rattle.level_plan.specs.FromPlan.{point_or}
+use Rattle.route_lines.specs.Points.{PlainGap}
+use Rattle.level_plan.specs.FromPlan.{PlainTrace, point_or}
 use Rattle.level_shift.specs.Ranges.{IsFarPoint, IsFarSection}
-use Rattle.level_draw.specs.declared.drawing.LevelOut.{LevelOut}
-use Rattle.level_draw.specs.Drawing.{drawn_in}
 use Rattle.turned_levels.specs.Turned.{box_size, port_number, ports_of}
 use Rattle.turned_levels.specs.Drawing.{IsNumberedAs, IsTurnedDrawing, plus}
 use Rattle.turned_levels.specs.Kept.{AgreeAt}
 use Rattle.turned_boxes.specs.Framed.{start_of}
+use Rattle.level_writing.specs.declared.figure.LevelFigure.{LevelFigure}
 use Rattle.level_writing.specs.declared.writing.LevelNumbers.{LevelNumbers}
 use Rattle.level_writing.specs.Canvas.{IsDrawingOf}
 use Rattle.level_writing.specs.Back.{box_back, place_back, section_back}
 use Rattle.level_writing.specs.Changed.{number_at}
+use Rattle.level_writing.specs.Figure.{figure_in}
 use Rattle.level_writing.specs.Ranges.{IsLongBox, IsLongSize}
 
 -- groups of numbers as lists
@@ -49,7 +50,7 @@ pub record ArePortPlaces (d : Document) (children : List ℕ) (places : List (Li
 
 -- The drawing of the level of n has a place for each child and port and a section for each edge; its numbers and the sizes of
 -- the children leave room for moving it; and its certificate turns edges of the level round.
-pub record IsWritable (d : Document) (p : Placed) (n : ℕ) (v : LevelOut) : Type 0 where
+pub record IsWritable (d : Document) (p : Placed) (n : ℕ) (v : LevelFigure) : Type 0 where
   pub extent : IsLongSize v.extent
   pub box_count : length v.boxes ≡ length (children d n)
   pub boxes : All IsFarPoint v.boxes
@@ -103,8 +104,9 @@ pub record KeepsElsewhere (d : Document) (n : ℕ) (old now : Placed) : Type 0 w
   pub agree : (m : ℕ) → m ≢ n → AgreeAt d old now m
 
 -- The level of n is drawn as in its own drawing, which begins at the padding, and has its certificate; all else stays.
-pub record IsWritten (d : Document) (n : ℕ) (o : LevelOptions) (v : LevelOut) (old now : Placed) : Type 0 where
-  pub turned : (left top : ℤ) → IsTurnedDrawing d now n o.direction (drawn_in v left top) (start_of o.direction o.padding v.extent)
+pub record IsWritten (d : Document) (n : ℕ) (o : LevelOptions) (v : LevelFigure) (old now : Placed) : Type 0 where
+  pub turned : (gaps : List PlainGap) (traces : List PlainTrace) (left top : ℤ)
+      → IsTurnedDrawing d now n o.direction (figure_in v gaps traces left top) (start_of o.direction o.padding v.extent)
   pub certificate : HasCertificate d n now v.certificate
   pub elsewhere : KeepsElsewhere d n old now
   pub complete : IsDrawingOf d now

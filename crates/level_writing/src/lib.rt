@@ -4,6 +4,7 @@
 #![tactic(auto)]
 
 mod canvas;
+mod figure;
 mod laws;
 mod sizes;
 mod start;
@@ -11,6 +12,7 @@ mod turning;
 mod writing;
 
 pub use canvas::{Canvas, blank, placed};
+pub use figure::{LevelFigure, figure_of};
 pub use laws::{sizes_frame, tight_drawings_are_writable};
 pub use sizes::frame_node;
 pub use writing::{LevelNumbers, write_level, write_ports_of};

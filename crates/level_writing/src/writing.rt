@@ -11,13 +11,13 @@ ghost use Rattle.level_writing.specs.Ranges.{IsLongBox};
 ghost use Rattle.level_writing.specs.Written.{AreNumbersAt, ArePortPlaces, ArePortsByNode, ArePortsWritten, IsWritable, IsWritten, box_change, numbered_by, port_change, section_change};
 
 use crate::canvas::Canvas;
+use crate::figure::LevelFigure;
 use crate::start::start_of;
 use crate::turning::{box_back, place_back, section_back};
 use elk_doc::document::{Direction, Doc, LevelOptions};
 use elk_doc::drawing::{Certificate, Section};
 use elk_doc::list::Items;
 use elk_doc::shape::{Point, Rect};
-use level_draw::LevelOut;
 
 /// What is at a level, by its numbers in the document and in document order: the children of its node and the edges of the level.
 /// Beside them the ports of each node of the document, by node.
@@ -144,7 +144,7 @@ fn write_with(
     node: u32,
     numbers: &LevelNumbers<'_>,
     options: &LevelOptions,
-    out: LevelOut,
+    out: LevelFigure,
     canvas: &mut Canvas,
 )
     requires node { node < length doc.now.nodes }
@@ -180,7 +180,7 @@ pub fn write_level(
     doc: &Doc,
     node: u32,
     numbers: &LevelNumbers<'_>,
-    out: LevelOut,
+    out: LevelFigure,
     canvas: &mut Canvas,
 )
     requires node { node < length doc.now.nodes }
