@@ -16,16 +16,16 @@ use Rattle.level_writing.specs.Back.{size_of}
 use Rattle.document_plan.proofs.PlanLemmas.{plans_stay}
 use Rattle.nested_bounds.proofs.NestedLemmas.{planned_boxes_are_small}
 use Rattle.root_ports.specs.Rooted.{AreRootPortsPlaced, IsRootBox}
-use Rattle.document_rules.specs.Whole.{HasLayeredLevels, IsLaidOutDocument, IsWellDrawnDocument}
+use Rattle.document_rules.specs.Whole.{HasWholeLevels, IsLaidOutDocument, IsWellDrawnDocument}
 use Rattle.document_rules.proofs.WholeLemmas.{documents_are_drawn}
-use Rattle.compound.specs.Built.{IsBuilt, IsPlainLevel}
+use Rattle.compound.specs.Built.{IsBuilt, IsWholeLevel}
 use Rattle.compound.specs.Work.{IsWork}
 use Rattle.compound.proofs.TreeLemmas.{child_after}
 
-pub layered_levels : (d : Document) → IsBuilt d → HasLayeredLevels d
-layered_levels d built n o there is =
-    let plain : IsPlainLevel o = subst (λ (level : Option LevelOptions). IfSome level IsPlainLevel) is (built n there) in
-    record { whole = plain.whole; layered = plain.layered }
+pub whole_levels : (d : Document) → IsBuilt d → HasWholeLevels d
+whole_levels d built n o there is =
+    let plain : IsWholeLevel o = subst (λ (level : Option LevelOptions). IfSome level IsWholeLevel) is (built n there) in
+    plain.whole
 
 -- the box of the root has its size
 pub root_box : (d : Document) (p : Placed) (sizes : List Size) → IsSound d → IsWork d p sizes 0 → IsRootBox (box_of p 0)
@@ -73,4 +73,4 @@ module _ (d : Document) (p q : Placed) (sizes : List Size) (sound : IsSound d) (
       }
 
   pub well_drawn : IsBuilt d → IsWellDrawnDocument d q
-  well_drawn built = documents_are_drawn d q sound (layered_levels d built) laid_out
+  well_drawn built = documents_are_drawn d q sound (whole_levels d built) laid_out

@@ -1,5 +1,5 @@
 -- A level that is written and framed is planned, and all else stays as it was.
-use Rattle.std.proofs.Common.{◌≡◌, ◌≢◌, ⊎_elim, ℕ, suc, ◌<◌, ◌≤◌, List, length, get_or, set, None, refl, sym, ap, ◌∙◌, subst, arith}
+use Rattle.std.proofs.Common.{◌≡◌, ◌≢◌, ⊎_elim, ℕ, suc, ◌<◌, ◌≤◌, List, [], length, get_or, set, ℤ, pos, None, refl, sym, ap, ◌∙◌, subst, arith}
 use Rattle.std.specs.Prelude.{Some, IsNone}
 use Rattle.std.proofs.lemmas.Bool.{cases_eq}
 use Rattle.std.proofs.lemmas.List.{get_or-set_other, get_or-set_same, length-set}
@@ -12,16 +12,25 @@ use Rattle.elk_doc.specs.Level.{IsChild}
 use Rattle.elk_doc.specs.Drawing.{box_of, certificate_of}
 use Rattle.elk_doc.specs.Fits.{IsRooted, KeepsSize}
 use Rattle.elk_doc.specs.Sound.{IsSound}
-use Rattle.level_draw.specs.declared.drawing.LevelOut.{LevelOut}
-use Rattle.level_draw.specs.Drawing.{drawn_in}
-use Rattle.turned_levels.specs.Turned.{box_size}
+use Rattle.route_lines.specs.Points.{PlainGap}
+use Rattle.level_plan.specs.FromPlan.{PlainTrace}
+use Rattle.level_nets.specs.Held.{plain_gaps}
+use Rattle.level_traces.specs.Traced.{plain_traces}
+use Rattle.turned_levels.specs.Drawing.{IsTurnedDrawing}
+use Rattle.turned_levels.specs.Turned.{box_size, level_of}
 use Rattle.turned_levels.proofs.KeptLemmas.{drawings_read_levels, levels_read_sizes}
 use Rattle.turned_boxes.specs.Framed.{start_of}
 use Rattle.level_reading.specs.Read.{size_at}
+use Rattle.level_writing.specs.declared.figure.LevelFigure.{LevelFigure}
 use Rattle.level_writing.specs.Back.{size_of}
-use Rattle.document_plan.specs.Planned.{ArePlannedFrom, IsPlannedLevel}
+use Rattle.level_writing.specs.Figure.{figure_in}
+use Rattle.level_writing.specs.Sizes.{IsSizeRound}
+use Rattle.level_writing.specs.Written.{HasCertificate}
+use Rattle.document_plan.specs.Planned.{ArePlannedFrom, IsLayeredPlan, IsPlannedLevel}
 use Rattle.document_plan.proofs.PlanLemmas.{plans_stay}
-use Rattle.compound.specs.Work.{IsFramedRound, IsLayoutOf, IsWork}
+use Rattle.compound.specs.Figures.{IsLayered}
+use Rattle.compound.specs.Work.{IsFigureOf, IsFramedRound, IsWork}
+use Rattle.compound.proofs.BoxLemmas.{boxed_planned}
 use Rattle.compound.proofs.TreeLemmas.{child_after, leaf_or_level, same_options}
 
 keeps_size : (d : Document) (p q : Placed) (m : ℕ) → box_size q m ≡ box_size p m → KeepsSize d p m → KeepsSize d q m
@@ -54,9 +63,9 @@ leaf_worked d p sizes n there leaf work =
       rooted = work.rooted;
     }
 
-module _ (d : Document) (old now : Placed) (sizes : List Size) (n : ℕ) (o : LevelOptions) (v : LevelOut)
+module _ (d : Document) (old now : Placed) (sizes : List Size) (n : ℕ) (o : LevelOptions) (v : LevelFigure)
     (sound : IsSound d) (there : n < length d.nodes) (options : (node_at d n).level ≡ Some o)
-    (work : IsWork d old sizes (suc n)) (layout : IsLayoutOf d old n o v) (round : IsFramedRound d n o v old now) where
+    (work : IsWork d old sizes (suc n)) (layout : IsFigureOf d old n o v) (round : IsFramedRound d n o v old now) where
   abbrev between : Placed
   between = round.between
 
@@ -74,21 +83,42 @@ module _ (d : Document) (old now : Placed) (sizes : List Size) (n : ℕ) (o : Le
   other_child : (c : ℕ) → IsChild d n c → c ≢ n
   other_child c h = λ e. let after = child_after d n c sound h in omega (arith, after, e)
 
-  level_planned : IsPlannedLevel d now n o
-  level_planned =
+  level_now : level_of d old n o ≡ level_of d now n o
+  level_now = levels_read_sizes d old now n o (λ c h. sym (size_kept c (other_child c h)))
+
+  drawn_now : (gaps : List PlainGap) (traces : List PlainTrace) (left top : ℤ) → IsTurnedDrawing d now n o.direction (figure_in v gaps traces left top) (start_of o.direction o.padding v.extent)
+  drawn_now gaps traces left top =
+      drawings_read_levels d between now n o.direction (figure_in v gaps traces left top) (start_of o.direction o.padding v.extent)
+      (round.framed.agree n (λ h. other_child n h refl)) (round.written.turned gaps traces left top)
+
+  certificate_is : HasCertificate d n now v.certificate
+  certificate_is =
       let made = round.written.certificate in
+      record { written = made.written; is_written = certificate_now n ∙ made.is_written; numbered = made.numbered; parts = made.parts }
+
+  layered_planned : IsLayered layout.level v → IsLayeredPlan d now n o
+  layered_planned h =
       record {
         level = layout.level;
-        out = v;
-        is = layout.is ∙ levels_read_sizes d old now n o (λ c h. sym (size_kept c (other_child c h)));
+        out = h.out;
+        is = layout.is ∙ level_now;
         fixed = layout.fixed;
         placing = layout.placing;
-        laid_out = layout.laid_out;
-        certificate = record { written = made.written; is_written = certificate_now n ∙ made.is_written; numbered = made.numbered; parts = made.parts };
+        laid_out = h.laid_out;
+        certificate = subst (λ (f : LevelFigure). HasCertificate d n now f.certificate) h.is certificate_is;
         drawn = λ left top.
-            drawings_read_levels d between now n o.direction (drawn_in v left top) (start_of o.direction o.padding v.extent)
-            (round.framed.agree n (λ h. other_child n h refl)) (round.written.turned left top);
-        size = round.framed.size;
+            subst (λ (f : LevelFigure). IsTurnedDrawing d now n o.direction (figure_in f (plain_gaps h.out.plan.gaps) (plain_traces h.out.plan.traces) left top) (start_of o.direction o.padding f.extent)) h.is
+            (drawn_now (plain_gaps h.out.plan.gaps) (plain_traces h.out.plan.traces) left top);
+        size = subst (λ (f : LevelFigure). IsSizeRound d n o f.extent (box_size now n)) h.is round.framed.size;
+      }
+
+  level_planned : IsPlannedLevel d now n o
+  level_planned =
+      record {
+        layered = λ layers. layered_planned (layout.figure.layered layers);
+        boxed = λ boxes.
+            boxed_planned d now n o layout.level v sound there options boxes (layout.is ∙ level_now) layout.fixed layout.placing (layout.figure.boxed boxes)
+            (drawn_now [] [] (pos 0) (pos 0)) certificate_is round.framed.size;
       }
 
   -- ---- the levels after it

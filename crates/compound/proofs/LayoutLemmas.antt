@@ -1,13 +1,14 @@
 -- A level whose children have their sizes can be laid out, and its layout can be written.
-use Rattle.std.proofs.Common.{◌≡◌, ℕ, suc, ◌<◌, ◌≤◌, List, length, get_or, sym, ap, ◌∙◌, subst, arith}
-use Rattle.std.specs.Prelude.{Option, Some, IfSome}
+use Rattle.std.proofs.Common.{◌≡◌, inl, inr, ℕ, suc, ◌<◌, ◌≤◌, List, length, get_or, sym, ap, ◌∙◌, subst, arith}
+use Rattle.std.specs.Prelude.{Option, Some, IfSome, IsTrue}
+use Rattle.std.proofs.lemmas.Bool.{cases_Bool}
 use Rattle.std.proofs.lemmas.Int.{ints}
 use Rattle.elk_doc.specs.declared.shape.Rect.{Rect}
 use Rattle.elk_doc.specs.declared.shape.Size.{Size}
 use Rattle.elk_doc.specs.declared.document.LevelOptions.{LevelOptions}
 use Rattle.elk_doc.specs.declared.drawing.Placed.{Placed}
 use Rattle.elk_doc.specs.Document.{Document, node_at}
-use Rattle.elk_doc.specs.Level.{edges_of, IsChild}
+use Rattle.elk_doc.specs.Level.{children, edges_of, IsChild}
 use Rattle.elk_doc.specs.Drawing.{box_of}
 use Rattle.elk_doc.specs.Sound.{IsSound, IsSoundLevel, IsSoundSpacing}
 use Rattle.port_order.specs.Conditions.{IsSmall}
@@ -16,6 +17,9 @@ use Rattle.level_plan.specs.Conditions.{IsLevel, plain_level}
 use Rattle.level_plan.specs.FromPlan.{IsDrawnFrom}
 use Rattle.level_plan.specs.Level.{PlainLevel, PlainPlan}
 use Rattle.level_stands.proofs.Lists.{has_at}
+use Rattle.level_nets.specs.Held.{plain_gaps}
+use Rattle.level_traces.specs.Traced.{plain_traces}
+use Rattle.level_boxes.specs.Boxes.{alone}
 use Rattle.level_draw.specs.declared.drawing.LevelOut.{LevelOut}
 use Rattle.level_draw.specs.Drawing.{IsTight, drawn_in, plan_from}
 use Rattle.turned_levels.specs.Turned.{level_of}
@@ -27,12 +31,18 @@ use Rattle.level_reading.specs.Read.{AreSizes, HasSizes}
 use Rattle.level_reading.proofs.LevelLemmas.{levels_are_levels}
 use Rattle.level_writing.specs.Back.{size_of}
 use Rattle.level_writing.specs.Ranges.{IsLongBox, IsLongSize}
-use Rattle.level_writing.specs.Written.{IsWritable}
+use Rattle.level_writing.specs.declared.figure.LevelFigure.{LevelFigure}
+use Rattle.level_writing.specs.Figure.{figure_of}
+use Rattle.level_writing.specs.Written.{ArePortPlaces, IsWritable}
 use Rattle.level_writing.proofs.RoomLemmas.{writable}
+use Rattle.level_layout.specs.Layout.{IsLaidOut}
 use Rattle.document_plan.specs.Planned.{ArePlannedFrom}
+use Rattle.drawn_boxes.proofs.EdgeLemmas.{edges_none}
 use Rattle.nested_bounds.specs.Nested.{IsSmallBox}
 use Rattle.nested_bounds.proofs.NestedLemmas.{planned_boxes_are_small, planned_levels_have_room}
-use Rattle.compound.specs.Work.{IsLayoutOf, IsWork}
+use Rattle.compound.specs.Figures.{IsBoxed}
+use Rattle.compound.specs.Work.{IsFigureOf, IsWork}
+use Rattle.compound.proofs.BoxLemmas.{alone_is}
 use Rattle.compound.proofs.TreeLemmas.{child_after}
 
 planned_later : (d : Document) (p : Placed) (m k : ℕ) → m ≤ k → ArePlannedFrom d p m → ArePlannedFrom d p k
@@ -86,27 +96,58 @@ module _ (d : Document) (p : Placed) (sizes : List Size) (n : ℕ) (o : LevelOpt
 
   -- ---- writing
 
-  pub long_extent : (v : LevelOut) → IsLayoutOf d p n o v → IsLongSize v.extent
-  long_extent v h =
-      let small = extents_small h.level v h.laid_out in
-      let wide = small.width.below in
-      let high = small.height.below in
-      record { width = record { above = small.width.above; below = omega (arith, ints, wide) }; height = record { above = small.height.above; below = omega (arith, ints, high) } }
+  long_child : (c : ℕ) → IsChild d n c → IsLongBox (box_of p c)
+  long_child c child = long_box (box_of p c) (small_child c child)
 
-  -- a layout can be written
-  pub layout_writable : (v : LevelOut) → IsLayoutOf d p n o v → IsWritable d p n v
-  layout_writable v h =
-      let laid = h.laid_out in
+  -- what comes from a layout of this level can be written
+  layout_writable : (l : LevelIn) (v : LevelOut) → plain_level l ≡ level_of d p n o → IsLaidOut l v → IsWritable d p n (figure_of v)
+  layout_writable l v is laid =
       let left = laid.drawn.left in
       let top = laid.drawn.top in
+      let small = extents_small l v laid in
+      let wide = small.width.below in
+      let high = small.height.below in
+      let long : IsLongSize v.extent =
+      record { width = record { above = small.width.above; below = omega (arith, ints, wide) }; height = record { above = small.height.above; below = omega (arith, ints, high) } } in
       let plan : PlainPlan = plan_from v.certificate v.plan.layered v.plan.order v.plan.lines in
       let drawn : IsDrawnFrom (level_of d p n o) plan laid.orders (drawn_in v left top) =
-      subst (λ (l : PlainLevel). IsDrawnFrom l plan laid.orders (drawn_in v left top)) h.is (laid.drawn.drawing.from_plan laid.orders laid.ready)
+      subst (λ (m : PlainLevel). IsDrawnFrom m plan laid.orders (drawn_in v left top)) is (laid.drawn.drawing.from_plan laid.orders laid.ready)
       in
-      let tight : IsTight (level_of d p n o) (drawn_in v left top) = subst (λ (l : PlainLevel). IsTight l (drawn_in v left top)) h.is laid.drawn.drawing.tight in
-      let edges : length (plain_level h.level).edges ≡ length (edges_of d n) = ap (λ (l : PlainLevel). length l.edges) h.is ∙ (levels_are_listed d p n o).edge_count in
-      writable d p n o plan laid.orders v left top sound drawn tight (long_extent v h) (λ c child. long_box (box_of p c) (small_child c child))
+      let tight : IsTight (level_of d p n o) (drawn_in v left top) = subst (λ (m : PlainLevel). IsTight m (drawn_in v left top)) is laid.drawn.drawing.tight in
+      let edges : length (plain_level l).edges ≡ length (edges_of d n) = ap (λ (m : PlainLevel). length m.edges) is ∙ (levels_are_listed d p n o).edge_count in
+      writable d p n o plan laid.orders (figure_of v) (plain_gaps v.plan.gaps) (plain_traces v.plan.traces) left top sound drawn tight long long_child
       (λ i z below.
       let closes = laid.certificate.reversed.closes (get_or v.certificate.reversed i z) (has_holds v.certificate.reversed (get_or v.certificate.reversed i z) (has_at v.certificate.reversed i z below)) in
       let of_level = closes.of_level in
       omega (arith, of_level, edges))
+
+  -- so can what comes from a layout as boxes
+  boxes_writable : (l : LevelIn) (v : LevelFigure) → plain_level l ≡ level_of d p n o → IsTrue o.boxes → IsBoxed l o v → IsWritable d p n v
+  boxes_writable l v is boxes h =
+      let out = h.out in
+      let none = edges_none d n o sound there options boxes in
+      let ports : ArePortPlaces d (children d n) out.ports =
+      subst (ArePortPlaces d (children d n)) (sym h.layout.ports) (layout_writable (alone l) h.layout.out (alone_is d p n o l sound there options boxes is) h.layout.laid_out).ports
+      in
+      let many : length (plain_level l).children ≡ length (children d n) = ap (λ (m : PlainLevel). length m.children) is ∙ (levels_are_listed d p n o).child_count in
+      subst (IsWritable d p n) (sym h.is)
+      (record {
+        extent = record { width = h.room.extent.width; height = h.room.extent.height };
+        box_count = h.layout.box_count ∙ many;
+        boxes = h.room.boxes;
+        sizes = long_child;
+        ports = ports;
+        section_count = sym none;
+        sections = λ i z below. absurd (omega (arith, below));
+        reversed = λ i z below. absurd (omega (arith, below));
+      })
+
+  -- a drawing of the level can be written
+  pub figure_writable : (v : LevelFigure) → IsFigureOf d p n o v → IsWritable d p n v
+  figure_writable v h =
+      elim (cases_Bool o.boxes) [
+        | inl boxes ↦ boxes_writable h.level v h.is boxes (h.figure.boxed boxes)
+        | inr layered ↦
+            (let figure = h.figure.layered layered in
+            subst (IsWritable d p n) (sym figure.is) (layout_writable h.level figure.out h.is figure.laid_out))
+      ]

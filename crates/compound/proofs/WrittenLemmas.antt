@@ -4,13 +4,13 @@ use Rattle.std.specs.Prelude.{Option, None, Some, IfSome, IsSome}
 use Rattle.elk_doc.specs.declared.document.LevelOptions.{LevelOptions}
 use Rattle.elk_doc.specs.declared.drawing.Placed.{Placed}
 use Rattle.elk_doc.specs.Document.{Document}
-use Rattle.level_draw.specs.declared.drawing.LevelOut.{LevelOut}
+use Rattle.level_writing.specs.declared.figure.LevelFigure.{LevelFigure}
 use Rattle.level_writing.specs.Canvas.{IsDrawingOf}
 use Rattle.level_writing.specs.Sizes.{IsNodeFramed}
 use Rattle.level_writing.specs.Written.{IsWritten}
 use Rattle.compound.specs.Work.{IsFramedRound}
 
-module _ (d : Document) (n : ℕ) (v : LevelOut) (old between : Placed) where
+module _ (d : Document) (n : ℕ) (v : LevelFigure) (old between : Placed) where
   pub still_complete : (level : Option LevelOptions) → IsSome level → IfSome level (λ o. IsWritten d n o v old between) → IsDrawingOf d between
   still_complete None some written = absurd (search rules)
   still_complete (Some o) some written = written.complete

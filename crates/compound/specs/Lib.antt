@@ -1,2 +1,3 @@
 pub mod Built
+pub mod Figures
 pub mod Work

@@ -9,14 +9,14 @@ use Rattle.elk_doc.specs.Drawing.{certificate_of}
 use Rattle.elk_doc.specs.Fits.{IsRooted}
 use Rattle.level_plan.specs.declared.level.LevelIn.{LevelIn}
 use Rattle.level_plan.specs.Conditions.{plain_level}
-use Rattle.level_draw.specs.declared.drawing.LevelOut.{LevelOut}
-use Rattle.level_layout.specs.Layout.{IsLaidOut}
+use Rattle.level_writing.specs.declared.figure.LevelFigure.{LevelFigure}
 use Rattle.turned_levels.specs.Turned.{box_size, level_of}
 use Rattle.level_reading.specs.Read.{size_at}
 use Rattle.level_writing.specs.Canvas.{IsDrawingOf}
 use Rattle.level_writing.specs.Sizes.{IsNodeFramed}
 use Rattle.level_writing.specs.Written.{IsWritten}
 use Rattle.document_plan.specs.Planned.{ArePlannedFrom}
+use Rattle.compound.specs.Figures.{IsFigureIn}
 
 -- the size that a document gives a node
 abbrev pub given_size : Node → Size
@@ -35,15 +35,15 @@ pub record IsWork (d : Document) (p : Placed) (sizes : List Size) (m : ℕ) : Ty
   pub rooted : IsRooted p
 
 -- The level of n, which has these options, is laid out with the sizes that its children have in a drawing.
-pub record IsLayoutOf (d : Document) (p : Placed) (n : ℕ) (o : LevelOptions) (v : LevelOut) : Type 0 where
+pub record IsFigureOf (d : Document) (p : Placed) (n : ℕ) (o : LevelOptions) (v : LevelFigure) : Type 0 where
   pub level : LevelIn
   pub is : plain_level level ≡ level_of d p n o
   pub fixed : level.fixed ≡ o.fixed
   pub placing : level.placing ≡ o.placing
-  pub laid_out : IsLaidOut level v
+  pub figure : IsFigureIn level o v
 
 -- the drawing of the level of n is written, and the node is then framed round it
-pub record IsFramedRound (d : Document) (n : ℕ) (o : LevelOptions) (v : LevelOut) (old now : Placed) : Type 0 where
+pub record IsFramedRound (d : Document) (n : ℕ) (o : LevelOptions) (v : LevelFigure) (old now : Placed) : Type 0 where
   pub between : Placed
   pub written : IsWritten d n o v old between
   pub framed : IsNodeFramed d n o v.extent between now

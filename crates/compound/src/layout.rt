@@ -10,16 +10,15 @@ ghost use Rattle.level_writing.specs.Canvas.{IsDrawingOf, drawing_of};
 ghost use Rattle.level_writing.specs.Written.{IsWritable};
 ghost use Rattle.document_plan.specs.Planned.{Planned};
 ghost use Rattle.compound.specs.Built.{IsBuilt};
-ghost use Rattle.compound.specs.Work.{IsFramedRound, IsLayoutOf, IsWork};
+ghost use Rattle.compound.specs.Work.{IsFigureOf, IsFramedRound, IsWork};
 
+use crate::figures::figure_in;
 use crate::sizes::given_sizes;
 use elk_doc::document::{Doc, LevelOptions};
 use elk_doc::drawing::Placed;
 use elk_doc::shape::Size;
-use level_draw::LevelOut;
-use level_layout::layout_level;
 use level_reading::{Index, index_of, level_in};
-use level_writing::{Canvas, LevelNumbers, blank, frame_node, placed, write_level};
+use level_writing::{Canvas, LevelFigure, LevelNumbers, blank, frame_node, placed, write_level};
 use root_ports::place_root_ports;
 use std::alloc::{AllocError, Global};
 
@@ -30,28 +29,28 @@ struct Work {
     sizes: Vec<Size>,
 }
 
-// The layout of the level of a node whose children have their sizes.
-fn layout_of(
+// The drawing of the level of a node whose children have their sizes.
+fn figure_of(
     alloc: Global,
     doc: &Doc,
     index: &Index,
     node: u32,
     options: &LevelOptions,
     work: &Work,
-) -> Result<LevelOut, AllocError>
+) -> Result<LevelFigure, AllocError>
     requires node { node < length doc.now.nodes }
     requires sound { IsSound doc.now }
     requires index { IsIndex doc.now index.now }
     requires options { (node_at doc.now node).level ≡ Some options.now }
     requires work { IsWork doc.now (drawing_of work.now.canvas) work.now.sizes.items (suc node) }
-    ensures { IfOk result (IsLayoutOf doc.now (drawing_of work.now.canvas) node options.now) }
+    ensures { IfOk result (IsFigureOf doc.now (drawing_of work.now.canvas) node options.now) }
 {
     let level = level_in(alloc, doc, index, work.sizes.as_slice(), node, options)?;
-    layout_level(alloc, &level)
+    figure_in(alloc, level, options)
 }
 
 // Writes the drawing of a node's level into the drawing of the document, and frames the node round it.
-fn write_layout(doc: &Doc, index: &Index, node: u32, out: LevelOut, canvas: &mut Canvas)
+fn write_layout(doc: &Doc, index: &Index, node: u32, out: LevelFigure, canvas: &mut Canvas)
     requires node { node < length doc.now.nodes }
     requires index { IsIndex doc.now index.now }
     requires compound { IsSome (node_at doc.now node).level }
@@ -97,7 +96,7 @@ fn lay_out_level(
     requires work { IsWork doc.now (drawing_of work.old.canvas) work.old.sizes.items (suc node) }
     ensures { OnOk result (IsWork doc.now (drawing_of work.new.canvas) work.new.sizes.items node) }
 {
-    let out = layout_of(alloc, doc, index, node, options, work)?;
+    let out = figure_of(alloc, doc, index, node, options, work)?;
     write_layout(doc, index, node, out, &mut work.canvas);
     let size = size_of(&work.canvas, node);
     work.sizes[node as usize] = size;
@@ -142,8 +141,8 @@ fn lay_out_levels(
     Ok(())
 }
 
-/// The drawing of a document whose levels are all whole and have layers: it obeys the document, has no more room than it needs,
-/// and comes from layouts of the levels.
+/// The drawing of a document no level of which is split into its connected parts: it obeys the document, has no more room than it
+/// needs, and comes from layouts of the levels, in layers or as boxes.
 ///
 /// Every level is laid out after those that lie in it, in the frame in which its direction runs to the right, and turned back.
 /// The only error is want of memory.

@@ -3,6 +3,7 @@
 #![tactic(auto)]
 
 mod built;
+mod figures;
 mod layout;
 mod sizes;
 

@@ -1,5 +1,5 @@
 -- The drawing of a document comes, level by level, from layouts of its levels.
-use Rattle.std.specs.Prelude.{◌≡◌, ℕ, ◌<◌, ◌≤◌, [], ◌∷◌, length, ℤ, IsNone, Some, slice_index_or}
+use Rattle.std.specs.Prelude.{◌≡◌, ℕ, ◌<◌, ◌≤◌, [], ◌∷◌, length, ℤ, IsFalse, IsNone, IsTrue, Some, slice_index_or}
 use Rattle.elk_doc.specs.declared.document.LevelOptions.{LevelOptions}
 use Rattle.elk_doc.specs.declared.drawing.Placed.{Placed}
 use Rattle.elk_doc.specs.Document.{Document, node_at, port_at}
@@ -17,12 +17,13 @@ use Rattle.turned_levels.specs.Drawing.{IsTurnedDrawing}
 use Rattle.turned_boxes.specs.Framed.{start_of}
 use Rattle.level_writing.specs.Sizes.{IsSizeRound}
 use Rattle.level_writing.specs.Written.{HasCertificate}
+use Rattle.document_plan.specs.Boxed.{IsBoxedPlan}
 
 -- The level of n, which has these options, comes from a layout of its children, with their sizes in the drawing, and its edges,
 -- in the frame of its direction: its boxes, ports and routes are those of the layout, turned back and moved to begin at the
 -- padding; its certificate is the layout's, with the document's numbers of edges; and the node has the size that this content
 -- and its pinned ports need.
-pub record IsPlannedLevel (d : Document) (p : Placed) (n : ℕ) (o : LevelOptions) : Type 0 where
+pub record IsLayeredPlan (d : Document) (p : Placed) (n : ℕ) (o : LevelOptions) : Type 0 where
   pub level : LevelIn
   pub out : LevelOut
   pub is : plain_level level ≡ level_of d p n o
@@ -32,6 +33,11 @@ pub record IsPlannedLevel (d : Document) (p : Placed) (n : ℕ) (o : LevelOption
   pub certificate : HasCertificate d n p out.certificate
   pub drawn : (left top : ℤ) → IsTurnedDrawing d p n o.direction (drawn_in out left top) (start_of o.direction o.padding out.extent)
   pub size : IsSizeRound d n o out.extent (box_size p n)
+
+-- The level of n, which has these options, comes from a layout of it, as a level of boxes where it is one.
+pub record IsPlannedLevel (d : Document) (p : Placed) (n : ℕ) (o : LevelOptions) : Type 0 where
+  pub layered : IsFalse o.boxes → IsLayeredPlan d p n o
+  pub boxed : IsTrue o.boxes → IsBoxedPlan d p n o
 
 -- the root as a child: alone in a level of its own direction, without edges
 abbrev pub root_level : Document → Placed → LevelOptions → PlainLevel

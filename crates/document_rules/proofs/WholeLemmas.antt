@@ -1,32 +1,31 @@
 -- All levels of a drawing that comes from layouts, and that it fits its document.
-use Rattle.std.proofs.Common.{◌≡◌, ℕ, zero, suc, ◌+◌, ◌<◌, ◌^◌, Bool, true, false, ℤ, pos, length, refl, sym, subst, ◌∙◌, arith, eq-eqb, rules}
+use Rattle.std.proofs.Common.{◌≡◌, ℕ, zero, suc, ◌+◌, ◌<◌, ◌^◌, true, false, ℤ, pos, length, refl, sym, subst, ◌∙◌, arith, eq-eqb, rules}
 use Rattle.std.proofs.lemmas.Int.{ints}
-use Rattle.std.specs.Prelude.{Option, None, Some, IsSome, IsNone, unwrap_or, if◌then◌else◌}
+use Rattle.std.specs.Prelude.{Option, None, Some, IsSome, IsNone, unwrap_or}
 use Rattle.elk_doc.specs.declared.document.LevelOptions.{LevelOptions}
 use Rattle.elk_doc.specs.declared.drawing.Certificate.{Certificate}
 use Rattle.elk_doc.specs.declared.drawing.Placed.{Placed}
 use Rattle.elk_doc.specs.Document.{Document, node_at, parent_of}
 use Rattle.elk_doc.specs.Level.{IsChild, is_number}
 use Rattle.elk_doc.specs.Drawing.{box_of, certificate_of}
-use Rattle.elk_doc.specs.Fits.{child_count, FitsCertificate, FitsLevel, HasCertificates, IsSolid}
+use Rattle.elk_doc.specs.Fits.{FitsLevel, HasCertificates, IsSolid}
 use Rattle.elk_doc.specs.PortsKept.{KeepsPorts}
 use Rattle.elk_doc.specs.Sound.{IsSound, IsWithin}
-use Rattle.turned_certificates.proofs.WholeLemmas.{certificates_turn_back}
 use Rattle.turned_drawings.specs.Levels.{IsWellDrawn}
 use Rattle.drawing_fits.specs.Held.{IsHeld}
 use Rattle.drawing_fits.proofs.HeldLemmas.{held_drawings_fit}
 use Rattle.nested_bounds.proofs.NestedLemmas.{planned_boxes_are_small}
 use Rattle.root_ports.proofs.KeptLemmas.{root_ports_are_kept}
 use Rattle.document_plan.specs.Planned.{ArePlannedFrom}
-use Rattle.document_rules.specs.Whole.{DocumentsAreDrawn, HasLayeredLevels, IsLaidOutDocument}
-use Rattle.document_rules.proofs.LevelLemmas.{certified, has_certificate, no_parts, ports_kept, well_drawn, written}
+use Rattle.document_rules.specs.Whole.{DocumentsAreDrawn, HasWholeLevels, IsLaidOutDocument}
+use Rattle.document_rules.proofs.LevelLemmas.{IsPlannedDrawing, planned_drawing}
 
 -- a node that is not the root is a child of its parent
 some_number : (o : Option ℕ) → IsSome o → is_number o (unwrap_or o 0) ≡ true
 some_number None h = absurd (let bad : false ≡ true = h in cc)
 some_number (Some n) h = eq-eqb n n refl
 
-module _ (d : Document) (p : Placed) (sound : IsSound d) (layered : HasLayeredLevels d) (laid : IsLaidOutDocument d p) where
+module _ (d : Document) (p : Placed) (sound : IsSound d) (whole : HasWholeLevels d) (laid : IsLaidOutDocument d p) where
   planned_from : (m : ℕ) → ArePlannedFrom d p m
   planned_from m =
       record { leaves = λ n h there leaf. laid.leaves n there leaf; levels = λ n o h there options. laid.planned.levels n o there options }
@@ -42,6 +41,9 @@ module _ (d : Document) (p : Placed) (sound : IsSound d) (layered : HasLayeredLe
       let small = planned_boxes_are_small d p c sound h (planned_from c) in
       record { width = small.width.above; height = small.height.above }
 
+  level_drawn : (n : ℕ) (o : LevelOptions) → n < length d.nodes → (node_at d n).level ≡ Some o → IsPlannedDrawing d p n o
+  level_drawn n o there options = planned_drawing d p n o sound laid.leaves there options (whole n o there options) (laid.planned.levels n o there options)
+
   -- the ports of every node are kept
   kept : (n : ℕ) → n < length d.nodes → KeepsPorts d p n
   kept zero h = root_kept (node_at d 0).level refl sound.levels.root
@@ -56,29 +58,17 @@ module _ (d : Document) (p : Placed) (sound : IsSound d) (layered : HasLayeredLe
       by_parent (Some o) e some =
           let before = (sound.tree.parents (suc n) (omega arith) h).before in
           let there : parent_of d (suc n) < length d.nodes = omega (arith, before, h) in
-          ports_kept d p (parent_of d (suc n)) o sound laid.leaves e (laid.planned.levels (parent_of d (suc n)) o there e) (suc n) (own_child (suc n) (omega arith) h)
-
-  level_is : (n : ℕ) (o : LevelOptions) → (there : n < length d.nodes) → (options : (node_at d n).level ≡ Some o)
-      → IsWellDrawn d p n o (written d p n o sound laid.leaves options (laid.planned.levels n o there options))
-  level_is n o there options =
-      well_drawn d p n o sound laid.leaves options (laid.planned.levels n o there options) (layered n o there options) (λ c h. solid c h.node_in) (kept n there)
+          (level_drawn (parent_of d (suc n)) o there e).ports (suc n) (own_child (suc n) (omega arith) h)
 
   same_some : (a b : Certificate) → Some a ≡ Some b → a ≡ b
   same_some a b e = search rules
 
-  certificate_is : (n : ℕ) (o : LevelOptions) (c : Certificate) → (there : n < length d.nodes) → (options : (node_at d n).level ≡ Some o) → certificate_of p n ≡ Some c
-      → written d p n o sound laid.leaves options (laid.planned.levels n o there options) ≡ c
-  certificate_is n o c there options is =
-      same_some _ c (sym (has_certificate d p n o sound laid.leaves options (laid.planned.levels n o there options)) ∙ is)
-
   drawn_level : (n : ℕ) (o : LevelOptions) (c : Certificate) → n < length d.nodes → (node_at d n).level ≡ Some o → certificate_of p n ≡ Some c → IsWellDrawn d p n o c
-  drawn_level n o c there options is = subst (IsWellDrawn d p n o) (certificate_is n o c there options is) (level_is n o there options)
+  drawn_level n o c there options is =
+      let level = level_drawn n o there options in
+      subst (IsWellDrawn d p n o) (same_some level.certificate c (sym level.is_written ∙ is)) (level.drawn (λ c h. solid c h.node_in) (kept n there))
 
   -- ---- the form of the drawing
-
-  no_parts_asked : (split : Bool) (count parts : ℕ) → split ≡ false → parts ≡ 0 → parts ≡ (if split then count else 0)
-  no_parts_asked true count parts whole none = absurd (let bad : true ≡ false = whole in cc)
-  no_parts_asked false count parts whole none = none
 
   certificates : HasCertificates d p
   certificates n there = by_level (node_at d n).level refl
@@ -86,13 +76,7 @@ module _ (d : Document) (p : Placed) (sound : IsSound d) (layered : HasLayeredLe
       by_level : (level : Option LevelOptions) → (node_at d n).level ≡ level → FitsLevel d n level (certificate_of p n)
       by_level None e = subst (FitsLevel d n None) (sym (laid.bare n there (subst IsNone (sym e) refl))) tt
       by_level (Some o) e =
-          let plan = laid.planned.levels n o there e in
-          let made = written d p n o sound laid.leaves e plan in
-          let fits : FitsCertificate d n o made =
-          (certificates_turn_back d p n o plan.out.certificate made sound (certified d p n o sound laid.leaves e plan)).fits
-          (no_parts_asked o.split (child_count d n) (length made.parts) (layered n o there e).whole (no_parts d p n o sound laid.leaves e plan))
-          in
-          subst (FitsLevel d n (Some o)) (sym (has_certificate d p n o sound laid.leaves e plan)) fits
+          let level = level_drawn n o there e in subst (FitsLevel d n (Some o)) (sym level.is_written) level.fits
 
   held : IsHeld d p
   held =
@@ -104,7 +88,8 @@ module _ (d : Document) (p : Placed) (sound : IsSound d) (layered : HasLayeredLe
         sizes = λ n there.
             let small = planned_boxes_are_small d p n sound there (planned_from n) in
             record { width = wider _ small.width; height = wider _ small.height };
-        inside = λ n o there options. (level_is n o there options).drawn.inside;
+        inside = λ n o there options.
+            let level = level_drawn n o there options in (level.drawn (λ c h. solid c h.node_in) (kept n there)).drawn.inside;
         root_ports = kept 0 sound.tree.root;
       }
     where
@@ -112,8 +97,8 @@ module _ (d : Document) (p : Placed) (sound : IsSound d) (layered : HasLayeredLe
       wider z h = let low = h.above in let high = h.below in record { above = low; below = omega (arith, ints, high) }
 
 pub documents_are_drawn : DocumentsAreDrawn
-documents_are_drawn d p sound layered laid =
+documents_are_drawn d p sound whole laid =
     record {
-      drawn = record { fits = held_drawings_fit d p sound (held d p sound layered laid); levels = λ n o c there options is. (drawn_level d p sound layered laid n o c there options is).drawn };
-      fitted = λ n o c there options is. (drawn_level d p sound layered laid n o c there options is).fitted;
+      drawn = record { fits = held_drawings_fit d p sound (held d p sound whole laid); levels = λ n o c there options is. (drawn_level d p sound whole laid n o c there options is).drawn };
+      fitted = λ n o c there options is. (drawn_level d p sound whole laid n o c there options is).fitted;
     }

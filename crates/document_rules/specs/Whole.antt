@@ -11,14 +11,9 @@ use Rattle.elk_doc.specs.Sound.{IsSound}
 use Rattle.level_writing.specs.Canvas.{IsDrawingOf}
 use Rattle.document_plan.specs.Planned.{Planned}
 
--- a level that is whole and has layers
-pub record IsLayered (o : LevelOptions) : Type 0 where
-  pub whole : IsFalse o.split
-  pub layered : IsFalse o.boxes
-
--- all levels are such
-abbrev pub HasLayeredLevels : Document → Type 0
-HasLayeredLevels d = (n : ℕ) (o : LevelOptions) → n < length d.nodes → (node_at d n).level ≡ Some o → IsLayered o
+-- all levels are whole
+abbrev pub HasWholeLevels : Document → Type 0
+HasWholeLevels d = (n : ℕ) (o : LevelOptions) → n < length d.nodes → (node_at d n).level ≡ Some o → IsFalse o.split
 
 -- The drawing has all that the document asks for, its root at the origin, leaves of their own sizes, and certificates where
 -- levels are; every level comes from a layout, and so do the ports of the root.
@@ -35,4 +30,4 @@ pub record IsWellDrawnDocument (d : Document) (p : Placed) : Type 0 where
   pub fitted : Fitted d p
 
 abbrev pub DocumentsAreDrawn : Type 0
-DocumentsAreDrawn = (d : Document) (p : Placed) → IsSound d → HasLayeredLevels d → IsLaidOutDocument d p → IsWellDrawnDocument d p
+DocumentsAreDrawn = (d : Document) (p : Placed) → IsSound d → HasWholeLevels d → IsLaidOutDocument d p → IsWellDrawnDocument d p

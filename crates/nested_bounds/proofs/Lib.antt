@@ -3,4 +3,5 @@ pub mod OutlineLemmas
 pub mod ListLemmas
 pub mod ExtentLemmas
 pub mod NodeLemmas
+pub mod BoxLemmas
 pub mod NestedLemmas

@@ -24,7 +24,8 @@ use Rattle.nested_bounds.specs.Nested.{PlannedBoxesAreSmall, PlannedLevelsHaveRo
 use Rattle.nested_bounds.proofs.ExtentLemmas.{high, wide}
 use Rattle.level_bounds.proofs.Sums.{over}
 use Rattle.nested_bounds.proofs.ListLemmas.{over_least}
-use Rattle.nested_bounds.proofs.NodeLemmas.{children_sum, leaf_most, leaf_solid, level_most, level_short, level_solid, size_sum, turned_least}
+use Rattle.nested_bounds.proofs.BoxLemmas.{level_most, level_solid}
+use Rattle.nested_bounds.proofs.NodeLemmas.{children_sum, leaf_most, leaf_solid, level_short, size_sum, turned_least}
 use Rattle.nested_bounds.proofs.SumLemmas.{AreCosts, child_behind, children_small, cost, total_least}
 
 -- ---- the sizes of planned nodes

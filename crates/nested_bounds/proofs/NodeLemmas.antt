@@ -19,7 +19,7 @@ use Rattle.elk_doc.specs.Fits.{IsSolid, KeepsSize, child_count, edge_count}
 use Rattle.elk_doc.specs.Fitted.{IsGreatestOf}
 use Rattle.elk_doc.specs.Level.{children, edges_of, is_child, is_edge_of}
 use Rattle.elk_doc.specs.Numbers.{total_below}
-use Rattle.elk_doc.specs.Sound.{IsSound, IsSoundLevel, IsSoundSize, IsWithin, along}
+use Rattle.elk_doc.specs.Sound.{IsSound, IsSoundSize, IsWithin, along}
 use Rattle.elk_doc.proofs.NumberLaws.{length-numbers_below}
 use Rattle.port_order.specs.declared.children.ChildPort.{ChildPort}
 use Rattle.level_plan.specs.Conditions.{plain_level}
@@ -30,8 +30,9 @@ use Rattle.turned_levels.specs.Turned.{box_size, child_number, level_child, leve
 use Rattle.turned_levels.proofs.NumberedLemmas.{levels_are_listed, numbers_match}
 use Rattle.level_reading.proofs.ReadLemmas.{turned_sound}
 use Rattle.level_bounds.proofs.Bounded.{extents_bounded, extents_small}
-use Rattle.level_writing.specs.Sizes.{Asks, end_across, end_down, end_of, padded_height, padded_width, pinned_under}
-use Rattle.document_plan.specs.Planned.{IsPlannedLevel}
+use Rattle.level_writing.specs.Sizes.{Asks, IsSizeRound, end_across, end_down, end_of, padded_height, padded_width, pinned_under}
+use Rattle.document_plan.specs.Planned.{IsLayeredPlan}
+use Rattle.drawn_boxes.proofs.EdgeLemmas.{level_sound}
 use Rattle.nested_bounds.proofs.ExtentLemmas.{AllShort, extent_most, high, wide}
 use Rattle.level_bounds.proofs.Sums.{over}
 use Rattle.nested_bounds.proofs.ListLemmas.{over_both, over_numbers}
@@ -43,7 +44,7 @@ size_sum p n = (box_of p n).width +ℤ (box_of p n).height
 
 -- ---- sizes in the frame
 
-turned_sum : (way : Direction) (s : Size) → ((turned_size way s).width +ℤ (turned_size way s).height) ≡ (s.width +ℤ s.height)
+pub turned_sum : (way : Direction) (s : Size) → ((turned_size way s).width +ℤ (turned_size way s).height) ≡ (s.width +ℤ s.height)
 turned_sum Right s = refl
 turned_sum Left s = refl
 turned_sum Down s = omega (arith, ints)
@@ -128,14 +129,55 @@ asked_most d n across base z s level least greatest = (
 some_is : (l : Option LevelOptions) (o : LevelOptions) → l ≡ Some o → IsSome l
 some_is l o e = subst IsSome (sym e) (search rules)
 
-level_sound : (d : Document) (n : ℕ) (o : LevelOptions) → IsSound d → n < length d.nodes → (node_at d n).level ≡ Some o → IsSoundLevel d n o
-level_sound d n o s h e = subst (λ l. IfSome l (IsSoundLevel d n)) e (s.levels.options n h)
-
 sum_least : (a b c : ℤ) → pos 0 ≤ℤ a → pos 0 ≤ℤ b → pos 0 ≤ℤ c → pos 0 ≤ℤ ((a +ℤ b) +ℤ c)
 sum_least a b c h k m = omega (arith, ints, h, k, m)
 
-module _ (d : Document) (p : Placed) (n : ℕ) (o : LevelOptions) (s : IsSound d) (there : n < length d.nodes) (is : (node_at d n).level ≡ Some o) (planned : IsPlannedLevel d p n o) where
-  content_most : (planned.out.extent.width +ℤ planned.out.extent.height) ≤ℤ (total_below (is_child d n) (size_sum p) (length d.nodes) +ℤ pos (room (child_count d n) (edge_count d n)))
+-- a node that is framed round content of this extent in the frame
+module _ (d : Document) (p : Placed) (n : ℕ) (o : LevelOptions) (s : IsSound d) (there : n < length d.nodes) (is : (node_at d n).level ≡ Some o)
+    (extent : Size) (wide_enough : pos 0 ≤ℤ extent.width) (high_enough : pos 0 ≤ℤ extent.height) (framed : IsSizeRound d n o extent (box_size p n)) where
+  turned_content : (pos 0 ≤ℤ (turned_size o.direction extent).width) × (pos 0 ≤ℤ (turned_size o.direction extent).height)
+  turned_content = turned_least o.direction extent wide_enough high_enough
+
+  width_least : pos 0 ≤ℤ padded_width o extent
+  width_least =
+      let sound = (level_sound d n o s there is).padding in
+      sum_least o.padding.left (turned_size o.direction extent).width o.padding.right sound.left.above turned_content.0 sound.right.above
+
+  height_least : pos 0 ≤ℤ padded_height o extent
+  height_least =
+      let sound = (level_sound d n o s there is).padding in
+      sum_least o.padding.top (turned_size o.direction extent).height o.padding.bottom sound.top.above turned_content.1 sound.bottom.above
+
+  width_within : (padded_width o extent ≤ℤ (box_of p n).width) × ((box_of p n).width ≤ℤ (padded_width o extent +ℤ pos (2 ^ 21)))
+  width_within = asked_most d n true (padded_width o extent) (box_of p n).width s (some_is (node_at d n).level o is) width_least framed.width
+
+  height_within : (padded_height o extent ≤ℤ (box_of p n).height) × ((box_of p n).height ≤ℤ (padded_height o extent +ℤ pos (2 ^ 21)))
+  height_within = asked_most d n false (padded_height o extent) (box_of p n).height s (some_is (node_at d n).level o is) height_least framed.height
+
+  pub framed_solid : IsSolid (box_of p n)
+  framed_solid = record { width = less _ _ width_least width_within.0; height = less _ _ height_least height_within.0 }
+    where
+      less : (a b : ℤ) → pos 0 ≤ℤ a → a ≤ℤ b → pos 0 ≤ℤ b
+      less a b h k = omega (arith, ints, h, k)
+
+  pub framed_most : (extent.width +ℤ extent.height) ≤ℤ (total_below (is_child d n) (size_sum p) (length d.nodes) +ℤ pos (room (child_count d n) (edge_count d n)))
+      → size_sum p n ≤ℤ (total_below (is_child d n) (size_sum p) (length d.nodes) +ℤ pos (cost d n))
+  framed_most most =
+      let sound = (level_sound d n o s there is).padding in
+      sums (box_of p n).width (box_of p n).height o.padding.left o.padding.right o.padding.top o.padding.bottom (turned_size o.direction extent).width (turned_size o.direction extent).height
+      (extent.width +ℤ extent.height) (total_below (is_child d n) (size_sum p) (length d.nodes)) (room (child_count d n) (edge_count d n))
+      width_within.1 height_within.1 sound.left.below sound.right.below sound.top.below sound.bottom.below (turned_sum o.direction extent) most
+    where
+      sums : (w h a b c e x y z t : ℤ) (r : ℕ) → w ≤ℤ (((a +ℤ x) +ℤ b) +ℤ pos (2 ^ 21)) → h ≤ℤ (((c +ℤ y) +ℤ e) +ℤ pos (2 ^ 21))
+          → a ≤ℤ pos (2 ^ 20) → b ≤ℤ pos (2 ^ 20) → c ≤ℤ pos (2 ^ 20) → e ≤ℤ pos (2 ^ 20) → (x +ℤ y) ≡ z → z ≤ℤ (t +ℤ pos r) → (w +ℤ h) ≤ℤ (t +ℤ pos (r + 2 ^ 23))
+      sums w h a b c e x y z t r h1 h2 h3 h4 h5 h6 same most = omega (arith, ints, h1, h2, h3, h4, h5, h6, same, most)
+
+-- what is drawn from a plan is hardly larger than its children
+module _ (d : Document) (p : Placed) (n : ℕ) (o : LevelOptions) (s : IsSound d) (planned : IsLayeredPlan d p n o) where
+  pub content_least : (pos 0 ≤ℤ planned.out.extent.width) × (pos 0 ≤ℤ planned.out.extent.height)
+  content_least = let small = extents_small planned.level planned.out planned.laid_out in (small.width.above, small.height.above)
+
+  pub content_most : (planned.out.extent.width +ℤ planned.out.extent.height) ≤ℤ (total_below (is_child d n) (size_sum p) (length d.nodes) +ℤ pos (room (child_count d n) (edge_count d n)))
   content_most =
       let laid = planned.laid_out in
       let out = planned.out in
@@ -148,42 +190,6 @@ module _ (d : Document) (p : Placed) (n : ℕ) (o : LevelOptions) (s : IsSound d
     where
       joined : (w a b : ℤ) (x y : ℕ) → w ≤ℤ (a +ℤ pos x) → a ≡ b → x ≡ y → w ≤ℤ (b +ℤ pos y)
       joined w a b x y h e f = omega (arith, ints, h, e, f)
-
-  turned_content : (pos 0 ≤ℤ (turned_size o.direction planned.out.extent).width) × (pos 0 ≤ℤ (turned_size o.direction planned.out.extent).height)
-  turned_content = let small = extents_small planned.level planned.out planned.laid_out in turned_least o.direction planned.out.extent small.width.above small.height.above
-
-  width_least : pos 0 ≤ℤ padded_width o planned.out.extent
-  width_least =
-      let sound = (level_sound d n o s there is).padding in
-      sum_least o.padding.left (turned_size o.direction planned.out.extent).width o.padding.right sound.left.above turned_content.0 sound.right.above
-
-  height_least : pos 0 ≤ℤ padded_height o planned.out.extent
-  height_least =
-      let sound = (level_sound d n o s there is).padding in
-      sum_least o.padding.top (turned_size o.direction planned.out.extent).height o.padding.bottom sound.top.above turned_content.1 sound.bottom.above
-
-  width_within : (padded_width o planned.out.extent ≤ℤ (box_of p n).width) × ((box_of p n).width ≤ℤ (padded_width o planned.out.extent +ℤ pos (2 ^ 21)))
-  width_within = asked_most d n true (padded_width o planned.out.extent) (box_of p n).width s (some_is (node_at d n).level o is) width_least planned.size.width
-
-  height_within : (padded_height o planned.out.extent ≤ℤ (box_of p n).height) × ((box_of p n).height ≤ℤ (padded_height o planned.out.extent +ℤ pos (2 ^ 21)))
-  height_within = asked_most d n false (padded_height o planned.out.extent) (box_of p n).height s (some_is (node_at d n).level o is) height_least planned.size.height
-
-  pub level_solid : IsSolid (box_of p n)
-  level_solid = record { width = less _ _ width_least width_within.0; height = less _ _ height_least height_within.0 }
-    where
-      less : (a b : ℤ) → pos 0 ≤ℤ a → a ≤ℤ b → pos 0 ≤ℤ b
-      less a b h k = omega (arith, ints, h, k)
-
-  pub level_most : size_sum p n ≤ℤ (total_below (is_child d n) (size_sum p) (length d.nodes) +ℤ pos (cost d n))
-  level_most =
-      let sound = (level_sound d n o s there is).padding in
-      sums (box_of p n).width (box_of p n).height o.padding.left o.padding.right o.padding.top o.padding.bottom (turned_size o.direction planned.out.extent).width (turned_size o.direction planned.out.extent).height
-      (planned.out.extent.width +ℤ planned.out.extent.height) (total_below (is_child d n) (size_sum p) (length d.nodes)) (room (child_count d n) (edge_count d n))
-      width_within.1 height_within.1 sound.left.below sound.right.below sound.top.below sound.bottom.below (turned_sum o.direction planned.out.extent) content_most
-    where
-      sums : (w h a b c e x y z t : ℤ) (r : ℕ) → w ≤ℤ (((a +ℤ x) +ℤ b) +ℤ pos (2 ^ 21)) → h ≤ℤ (((c +ℤ y) +ℤ e) +ℤ pos (2 ^ 21))
-          → a ≤ℤ pos (2 ^ 20) → b ≤ℤ pos (2 ^ 20) → c ≤ℤ pos (2 ^ 20) → e ≤ℤ pos (2 ^ 20) → (x +ℤ y) ≡ z → z ≤ℤ (t +ℤ pos r) → (w +ℤ h) ≤ℤ (t +ℤ pos (r + 2 ^ 23))
-      sums w h a b c e x y z t r h1 h2 h3 h4 h5 h6 same most = omega (arith, ints, h1, h2, h3, h4, h5, h6, same, most)
 
 -- ---- leaves
 

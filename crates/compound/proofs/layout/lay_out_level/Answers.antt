@@ -4,12 +4,12 @@ use Rattle.elk_doc.specs.declared.document.LevelOptions.{LevelOptions}
 use Rattle.level_writing.specs.Canvas.{drawing_of}
 use Rattle.compound.specs.Work.{IsFramedRound}
 use Rattle.compound.proofs.FrameLemmas.{worked}
-use Rattle.compound.proofs.LayoutLemmas.{layout_writable}
+use Rattle.compound.proofs.LayoutLemmas.{figure_writable}
 use Rattle.compound.proofs.layout.lay_out_level.Goals as goal
 
 pub write_layout-requires-clause-out : goal.write_layout-requires-clause-out
 write_layout-requires-clause-out c =
-    layout_writable c.args.doc.now (drawing_of c.args.work.now.canvas) c.args.work.now.sizes.items c.args.node c.args.options.now c.requires.sound c.requires.node c.requires.options c.requires.work
+    figure_writable c.args.doc.now (drawing_of c.args.work.now.canvas) c.args.work.now.sizes.items c.args.node c.args.options.now c.requires.sound c.requires.node c.requires.options c.requires.work
     c.in_ok-out.out c.in_ok-out.ensures
 
 pub returns : goal.returns

@@ -3,15 +3,15 @@ use Rattle.std.proofs.lemmas.Result.{IfOk-weaker}
 use Rattle.level_reading.specs.Read.{AreSizes}
 use Rattle.level_writing.specs.Canvas.{drawing_of}
 use Rattle.compound.proofs.LayoutLemmas.{are_sizes, is_level, level_read}
-use Rattle.compound.proofs.layout.layout_of.Goals as goal
+use Rattle.compound.proofs.layout.figure_of.Goals as goal
 
 pub level_in-requires-clause-sizes : goal.level_in-requires-clause-sizes
 level_in-requires-clause-sizes c =
     subst (AreSizes c.args.doc.now c.args.node) (sym c.as_slice.ensures.value)
     (are_sizes c.args.doc.now (drawing_of c.args.work.now.canvas) c.args.work.now.sizes.items c.args.node c.args.options.now c.requires.sound c.requires.node c.requires.options c.requires.work)
 
-pub layout_level-requires : goal.layout_level-requires
-layout_level-requires c =
+pub figure_in-requires : goal.figure_in-requires
+figure_in-requires c =
     let d = c.args.doc.now in
     let p = drawing_of c.args.work.now.canvas in
     let sizes = c.args.work.now.sizes.items in
@@ -28,12 +28,12 @@ returns c =
     let n = c.args.node in
     let o = c.args.options.now in
     let read = c.in_ok-level.ensures in
-    IfOk-weaker c.layout_level.result _ _
-    (λ v laid. record {
+    IfOk-weaker c.figure_in.result _ _
+    (λ v figure. record {
       level = c.in_ok-level.level;
       is = level_read d p sizes n o c.requires.sound c.requires.node c.requires.options c.requires.work c.in_ok-level.level c.as_slice.result.now c.as_slice.ensures.value read.level;
       fixed = read.fixed;
       placing = read.placing;
-      laid_out = laid;
+      figure = figure;
     })
-    c.layout_level.ensures
+    c.figure_in.ensures

@@ -1,0 +1,91 @@
+//! The drawing of a level, as one of layers or of boxes.
+ghost use Rattle.std.specs.Prelude.{◌≡◌, IfOk};
+ghost use Rattle.level_plan.specs.Conditions.{plain_level, IsLevel};
+ghost use Rattle.compound.specs.Figures.{IsBoxed, IsFigureIn, IsLayered, figure_of_boxes, flat_certificate, layers_for};
+
+use elk_doc::document::LevelOptions;
+use elk_doc::drawing::Certificate;
+use elk_doc::list::Items;
+use elk_doc::shape::Point;
+use level_boxes::{BoxesOut, layout_boxes};
+use level_layout::layout_level;
+use level_plan::LevelIn;
+use level_writing::{LevelFigure, figure_of};
+use std::alloc::{AllocError, Global};
+
+// Layer 0 for each box.
+fn layers_for(alloc: Global, boxes: &[Point]) -> Result<Vec<u32>, AllocError>
+    ensures { IfOk result (λ layers. layers.items ≡ layers_for boxes.now) }
+{
+    let mut layers = Vec::with_capacity(alloc, boxes.len())?;
+    for _place in boxes {
+        layers.push(0)?;
+    }
+    Ok(layers)
+}
+
+// The certificate of a level of boxes, which has no edges.
+fn flat_certificate(alloc: Global, boxes: &[Point]) -> Result<Certificate, AllocError>
+    ensures { IfOk result (λ c. c ≡ flat_certificate boxes.now) }
+{
+    Ok(Certificate {
+        layers: Items::from_vec(layers_for(alloc, boxes)?),
+        reversed: Items::from_vec(Vec::new(alloc)),
+        flow: Items::from_vec(Vec::new(alloc)),
+        span: 0,
+        parts: Items::from_vec(Vec::new(alloc)),
+    })
+}
+
+// The drawing of a level of boxes.
+fn figure_of_boxes(alloc: Global, out: BoxesOut) -> Result<LevelFigure, AllocError>
+    ensures { IfOk result (λ v. v ≡ figure_of_boxes out) }
+{
+    let certificate = flat_certificate(alloc, out.boxes.as_slice())?;
+    Ok(LevelFigure {
+        boxes: out.boxes,
+        ports: out.ports,
+        sections: Items::from_vec(Vec::new(alloc)),
+        certificate,
+        extent: out.extent,
+    })
+}
+
+// The drawing of a level in layers.
+fn layered_figure(alloc: Global, level: &LevelIn) -> Result<LevelFigure, AllocError>
+    requires { IsLevel (plain_level level.now) }
+    ensures { IfOk result (IsLayered level.now) }
+{
+    let out = layout_level(alloc, level)?;
+    Ok(figure_of(out))
+}
+
+// The drawing of a level as boxes.
+fn boxed_figure(
+    alloc: Global,
+    level: LevelIn,
+    options: &LevelOptions,
+) -> Result<LevelFigure, AllocError>
+    requires { IsLevel (plain_level level) }
+    ensures { IfOk result (IsBoxed level options.now) }
+{
+    let out = layout_boxes(alloc, level, options.direction)?;
+    figure_of_boxes(alloc, out)
+}
+
+/// The drawing of a level that has these options, in the frame in which its direction runs to the right. The only error is want
+/// of memory.
+pub(crate) fn figure_in(
+    alloc: Global,
+    level: LevelIn,
+    options: &LevelOptions,
+) -> Result<LevelFigure, AllocError>
+    requires { IsLevel (plain_level level) }
+    ensures { IfOk result (IsFigureIn level options.now) }
+{
+    if options.boxes {
+        boxed_figure(alloc, level, options)
+    } else {
+        layered_figure(alloc, &level)
+    }
+}

@@ -1,0 +1,5 @@
+pub mod EdgeLemmas
+pub mod PortLemmas
+pub mod RowLemmas
+pub mod FitLemmas
+pub mod BoxLemmas

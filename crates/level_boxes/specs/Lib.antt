@@ -1,0 +1,4 @@
+pub mod Outlines
+pub mod Placing
+pub mod Boxes
+pub mod Examples
