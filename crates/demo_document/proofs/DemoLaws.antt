@@ -14,7 +14,7 @@ use Rattle.elk_doc.specs.declared.document.End.TheVariants.{Node as AtNode}
 use Rattle.elk_doc.specs.Document.{node_at, edge_at, parent_of, no_node, no_edge}
 use Rattle.elk_doc.specs.Level.{node_of_end, source_node, target_node}
 use Rattle.elk_doc.specs.Sound.{IsSound, IsSoundLevel, IsSoundNode, IsSoundEdge, IsEndIn, HasParent, ancestor}
-use Rattle.demo_document.specs.Demo.{demo_document, demo_leaf, half_edge, half_edges, triple_edge, triple_edges, triple_weight, default_options, edge_count, IsCounted, IsPlainLevel}
+use Rattle.demo_document.specs.Demo.{demo_document, demo_leaf, half_edge, half_edges, triple_edge, triple_edges, triple_weight, default_options, edge_count, IsCounted, IsPlainLevel, LeadsOn}
 
 -- ---- nodes and edges by number
 
@@ -164,14 +164,37 @@ triple_joins n j h k =
       weight_below = omega arith;
     }
 
+half_at : (n e : ℕ) → e < n - 1 → JoinsLeaves n (edge_at (demo_document n) e) ((e + 2) / 2) (e + 2)
+half_at n e l = subst (λ (x : Edge). JoinsLeaves n x ((e + 2) / 2) (e + 2)) (sym (half_is n e l)) (half_joins n (e + 2) (omega arith) (omega arith))
+
+triple_at : (n e : ℕ) → n - 1 ≤ e → e < edge_count n → JoinsLeaves n (edge_at (demo_document n) e) (e - (n - 1) + 1) (3 * (e - (n - 1) + 1))
+triple_at n e h below =
+    let j : ℕ = e - (n - 1) + 1 in
+    subst (λ (x : Edge). JoinsLeaves n x j (3 * j)) (sym (triple_is n e h below)) (triple_joins n j (omega arith) (omega arith))
+
 sound_edge : (n e : ℕ) → e < length (demo_document n).edges → IsSoundEdge (demo_document n) e
 sound_edge n e h =
     let below : e < edge_count n = omega (arith, edges_counted n) in
     ⊎_elim
-    (λ l. joined n e ((e + 2) / 2) (e + 2) (subst (λ (x : Edge). JoinsLeaves n x ((e + 2) / 2) (e + 2)) (sym (half_is n e l)) (half_joins n (e + 2) (omega arith) (omega arith))))
-    (λ l.
-    let j : ℕ = e - (n - 1) + 1 in
-    joined n e j (3 * j) (subst (λ (x : Edge). JoinsLeaves n x j (3 * j)) (sym (triple_is n e (omega arith) below)) (triple_joins n j (omega arith) (omega arith))))
+    (λ l. joined n e ((e + 2) / 2) (e + 2) (half_at n e l))
+    (λ l. let j : ℕ = e - (n - 1) + 1 in joined n e j (3 * j) (triple_at n e (omega arith) below))
+    (cases_lt e (n - 1))
+
+-- ---- the edges lead on
+
+leads : (n e a b : ℕ) → a < b → JoinsLeaves n (edge_at (demo_document n) e) a b → LeadsOn (demo_document n) e
+leads n e a b less j =
+    record {
+      level = parent_zero n (source_node (demo_document n) e);
+      onward = subst (λ x. node_of_end (demo_document n) x < node_of_end (demo_document n) (edge_at (demo_document n) e).target) (sym j.source) (subst (λ x. a < node_of_end (demo_document n) x) (sym j.target) less);
+    }
+
+pub edges_lead_on : (n e : ℕ) → e < length (demo_document n).edges → LeadsOn (demo_document n) e
+edges_lead_on n e h =
+    let below : e < edge_count n = omega (arith, edges_counted n) in
+    ⊎_elim
+    (λ l. leads n e ((e + 2) / 2) (e + 2) (omega arith) (half_at n e l))
+    (λ l. let j : ℕ = e - (n - 1) + 1 in leads n e j (3 * j) (omega arith) (triple_at n e (omega arith) below))
     (cases_lt e (n - 1))
 
 -- ---- the whole

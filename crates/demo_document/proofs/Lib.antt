@@ -1,2 +1,2 @@
-mod DemoLaws
+pub mod DemoLaws
 mod GrownLists

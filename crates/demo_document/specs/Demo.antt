@@ -1,5 +1,5 @@
 -- The document of `demo n`: n leaves, a tree of edges over their numbers, and an edge from each number to three times it.
-use Rattle.std.specs.Prelude.{◌≡◌, ℕ, ◌+◌, ◌-◌, ◌*◌, ◌/◌, ◌%◌, ◌++◌, pos, List, [], ◌∷◌, map, sum, sum_by, length, Some, None, false, IsFalse}
+use Rattle.std.specs.Prelude.{◌≡◌, ℕ, ◌+◌, ◌-◌, ◌*◌, ◌/◌, ◌%◌, ◌++◌, ◌<◌, pos, List, [], ◌∷◌, map, sum, sum_by, length, Some, None, false, IsFalse}
 use Rattle.std.specs.List.{range_with_len}
 use Rattle.elk_doc.specs.declared.document.Id.TheVariants.{Whole}
 use Rattle.elk_doc.specs.declared.document.PortRule.TheVariants.{Free}
@@ -10,6 +10,7 @@ use Rattle.elk_doc.specs.declared.document.Node.{Node}
 use Rattle.elk_doc.specs.declared.document.Edge.{Edge}
 use Rattle.elk_doc.specs.declared.document.End.TheVariants.{Node as AtNode}
 use Rattle.elk_doc.specs.Document.{Document, no_size}
+use Rattle.elk_doc.specs.Level.{level_of_edge, source_node, target_node}
 
 -- the options of a level that asks for none
 abbrev pub default_options : LevelOptions
@@ -74,6 +75,11 @@ pub record IsCounted (n : ℕ) : Type 0 where
   pub nodes : length (demo_document n).nodes ≡ n + 1
   pub edges : length (demo_document n).edges ≡ edge_count n
   pub weight : sum_by (λ e. e.weight) (demo_document n).edges ≡ total_weight n
+
+-- the edge e belongs to the root's level, and leads to a leaf of a greater number
+pub record LeadsOn (d : Document) (e : ℕ) : Type 0 where
+  pub level : level_of_edge d e ≡ 0
+  pub onward : source_node d e < target_node d e
 
 -- a level that is whole, layered and placed by alignment
 pub record IsPlainLevel (o : LevelOptions) : Type 0 where

@@ -9,6 +9,6 @@ mod tests;
 mod totals;
 
 pub use counting::counts;
-pub use laws::{demo_is_counted, demo_is_sound, demo_levels_are_plain};
+pub use laws::{demo_edges_lead_on, demo_is_counted, demo_is_sound, demo_levels_are_plain};
 pub use making::demo;
 pub use totals::Counts;

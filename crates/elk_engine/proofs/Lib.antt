@@ -1,1 +1,2 @@
+mod DemoLemmas
 mod Outcomes

@@ -1,7 +1,8 @@
 // A run of one command.
-ghost use Rattle.std.specs.Prelude.{◌≡◌, ◌⊎◌, ◌≤◌, ⊤, ℕ, List};
-ghost use Rattle.std.specs.Io.KnownBytes.{Consumes, IsAtEnd};
+ghost use Rattle.std.specs.Prelude.{◌≡◌, ◌⊎◌, ◌≤◌, ⊤, ℕ, List, IsTrue, IsFalse};
+ghost use Rattle.std.specs.Io.KnownBytes.{Consumes, IsAtEnd, Keeps};
 ghost use Rattle.elk_outer.specs.Causes.{Rose};
+ghost use Rattle.elk_words.specs.Words.{IsBounded};
 ghost use Rattle.elk_engine.specs.Command.{Answers, IsAccepted, IsTooLong, Reads, limit};
 ghost use Rattle.elk_engine.specs.Outcome.{Outcome};
 
@@ -11,7 +12,7 @@ use crate::reply::{Stop, reply_to};
 use elk_outer::{ReadFault, Sink, Source, read_whole, write_whole};
 use std::alloc::Global;
 
-/// Reads the input, replies to it and writes the reply.
+/// Reads the input, if the command does, replies to it and writes the reply.
 pub(crate) fn perform<S: Source, K: Sink, N: Sink>(
     alloc: Global,
     command: Command,
@@ -19,20 +20,36 @@ pub(crate) fn perform<S: Source, K: Sink, N: Sink>(
     out: &mut K,
     notes: &mut N,
 ) -> u8
-    requires { Reads command ⊥ → ⊥ }
+    requires { IsBounded command }
     ensures outcome { (taken : List ℕ) × Consumes (S.left source.old) (S.left source.new) taken
         × Outcome command result taken (IsAtEnd (S.left source.new))
         (K.taken out.old) (K.taken out.new) (N.taken notes.old) (N.taken notes.new) }
+    ensures unread { Reads command ⊥ → (S.faults source.new ≡ S.faults source.old) × Keeps (S.left source.old) (S.left source.new) }
     ensures read_fault { result ≡ 3 → Rose (S.faults source.old) (S.faults source.new) }
     ensures write_fault { result ≡ 4 → Rose (K.faults out.old) (K.faults out.new) ⊎ Rose (N.faults notes.old) (N.faults notes.new) }
     ensures sure_out { (room : ℕ) → K.sure out.old room → K.sure out.new room }
     ensures sure_notes { (room : ℕ) → N.sure notes.old room → N.sure notes.new room }
 {
+    if !is_reader(command) {
+        return replied(alloc, command, b"", out, notes);
+    }
     match read_whole(alloc, source, limit_of(command)) {
         Ok(bytes) => replied(alloc, command, &bytes, out, notes),
         Err(ReadFault::TooLong) => noted(notes, TOO_LONG, 2),
         Err(ReadFault::Fault) => noted(notes, READ_FAULT, 3),
         Err(ReadFault::Memory) => noted(notes, OUT_OF_MEMORY, 6),
+    }
+}
+
+// Whether the command reads its input.
+fn is_reader(command: Command) -> bool
+    ensures yes { IsTrue result → Reads command ⊥ → ⊥ }
+    ensures no { IsFalse result → Reads command ⊥ }
+{
+    match command {
+        Command::Layout => true,
+        Command::Check => true,
+        Command::Demo(_) => false,
     }
 }
 
@@ -43,6 +60,7 @@ fn limit_of(command: Command) -> u64
     match command {
         Command::Layout => 1 << 24,
         Command::Check => 1 << 28,
+        Command::Demo(_) => 0,
     }
 }
 
@@ -54,7 +72,8 @@ pub(crate) fn replied<K: Sink, N: Sink>(
     out: &mut K,
     notes: &mut N,
 ) -> u8
-    requires { IsTooLong command bytes.now → ⊥ }
+    requires bounded { IsBounded command }
+    requires not_long { IsTooLong command bytes.now → ⊥ }
     ensures outcome { Outcome command result bytes.now ⊤
         (K.taken out.old) (K.taken out.new) (N.taken notes.old) (N.taken notes.new) }
     ensures read_fault { result ≡ 3 → ⊥ }

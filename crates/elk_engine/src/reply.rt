@@ -1,9 +1,12 @@
 // What a command answers to its whole input.
-ghost use Rattle.std.specs.Prelude.{◌≡◌, ℕ, List, IfOk, OnOk, IfErr};
+ghost use Rattle.std.specs.Prelude.{◌≡◌, ◌≤◌, ℕ, List, IfOk, OnOk, IfErr};
 ghost use Rattle.elk_engine.specs.Command.{Answers, Refuses};
+ghost use Rattle.elk_engine.specs.Demo.{IsDemoLine};
 ghost use Rattle.elk_engine.specs.Reply.{IsCause, IsStop};
+ghost use Rattle.elk_words.specs.Words.{IsBounded};
 
 use crate::Command;
+use crate::demonstration::demo_line;
 use crate::notes::refusal_note;
 use crate::verdict::verdict_on;
 use elk_answer::answer;
@@ -37,8 +40,22 @@ pub(crate) fn stopped(alloc: Global, fault: &DocFault) -> Stop
     }
 }
 
+// The reply of `demo`.
+fn demonstrate(alloc: Global, leaves: u32) -> Result<Reply, Stop>
+    requires some { 1 ≤ leaves }
+    requires few { leaves ≤ 1024 }
+    ensures answered { IfOk result (λ reply. (reply.status ≡ 0) × IsDemoLine leaves reply.text.items) }
+    ensures memory { IfErr result (λ stop. stop ≡ Stop.Memory) }
+{
+    match demo_line(alloc, leaves) {
+        Ok(text) => Ok(Reply { status: 0, text }),
+        Err(_) => Err(Stop::Memory),
+    }
+}
+
 /// The command's reply to its whole input.
 pub(crate) fn reply_to(alloc: Global, command: Command, bytes: &[u8]) -> Result<Reply, Stop>
+    requires { IsBounded command }
     ensures answered { IfOk result (λ reply. Answers command bytes.now reply.status reply.text.items) }
     ensures accepted { OnOk result ((note : List ℕ) → Refuses command bytes.now note → ⊥) }
     ensures refused { IfErr result (IsCause command bytes.now) }
@@ -49,5 +66,6 @@ pub(crate) fn reply_to(alloc: Global, command: Command, bytes: &[u8]) -> Result<
             Err(fault) => Err(stopped(alloc, &fault)),
         },
         Command::Check => verdict_on(alloc, bytes),
+        Command::Demo(leaves) => demonstrate(alloc, leaves),
     }
 }

@@ -46,6 +46,8 @@ const ALONG_THE_SIDE: &str =
 const SPLIT: &str =
     "{\"id\":\"r\",\"layoutOptions\":{\"elk.separateConnectedComponents\":\"true\"}}";
 
+const USAGE_NOTE: &str = "usage: elk layout\n       elk check\n       elk demo <n>\n";
+
 const NEVER: u64 = 99;
 
 // A run: the words, the input in pieces of ten bytes, the calls that fail, the room of `out`, and what is wanted.
@@ -61,7 +63,7 @@ struct Row {
     notes: &'static str,
 }
 
-const ROWS: [Row; 23] = [
+const ROWS: [Row; 26] = [
     Row {
         words: &["layout"],
         input: ROOT,
@@ -181,7 +183,7 @@ const ROWS: [Row; 23] = [
         room: 512,
         status: 5,
         out: "",
-        notes: "usage: elk layout\n       elk check\n",
+        notes: USAGE_NOTE,
     },
     Row {
         words: &["check"],
@@ -313,7 +315,40 @@ const ROWS: [Row; 23] = [
         room: 512,
         status: 5,
         out: "",
-        notes: "usage: elk layout\n       elk check\n",
+        notes: USAGE_NOTE,
+    },
+    Row {
+        words: &["demo", "1"],
+        input: "",
+        read_fails: 0,
+        out_fails: NEVER,
+        notes_fail: NEVER,
+        room: 512,
+        status: 0,
+        out: "nodes 1 edges 0 weight 0 span 0\n",
+        notes: "",
+    },
+    Row {
+        words: &["demo", "10"],
+        input: "",
+        read_fails: 0,
+        out_fails: NEVER,
+        notes_fail: NEVER,
+        room: 512,
+        status: 0,
+        out: "nodes 10 edges 12 weight 18 span 22\n",
+        notes: "",
+    },
+    Row {
+        words: &["demo", "10"],
+        input: "",
+        read_fails: 0,
+        out_fails: NEVER,
+        notes_fail: NEVER,
+        room: 14,
+        status: 4,
+        out: "nodes 10 edges",
+        notes: "write fault\n",
     },
 ];
 
@@ -333,6 +368,32 @@ fn rows(rt: HostRuntime) -> Result<(), Fail> {
         assert_eq!(rt; status, row.status);
         assert_eq!(rt; out.taken(), row.out.as_bytes());
         assert_eq!(rt; notes.taken(), row.notes.as_bytes());
+    }
+    Ok(())
+}
+
+#[test]
+fn other_words(rt: HostRuntime) -> Result<(), Fail> {
+    let alloc = rt.alloc();
+    let cases: [&[&str]; 5] = [
+        &["demo"],
+        &["demo", "0"],
+        &["demo", "1025"],
+        &["demo", "1", "2"],
+        &["layout", "1"],
+    ];
+    for case in cases.iter() {
+        let mut words = Vec::new(alloc);
+        for word in case.iter() {
+            words.push(String::from_str(alloc, word)?)?;
+        }
+        let mut source = MemSource::new(Vec::new(alloc), 10, [0].to_vec(alloc)?);
+        let mut out = MemSink::new(alloc, 512, 10, Vec::new(alloc))?;
+        let mut notes = MemSink::new(alloc, 512, 10, Vec::new(alloc))?;
+        let status = run(alloc, &words, &mut source, &mut out, &mut notes);
+        assert_eq!(rt; status, 5);
+        assert_eq!(rt; out.taken().len(), 0);
+        assert_eq!(rt; notes.taken(), USAGE_NOTE.as_bytes());
     }
     Ok(())
 }

@@ -1,11 +1,13 @@
 -- What clap makes of the words.
 use Rattle.std.proofs.Common.{◌≡◌, ◌⊎◌, inl, inr, ℕ, ◌||◌, Bool, true, false, List, [], ◌∷◌, None, Some, refl, codes, fold, sym, ◌∙◌, ap, subst, slice_get}
-use Rattle.std.specs.Prelude.{Result, Ok, Err, IfOk, IfErr, map, Option, ⊤, if◌then◌else◌, ◌==◌, is_some}
+use Rattle.std.specs.Prelude.{Result, Ok, Err, IfOk, IfErr, map, Option, option_map, ⊤, if◌then◌else◌, ◌==◌, is_some}
 use Rattle.std.specs.Str.{bytes_eq, chars}
 use Rattle.clap.specs.Words.{App, Row, Rule, Text, Kinds, FailsBy, HasMatchesOf, IsAmong, found_of, kind_of, rows_of, same_text, new_app, new_rule, with_rule, fault_of, is_simple_and_free, matches_of, first_of}
 use Rattle.clap.specs.Kinds.{or_else}
 use Rattle.clap.specs.Simple.{Shape, built, on_top, entered}
 use Rattle.clap.specs.Lexer.{long_of, short_of}
+use Rattle.clap.specs.Values.{reading_of}
+use Rattle.clap.specs.declared.parser.matches.ValueSource.TheVariants.{CommandLine}
 use Rattle.clap.specs.ValueTests.{accepts}
 use Rattle.clap.specs.Walk.{Step, value, after_step, word_met, with_default, arg_by_long, arg_by_short, Walk, Held, Names, idle, walk, walked, bundle_met, nothing_held, walk_from, used, finished}
 use Rattle.clap.specs.Faults.{flags_fault, long_fault, short_fault, bundle_fault, walk_fault, turn_fault, word_fault, settle_fault, defaults_fault, check_fault, level_fault, entered_fault}
@@ -19,8 +21,9 @@ use Rattle.std.specs.List.{list_any}
 use Rattle.std.proofs.lemmas.Bool.{cases_Bool, eqb-true}
 use Rattle.std.proofs.lemmas.Slice.Eq.{bytes_eq-Decides}
 use Rattle.elk_words.specs.declared.Command.{Command}
-use Rattle.elk_words.specs.declared.Command.TheVariants.{Layout, Check}
+use Rattle.elk_words.specs.declared.Command.TheVariants.{Layout, Check, Demo}
 use Rattle.elk_words.specs.Words.{asked, chosen_of, command_of_values, without_dashes}
+use Rattle.elk_words.proofs.Numbers.{dashed_none}
 
 is_same : (a b : List ℕ) → bytes_eq a b ≡ true → a ≡ b
 is_same a b e = (bytes_eq-Decides a b).0 e
@@ -28,6 +31,14 @@ is_same a b e = (bytes_eq-Decides a b).0 e
 unfoldable pub IsFaulty : Kinds → Type 0
 IsFaulty [] = ⊥
 IsFaulty (k ∷ ks) = ⊤
+
+either_none : (b : Bool) → (if b then option_map Demo None else None) ≡ None
+either_none true = refl
+either_none false = refl
+
+-- the command of what was found
+abbrev pub chosen : List Row → Option Command
+chosen rows = chosen_of (first_of (codes "command") rows) (first_of (codes "n") rows)
 
 -- the values that are left to read, after `--` or before it
 abbrev left_values : Bool → List Text → List Text
@@ -41,33 +52,53 @@ value_left : (word : Text) (words : List Text) → bytes_eq word (codes "--") �
 value_left word words e = rw e refl
 
 abbrev pub is_named : Text → Bool
-is_named c = bytes_eq (codes "layout") c || (bytes_eq (codes "check") c || false)
+is_named c = bytes_eq (codes "layout") c || (bytes_eq (codes "check") c || (bytes_eq (codes "demo") c || false))
 
-named_none : (a b : Bool) → (a || (b || false)) ≡ false → (if a then Some Layout else (if b then Some Check else None)) ≡ None
-named_none true b e = cc
-named_none false true e = cc
-named_none false false e = refl
+named_none : (a b d : Bool) → (a || (b || (d || false))) ≡ false → (if a then Some Layout else (if b then Some Check else None)) ≡ None
+named_none true b d e = cc
+named_none false true d e = cc
+named_none false false d e = refl
+
+numbered_none : (a b d : Bool) (o : Option Command) → (a || (b || (d || false))) ≡ false → (if d then o else None) ≡ None
+numbered_none true b d o e = cc
+numbered_none false true d o e = cc
+numbered_none false false true o e = cc
+numbered_none false false false o e = refl
 
 -- a first value that is no command
 unnamed : (c : Text) (rest : List Text) → is_named c ≡ false → command_of_values (c ∷ rest) ≡ None
-unnamed c [] e = named_none (bytes_eq (codes "layout") c) (bytes_eq (codes "check") c) e
-unnamed c (n ∷ rest) e = refl
+unnamed c [] e = named_none (bytes_eq (codes "layout") c) (bytes_eq (codes "check") c) (bytes_eq (codes "demo") c) e
+unnamed c (n ∷ []) e = numbered_none (bytes_eq (codes "layout") c) (bytes_eq (codes "check") c) (bytes_eq (codes "demo") c) _ e
+unnamed c (n ∷ m ∷ rest) e = refl
 
 dashed_unnamed : (rest : Text) → is_named (45 ∷ rest) ≡ false
 dashed_unnamed rest = refl
+
+-- a second value that begins with a dash
+dashed_second : (c rest : Text) (words : List Text) → command_of_values (c ∷ (45 ∷ rest) ∷ words) ≡ None
+dashed_second c rest [] = rw (dashed_none rest) (either_none (bytes_eq (codes "demo") c))
+dashed_second c rest (m ∷ words) = refl
+
+-- the rule of the number
+abbrev pub number_rule : Rule
+number_rule = new_rule (codes "n")
 
 module _ (q : ValueParser) where
   abbrev pub command_rule : Rule
   command_rule = record (new_rule (codes "command")) { parser = Some q; required = true }
 
   abbrev pub elk : App
-  elk = with_rule (on_top (λ s. record s { no_binary_name = true }) (new_app (codes "elk"))) command_rule
+  elk = with_rule (with_rule (on_top (λ s. record s { no_binary_name = true }) (new_app (codes "elk"))) command_rule) number_rule
 
   abbrev shape : Shape
   shape = (built elk).top
 
   pub is_plain : is_simple_and_free elk ≡ true
   is_plain = refl
+
+  -- what is found of the command
+  abbrev found_row : Text → Row
+  found_row c = record { id = codes "command"; values = c ∷ []; count = None; source = Some CommandLine; reading = reading_of q }
 
   -- no value yet
   abbrev none_yet : Bool → Walk
@@ -76,6 +107,10 @@ module _ (q : ValueParser) where
   -- the command's word is held
   abbrev one_held : Bool → Text → Walk
   one_held t c = record { held = record { rows = []; pending = Some (codes "command", c ∷ []); skip = 0 }; waiting = idle; position = 2; is_trailing = t; stopped = None }
+
+  -- the command's word is found, and the number's is held
+  abbrev two_held : Bool → Text → Text → Walk
+  two_held t c n = record { held = record { rows = found_row c ∷ []; pending = Some (codes "n", n ∷ []); skip = 0 }; waiting = idle; position = 3; is_trailing = t; stopped = None }
 
   abbrev step : Walk → Text → Walk
   step = walked shape.rules []
@@ -104,9 +139,21 @@ module _ (q : ValueParser) where
   unfolding walked
   first_trailing word = (refl, refl)
 
-  second_trailing : (c word : Text) → IsFaulty (fault_at (one_held true c) word)
+  second_trailing : (c word : Text) → step (one_held true c) word ≡ two_held true c word
+  unfolding walked
+  second_trailing c word = refl
+
+  second_passes : (c word : Text) → accepts false q c ≡ true → fault_at (one_held true c) word ≡ []
+  unfolding clap_on_literals
+  second_passes c word is = rw is refl
+
+  second_fails : (c word : Text) → accepts false q c ≡ false → IsFaulty (fault_at (one_held true c) word)
+  unfolding clap_on_literals IsFaulty
+  second_fails c word is = rw is tt
+
+  third_trailing : (c n word : Text) → IsFaulty (fault_at (two_held true c n) word)
   unfolding walked IsFaulty
-  second_trailing c word = tt
+  third_trailing c n word = tt
 
   -- `--`
   module _ (word : Text) (e : bytes_eq word (codes "--") ≡ true) where
@@ -118,15 +165,9 @@ module _ (q : ValueParser) where
     unfolding walked
     second_dashes c = (rw e refl, rw e refl)
 
-  -- a word that is no flag
-  module _ (word : Text) (e : bytes_eq word (codes "--") ≡ false) (l : long_of word ≡ None) (s : short_of word ≡ None) where
-    first_plain : (step (none_yet false) word ≡ one_held false word) × (fault_at (none_yet false) word ≡ [])
+    third_dashes : (c n : Text) → (step (two_held false c n) word ≡ two_held true c n) × (fault_at (two_held false c n) word ≡ [])
     unfolding walked
-    first_plain = (rw (e, l, s) refl, rw (e, l, s) refl)
-
-    second_plain : (c : Text) → fault_at (one_held false c) word ≡ fault_at (one_held true c) word
-    unfolding walked
-    second_plain c = rw (e, l, s) refl
+    third_dashes c n = (rw e refl, rw e refl)
 
   -- the end
   none_end : (t : Bool) → IsFaulty (end_fault (none_yet t).held)
@@ -141,8 +182,9 @@ module _ (q : ValueParser) where
   unfolding clap_on_literals IsFaulty
   one_end_refused t c is = rw is tt
 
-  one_rows : (t : Bool) (c : Text) → first_of (codes "command") (finished shape.rules (one_held t c).held) ≡ Some c
-  one_rows t c = refl
+  two_end : (t : Bool) (c n : Text) → end_fault (two_held t c n).held ≡ []
+  unfolding clap_on_literals
+  two_end t c n = refl
 
   -- ---- flags
 
@@ -266,8 +308,14 @@ module _ (q : ValueParser) where
     unfolding walked
     first_value = (ap (λ m. after_step shape.rules word (none_yet false) m.0 m.1) (is.met [] None 1), rw (is.passes [] None, is.met [] None 1) refl)
 
-    second_value : (c : Text) → fault_at (one_held false c) word ≡ fault_at (one_held true c) word
-    second_value c = let h = (one_held false c).held in rw (is.passes h.rows h.pending, is.met h.rows h.pending 2) refl
+    second_value : (c : Text) → (step (one_held false c) word ≡ two_held false c word) × (fault_at (one_held false c) word ≡ fault_at (one_held true c) word)
+    unfolding walked
+    second_value c =
+        let h = (one_held false c).held in
+        (ap (λ m. after_step shape.rules word (one_held false c) m.0 m.1) (is.met h.rows h.pending 2), rw (is.passes h.rows h.pending, is.met h.rows h.pending 2) refl)
+
+    third_value : (c n : Text) → fault_at (two_held false c n) word ≡ fault_at (two_held true c n) word
+    third_value c n = let h = (two_held false c n).held in rw (is.passes h.rows h.pending, is.met h.rows h.pending 3) refl
 
   module _ (word : Text) (is : IsFlag word) where
     first_flag : IsFaulty (fault_at (none_yet false) word)
@@ -276,6 +324,9 @@ module _ (q : ValueParser) where
     second_flag : (c : Text) → IsFaulty (fault_at (one_held false c) word)
     second_flag c = first_faulty _ _ (is.refused [] (Some (codes "command", c ∷ [])))
 
+    third_flag : (c n : Text) → IsFaulty (fault_at (two_held false c n) word)
+    third_flag c n = first_faulty _ _ (is.refused (found_row c ∷ []) (Some (codes "n", n ∷ [])))
+
   -- ---- all the words
 
   abbrev rows_at : Walk → List Text → List Row
@@ -283,10 +334,10 @@ module _ (q : ValueParser) where
 
   -- the parse of the rest of the words comes to this answer, or fails where there is none
   abbrev Right : Walk → List Text → Option Command → Type 0
-  Right w words answer = ((tail_fault w words ≡ []) × (chosen_of (first_of (codes "command") (rows_at w words)) ≡ answer)) ⊎ (IsFaulty (tail_fault w words) × (answer ≡ None))
+  Right w words answer = ((tail_fault w words ≡ []) × (chosen (rows_at w words) ≡ answer)) ⊎ (IsFaulty (tail_fault w words) × (answer ≡ None))
 
   abbrev After : List Text → Option Command → Walk → Kinds → Type 0
-  After words answer next fault = ((or_else (or_else fault (walk_fault shape [] next words)) (end_fault (fold step next words).held) ≡ []) × (chosen_of (first_of (codes "command") (rows_at next words)) ≡ answer))
+  After words answer next fault = ((or_else (or_else fault (walk_fault shape [] next words)) (end_fault (fold step next words).held) ≡ []) × (chosen (rows_at next words) ≡ answer))
       ⊎ (IsFaulty (or_else (or_else fault (walk_fault shape [] next words)) (end_fault (fold step next words).held)) × (answer ≡ None))
 
   stepped : (w next : Walk) (word : Text) (words : List Text) (answer : Option Command) → step w word ≡ next → fault_at w word ≡ [] → Right next words answer → Right w (word ∷ words) answer
@@ -302,11 +353,37 @@ module _ (q : ValueParser) where
     named : (c : Text) → accepts false q c ≡ false → is_named c ≡ false
     named c e = sym (names c) ∙ e
 
-    second_refused : (c word : Text) → bytes_eq word (codes "--") ≡ false → IsFaulty (fault_at (one_held false c) word)
-    second_refused c word e = elim (value_or_flag word e) [
-      | inl v ↦ subst IsFaulty (sym (second_value word v c)) (second_trailing c word)
-      | inr f ↦ second_flag word f c
+    third_refused : (c n word : Text) → bytes_eq word (codes "--") ≡ false → IsFaulty (fault_at (two_held false c n) word)
+    third_refused c n word e = elim (value_or_flag word e) [
+      | inl v ↦ subst IsFaulty (sym (third_value word v c n)) (third_trailing c n word)
+      | inr f ↦ third_flag word f c n
     ]
+
+    -- the command's word is one that is let through
+    two : (t : Bool) (c n : Text) (words : List Text) → Right (two_held t c n) words (command_of_values (c ∷ n ∷ left_values t words))
+    unfolding walk_fault
+    two true c n [] = inl (two_end true c n, refl)
+    two false c n [] = inl (two_end false c n, refl)
+    two true c n (word ∷ words) = failed (two_held true c n) word words None (third_trailing c n word) refl
+    two false c n (word ∷ words) = elim (cases_Bool (bytes_eq word (codes "--"))) [
+      | inl is ↦ let d = third_dashes word is c n in subst (λ (l : List Text). Right (two_held false c n) (word ∷ words) (command_of_values (c ∷ n ∷ l))) (sym (dashes_left word words is)) (stepped (two_held false c n) (two_held true c n) word words _ d.0 d.1 (two true c n words))
+      | inr other ↦ subst (λ (l : List Text). Right (two_held false c n) (word ∷ words) (command_of_values (c ∷ n ∷ l))) (sym (value_left word words other)) (failed (two_held false c n) word words _ (third_refused c n word other) refl)
+    ]
+
+    second_trails : (c word : Text) (words : List Text) → Right (one_held true c) (word ∷ words) (command_of_values (c ∷ word ∷ words))
+    second_trails c word words = elim (cases_Bool (accepts false q c)) [
+      | inl is ↦ stepped (one_held true c) (two_held true c word) word words _ (second_trailing c word) (second_passes c word is) (two true c word words)
+      | inr other ↦ failed (one_held true c) word words _ (second_fails c word other) (unnamed c (word ∷ words) (named c other))
+    ]
+
+    second_word : (c word : Text) (words : List Text) → IsValue word ⊎ IsFlag word → Right (one_held false c) (word ∷ words) (command_of_values (c ∷ word ∷ without_dashes words))
+    second_word c word words (inl v) =
+        let s = second_value word v c in
+        elim (cases_Bool (accepts false q c)) [
+          | inl is ↦ stepped (one_held false c) (two_held false c word) word words _ s.0 (s.1 ∙ second_passes c word is) (two false c word words)
+          | inr other ↦ failed (one_held false c) word words _ (subst IsFaulty (sym s.1) (second_fails c word other)) (unnamed c (word ∷ without_dashes words) (named c other))
+        ]
+    second_word c word words (inr f) = failed (one_held false c) word words _ (second_flag word f c) (subst (λ (l : Text). command_of_values (c ∷ l ∷ without_dashes words) ≡ None) (sym f.dashed) (dashed_second c f.rest (without_dashes words)))
 
     one : (t : Bool) (c : Text) (words : List Text) → Right (one_held t c) words (command_of_values (c ∷ left_values t words))
     unfolding walk_fault
@@ -318,10 +395,10 @@ module _ (q : ValueParser) where
       | inl is ↦ inl (one_end false c is, refl)
       | inr other ↦ inr (one_end_refused false c other, unnamed c [] (named c other))
     ]
-    one true c (word ∷ words) = failed (one_held true c) word words None (second_trailing c word) refl
+    one true c (word ∷ words) = second_trails c word words
     one false c (word ∷ words) = elim (cases_Bool (bytes_eq word (codes "--"))) [
       | inl is ↦ let d = second_dashes word is c in subst (λ (l : List Text). Right (one_held false c) (word ∷ words) (command_of_values (c ∷ l))) (sym (dashes_left word words is)) (stepped (one_held false c) (one_held true c) word words _ d.0 d.1 (one true c words))
-      | inr other ↦ subst (λ (l : List Text). Right (one_held false c) (word ∷ words) (command_of_values (c ∷ l))) (sym (value_left word words other)) (failed (one_held false c) word words _ (second_refused c word other) refl)
+      | inr other ↦ subst (λ (l : List Text). Right (one_held false c) (word ∷ words) (command_of_values (c ∷ l))) (sym (value_left word words other)) (second_word c word words (value_or_flag word other))
     ]
 
     first : (word : Text) (words : List Text) → IsValue word ⊎ IsFlag word → Right (none_yet false) (word ∷ words) (command_of_values (word ∷ without_dashes words))
@@ -339,13 +416,13 @@ module _ (q : ValueParser) where
     ]
 
     -- a parse of the words gives the command that they ask for, or fails where there is none
-    pub parses : (words : List Text) → ((fault_of elk words ≡ []) × (chosen_of (first_of (codes "command") (matches_of elk words)) ≡ asked words)) ⊎ (IsFaulty (fault_of elk words) × (asked words ≡ None))
-    parses words = subst (λ (f : Kinds). ((f ≡ []) × (chosen_of (first_of (codes "command") (matches_of elk words)) ≡ asked words)) ⊎ (IsFaulty f × (asked words ≡ None))) (sym (whole words)) (none false words)
+    pub parses : (words : List Text) → ((fault_of elk words ≡ []) × (chosen (matches_of elk words) ≡ asked words)) ⊎ (IsFaulty (fault_of elk words) × (asked words ≡ None))
+    parses words = subst (λ (f : Kinds). ((f ≡ []) × (chosen (matches_of elk words) ≡ asked words)) ⊎ (IsFaulty f × (asked words ≡ None))) (sym (whole words)) (none false words)
 
-    pub answers_ok : (r : Result ArgMatches Error) (words : List Text) → IfOk r (HasMatchesOf elk words) → FailsBy (fault_of elk words) r → IfOk r (λ m. chosen_of (first_of (codes "command") (rows_of (found_of m))) ≡ asked words)
+    pub answers_ok : (r : Result ArgMatches Error) (words : List Text) → IfOk r (HasMatchesOf elk words) → FailsBy (fault_of elk words) r → IfOk r (λ m. chosen (rows_of (found_of m)) ≡ asked words)
     answers_ok (Err e) words matches fails = tt
     answers_ok (Ok m) words matches fails = elim (parses words) [
-      | inl found ↦ subst (λ (rows : List Row). chosen_of (first_of (codes "command") rows) ≡ asked words) (sym (matches refl).0) found.1
+      | inl found ↦ subst (λ (rows : List Row). chosen rows ≡ asked words) (sym (matches refl).0) found.1
       | inr faulty ↦ absurd (not_faulty (subst IsFaulty fails faulty.0))
     ]
 

@@ -7,12 +7,12 @@ use Rattle.clap.specs.Words.{App, Rule, Text, FailsBy, HasMatchesOf, app_of, fau
 use Rattle.clap.specs.Simple.{on_top, app_of_fields}
 use Rattle.clap.specs.declared.builder.value_parser.ValueParser.{ValueParser}
 use Rattle.clap.specs.declared.builder.arg.Arg.{Arg}
-use Rattle.elk_words.proofs.Clap.{command_rule, elk, is_named, any_name, answers_ok, answers_err}
+use Rattle.elk_words.proofs.Clap.{command_rule, number_rule, elk, is_named, any_name, answers_ok, answers_err}
 use Rattle.elk_words.specs.Words.{texts}
 use Rattle.elk_words.proofs.matches_of.Goals as goal
 
 abbrev names : List Text
-names = codes "layout" ∷ codes "check" ∷ []
+names = codes "layout" ∷ codes "check" ∷ codes "demo" ∷ []
 
 module _ (c : goal.After-try_get_matches_from) where
   q : (p : ValueParser) × (c.value_parser-command.result.value_parser ≡ Some p) × ((text : Text) → accepts false p text ≡ is_named text)
@@ -29,7 +29,8 @@ module _ (c : goal.After-try_get_matches_from) where
       ∙ ap (λ (r : Rule). record r { parser = Some q.0; required = true }) c.new.ensures.rule in
       let start_is : app_of c.no_binary_name.result ≡ on_top (λ s. record s { no_binary_name = true }) (new_app (codes "elk")) =
       ap app_of_fields c.no_binary_name.ensures ∙ ap (on_top (λ s. record s { no_binary_name = true })) c.new-2.ensures.app in
-      c.in_ok-elk.ensures.shape (search rules) ∙ ap₂ with_rule start_is command_is
+      let number_is : rule_of c.new-number.result ≡ number_rule = c.new-number.ensures.rule in
+      c.in_ok-elk.ensures.shape (search rules) ∙ ap₂ with_rule (c.in_ok-arg.ensures.shape (search rules) ∙ ap₂ with_rule start_is command_is) number_is
 
   fails : FailsBy (fault_of (elk q.0) (texts c.args.words.now)) c.try_get_matches_from.result
   fails = subst (λ (a : App). is_simple_and_free a ≡ true → FailsBy (fault_of a (texts c.args.words.now)) c.try_get_matches_from.result) elk_is c.try_get_matches_from.ensures.kinds refl
