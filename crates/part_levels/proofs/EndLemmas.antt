@@ -1,7 +1,7 @@
 -- Ends of edges that are picked by a test, where those of a part stand for those of the level.
-use Rattle.std.proofs.Common.{◌≡◌, ℕ, zero, suc, ◌+◌, ◌<◌, ◌==◌, cond, Bool, true, false, not, ◌||◌, List, [], ◌∷◌, length, map, get_or, arith, refl, sym, ap, subst, inl, inr, ◌∙◌, eq-eqb, true≢false}
+use Rattle.std.proofs.Common.{◌≡◌, ℕ, suc, ◌+◌, ◌<◌, cond, Bool, true, false, ◌||◌, List, [], ◌∷◌, length, map, get_or, arith, refl, sym, ap, inl, inr, ◌∙◌, eq-eqb, true≢false}
 use Rattle.std.specs.List.{filter, list_any}
-use Rattle.std.proofs.lemmas.Bool.{cases_Bool, cases_eq, ne_eqb}
+use Rattle.std.proofs.lemmas.Bool.{cases_eq, ne_eqb}
 use Rattle.level_plan.specs.Level.{End, end_at, end_eq, ends_of_edges, place_of_end}
 
 -- all numbers of a list are below a bound

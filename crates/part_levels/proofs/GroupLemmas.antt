@@ -1,6 +1,5 @@
 -- Rows while numbers are put into them.
-use Rattle.std.proofs.Common.{◌≡◌, ℕ, zero, suc, ◌+◌, ◌<◌, ◌≤◌, ◌==◌, List, [], ◌∷◌, ◌++◌, Vec, Global, length, map, get_or, set, slice_index, arith, refl, sym, ap, subst, inl, inr, ◌∙◌, eq-eqb, ne_eqb}
-use Rattle.std.specs.List.{filter, range_with_len}
+use Rattle.std.proofs.Common.{◌≡◌, ℕ, zero, suc, ◌+◌, ◌<◌, ◌≤◌, ◌==◌, List, [], ◌∷◌, ◌++◌, Vec, Global, length, get_or, set, slice_index, arith, refl, sym, ap, subst, inl, inr, ◌∙◌, eq-eqb, ne_eqb}
 use Rattle.std.proofs.lemmas.Bool.{cases_eq, cases_lt}
 use Rattle.std.proofs.lemmas.List.{get_or-map, get_or-set_other, get_or-set_same, get_or_append_left, get_or_push, length-map, length-set, length_push, map-set, map_push}
 use Rattle.part_layers.specs.Divided.{nodes_to, place_of}

@@ -1,5 +1,5 @@
 -- The parts of a level are those of the network of its edges.
-use Rattle.std.proofs.Common.{◌≡◌, ◌⊎◌, ℕ, zero, suc, ◌<◌, List, [], length, map, slice_index, arith, refl, sym, ap, subst, inl, inr, ◌∙◌}
+use Rattle.std.proofs.Common.{◌≡◌, ◌⊎◌, ℕ, zero, suc, ◌<◌, List, [], length, map, slice_index, refl, sym, ap, subst, inl, inr, ◌∙◌}
 use Rattle.std.proofs.lemmas.List.{get_or-map, length-map}
 use Rattle.elk_doc.specs.Paths.{Reaches}
 use Rattle.elk_doc.specs.Paths.Reaches.{stay, go}

@@ -1,16 +1,13 @@
 -- Ports, docks and anchors of a part are those of the level.
-use Rattle.std.proofs.Common.{◌≡◌, ℕ, zero, suc, ◌+◌, ◌<◌, ◌==◌, cond, Bool, true, false, not, ◌&&◌, ℤ, pos, List, [], ◌∷◌, ◌++◌, length, map, get_or, slice_index, arith, refl, sym, ap, subst, inl, inr, ◌∙◌, eq-eqb}
+use Rattle.std.proofs.Common.{◌≡◌, ℕ, suc, ◌+◌, ◌<◌, ◌==◌, cond, Bool, true, false, not, ◌&&◌, ℤ, pos, List, [], ◌∷◌, ◌++◌, length, map, slice_index, arith, refl, sym, ap, subst, inl, inr, ◌∙◌, eq-eqb}
 use Rattle.std.specs.Prelude.{Option, None, Some, is_none}
 use Rattle.std.specs.List.{filter, list_any, range_with_len}
 use Rattle.std.proofs.lemmas.Bool.{cases_eq, eqb-true, ne_eqb}
-use Rattle.std.proofs.lemmas.List.{length-map, map-append}
+use Rattle.std.proofs.lemmas.List.{map-append}
 use Rattle.std.proofs.lemmas.List.FromFn.{fill_by_all, length-range_with_len, get_or-range_with_len}
 use Rattle.elk_doc.specs.declared.shape.Point.{Point}
-use Rattle.elk_doc.specs.declared.shape.Rect.{Rect}
 use Rattle.elk_doc.specs.declared.shape.Side.{Side}
-use Rattle.elk_doc.specs.declared.shape.Dock.{Dock}
 use Rattle.elk_doc.specs.Shapes.{hull, rect_at}
-use Rattle.port_order.specs.declared.spots.Mean.{Mean}
 use Rattle.port_order.specs.declared.spots.Spot.{Spot}
 use Rattle.port_order.specs.declared.children.Child.{Child}
 use Rattle.port_order.specs.Child.{port_at}
@@ -20,13 +17,13 @@ use Rattle.port_order.specs.Ranks.{is_spread_on}
 use Rattle.level_plan.specs.declared.level.Spoke.{Spoke}
 use Rattle.level_plan.specs.declared.level.LevelEdge.{LevelEdge}
 use Rattle.level_plan.specs.Conditions.{IsLevel}
-use Rattle.level_plan.specs.Level.{PlainLevel, PlainPlan, Orders, End, all_ends, anchor_of_spot, child_at, dock_of, dock_of_spot, edge_at, end_at, ends_at_port, ends_of_edges, enters, holds, implicit_ends, implicit_spot, is_loop, is_port, linked, mean_of, outline_from, place_of_end, port_place, port_spot, spoke, spot, spot_at_port, spot_of, spots}
+use Rattle.level_plan.specs.Level.{PlainLevel, PlainPlan, Orders, End, all_ends, child_at, dock_of, end_at, ends_at_port, ends_of_edges, enters, implicit_ends, implicit_spot, is_loop, is_port, linked, outline_from, place_of_end, port_place, port_spot, spoke, spot_at_port, spot_of, spots}
 use Rattle.level_stands.proofs.SameLines.{same_dock}
-use Rattle.level_stands.specs.PortsKept.{port_side, spread_count}
+use Rattle.level_stands.specs.PortsKept.{spread_count}
 use Rattle.part_layers.specs.Divided.{place_of}
 use Rattle.part_layers.proofs.PlaceLemmas.{place_node}
-use Rattle.part_levels.specs.Divided.{child_number, edge_keys, edge_number, members, part_level, placed_at}
-use Rattle.part_levels.specs.Laws.{AreAlike, IsSameChild, IsSameEnd, PartsSayTheSame, SaysTheSame, numbered_dock}
+use Rattle.part_levels.specs.Divided.{child_number, edge_keys, edge_number, members, part_level}
+use Rattle.part_levels.specs.Laws.{AreAlike, IsSameChild, IsSameEnd, PartsSayTheSame, numbered_dock}
 use Rattle.part_levels.specs.Parts.{AreParts}
 use Rattle.part_levels.proofs.EndLemmas.{AllBelow, EndsBelow, all_below, any_up, ends_below, ends_up, filter_up, kept_below, only_there, place_up}
 use Rattle.part_levels.proofs.LevelLemmas.{child_in, child_is, edge_in, edge_is, edge_part, many_edges, many_keys, place_back, place_in, source_in, target_in}

@@ -1,5 +1,5 @@
 -- The children and edges of each part of a level, and the part as a level of its own.
-use Rattle.std.specs.Prelude.{ℕ, List, length, map, slice_index}
+use Rattle.std.specs.Prelude.{ℕ, List, map, slice_index}
 use Rattle.level_plan.specs.declared.level.LevelEdge.{LevelEdge}
 use Rattle.level_plan.specs.Level.{PlainLevel, child_at, edge_at}
 use Rattle.part_layers.specs.Divided.{nodes_of, place_of}

@@ -1,4 +1,4 @@
-use Rattle.std.proofs.Common.{◌≡◌, ap, arith, get_or, length}
+use Rattle.std.proofs.Common.{ap, arith, get_or, length}
 use Rattle.part_levels.proofs.GroupLemmas.{row_read, row_written}
 use Rattle.part_levels.proofs.grouping.add.Goals as goal
 

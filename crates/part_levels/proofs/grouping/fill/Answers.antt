@@ -1,4 +1,4 @@
-use Rattle.std.proofs.Common.{◌≡◌, ◌<◌, ◌≤◌, ℕ, Vec, Global, arith, length, slice_index}
+use Rattle.std.proofs.Common.{◌<◌, ℕ, Vec, Global, arith, length, slice_index}
 use Rattle.std.proofs.lemmas.List.{length-map}
 use Rattle.part_levels.specs.Groups.{lists_of}
 use Rattle.part_levels.proofs.GroupLemmas.{no_places, place_more, row_few, rows_more}

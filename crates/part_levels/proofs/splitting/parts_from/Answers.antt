@@ -2,7 +2,6 @@ use Rattle.std.proofs.Common.{◌≡◌, ◌<◌, ◌∙◌, ℕ, List, length, 
 use Rattle.part_layers.specs.Dividing.{ArePlaces}
 use Rattle.level_plan.specs.Conditions.{plain_level}
 use Rattle.part_levels.specs.Divided.{edge_keys, members}
-use Rattle.part_levels.specs.Groups.{HoldRows, lists_of}
 use Rattle.part_levels.proofs.GroupLemmas.{row_found}
 use Rattle.part_levels.proofs.LevelLemmas.{child_in, edge_in}
 use Rattle.part_levels.proofs.SplitLemmas.{part_levels_more, part_made}
