@@ -7,8 +7,12 @@ pub mod PlaceLemmas
 pub mod WindowLemmas
 pub mod FanLemmas
 pub mod StateLemmas
+pub mod SettledLemmas
 pub mod MeanLemmas
 pub mod SweepLemmas
 pub mod SweepLaws
+pub mod LoweringLemmas
+pub mod CopyLemmas
+pub mod CandidateLemmas
 pub mod ReduceLemmas
 pub mod ExampleLemmas

@@ -5,3 +5,5 @@ pub mod Exchanges
 pub mod Rows
 pub mod Means
 pub mod SweepRows
+pub mod Reduced
+pub mod Candidates

@@ -1,15 +1,17 @@
 //! Exchanges of neighbours, as long as one lowers the crossings.
-ghost use Rattle.std.specs.Prelude.{◌≡◌, ℕ, ◌<◌, ◌≤◌, ◌+◌, ◌^◌, ◌||◌, length, IfOk, OnOk, slice_index, nat_lt};
+ghost use Rattle.std.specs.Prelude.{◌≡◌, ℕ, ◌<◌, ◌≤◌, ◌+◌, ◌^◌, ◌||◌, length, IfOk, OnOk, slice_index, nat_lt, count_by, cond};
 ghost use Rattle.std.specs.List.{swap};
 ghost use Rattle.elk_layers.specs.Layered.{plain, rows_of, row_at, IsSound, AreRows};
 ghost use Rattle.elk_layers.specs.Crossings.{HasSameRows, NoBetterSwap};
 ghost use Rattle.elk_layers.specs.Crossings as crossing;
+ghost use Rattle.cross_reduce.specs.Reduced.{LowersTo};
 ghost use Rattle.cross_reduce.specs.Fans.{far_keys, fan_lists, fan_at};
 ghost use Rattle.cross_reduce.specs.Fans as fan;
-ghost use Rattle.cross_reduce.specs.Exchanges.{FitKeys, IsState, IsTried, IsNoBetter, NoneInRow, crossed_above, crossed_between};
+ghost use Rattle.cross_reduce.specs.Exchanges.{FitsKey, FitKeys, IsState, IsTried, IsNoBetter, NoneInRow, KeepsOthers, AreSettled, crossed_above, crossed_between};
 
 use crate::fans::{Fans, Far, Towards, fans_towards};
 use crate::places::places;
+use crate::settling::note_row;
 use elk_layers::{Layered, Order};
 use lane_count::count_above;
 use std::alloc::{AllocError, Global};
@@ -40,7 +42,52 @@ fn descents(upper: &[u32], lower: &[u32]) -> u64
     total
 }
 
+/// The key of a far end.
+pub(crate) fn key_of(place: &[u32], far: Far) -> u32
+    requires { FitsKey place.now far }
+    ensures { result ≡ fan.far_key place.now far }
+{
+    place[far.unit as usize] * 65536 + far.rank
+}
+
+/// One where a test holds, and else none.
+fn one_if(test: bool) -> u64
+    ensures value { result ≡ cond test 1 0 }
+    ensures bound { result ≤ 1 }
+{
+    test as u64
+}
+
+/// How many far ends have greater keys.
+fn keys_over(place: &[u32], fan: &[Far], key: u32) -> u64
+    requires { FitKeys place.now fan.now }
+    ensures value { result ≡ count_by (λ x. nat_lt key x) (far_keys place.now fan.now) }
+    ensures bound { result ≤ length fan.now }
+{
+    let mut total: u64 = 0;
+    for far in fan {
+        total += one_if(key_of(place, *far) > key);
+    }
+    total
+}
+
+/// The crossings of the links of two neighbours to one side, where the first stands above the second.
+fn crossed(place: &[u32], upper: &[Far], lower: &[Far]) -> u64
+    requires upper { FitKeys place.now upper.now }
+    requires lower { FitKeys place.now lower.now }
+    ensures value { result ≡ crossed_above place.now upper.now lower.now }
+    ensures bound { result ≤ 2 ^ 48 }
+{
+    let mut total: u64 = 0;
+    for far in lower {
+        total += keys_over(place, upper, key_of(place, *far));
+    }
+    total
+}
+
 /// The crossings of the links of two neighbours to one side, as they stand and exchanged.
+///
+/// For many links the keys are listed first, so that the kernel compares sixteen at once.
 fn both_ways(
     alloc: Global,
     upper: &[Far],
@@ -54,6 +101,9 @@ fn both_ways(
     ensures small { IfOk result (λ v. v.0 ≤ 2 ^ 48) }
     ensures small_then { IfOk result (λ v. v.1 ≤ 2 ^ 48) }
 {
+    if upper.len() <= 8 && lower.len() <= 8 {
+        return Ok((crossed(place, upper, lower), crossed(place, lower, upper)));
+    }
     let above = keys(alloc, upper, place)?;
     let below = keys(alloc, lower, place)?;
     Ok((
@@ -64,11 +114,11 @@ fn both_ways(
 
 /// An order with what is kept along with it: the places, and the far ends of the links to both sides.
 #[derive(Drop)]
-struct State {
-    order: Order,
-    place: Vec<u32>,
-    left: Fans,
-    right: Fans,
+pub(crate) struct State {
+    pub(crate) order: Order,
+    pub(crate) place: Vec<u32>,
+    pub(crate) left: Fans,
+    pub(crate) right: Fans,
 }
 
 /// Whether two neighbours have fewer crossings exchanged than as they stand.
@@ -96,7 +146,7 @@ fn is_better(
 }
 
 /// Two neighbours of a row, from the top.
-fn neighbours(order: &Order, r: usize, i: usize) -> (u32, u32)
+pub(crate) fn neighbours(order: &Order, r: usize, i: usize) -> (u32, u32)
     requires row { r < length (rows_of order.now) }
     requires place { i + 1 < length (row_at (rows_of order.now) r) }
     ensures upper { result.0 ≡ slice_index (row_at (rows_of order.now) r) i }
@@ -124,7 +174,7 @@ fn swap_neighbours(row: &mut Vec<u32>, i: usize)
 }
 
 /// Exchanges two neighbours.
-fn exchange(layered: &Layered, state: &mut State, r: usize, i: usize)
+pub(crate) fn exchange(layered: &Layered, state: &mut State, r: usize, i: usize)
     requires state { IsState (plain layered.now) (rows_of state.old.order) state.old.place.items (fan_lists state.old.left) (fan_lists state.old.right) }
     requires row { r < length (rows_of state.old.order) }
     requires place { i + 1 < length (row_at (rows_of state.old.order) r) }
@@ -150,7 +200,9 @@ fn try_exchange(
     requires place { i + 1 < length (row_at (rows_of state.old.order) r) }
     ensures state { OnOk result (IsState (plain layered.now) (rows_of state.new.order) state.new.place.items (fan_lists state.new.left) (fan_lists state.new.right)) }
     ensures same { OnOk result (HasSameRows (rows_of state.old.order) (rows_of state.new.order)) }
+    ensures lowered { OnOk result (LowersTo (plain layered.now) (rows_of state.old.order) (rows_of state.new.order)) }
     ensures tried { IfOk result (λ changed. IsTried (plain layered.now) (rows_of state.old.order) (rows_of state.new.order) changed (IsNoBetter (plain layered.now) (rows_of state.old.order) r i)) }
+    ensures others { OnOk result (KeepsOthers (rows_of state.old.order) (rows_of state.new.order) r) }
 {
     let (upper, lower) = neighbours(&state.order, r, i);
     let place = state.place.as_slice();
@@ -172,7 +224,9 @@ fn try_row(
     requires row { r < length (rows_of state.old.order) }
     ensures state { OnOk result (IsState (plain layered.now) (rows_of state.new.order) state.new.place.items (fan_lists state.new.left) (fan_lists state.new.right)) }
     ensures same { OnOk result (HasSameRows (rows_of state.old.order) (rows_of state.new.order)) }
+    ensures lowered { OnOk result (LowersTo (plain layered.now) (rows_of state.old.order) (rows_of state.new.order)) }
     ensures tried { IfOk result (λ changed. IsTried (plain layered.now) (rows_of state.old.order) (rows_of state.new.order) changed (NoneInRow (plain layered.now) (rows_of state.old.order) r)) }
+    ensures others { OnOk result (KeepsOthers (rows_of state.old.order) (rows_of state.new.order) r) }
 {
     let mut changed = false;
     let len = row_len(&state.order, r);
@@ -184,37 +238,70 @@ fn try_row(
 }
 
 /// Whether one of two is true.
-fn either(one: bool, other: bool) -> bool
+pub(crate) fn either(one: bool, other: bool) -> bool
     ensures { result ≡ (one || other) }
 {
     one || other
 }
 
 /// The number of units in a row.
-fn row_len(order: &Order, r: usize) -> usize
+pub(crate) fn row_len(order: &Order, r: usize) -> usize
     requires { r < length (rows_of order.now) }
     ensures { result ≡ length (row_at (rows_of order.now) r) }
 {
     order.rows[r].len()
 }
 
-/// Tries the neighbours of each row.
-fn try_rows(alloc: Global, layered: &Layered, state: &mut State) -> Result<bool, AllocError>
-    requires { IsState (plain layered.now) (rows_of state.old.order) state.old.place.items (fan_lists state.old.left) (fan_lists state.old.right) }
+/// Tries the neighbours of a row, if it isn't known to be settled.
+fn try_unsettled(
+    alloc: Global,
+    layered: &Layered,
+    state: &mut State,
+    settled: &mut Vec<bool>,
+    r: usize,
+) -> Result<bool, AllocError>
+    requires state { IsState (plain layered.now) (rows_of state.old.order) state.old.place.items (fan_lists state.old.left) (fan_lists state.old.right) }
+    requires settled { AreSettled (plain layered.now) (rows_of state.old.order) settled.old.items }
+    requires row { r < length (rows_of state.old.order) }
     ensures state { OnOk result (IsState (plain layered.now) (rows_of state.new.order) state.new.place.items (fan_lists state.new.left) (fan_lists state.new.right)) }
+    ensures settled { OnOk result (AreSettled (plain layered.now) (rows_of state.new.order) settled.new.items) }
     ensures same { OnOk result (HasSameRows (rows_of state.old.order) (rows_of state.new.order)) }
+    ensures lowered { OnOk result (LowersTo (plain layered.now) (rows_of state.old.order) (rows_of state.new.order)) }
+    ensures tried { IfOk result (λ changed. IsTried (plain layered.now) (rows_of state.old.order) (rows_of state.new.order) changed (NoneInRow (plain layered.now) (rows_of state.old.order) r)) }
+{
+    if settled[r] {
+        return Ok(false);
+    }
+    let changed = try_row(alloc, layered, state, r)?;
+    note_row(settled, r, changed);
+    Ok(changed)
+}
+
+/// Tries the neighbours of each row that isn't settled.
+fn try_rows(
+    alloc: Global,
+    layered: &Layered,
+    state: &mut State,
+    settled: &mut Vec<bool>,
+) -> Result<bool, AllocError>
+    requires state { IsState (plain layered.now) (rows_of state.old.order) state.old.place.items (fan_lists state.old.left) (fan_lists state.old.right) }
+    requires settled { AreSettled (plain layered.now) (rows_of state.old.order) settled.old.items }
+    ensures state { OnOk result (IsState (plain layered.now) (rows_of state.new.order) state.new.place.items (fan_lists state.new.left) (fan_lists state.new.right)) }
+    ensures settled { OnOk result (AreSettled (plain layered.now) (rows_of state.new.order) settled.new.items) }
+    ensures same { OnOk result (HasSameRows (rows_of state.old.order) (rows_of state.new.order)) }
+    ensures lowered { OnOk result (LowersTo (plain layered.now) (rows_of state.old.order) (rows_of state.new.order)) }
     ensures tried { IfOk result (λ changed. IsTried (plain layered.now) (rows_of state.old.order) (rows_of state.new.order) changed (NoBetterSwap (plain layered.now) (rows_of state.old.order))) }
 {
     let mut changed = false;
     for r in 0..layered.layers as usize {
-        let now = try_row(alloc, layered, state, r)?;
+        let now = try_unsettled(alloc, layered, state, settled, r)?;
         changed = either(changed, now);
     }
     Ok(changed)
 }
 
 /// The order with its places and far ends.
-fn state_of(alloc: Global, layered: &Layered, order: Order) -> Result<State, AllocError>
+pub(crate) fn state_of(alloc: Global, layered: &Layered, order: Order) -> Result<State, AllocError>
     requires sound { IsSound (plain layered.now) }
     requires rows { AreRows (plain layered.now) (rows_of order) }
     ensures order { IfOk result (λ state. rows_of state.order ≡ rows_of order) }
@@ -233,17 +320,21 @@ fn state_of(alloc: Global, layered: &Layered, order: Order) -> Result<State, All
 }
 
 /// Exchanges neighbours until no exchange lowers the crossings.
+///
+/// A row in which no exchange did is tried again only once it or a row beside it has changed.
 pub(crate) fn exchanged(alloc: Global, layered: &Layered, order: Order) -> Result<Order, AllocError>
     requires sound { IsSound (plain layered.now) }
     requires rows { AreRows (plain layered.now) (rows_of order) }
     ensures same { IfOk result (λ o. HasSameRows (rows_of order) (rows_of o)) }
     ensures fewer { IfOk result (λ o. crossing.crossings (plain layered.now) (rows_of o) ≤ crossing.crossings (plain layered.now) (rows_of order)) }
     ensures settled { IfOk result (λ o. NoBetterSwap (plain layered.now) (rows_of o)) }
+    ensures lowered { IfOk result (λ o. LowersTo (plain layered.now) (rows_of order) (rows_of o)) }
 {
     let mut state = state_of(alloc, layered, order)?;
+    let mut settled: Vec<bool> = vec![in alloc; false; layered.layers as usize]?;
     let mut changed = true;
     while changed {
-        changed = try_rows(alloc, layered, &mut state)?;
+        changed = try_rows(alloc, layered, &mut state, &mut settled)?;
     }
     Ok(state.order)
 }

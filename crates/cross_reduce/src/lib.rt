@@ -1,16 +1,26 @@
 //! Orders of the rows of a layered drawing with few crossings.
 //!
-//! The rows are swept by the barycentre rule of Sugiyama, Tagawa and Toda 1981, forward and backward,
-//! and in the end neighbours are exchanged as long as an exchange lowers the crossings. Crossings are
-//! counted by tail key, with a vector kernel over the head keys; an exchange is judged by the links of
-//! the two neighbours alone.
+//! The rows are swept by the barycentre rule of Sugiyama, Tagawa and Toda 1981, forward and backward; a
+//! search goes on from there, by sweeps from shuffled rows and by simulated annealing; and in the end
+//! neighbours are exchanged as long as an exchange lowers the crossings. Crossings are counted by tail key,
+//! with a vector kernel over the head keys; an exchange is judged by the links of the two neighbours alone.
 #![tactic(auto)]
 
+mod annealing;
+mod copying;
 mod counting;
+mod effort;
 mod exchanging;
 mod fans;
+mod lots;
+mod ordering;
 mod places;
 mod reducing;
+mod replacing;
+mod resweeping;
+mod searching;
+mod settling;
+mod starts;
 mod sweeping;
 
 pub use counting::crossings;

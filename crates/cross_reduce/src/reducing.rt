@@ -1,26 +1,33 @@
 //! The sweep orders of a start, the best of them, and the exchanges after it.
-ghost use Rattle.std.specs.Prelude.{◌≡◌, ◌≤◌, ℕ, List, IfOk};
+ghost use Rattle.std.specs.Prelude.{◌≡◌, ◌<◌, ◌≤◌, ◌⊎◌, ◌++◌, ◌∷◌, [], ℕ, List, IfOk};
 ghost use Rattle.std.specs.List.{All};
 ghost use Rattle.elk_layers.specs.Layered.{plain, rows_of, IsSound, AreRows};
 ghost use Rattle.elk_layers.specs.Crossings.{HasSameRows, NoBetterSwap};
 ghost use Rattle.elk_layers.specs.Crossings as spec;
+ghost use Rattle.cross_reduce.specs.Reduced.{IsFirstOfFewest, IsExchangedFromFewest};
 ghost use Rattle.elk_layers.specs.Sweeps.{sweep_orders, forward_sweep, backward_sweep};
 
 use crate::counting::crossings;
+use crate::effort::work_for;
 use crate::exchanging::exchanged;
+use crate::searching::search;
 use crate::sweeping::{backward, forward};
 use elk_layers::{Layered, Order};
 use std::alloc::{AllocError, Global};
 
 /// An order and its crossings.
 #[derive(Drop)]
-struct Counted {
-    order: Order,
-    crossings: u64,
+pub(crate) struct Counted {
+    pub(crate) order: Order,
+    pub(crate) crossings: u64,
 }
 
 /// An order with its crossings.
-fn with_count(alloc: Global, layered: &Layered, order: Order) -> Result<Counted, AllocError>
+pub(crate) fn with_count(
+    alloc: Global,
+    layered: &Layered,
+    order: Order,
+) -> Result<Counted, AllocError>
     requires sound { IsSound (plain layered.now) }
     requires rows { AreRows (plain layered.now) (rows_of order) }
     ensures order { IfOk result (λ k. k.order ≡ order) }
@@ -31,13 +38,20 @@ fn with_count(alloc: Global, layered: &Layered, order: Order) -> Result<Counted,
 }
 
 /// The kept order, or the new one where it has fewer crossings.
-fn fewer(alloc: Global, layered: &Layered, kept: Counted, new: Order) -> Result<Counted, AllocError>
+pub(crate) fn fewer(
+    alloc: Global,
+    layered: &Layered,
+    kept: Counted,
+    new: Order,
+) -> Result<Counted, AllocError>
     requires sound { IsSound (plain layered.now) }
     requires kept_rows { AreRows (plain layered.now) (rows_of kept.order) }
     requires new_rows { AreRows (plain layered.now) (rows_of new) }
     requires counted { kept.crossings ≡ spec.crossings (plain layered.now) (rows_of kept.order) }
     ensures counted { IfOk result (λ k. k.crossings ≡ spec.crossings (plain layered.now) (rows_of k.order)) }
     ensures rows { IfOk result (λ k. AreRows (plain layered.now) (rows_of k.order)) }
+    ensures first { IfOk result (λ k. (orders : List (List (List ℕ))) → IsFirstOfFewest (plain layered.now) orders (rows_of kept.order) → IsFirstOfFewest (plain layered.now) (orders ++ rows_of new ∷ []) (rows_of k.order)) }
+    ensures either { IfOk result (λ k. (rows_of k.order ≡ rows_of kept.order) ⊎ (spec.crossings (plain layered.now) (rows_of k.order) < spec.crossings (plain layered.now) (rows_of kept.order))) }
     ensures at_most_kept { IfOk result (λ k. spec.crossings (plain layered.now) (rows_of k.order) ≤ spec.crossings (plain layered.now) (rows_of kept.order)) }
     ensures at_most_new { IfOk result (λ k. spec.crossings (plain layered.now) (rows_of k.order) ≤ spec.crossings (plain layered.now) (rows_of new)) }
     ensures same { IfOk result (λ k. (start : List (List ℕ)) → HasSameRows start (rows_of kept.order) → HasSameRows start (rows_of new) → HasSameRows start (rows_of k.order)) }
@@ -72,6 +86,7 @@ fn best_sweep(alloc: Global, layered: &Layered, start: Counted) -> Result<Order,
     requires rows { AreRows (plain layered.now) (rows_of start.order) }
     requires counted { start.crossings ≡ spec.crossings (plain layered.now) (rows_of start.order) }
     ensures same_rows { IfOk result (λ o. HasSameRows (rows_of start.order) (rows_of o)) }
+    ensures first { IfOk result (λ o. IsFirstOfFewest (plain layered.now) (rows_of start.order ∷ sweep_orders (plain layered.now) (rows_of start.order)) (rows_of o)) }
     ensures no_more { IfOk result (λ o. spec.crossings (plain layered.now) (rows_of o) ≤ spec.crossings (plain layered.now) (rows_of start.order)) }
     ensures sweeps { IfOk result (λ o. All (λ swept. spec.crossings (plain layered.now) (rows_of o) ≤ spec.crossings (plain layered.now) swept) (sweep_orders (plain layered.now) (rows_of start.order))) }
 {
@@ -90,6 +105,12 @@ fn best_sweep(alloc: Global, layered: &Layered, start: Counted) -> Result<Order,
 /// barycentre rule, after a backward sweep of that order, and once more so. No exchange of two neighbours
 /// of a row lowers its crossings. A start without crossings is given back. The only error is want of
 /// memory, which drops the start.
+///
+/// The exchanges begin from the first of fewest crossings among these five orders, or from an order with
+/// fewer crossings that a search finds: by sweeps from shuffled rows, and by simulated annealing of what is
+/// best then. The search looks at 1,000 links for each unit and link of the level and at most at 2^24, so
+/// small levels are searched more thoroughly than large ones, and a level of more than 2^18 units and links
+/// not at all. Nothing in it is chance or measured time: equal drawings have equal answers.
 pub fn reduce(alloc: Global, layered: &Layered, start: Order) -> Result<Order, AllocError>
     requires sound { IsSound (plain layered.now) }
     requires rows { AreRows (plain layered.now) (rows_of start) }
@@ -97,6 +118,7 @@ pub fn reduce(alloc: Global, layered: &Layered, start: Order) -> Result<Order, A
     ensures no_more { IfOk result (λ o. spec.crossings (plain layered.now) (rows_of o) ≤ spec.crossings (plain layered.now) (rows_of start)) }
     ensures sweeps { IfOk result (λ o. All (λ swept. spec.crossings (plain layered.now) (rows_of o) ≤ spec.crossings (plain layered.now) swept) (sweep_orders (plain layered.now) (rows_of start))) }
     ensures settled { IfOk result (λ o. NoBetterSwap (plain layered.now) (rows_of o)) }
+    ensures from_fewest { IfOk result (λ o. IsExchangedFromFewest (plain layered.now) (rows_of start) (rows_of o)) }
     ensures without_crossings { IfOk result (λ o. spec.crossings (plain layered.now) (rows_of start) ≡ 0 → rows_of o ≡ rows_of start) }
 {
     let start = with_count(alloc, layered, start)?;
@@ -104,5 +126,11 @@ pub fn reduce(alloc: Global, layered: &Layered, start: Order) -> Result<Order, A
         return Ok(start.order);
     }
     let swept = best_sweep(alloc, layered, start)?;
-    exchanged(alloc, layered, swept)
+    let settled = exchanged(alloc, layered, swept)?;
+    if work_for(layered) == 0 {
+        return Ok(settled);
+    }
+    let settled = with_count(alloc, layered, settled)?;
+    let best = search(alloc, layered, settled)?;
+    exchanged(alloc, layered, best.order)
 }

@@ -142,6 +142,6 @@ fn five_beside_five(rt: HostRuntime) -> Result<(), Fail> {
     let rows = five_rows(alloc)?;
     let (before, after) = before_and_after(alloc, &layered, rows)?;
     assert_eq!(rt; before, 7);
-    assert!(rt; after <= 4);
+    assert_eq!(rt; after, 0);
     Ok(())
 }

@@ -2,7 +2,8 @@ use Rattle.std.proofs.Common.{◌≡◌, ◌≤◌, ◌+◌, ◌*◌, false}
 use Rattle.elk_layers.specs.Layered.{plain, rows_of}
 use Rattle.elk_layers.specs.Crossings.{HasSameRows, NoBetterSwap, crossings}
 use Rattle.cross_reduce.specs.Fans.{fan_lists}
-use Rattle.cross_reduce.specs.Exchanges.{IsState}
+use Rattle.cross_reduce.specs.Reduced.{LowersTo}
+use Rattle.cross_reduce.specs.Exchanges.{IsState, AreSettled}
 use Rattle.cross_reduce.proofs.Sums.{one_if}
 use Rattle.cross_reduce.proofs.exchanging.exchanged.Given as goal
 
@@ -10,7 +11,9 @@ abbrev pub invariant-loop-changed : goal.invariant-loop-changed
 invariant-loop-changed l =
     record {
       state : IsState (plain l.layered) (rows_of l.state.order) l.state.place.items (fan_lists l.state.left) (fan_lists l.state.right);
+      flags : AreSettled (plain l.layered) (rows_of l.state.order) l.settled.items;
       same : HasSameRows (rows_of l.initial.state.order) (rows_of l.state.order);
+      lowered : LowersTo (plain l.layered) (rows_of l.initial.state.order) (rows_of l.state.order);
       fewer : crossings (plain l.layered) (rows_of l.state.order) ≤ crossings (plain l.layered) (rows_of l.initial.state.order);
       settled : l.changed ≡ false → NoBetterSwap (plain l.layered) (rows_of l.state.order);
     }

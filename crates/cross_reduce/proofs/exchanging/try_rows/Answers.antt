@@ -1,17 +1,21 @@
-use Rattle.std.proofs.Common.{◌+◌, ◌<◌, ℕ, arith, inl, inr, subst, sym}
+use Rattle.std.proofs.Common.{◌+◌, ◌<◌, ℕ, arith, inl, inr, refl, subst, sym}
 use Rattle.std.proofs.lemmas.Bool.{cases_eq}
 use Rattle.elk_layers.specs.Layered.{plain, rows_of}
 use Rattle.cross_reduce.specs.Exchanges.{NoneInRow}
-use Rattle.cross_reduce.proofs.StateLemmas.{same_trans, tried_more}
+use Rattle.cross_reduce.specs.Reduced.{stay}
+use Rattle.cross_reduce.proofs.LoweringLemmas.{lowers_join}
+use Rattle.cross_reduce.proofs.StateLemmas.{same_refl, same_trans, tried_more}
 use Rattle.cross_reduce.proofs.exchanging.try_rows.Goals as goal
 
 pub loop-r-preserved : goal.loop-r-preserved
 loop-r-preserved c =
     record {
       state = c.in_ok-now.ensures.state;
-      same = same_trans (rows_of c.args.state.now.order) (rows_of c.loop-r.state.order) (rows_of c.try_row.new.state.order) c.loop-r.invariant.same c.in_ok-now.ensures.same;
+      settled = c.in_ok-now.ensures.settled;
+      same = same_trans (rows_of c.args.state.now.order) (rows_of c.loop-r.state.order) (rows_of c.try_unsettled.new.state.order) c.loop-r.invariant.same c.in_ok-now.ensures.same;
+      lowered = lowers_join (plain c.args.layered.now) (rows_of c.args.state.now.order) (rows_of c.loop-r.state.order) (rows_of c.try_unsettled.new.state.order) c.loop-r.invariant.lowered c.in_ok-now.ensures.lowered;
       tried = rw c.either-changed.ensures
-          (tried_more (plain c.args.layered.now) (rows_of c.args.state.now.order) (rows_of c.loop-r.state.order) (rows_of c.try_row.new.state.order) c.loop-r.changed c.in_ok-now.now
+          (tried_more (plain c.args.layered.now) (rows_of c.args.state.now.order) (rows_of c.loop-r.state.order) (rows_of c.try_unsettled.new.state.order) c.loop-r.changed c.in_ok-now.now
           ((g : ℕ) → g < c.loop-r.r → NoneInRow (plain c.args.layered.now) (rows_of c.args.state.now.order) g)
           ((g : ℕ) → g < c.loop-r.r + 1 → NoneInRow (plain c.args.layered.now) (rows_of c.args.state.now.order) g)
           (λ rows. NoneInRow (plain c.args.layered.now) rows c.loop-r.r) c.loop-r.invariant.tried c.in_ok-now.ensures.tried
@@ -20,3 +24,7 @@ loop-r-preserved c =
             | inr n ↦ before g (omega (arith, h, n))
           ]));
     }
+
+pub loop-r-init : goal.loop-r-init
+loop-r-init c =
+    record { state = c.requires.state; settled = c.requires.settled; same = same_refl (rows_of c.args.state.now.order); lowered = stay (rows_of c.args.state.now.order); tried = (refl, λ g h. absurd (omega (arith, h))) }

@@ -1,5 +1,6 @@
 use Rattle.std.proofs.Common.{List, ℕ}
-use Rattle.elk_layers.specs.Layered.{rows_of}
+use Rattle.elk_layers.specs.Layered.{plain, rows_of}
+use Rattle.cross_reduce.proofs.LoweringLemmas.{first_alone, first_of_five}
 use Rattle.cross_reduce.proofs.StateLemmas.{same_refl, same_trans}
 use Rattle.cross_reduce.proofs.reducing.best_sweep.Goals as goal
 
@@ -11,3 +12,9 @@ returns-clause-same_rows c =
     let best_2 = c.in_ok-best-2.ensures.same start best c.in_ok-one.ensures.two_same in
     let best_3 = c.in_ok-best-3.ensures.same start best_2 (same_trans start two (rows_of c.in_ok-three.three) c.in_ok-one.ensures.two_same c.in_ok-three.ensures.one_same) in
     c.in_ok-best-4.ensures.same start best_3 (same_trans start two (rows_of c.in_ok-three.four) c.in_ok-one.ensures.two_same c.in_ok-three.ensures.two_same)
+
+pub returns-clause-first : goal.returns-clause-first
+returns-clause-first c =
+    first_of_five (plain c.args.layered.now) (rows_of c.args.start.order) (rows_of c.in_ok-one.one) (rows_of c.in_ok-one.two) (rows_of c.in_ok-three.three) (rows_of c.in_ok-three.four) (rows_of c.in_ok-best-4.best.order)
+    c.in_ok-one.ensures.one c.in_ok-one.ensures.two c.in_ok-three.ensures.one c.in_ok-three.ensures.two
+    (c.in_ok-best-4.ensures.first _ (c.in_ok-best-3.ensures.first _ (c.in_ok-best-2.ensures.first _ (c.in_ok-best.ensures.first _ (first_alone (plain c.args.layered.now) (rows_of c.args.start.order))))))

@@ -1,0 +1,54 @@
+//! The work that a search may do, in links that are looked at.
+
+use elk_layers::Layered;
+
+/// How many links may be looked at, and how many of them are left.
+#[derive(Drop)]
+pub(crate) struct Effort {
+    whole: u64,
+    left: u64,
+}
+
+impl Effort {
+    /// So much work.
+    pub(crate) fn of(whole: u64) -> Effort {
+        Effort { whole, left: whole }
+    }
+
+    /// Links were looked at.
+    pub(crate) fn spend(&mut self, links: u64) {
+        self.left = self.left.saturating_sub(links);
+    }
+
+    /// Whether nothing is left.
+    pub(crate) fn is_spent(&self) -> bool {
+        self.left == 0
+    }
+
+    /// All of it, also what is spent.
+    pub(crate) fn whole(&self) -> u64 {
+        self.whole
+    }
+
+    /// The part of a number that is left of the whole.
+    pub(crate) fn part_left(&self, number: u64) -> u64 {
+        if self.whole == 0 {
+            return 0;
+        }
+        number.saturating_mul(self.left) / self.whole
+    }
+}
+
+/// The units and links of a level.
+pub(crate) fn size_of(layered: &Layered) -> u64 {
+    (layered.units.len() as u64).saturating_add(layered.links.len() as u64)
+}
+
+/// The work that a level is worth: 1,000 for each unit and link, at most 2^24, and none past 2^18 of these.
+pub(crate) fn work_for(layered: &Layered) -> u64 {
+    let size = size_of(layered);
+    if size > 262144 {
+        return 0;
+    }
+    size.saturating_mul(1000).min(16777216)
+}
