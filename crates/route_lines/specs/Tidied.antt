@@ -10,7 +10,7 @@ pub record IsMiddle (a b c : Point) : Type 0 where
   pub line : IsAxisParallel a c
   pub between : IsOnSegment a c b
 
--- one point is dropped: one of two equal neighbours, or a point between its two neighbours on one line
+-- one point is dropped: one of two equal neighbours, or a point between its two neighbours on one line parallel to an axis
 pub data Drops : List Point → List Point → Type 0 where
   equal : (a b : Point) (ps : List Point) → a ≡ b → Drops (a ∷ b ∷ ps) (b ∷ ps)
   middle : (a b c : Point) (ps : List Point) → IsMiddle a b c → Drops (a ∷ b ∷ c ∷ ps) (a ∷ c ∷ ps)

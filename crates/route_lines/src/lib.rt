@@ -36,6 +36,3 @@ mod tidying;
 
 pub use joining::join;
 pub use tidying::tidy;
-
-#[cfg(test)]
-mod tests;

@@ -125,8 +125,8 @@ impl Path {
     }
 }
 
-/// The path with one of two equal neighbours dropped, and each point between its two neighbours on one line, until none is
-/// left.
+/// The path with one of two equal neighbours dropped, and each point between its two neighbours on one line parallel to an
+/// axis, until none is left. Routes have no other lines: a point between its neighbours on a slanted line stays.
 ///
 /// The path is read from its end, so that each point is dropped once at most and none is looked at again.
 pub fn tidy(alloc: Global, points: &[Point]) -> Result<Vec<Point>, AllocError>

@@ -9,3 +9,11 @@ pub mod Taking
 pub mod Sides
 pub mod Cycling
 pub mod Leveling
+pub mod Meeting
+pub mod Summing
+pub mod Swapping
+pub mod Differing
+pub mod Blocking
+pub mod Stepping
+pub mod Fewer
+pub mod Relevelling

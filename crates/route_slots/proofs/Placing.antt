@@ -15,7 +15,9 @@ use Rattle.route_slots.specs.GapFree.{IsLevelNet, IsAtHeight, StandsIn, IsNearPi
 use Rattle.route_slots.specs.Standing.{StandsAt, IsUpright, AreApart}
 use Rattle.route_slots.specs.Slotting.{piece_at, IsReal, AreSlots, AreAtOneLevel, MeetInEach}
 use Rattle.route_slots.specs.Density.{Contains, MeetAt, IsDensity}
-use Rattle.route_slots.specs.Marks.{mark_at, LevelAt, AreMarks, other_end, piece_a, piece_b, height_of, ArePieces, route_by, ArePlaced, IsTop, AreFlat}
+use Rattle.route_slots.specs.Marks.{mark_at, LevelAt, AreMarks, other_end, piece_a, piece_b, height_of, ArePieces, route_by, ArePlaced, AreFlat}
+use Rattle.route_slots.specs.declared.middles.Height.{Height}
+use Rattle.route_slots.specs.Middles.{AreMiddles}
 use Rattle.route_slots.proofs.Free.{AreKept, free}
 use Rattle.route_slots.proofs.Lists.{each_pushed, few_below}
 
@@ -120,17 +122,17 @@ proper_b : (m : Mark) (n : Net) (h : ℤ) → (piece_b m n h).low ≤ℤ (piece_
 proper_b m n h = min_max h n.b.height
 
 -- each piece leads from its low end to its high one
-pub all_proper : (nets : List Net) (ms : List Mark) (top : ℤ) (ps : List Piece) → ArePieces nets ms top ps → (i : ℕ) → i < length ps → (piece_at ps i).low ≤ℤ (piece_at ps i).high
-all_proper nets ms top ps pieces i h =
+pub all_proper : (nets : List Net) (ms : List Mark) (hs : List Height) (ps : List Piece) → ArePieces nets ms hs ps → (i : ℕ) → i < length ps → (piece_at ps i).low ≤ℤ (piece_at ps i).high
+all_proper nets ms hs ps pieces i h =
     let len = pieces.len in
     let at = halved i (length nets) (omega arith) in
     ⊎_elim
-    (λ (e : i ≡ at.0 + at.0). subst (λ (p : Piece). p.low ≤ℤ p.high) (sym (ap (piece_at ps) e ∙ pieces.at_a at.0 at.1)) (proper_a (mark_at ms at.0) (net_at nets at.0) (height_of top at.0)))
-    (λ (e : i ≡ at.0 + at.0 + 1). subst (λ (p : Piece). p.low ≤ℤ p.high) (sym (ap (piece_at ps) e ∙ pieces.at_b at.0 at.1)) (proper_b (mark_at ms at.0) (net_at nets at.0) (height_of top at.0)))
+    (λ (e : i ≡ at.0 + at.0). subst (λ (p : Piece). p.low ≤ℤ p.high) (sym (ap (piece_at ps) e ∙ pieces.at_a at.0 at.1)) (proper_a (mark_at ms at.0) (net_at nets at.0) (height_of hs at.0)))
+    (λ (e : i ≡ at.0 + at.0 + 1). subst (λ (p : Piece). p.low ≤ℤ p.high) (sym (ap (piece_at ps) e ∙ pieces.at_b at.0 at.1)) (proper_b (mark_at ms at.0) (net_at nets at.0) (height_of hs at.0)))
     at.2
 
-module _ (nets : List Net) (ms : List Mark) (top : ℤ) (ps : List Piece) (ss : List ℕ) (count : ℕ) (routes : List NetRoute)
-    (marks : AreMarks nets ms) (pieces : ArePieces nets ms top ps) (slots : AreSlots ps ss count) (at_top : IsTop nets top) (placed : ArePlaced nets ms top ss routes) where
+module _ (nets : List Net) (ms : List Mark) (hs : List Height) (ps : List Piece) (ss : List ℕ) (count : ℕ) (routes : List NetRoute)
+    (marks : AreMarks nets ms) (pieces : ArePieces nets ms hs ps) (slots : AreSlots ps ss count) (middles : AreMiddles nets hs) (placed : ArePlaced nets ms hs ss routes) where
   abbrev net : ℕ → Net
   net k = net_at nets k
 
@@ -144,7 +146,7 @@ module _ (nets : List Net) (ms : List Mark) (top : ℤ) (ps : List Piece) (ss : 
   second k = get_or ss (k + k + 1) 0
 
   abbrev height : ℕ → ℤ
-  height k = height_of top k
+  height k = height_of hs k
 
   real_a : (k : ℕ) → k < length nets → (mark k).straight ≡ false → IsReal ps (k + k)
   real_a k h e = (let len = pieces.len in omega arith, ap (λ z. z.real) (pieces.at_a k h) ∙ ap not e)
@@ -219,7 +221,7 @@ module _ (nets : List Net) (ms : List Mark) (top : ℤ) (ps : List Piece) (ss : 
       (λ (a : i ≡ j + j + 1). ⊎_elim (λ (b : i' ≡ k + k). omega arith) (λ (b : i' ≡ k + k + 1). omega arith) y)
       x)
 
-  apart : AreApart nets routes
+  pub apart : AreApart nets routes
   apart =
       record {
         order = λ j k p q s t jl kl ne x y pl ql e.
@@ -250,21 +252,6 @@ module _ (nets : List Net) (ms : List Mark) (top : ℤ) (ps : List Piece) (ss : 
   two : (k s : ℕ) (h : ℤ) (t : ℕ) → k < length nets → route_at routes k ≡ Two s h t → TwoIs (mark k).straight (mark k).split (first k) (height k) (second k) s h t
   two k s h t l e = is_two (mark k).straight (mark k).split (first k) (height k) (second k) s h t (sym (placed.routes_are k l) ∙ e)
 
-  above_pins : (j k : ℕ) (h : ℤ) → j < length nets → h ≡ height k → IsAtHeight (net j) h → ⊥
-  above_pins j k h l e x =
-      let t = at_top.above j l in
-      let t0 = t.0 in
-      let t1 = t.1 in
-      ⊎_elim (λ y. let y' = y in omega (arith, ints)) (λ y. let y' = y in omega (arith, ints)) x
-
-  near : (k : ℕ) (h : ℤ) → k < length nets → h ≡ height k → IsNearPins nets h
-  near k h l e =
-      let top_at = at_top.reached (omega arith) in
-      let high = top_at.2 in
-      let above = at_top.above k l in
-      let a0 = above.0 in
-      record { i = k; j = top_at.0; i_in = l; j_in = top_at.1; low = omega (arith, ints, clamps); high = omega (arith, ints) }
-
   -- the two pieces of a net meet at the height between them, so they stand in two slots
   halves_differ : (k : ℕ) → k < length nets → (mark k).split ≡ true → first k ≡ second k → ⊥
   halves_differ k h e same =
@@ -286,12 +273,12 @@ module _ (nets : List Net) (ms : List Mark) (top : ℤ) (ps : List Piece) (ss : 
       let h_is = w.3 in
       record {
         differ = λ same. halves_differ k l w.1 (sym w.2 ∙ same ∙ w.4);
-        no_pin = λ j jl x. above_pins j k h jl h_is x;
+        no_pin = λ j jl x. middles.no_pin j k jl l (subst (λ z. IsAtHeight (net j) z) h_is x);
         no_other = λ j s' h' t' jl ne f same.
             let v = two j s' h' t' jl f in
             let g_is = v.3 in
-            let e' : j ≡ k = omega (arith, ints) in ne e';
-        near = near k h l h_is;
+            ne (middles.alone j k jl l (sym g_is ∙ sym same ∙ h_is));
+        near = subst (λ z. IsNearPins nets z) (sym h_is) (middles.near k l);
       }
 
   pub gap_free : GapFree nets count routes

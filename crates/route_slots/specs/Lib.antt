@@ -3,7 +3,11 @@ pub mod GapFree
 pub mod Conflicts
 pub mod Density
 pub mod Standing
+pub mod Crossings
+pub mod Exchanges
+pub mod Choosing
 pub mod Slotting
 pub mod Numbers
 pub mod Depths
+pub mod Middles
 pub mod Marks

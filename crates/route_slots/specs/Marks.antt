@@ -1,5 +1,5 @@
 -- What becomes of a net: no piece, one, or two, and at which levels.
-use Rattle.std.specs.Prelude.{◌≡◌, ◌⊎◌, ℕ, ◌+◌, ◌<◌, max, Bool, true, false, not, List, ℤ, pos, ◌+ℤ◌, ◌≤ℤ◌, length, slice_index, slice_index_or, if◌then◌else◌}
+use Rattle.std.specs.Prelude.{◌≡◌, ◌⊎◌, ℕ, ◌+◌, ◌<◌, max, Bool, true, false, not, List, ℤ, length, slice_index, slice_index_or, if◌then◌else◌}
 use Rattle.std.specs.Int.{int_min, int_max}
 use Rattle.route_slots.specs.declared.Pin.{Pin}
 use Rattle.route_slots.specs.declared.Net.{Net}
@@ -11,6 +11,8 @@ use Rattle.route_slots.specs.Pieces.{net_at, route_at}
 use Rattle.route_slots.specs.GapFree.{IsLevelNet}
 use Rattle.route_slots.specs.Depths.{depth_of, is_split}
 use Rattle.route_slots.specs.Slotting.{piece_at}
+use Rattle.route_slots.specs.declared.middles.Height.{Height}
+use Rattle.route_slots.specs.Middles.{height_at}
 
 abbrev pub mark_at : List Mark → ℕ → Mark
 mark_at ms k = slice_index_or ms k (record { straight = false; split = false; at_a = 0; at_b = 0 })
@@ -47,27 +49,22 @@ abbrev pub piece_b : Mark → Net → ℤ → Piece
 piece_b m n h = record { real = m.split; level = m.at_b; low = int_min h n.b.height; high = int_max h n.b.height }
 
 -- the height between the pieces of the net with this number
-abbrev pub height_of : ℤ → ℕ → ℤ
-height_of top k = top +ℤ pos (k + 1)
+abbrev pub height_of : List Height → ℕ → ℤ
+height_of hs k = (height_at hs k).value
 
 -- each net has two places in the list of pieces
-pub record ArePieces (nets : List Net) (ms : List Mark) (top : ℤ) (ps : List Piece) : Type 0 where
+pub record ArePieces (nets : List Net) (ms : List Mark) (hs : List Height) (ps : List Piece) : Type 0 where
   pub len : length ps ≡ length nets + length nets
-  pub at_a : (k : ℕ) → k < length nets → piece_at ps (k + k) ≡ piece_a (mark_at ms k) (net_at nets k) (height_of top k)
-  pub at_b : (k : ℕ) → k < length nets → piece_at ps (k + k + 1) ≡ piece_b (mark_at ms k) (net_at nets k) (height_of top k)
+  pub at_a : (k : ℕ) → k < length nets → piece_at ps (k + k) ≡ piece_a (mark_at ms k) (net_at nets k) (height_of hs k)
+  pub at_b : (k : ℕ) → k < length nets → piece_at ps (k + k + 1) ≡ piece_b (mark_at ms k) (net_at nets k) (height_of hs k)
 
 -- the route of a net by its mark: the slots of its pieces and the height between them
 abbrev pub route_by : Mark → ℕ → ℤ → ℕ → NetRoute
 route_by m s h t = if m.straight then Straight else (if m.split then Two s h t else One s)
 
-pub record ArePlaced (nets : List Net) (ms : List Mark) (top : ℤ) (ss : List ℕ) (routes : List NetRoute) : Type 0 where
+pub record ArePlaced (nets : List Net) (ms : List Mark) (hs : List Height) (ss : List ℕ) (routes : List NetRoute) : Type 0 where
   pub as_many : length routes ≡ length nets
-  pub routes_are : (k : ℕ) → k < length nets → route_at routes k ≡ route_by (mark_at ms k) (slice_index ss (k + k)) (height_of top k) (slice_index ss (k + k + 1))
-
--- no height of a pin is above this, and that of some pin is not below it
-pub record IsTop (nets : List Net) (top : ℤ) : Type 0 where
-  pub above : (k : ℕ) → k < length nets → ((net_at nets k).a.height ≤ℤ top) × ((net_at nets k).b.height ≤ℤ top)
-  pub reached : 0 < length nets → (k : ℕ) × (k < length nets) × (top ≤ℤ int_max (net_at nets k).a.height (net_at nets k).b.height)
+  pub routes_are : (k : ℕ) → k < length nets → route_at routes k ≡ route_by (mark_at ms k) (slice_index ss (k + k)) (height_of hs k) (slice_index ss (k + k + 1))
 
 -- The mark of a net: a whole net stands behind all that its pins on the right ask for, each piece of a split net behind what
 -- its own pin asks for.

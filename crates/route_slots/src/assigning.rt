@@ -1,56 +1,22 @@
 //! Routes for the nets of a gap.
-ghost use Rattle.std.specs.Prelude.{◌≡◌, ◌+◌, ◌<◌, ◌≤◌, ◌^◌, pos, ◌+ℤ◌, length, slice_index, IfOk};
+ghost use Rattle.std.specs.Prelude.{◌≡◌, ◌+◌, ◌≤◌, ◌^◌, length, IfOk};
 ghost use Rattle.std.specs.List.{All};
-ghost use Rattle.std.specs.Int.{int_max};
-ghost use Rattle.route_slots.specs.GapFree.{IsNet, IsHeight, AreHeights, GapFree};
+ghost use Rattle.route_slots.specs.GapFree.{IsNet, AreHeights, GapFree};
 ghost use Rattle.route_slots.specs.Conflicts.{HasNoConflict, SplitsOnCycles};
 ghost use Rattle.route_slots.specs.Density.{IsDensity};
-ghost use Rattle.route_slots.specs.Marks.{AreMarks, AreFlat, SplitsByMarks, IsTop, ArePieces, ArePlaced, piece_a, piece_b, other_end, height_of, route_by};
+ghost use Rattle.route_slots.specs.Choosing.{AreGood};
+ghost use Rattle.route_slots.specs.Exchanges.{NoBetterExchange};
+ghost use Rattle.route_slots.specs.Middles.{AreMiddles};
+ghost use Rattle.route_slots.specs.Marks.{AreMarks, AreFlat, SplitsByMarks, ArePieces, ArePlaced, piece_a, piece_b, other_end, route_by};
 
+use crate::choosing::choose;
 use crate::depths::depths_of;
 use crate::marks::{Mark, marks_of};
+use crate::middles::{Height, middles_of};
+use crate::settling::settle;
 use crate::slotting::{Piece, slots_of};
 use crate::{Net, NetRoute, Slots};
 use std::alloc::{AllocError, Global};
-
-// A height.
-#[derive(Clone, Copy)]
-struct Height {
-    value: i64,
-}
-
-// The greater of the height and those of the net's pins.
-fn raised(top: Height, net: Net) -> Height
-    ensures { result.value ≡ int_max top.value (int_max net.a.height net.b.height) }
-{
-    Height {
-        value: top.value.max(net.a.height.max(net.b.height)),
-    }
-}
-
-// The greatest height of a pin, and the least height that there is where there is no pin.
-fn highest(nets: &[Net]) -> Height
-    requires { All AreHeights nets.now }
-    ensures top { IsTop nets.now result.value }
-    ensures range { IsHeight result.value }
-{
-    let mut top = Height { value: -(1 << 50) };
-    'nets: for net in nets {
-        top = raised(top, *net);
-    }
-    top
-}
-
-// The height between the pieces of the net with this number.
-fn fresh_height(top: Height, number: u32) -> Height
-    requires number { number < 2 ^ 24 }
-    requires range { IsHeight top.value }
-    ensures { result.value ≡ height_of top.value number }
-{
-    Height {
-        value: top.value + i64::from(number) + 1,
-    }
-}
 
 // The height to which the piece at the pin `a` leads.
 fn end_of_a(mark: Mark, net: Net, height: Height) -> Height
@@ -95,18 +61,18 @@ fn pieces_of(
     alloc: Global,
     nets: &[Net],
     marks: &[Mark],
-    top: Height,
+    middles: &[Height],
 ) -> Result<Vec<Piece>, AllocError>
     requires len { length marks.now ≡ length nets.now }
+    requires middles { length middles.now ≡ length nets.now }
     requires few { length nets.now ≤ 2 ^ 24 }
-    requires range { IsHeight top.value }
-    ensures { IfOk result (λ pieces. ArePieces nets.now marks.now top.value pieces.items) }
+    ensures { IfOk result (λ pieces. ArePieces nets.now marks.now middles.now pieces.items) }
 {
     let mut pieces = Vec::new(alloc);
     'nets: for number in 0..nets.len() as u32 {
         let net = nets[number as usize];
         let mark = marks[number as usize];
-        let height = fresh_height(top, number);
+        let height = middles[number as usize];
         pieces.push(first_piece(mark, net, height))?;
         pieces.push(second_piece(mark, net, height))?;
     }
@@ -135,42 +101,44 @@ fn routes_of(
     alloc: Global,
     nets: &[Net],
     marks: &[Mark],
-    top: Height,
+    middles: &[Height],
     slots: &[u32],
 ) -> Result<Vec<NetRoute>, AllocError>
     requires len { length marks.now ≡ length nets.now }
     requires places { length slots.now ≡ length nets.now + length nets.now }
+    requires middles { length middles.now ≡ length nets.now }
     requires few { length nets.now ≤ 2 ^ 24 }
-    requires range { IsHeight top.value }
-    ensures { IfOk result (λ routes. ArePlaced nets.now marks.now top.value slots.now routes.items) }
+    ensures { IfOk result (λ routes. ArePlaced nets.now marks.now middles.now slots.now routes.items) }
 {
     let mut routes = Vec::new(alloc);
     'nets: for number in 0..nets.len() as u32 {
         let place = (number + number) as usize;
-        let height = fresh_height(top, number);
         routes.push(route_of(
             marks[number as usize],
             slots[place],
-            height,
+            middles[number as usize],
             slots[place + 1],
         ))?;
     }
     Ok(routes)
 }
 
-// Places the nets by their marks.
-fn place(alloc: Global, nets: &[Net], marks: &[Mark], top: Height) -> Result<Slots, AllocError>
+/// Places the nets by their marks.
+pub fn place(
+    alloc: Global,
+    nets: &[Net],
+    marks: &[Mark],
+    middles: &[Height],
+) -> Result<Slots, AllocError>
     requires few { length nets.now ≤ 2 ^ 24 }
     requires marks { AreMarks nets.now marks.now }
-    requires top { IsTop nets.now top.value }
-    requires range { IsHeight top.value }
-    ensures free { IfOk result (λ slots. GapFree nets.now slots.count slots.routes.items) }
-    ensures splits { IfOk result (λ slots. SplitsByMarks nets.now marks.now slots.routes.items) }
+    requires middles { AreMiddles nets.now middles.now }
+    ensures good { IfOk result (λ slots. AreGood nets.now marks.now slots.count slots.routes.items) }
     ensures density { IfOk result (λ slots. AreFlat nets.now marks.now → IsDensity nets.now slots.count) }
 {
-    let pieces = pieces_of(alloc, nets, marks, top)?;
+    let pieces = pieces_of(alloc, nets, marks, middles)?;
     let standing = slots_of(alloc, pieces.as_slice())?;
-    let routes = routes_of(alloc, nets, marks, top, standing.slots.as_slice())?;
+    let routes = routes_of(alloc, nets, marks, middles, standing.slots.as_slice())?;
     Ok(Slots {
         count: standing.count,
         routes,
@@ -181,8 +149,14 @@ fn place(alloc: Global, nets: &[Net], marks: &[Mark], top: Height) -> Result<Slo
 /// Pieces of two nets overlap only where the nets have a common pin.
 ///
 /// A net takes two slots only where it lies on a cycle of conflicts, and where no nets conflict there are as many slots as
-/// there are pieces at the height with the most. A net stands behind all that it has to stand behind by its conflicts, and
-/// nets at one depth take slots by their low ends.
+/// there are pieces at the height with the most. A split net turns in the middle of the longest free stretch between its pins,
+/// and where none is free past the greatest height of a pin, which lies below it on the page.
+///
+/// Slots are chosen for few crossings in a gap of up to 1,024 nets: nets take slots by the depths of their conflicts and by
+/// their low ends, then others are looked for that give fewer crossings. These are as many where no nets conflict; where some
+/// do, they are as many as an order of few crossings takes. Last, neighbouring slots are exchanged as a whole, until no
+/// exchange that keeps pieces apart gives fewer crossings. This takes time in proportion to the square of the nets for all but
+/// the exchanges at the end, of which there are seldom any left.
 pub fn assign(alloc: Global, nets: &[Net]) -> Result<Slots, AllocError>
     requires few { length nets.now ≤ 2 ^ 24 }
     requires pins { All IsNet nets.now }
@@ -190,8 +164,12 @@ pub fn assign(alloc: Global, nets: &[Net]) -> Result<Slots, AllocError>
     ensures free { IfOk result (λ slots. GapFree nets.now slots.count slots.routes.items) }
     ensures splits { IfOk result (λ slots. SplitsOnCycles nets.now slots.routes.items) }
     ensures density { IfOk result (λ slots. HasNoConflict nets.now → IsDensity nets.now slots.count) }
+    ensures exchanges { IfOk result (λ slots. length nets.now ≤ 1024 → NoBetterExchange nets.now slots.count slots.routes.items) }
 {
     let depths = depths_of(alloc, nets)?;
     let marks = marks_of(alloc, nets, &depths)?;
-    place(alloc, nets, marks.as_slice(), highest(nets))
+    let middles = middles_of(alloc, nets, marks.as_slice())?;
+    let slots = place(alloc, nets, marks.as_slice(), middles.as_slice())?;
+    let chosen = choose(alloc, nets, marks.as_slice(), middles.as_slice(), slots)?;
+    settle(alloc, nets, chosen)
 }

@@ -2,11 +2,20 @@
 #![tactic(auto)]
 
 mod assigning;
+mod choosing;
+mod crossings;
 mod depths;
+mod exchanging;
+mod filling;
 mod heights;
 pub mod laws;
 mod marks;
+mod middles;
+mod settling;
+mod sifting;
 mod slotting;
+mod strips;
+mod tracks;
 
 pub use assigning::assign;
 

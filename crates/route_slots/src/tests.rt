@@ -79,3 +79,55 @@ fn a_cycle_of_conflicts_is_cut(rt: HostRuntime) -> Result<(), Fail> {
     assert!(rt; split);
     Ok(())
 }
+
+#[test]
+fn of_two_nets_that_exchange_heights_one_turns_between(rt: HostRuntime) -> Result<(), Fail> {
+    let slots = assign(rt.alloc(), &[net(0, 20), net(20, 0)])?;
+    assert_eq!(rt; slots.count, 3);
+    assert_eq!(rt; slots.routes.len(), 2);
+    assert!(rt; matches!(slots.routes[0], NetRoute::One { slot: 1 }));
+    assert!(rt;
+        matches!(
+            slots.routes[1],
+            NetRoute::Two {
+                first: 0,
+                height: 10,
+                second: 2
+            }
+        )
+    );
+    Ok(())
+}
+
+#[test]
+fn of_three_nets_on_a_cycle_one_is_split(rt: HostRuntime) -> Result<(), Fail> {
+    let slots = assign(rt.alloc(), &[net(0, 10), net(10, 20), net(20, 0)])?;
+    assert_eq!(rt; slots.count, 4);
+    assert_eq!(rt; slots.routes.len(), 3);
+    assert!(rt; matches!(slots.routes[0], NetRoute::One { slot: 2 }));
+    assert!(rt; matches!(slots.routes[1], NetRoute::One { slot: 1 }));
+    assert!(rt;
+        matches!(
+            slots.routes[2],
+            NetRoute::Two {
+                first: 0,
+                height: 5,
+                second: 3
+            }
+        )
+    );
+    Ok(())
+}
+
+#[test]
+fn nets_of_a_hub_do_not_cross(rt: HostRuntime) -> Result<(), Fail> {
+    let nets = [net(100, 1), net(102, 51), net(104, 151), net(106, 201)];
+    let slots = assign(rt.alloc(), &nets)?;
+    assert_eq!(rt; slots.count, 2);
+    assert_eq!(rt; slots.routes.len(), 4);
+    assert!(rt; matches!(slots.routes[0], NetRoute::One { slot: 0 }));
+    assert!(rt; matches!(slots.routes[1], NetRoute::One { slot: 1 }));
+    assert!(rt; matches!(slots.routes[2], NetRoute::One { slot: 1 }));
+    assert!(rt; matches!(slots.routes[3], NetRoute::One { slot: 0 }));
+    Ok(())
+}

@@ -8,6 +8,6 @@ abbrev pub invariant-nets : goal.invariant-nets
 invariant-nets l =
     record {
       len : length l.pieces.items ≡ l.number + l.number;
-      at_a : (k : ℕ) → k < l.number → piece_at l.pieces.items (k + k) ≡ piece_a (mark_at l.marks k) (net_at l.nets k) (height_of l.top.value k);
-      at_b : (k : ℕ) → k < l.number → piece_at l.pieces.items (k + k + 1) ≡ piece_b (mark_at l.marks k) (net_at l.nets k) (height_of l.top.value k);
+      at_a : (k : ℕ) → k < l.number → piece_at l.pieces.items (k + k) ≡ piece_a (mark_at l.marks k) (net_at l.nets k) (height_of l.middles k);
+      at_b : (k : ℕ) → k < l.number → piece_at l.pieces.items (k + k + 1) ≡ piece_b (mark_at l.marks k) (net_at l.nets k) (height_of l.middles k);
     }

@@ -7,5 +7,5 @@ abbrev pub invariant-nets : goal.invariant-nets
 invariant-nets l =
     record {
       len : length l.routes.items ≡ l.number;
-      each : (k : ℕ) → k < l.number → route_at l.routes.items k ≡ route_by (mark_at l.marks k) (get_or l.slots (k + k) 0) (height_of l.top.value k) (get_or l.slots (k + k + 1) 0);
+      each : (k : ℕ) → k < l.number → route_at l.routes.items k ≡ route_by (mark_at l.marks k) (get_or l.slots (k + k) 0) (height_of l.middles k) (get_or l.slots (k + k + 1) 0);
     }

@@ -1,0 +1,31 @@
+use Rattle.std.proofs.Common.{sym, arith, length, if◌then◌else◌}
+use Rattle.route_slots.specs.Exchanges.{touches, row_before, row_after}
+use Rattle.route_slots.specs.Pieces.{route_at}
+use Rattle.route_slots.proofs.Summing.{sum_none, sum_more}
+use Rattle.route_slots.proofs.exchanging.whole_change.Goals as goal
+
+pub nets-init : goal.nets-init
+nets-init c = record { before = sym (sum_none _); after = sym (sum_none _); few_before = omega arith; few_after = omega arith }
+
+pub nets-preserved : goal.nets-preserved
+nets-preserved c =
+    let nets = c.args.nets.now in
+    let routes = c.args.routes.now in
+    let s = c.args.slot in
+    let j = c.nets.j in
+    let old = c.nets.invariant in
+    let new = c.added-change.ensures in
+    let here = c.near_change.ensures in
+    let was_before = old.before in
+    let was_after = old.after in
+    let is_before = new.before in
+    let is_after = new.after in
+    let here_before = here.before in
+    let here_after = here.after in
+    let few_before = old.few_before in
+    let few_after = old.few_after in
+    let one_before = here.few_before in
+    let one_after = here.few_after in
+    let more_before = sum_more (λ j. if touches s (route_at routes j) then row_before nets routes s j (length nets) else 0) j in
+    let more_after = sum_more (λ j. if touches s (route_at routes j) then row_after nets routes s j (length nets) else 0) j in
+    record { before = omega arith; after = omega arith; few_before = omega arith; few_after = omega arith }
