@@ -1,5 +1,5 @@
 -- Links between lanes that don't cross are chosen by every sweep.
-use Rattle.std.proofs.Common.{◌≡◌, ◌≢◌, ℕ, zero, suc, ◌+◌, ◌-◌, ◌*◌, ◌<◌, ◌≤◌, ◌==◌, ◌&&◌, ◌||◌, cond, not, nat_lt, nat_le, List, [], ◌∷◌, ◌++◌, length, map, drop, reverse, get_or, Bool, true, false, arith, refl, sym, ◌∙◌, ap, subst, inl, inr, ◌⊎◌, ⊎_elim, eq-eqb, ne_eqb, eqb-true, lt-ltb, ltb-true}
+use Rattle.std.proofs.Common.{◌≡◌, ◌≢◌, ℕ, zero, suc, ◌+◌, ◌-◌, ◌*◌, ◌<◌, ◌≤◌, ◌==◌, ◌&&◌, ◌||◌, cond, not, nat_lt, nat_le, List, [], ◌∷◌, ◌++◌, length, map, drop, reverse, get_or, Bool, true, false, arith, refl, sym, ◌∙◌, ap, subst, inl, inr, ◌⊎◌, eq-eqb, ne_eqb, lt-ltb, ltb-true}
 use Rattle.std.specs.List.{filter, list_all, list_any, concat, range_with_len}
 use Rattle.std.proofs.lemmas.Bool.{cases_eq, cases_lt, cases_Bool, and_parts}
 use Rattle.std.proofs.lemmas.List.{get_or-reverse, length-reverse, get_or-drop, length-drop, length-append, append-nil, get_or_append_left, get_or-append_right}
@@ -8,13 +8,13 @@ use Rattle.elk_doc.specs.declared.document.Sweep.{Sweep}
 use Rattle.elk_doc.specs.declared.document.Sweep.TheVariants.{LeftUp, LeftDown, RightUp, RightDown}
 use Rattle.elk_layers.specs.Layered.{Plain, IsSound, AreRows, layer_of, row_at, link_at, gap_of, place_of, place_in, is_lane, tail_key, head_key}
 use Rattle.elk_layers.specs.Crossings.{cross}
-use Rattle.elk_layers.specs.Alignment.{goes_left, goes_up, near_end, far_end, far_place, visited_row, visits, sorted_links, medians_in, is_beyond, is_free, is_marked, is_inner, far_key, first_of, chosen_at, chosen_after, aligned}
+use Rattle.elk_layers.specs.Alignment.{goes_left, goes_up, near_end, far_end, visited_row, visits, sorted_links, medians_in, is_beyond, is_free, is_marked, is_inner, far_key, first_of, chosen_at, chosen_after, aligned}
 use Rattle.unit_places.specs.Occurring.{occurs}
 use Rattle.unit_places.specs.Straight.{chosen_link}
 use Rattle.unit_places.proofs.OccursLemmas.{occurs_first, occurs_at, occurs_sorted, occurs-append}
 use Rattle.unit_places.proofs.PlaceLemmas.{place_below, place_reads}
 use Rattle.alignment.specs.Lanes.{HaveOneLink, LanesKeepOrder, Holds}
-use Rattle.alignment.proofs.StraightLemmas.{IsTaken, first_cases, occurs_medians, ComesAfter, IsVisitOrder, IsChosenSoFar, of_unit, same_near, chosen_more, chosen_same, visits_in_order, apart_from}
+use Rattle.alignment.proofs.StraightLemmas.{first_cases, occurs_medians, ComesAfter, IsVisitOrder, IsChosenSoFar, of_unit, same_near, chosen_more, chosen_same, visits_in_order, apart_from}
 
 -- truth values
 

@@ -2,10 +2,11 @@
 use Rattle.std.proofs.Common.{◌≡◌, ℕ, ◌+◌, ◌-◌, ◌*◌, ◌<◌, ◌≤◌, ◌^◌, ◌==◌, ◌&&◌, cond, nat_le, List, [], ◌∷◌, length, map, get_or, take, drop, Bool, true, false, arith, refl, sym, ◌∙◌, ap, subst, inl, inr, eq-eqb, ne_eqb, lt-ltb, le-ltb, le-leb, eqb-true}
 use Rattle.std.proofs.lemmas.Bool.{cases_eq, cases_lt, cases_Bool, lt-leb}
 use Rattle.std.specs.List.{All, filter, range_with_len}
-use Rattle.std.specs.List.Sorted.{IsPermutation}
-use Rattle.std.proofs.lemmas.List.{get_or-drop, length-drop, get_or-map, length-map}
+use Rattle.std.specs.List.Sorted.{IsPermutation, IsNonDecreasingBy}
+use Rattle.std.proofs.lemmas.List.{get_or-map, get_or_default, length-map}
+use Rattle.std.proofs.lemmas.List.FromFn.{length-range_with_len}
 use Rattle.std.proofs.lemmas.List.Elements.{All-get_or, All-from_get_or, All-map, All-head, All-tail, All-weaker, All-filter, filter_passes}
-use Rattle.std.proofs.lemmas.List.Sorted.{All-permutation, IsPermutation-map}
+use Rattle.std.proofs.lemmas.List.Sorted.{All-permutation, IsPermutation-map, length_permutation}
 use Rattle.elk_doc.specs.declared.document.Sweep.{Sweep}
 use Rattle.elk_doc.specs.declared.document.Sweep.TheVariants.{LeftUp, LeftDown, RightUp, RightDown}
 use Rattle.elk_layers.specs.Layered.{Plain, IsSound, AreRows, link_at, place_of}
@@ -16,11 +17,11 @@ use Rattle.unit_places.proofs.OccursLemmas.{occurs_at, occurs_range, occurs_pass
 use Rattle.unit_places.proofs.RowLemmas.{place_small}
 use Rattle.alignment.specs.declared.spokes.Spoke.{Spoke}
 use Rattle.alignment.specs.Keys.{key_at, far_key_at}
-use Rattle.alignment.specs.Spokes.{spoke_of, numbers_of, AreSpokes, is_of}
+use Rattle.alignment.specs.Spokes.{spoke_of, numbers_of, AreSpokes, IsFirst, is_of}
 use Rattle.alignment.proofs.ReachLemmas.{filter_window}
 use Rattle.alignment.proofs.SortLemmas.{Ascends, weigh, ascends_unique, ascends_filter, ascends_other, ascends_sorted, ascends_from, occurs_permuted, occurs_kept, range_ascends, range_once}
 
-abbrev none : Spoke
+abbrev pub none : Spoke
 none = record { key = 0; number = 0 }
 
 of_yes : (u : ℕ) (s : Spoke) → u * 2 ^ 80 ≤ s.key → s.key < (u + 1) * 2 ^ 80 → is_of u s ≡ true
@@ -36,20 +37,61 @@ of_before u s a = rw (lt-leb (u * 2 ^ 80) s.key a) refl
 of_behind : (u : ℕ) (s : Spoke) → (u + 1) * 2 ^ 80 ≤ s.key → is_of u s ≡ false
 of_behind u s a = rw (le-ltb s.key ((u + 1) * 2 ^ 80) a) (and_no (nat_le (u * 2 ^ 80) s.key))
 
--- the window between the two searches holds the links of the unit
-pub fan_is : (spokes : List Spoke) (u begin count : ℕ) → begin ≤ length spokes → count ≤ length (drop begin spokes)
-    → ((j : ℕ) (d : Spoke) → j < begin → (get_or spokes j d).key < u * 2 ^ 80) → ((j : ℕ) (d : Spoke) → begin ≤ j → j < length spokes → u * 2 ^ 80 ≤ (get_or spokes j d).key)
-    → ((j : ℕ) (d : Spoke) → j < count → (get_or (drop begin spokes) j d).key < (u + 1) * 2 ^ 80) → ((j : ℕ) (d : Spoke) → count ≤ j → j < length (drop begin spokes) → (u + 1) * 2 ^ 80 ≤ (get_or (drop begin spokes) j d).key)
-    → take count (drop begin spokes) ≡ filter (is_of u) spokes
-fan_is spokes u begin count hb hc a b c d =
-    let long : length (drop begin spokes) ≡ length spokes - begin = length-drop begin spokes in
-    let cut : begin + count - begin ≡ count = omega arith in
-    let at : (j : ℕ) → begin ≤ j → get_or spokes j none ≡ get_or (drop begin spokes) (j - begin) none =
-    λ j h. let e : begin + (j - begin) ≡ j = omega (arith, h) in ap (λ i. get_or spokes i none) (sym e) ∙ sym (get_or-drop begin spokes (j - begin) none) in
-    sym (rw cut at (filter_window (is_of u) none spokes begin (begin + count) (omega arith) (omega (arith, hb, hc, long))
-    (λ j h. of_before u (get_or spokes j none) (a j none h))
-    (λ j h k. of_yes u (get_or spokes j none) (b j none h (omega (arith, k, hc, long))) (subst (λ (s : Spoke). s.key < (u + 1) * 2 ^ 80) (sym (at j h)) (c (j - begin) none (omega (arith, h, k)))))
-    (λ j h k. of_behind u (get_or spokes j none) (subst (λ (s : Spoke). (u + 1) * 2 ^ 80 ≤ s.key) (sym (at j (omega (arith, h)))) (d (j - begin) none (omega (arith, h)) (omega (arith, h, k, long)))))))
+-- the links of a unit begin no later than those of the next
+pub first_before : (spokes : List Spoke) (u begin end : ℕ) → IsFirst spokes u begin → IsFirst spokes (u + 1) end → begin ≤ end
+first_before spokes u begin end p q =
+    elim (cases_lt end begin) [
+      | inl less ↦
+          let a = p.before end none less in
+          let b = q.behind end none (omega arith) (omega (arith, less, p.bound)) in
+          absurd (omega (arith, a, b))
+      | inr more ↦ more
+    ]
+
+-- the window between the first links of two units in turn holds the links of the first unit
+pub fan_between : (spokes : List Spoke) (u begin end : ℕ) → IsFirst spokes u begin → IsFirst spokes (u + 1) end → take (end - begin) (drop begin spokes) ≡ filter (is_of u) spokes
+fan_between spokes u begin end p q =
+    sym (filter_window (is_of u) none spokes begin end (first_before spokes u begin end p q) q.bound
+    (λ j h. of_before u (get_or spokes j none) (p.before j none h))
+    (λ j h k. of_yes u (get_or spokes j none) (p.behind j none h (omega (arith, k, q.bound))) (q.before j none k))
+    (λ j h k. of_behind u (get_or spokes j none) (q.behind j none h k)))
+
+-- in sorted links a place is the first of a unit where all before it are of earlier units, and the one there isn't
+pub first_found : (spokes : List Spoke) (u at : ℕ) (here : Spoke) → IsNonDecreasingBy (λ (s : Spoke). s.key) spokes → at < length spokes
+    → ((j : ℕ) (d : Spoke) → j < at → (get_or spokes j d).key < u * 2 ^ 80) → u * 2 ^ 80 ≤ (get_or spokes at here).key → IsFirst spokes u at
+first_found spokes u at here sorted h before is =
+    record {
+      bound = omega (arith, h);
+      before = before;
+      behind = λ j d from l.
+          let up = sorted at j d from l in
+          let same = ap (λ (s : Spoke). s.key) (get_or_default spokes at d here h) in
+          omega (arith, up, same, is);
+    }
+
+-- one more of the first links is of an earlier unit
+pub before_more : (spokes : List Spoke) (u at : ℕ) (here : Spoke) → at < length spokes → ((j : ℕ) (d : Spoke) → j < at → (get_or spokes j d).key < u * 2 ^ 80)
+    → (get_or spokes at here).key < u * 2 ^ 80 → (j : ℕ) (d : Spoke) → j < at + 1 → (get_or spokes j d).key < u * 2 ^ 80
+before_more spokes u at here h before is j d less =
+    elim (cases_lt j at) [
+      | inl l ↦ before j d l
+      | inr more ↦
+          let e : j ≡ at = omega (arith, less, more) in
+          subst (λ i. (get_or spokes i d).key < u * 2 ^ 80) (sym e) (subst (λ (s : Spoke). s.key < u * 2 ^ 80) (get_or_default spokes at here d h) is)
+    ]
+
+-- what stands before a unit's links stands before those of the next
+pub before_next : (spokes : List Spoke) (u at : ℕ) → IsFirst spokes u at → (j : ℕ) (d : Spoke) → j < at → (get_or spokes j d).key < (u + 1) * 2 ^ 80
+before_next spokes u at is j d h = let a = is.before j d h in omega (arith, a)
+
+-- there are as many entries as links
+pub spokes_few : (l : Plain) (sweep : Sweep) (place : List ℕ) (spokes : List Spoke) → IsSound l → AreSpokes l sweep place spokes → length spokes ≤ 2 ^ 24
+spokes_few l sweep place spokes sound is =
+    let same = length_permutation (map (spoke_of l sweep place) (range_with_len 0 (length l.links))) spokes is.same in
+    let mapped = length-map (range_with_len 0 (length l.links)) (spoke_of l sweep place) in
+    let long = length-range_with_len 0 (length l.links) in
+    let few = sound.few_links in
+    omega (arith, same, mapped, long, few)
 
 map_filter : {X Y : Type 0} (f : X → Y) (p : X → Bool) (q : Y → Bool) (xs : List X) → All (λ x. p x ≡ q (f x)) xs → map f (filter p xs) ≡ filter q (map f xs)
 map_filter f p q [] all = refl

@@ -6,12 +6,12 @@ ghost use Rattle.elk_layers.specs.Alignment as spec;
 ghost use Rattle.unit_places.specs.Straight.{AreStraight};
 ghost use Rattle.alignment.specs.Choosing as choosing;
 ghost use Rattle.alignment.specs.Choosing.{as_list, choice, last_at, AreLast, CanVisit, VisitsTo};
-ghost use Rattle.alignment.specs.Spokes.{numbers_of, is_of};
+ghost use Rattle.alignment.specs.Spokes.{numbers_of, AreFirsts, is_of};
 ghost use Rattle.std.specs.List.{filter};
 
 use crate::ends::{far_end, goes_up};
 use crate::marking::marks;
-use crate::spokes::{Spoke, fan, spokes_of};
+use crate::spokes::{Spoke, fan, firsts_of, spokes_of};
 use crate::visiting::visits;
 use elk_doc::document::Sweep;
 use elk_layers::{Layered, Link, Order};
@@ -135,11 +135,13 @@ fn visit(
     place: &[u32],
     marked: &[bool],
     spokes: &[Spoke],
+    firsts: &[u32],
     last: &mut [Option<u32>],
     chosen: &mut Vec<u32>,
     unit: u32,
 ) -> Result<(), AllocError>
     requires can { (rows : List (List ℕ)) × CanVisit (plain layered.now) rows sweep place.now marked.now spokes.now }
+    requires firsts { AreFirsts spokes.now (length (plain layered.now).units) firsts.now }
     requires unit { unit < length (plain layered.now).units }
     requires last { length last.old ≡ (plain layered.now).layers }
     ensures { OnOk result (VisitsTo (plain layered.now) sweep place.now marked.now (numbers_of (filter (is_of unit) spokes.now)) (layer_of (plain layered.now) unit) chosen.old.items chosen.new.items last.old last.new) }
@@ -147,7 +149,14 @@ fn visit(
     let units = layered.units.as_slice();
     let links = layered.links.as_slice();
     let layer = units[unit as usize].layer as usize;
-    let found = choose(sweep, links, place, marked, last[layer], fan(spokes, unit));
+    let found = choose(
+        sweep,
+        links,
+        place,
+        marked,
+        last[layer],
+        fan(spokes, firsts, unit),
+    );
     if let Some(k) = found {
         chosen.push(k)?;
         last[layer] = Some(far_place(sweep, links, place, k));
@@ -164,9 +173,11 @@ fn visit_all(
     place: &[u32],
     marked: &[bool],
     spokes: &[Spoke],
+    firsts: &[u32],
     last: &mut [Option<u32>],
 ) -> Result<Vec<u32>, AllocError>
     requires can { CanVisit (plain layered.now) (rows_of order.now) sweep place.now marked.now spokes.now }
+    requires firsts { AreFirsts spokes.now (length (plain layered.now).units) firsts.now }
     requires last { AreLast (plain layered.now) (rows_of order.now) sweep [] last.old }
     ensures { IfOk result (λ v. v.items ≡ spec.aligned (plain layered.now) (rows_of order.now) sweep) }
 {
@@ -179,6 +190,7 @@ fn visit_all(
             place,
             marked,
             spokes,
+            firsts,
             last,
             &mut chosen,
             *unit,
@@ -208,6 +220,7 @@ pub fn align(
     let place = places(alloc, layered, order)?;
     let marked = marks(alloc, layered, place.as_slice())?;
     let spokes = spokes_of(alloc, layered, sweep, place.as_slice())?;
+    let firsts = firsts_of(alloc, spokes.as_slice(), layered.units.as_slice().len())?;
     let mut last: Vec<Option<u32>> = vec![in alloc; None; order.rows.as_slice().len()]?;
     let links = visit_all(
         alloc,
@@ -217,6 +230,7 @@ pub fn align(
         place.as_slice(),
         marked.as_slice(),
         spokes.as_slice(),
+        firsts.as_slice(),
         last.as_mut_slice(),
     )?;
     Ok(Alignment { links })

@@ -1,9 +1,9 @@
 //! The links of each unit to the layer that the sweep looks to.
-ghost use Rattle.std.specs.Prelude.{◌≡◌, ℕ, ◌≤◌, ◌<◌, ◌*◌, ◌^◌, length, slice_index_or, IfOk};
+ghost use Rattle.std.specs.Prelude.{◌≡◌, ℕ, ◌+◌, ◌-◌, ◌≤◌, ◌<◌, ◌*◌, ◌^◌, length, slice_index, slice_index_or, take, drop, IfOk};
 ghost use Rattle.std.specs.List.{filter};
 ghost use Rattle.std.specs.List.Sorted.{IsNonDecreasingBy};
 ghost use Rattle.elk_layers.specs.Layered.{plain, link_at, IsSound, IsSoundLink};
-ghost use Rattle.alignment.specs.Spokes.{spoke_of, AreSpokes, is_of};
+ghost use Rattle.alignment.specs.Spokes.{spoke_of, AreSpokes, AreFirsts, IsFirst, is_of};
 
 use crate::ends::{far_key, near_end};
 use elk_doc::document::Sweep;
@@ -53,25 +53,59 @@ pub(crate) fn spokes_of(
     Ok(spokes)
 }
 
-/// How many links come before those of a unit.
-fn begin_at(spokes: &[Spoke], unit: u64) -> usize
+/// The first place, from one on, that links of earlier units don't have.
+fn first_from(spokes: &[Spoke], from: usize, unit: u64) -> usize
     requires sorted { IsNonDecreasingBy (λ (s : Spoke). s.key) spokes.now }
     requires unit { unit ≤ 2 ^ 32 }
-    ensures bound { result ≤ length spokes.now }
-    ensures before { (j : ℕ) (d : Spoke) → j < result → (slice_index_or spokes.now j d).key < unit * 2 ^ 80 }
-    ensures behind { (j : ℕ) (d : Spoke) → result ≤ j → j < length spokes.now → unit * 2 ^ 80 ≤ (slice_index_or spokes.now j d).key }
+    requires bound { from ≤ length spokes.now }
+    requires before { (j : ℕ) (d : Spoke) → j < from → (slice_index_or spokes.now j d).key < unit * 2 ^ 80 }
+    ensures { IsFirst spokes.now unit result }
 {
     let key = unit as u128 * 1208925819614629174706176;
-    spokes.partition_point(|s| s.key < key)
+    for at in from..spokes.len() {
+        if spokes[at].key >= key {
+            return at;
+        }
+    }
+    spokes.len()
+}
+
+/// By unit, the place of its first link among all links, and the number of links last.
+pub(crate) fn firsts_of(
+    alloc: Global,
+    spokes: &[Spoke],
+    units: usize,
+) -> Result<Vec<u32>, AllocError>
+    requires sorted { IsNonDecreasingBy (λ (s : Spoke). s.key) spokes.now }
+    requires few { length spokes.now ≤ 2 ^ 24 }
+    requires few_units { units ≤ 2 ^ 24 }
+    ensures { IfOk result (λ v. AreFirsts spokes.now units v.items) }
+{
+    let mut firsts = Vec::with_capacity(alloc, units + 1)?;
+    let mut at = 0;
+    for unit in 0..units + 1 {
+        at = first_from(spokes, at, unit as u64);
+        firsts.push(at as u32)?;
+    }
+    Ok(firsts)
+}
+
+/// The links from one place to below another.
+fn window(spokes: &[Spoke], begin: usize, end: usize) -> &[Spoke]
+    requires order { begin ≤ end }
+    requires bound { end ≤ length spokes.now }
+    ensures { result.now ≡ take (end - begin) (drop begin spokes.now) }
+{
+    &spokes[begin..end]
 }
 
 /// The links of a unit.
-pub(crate) fn fan(spokes: &[Spoke], unit: u32) -> &[Spoke]
-    requires { IsNonDecreasingBy (λ (s : Spoke). s.key) spokes.now }
+pub(crate) fn fan<'a>(spokes: &'a [Spoke], firsts: &[u32], unit: u32) -> &'a [Spoke]
+    requires unit { unit + 1 < length firsts.now }
+    requires firsts { (u : ℕ) → u < length firsts.now → IsFirst spokes.now u (slice_index firsts.now u) }
     ensures { result.now ≡ filter (is_of unit) spokes.now }
 {
-    let begin = begin_at(spokes, unit as u64);
-    let rest = &spokes[begin..];
-    let count = begin_at(rest, unit as u64 + 1);
-    &rest[..count]
+    let begin = firsts[unit as usize] as usize;
+    let end = firsts[unit as usize + 1] as usize;
+    window(spokes, begin, end)
 }

@@ -11,6 +11,3 @@ mod walk;
 
 pub use bounds::{Bound, Constraints, Least};
 pub use walk::least_lines;
-
-#[cfg(test)]
-mod tests;

@@ -6,6 +6,3 @@
 mod noting;
 
 pub use noting::places;
-
-#[cfg(test)]
-mod tests;
