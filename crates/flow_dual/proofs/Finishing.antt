@@ -1,8 +1,10 @@
 -- The last state, lowered to layer 0.
-use Rattle.std.proofs.Common.{◌≡◌, ℕ, ◌<◌, ◌^◌, ◌-◌, Bool, false, ℤ, pos, ◌<ℤ◌, List, length, get_or, replicate, map, arith, ap, ◌∙◌, inl, inr}
+use Rattle.std.proofs.Common.{◌≡◌, ℕ, ◌<◌, ◌^◌, ◌-◌, Bool, false, ℤ, pos, ◌≤ℤ◌, ◌<ℤ◌, List, length, get_or, replicate, map, arith, ap, ◌∙◌, inl, inr}
 use Rattle.std.proofs.lemmas.Int.{ints}
+use Rattle.std.specs.List.{All}
 use Rattle.std.proofs.lemmas.Bool.{cases_lt}
 use Rattle.std.proofs.lemmas.List.{get_or-replicate, get_or_past, get_or-map, length-replicate, length-map}
+use Rattle.std.proofs.lemmas.List.Elements.{All-from_get_or}
 use Rattle.layering_laws.specs.declared.network.NetEdge.{NetEdge}
 use Rattle.layering_laws.specs.Network.{EndsBelow, IsNetwork}
 use Rattle.layering_laws.specs.Layering.{layer_of, PartsBeginAtZero}
@@ -30,14 +32,21 @@ pub below_top : (nodes : ℕ) (edges : List NetEdge) (layers : List ℤ) (flow :
 below_top nodes edges layers flow excess reached labels dist small d v l = let a = d.between.round.low v l in omega (arith, ints, a, small)
 
 -- the sums fit
-pub sums_fit : (nodes : ℕ) (edges : List NetEdge) (sums : List ℕ) → IsNetwork nodes edges → AreGreatestSums nodes edges (map pos sums) → (v : ℕ) → v < length sums → get_or sums v 0 < 2 ^ 63
-sums_fit nodes edges sums net g v l =
+pub sum_layers : (nodes : ℕ) (edges : List NetEdge) (layers : List ℤ) → IsNetwork nodes edges → AreGreatestSums nodes edges layers → (v : ℕ) → v < nodes → (pos 0 ≤ℤ layer_of layers v) × (layer_of layers v <ℤ pos (2 ^ 62))
+sum_layers nodes edges layers net g v l =
+    let a = first_low nodes edges layers net.acyclic g v l in
+    let b = a.1 in
+    let s = net.least_fits in
+    (a.0, omega (arith, ints, b, s))
+
+pub sums_fit : (nodes : ℕ) (edges : List NetEdge) (sums : List ℕ) → IsNetwork nodes edges → AreGreatestSums nodes edges (map pos sums) → All (λ n. n < 2 ^ 63) sums
+sums_fit nodes edges sums net g =
+    All-from_get_or (λ n. n < 2 ^ 63) sums 0 (λ v l.
     let n = g.layer_for_each in
     let m = length-map sums pos in
-    let a = (first_low nodes edges (map pos sums) net.acyclic g v (omega (arith, n, m, l))).1 in
+    let a = (sum_layers nodes edges (map pos sums) net g v (omega (arith, n, m, l))).1 in
     let e = get_or-map pos sums v 0 (pos 0) l in
-    let s = net.least_fits in
-    omega (arith, ints, a, e, s)
+    omega (arith, ints, a, e))
 
 -- a list of one value
 pub same_everywhere : {A : Type 0} (n i : ℕ) (d : A) (xs : List A) → xs ≡ replicate n d → get_or xs i d ≡ d

@@ -1,5 +1,5 @@
 -- What the method keeps from one augmentation to the next.
-use Rattle.std.specs.Prelude.{◌≡◌, ℕ, zero, suc, ◌+◌, ◌-◌, ◌*◌, ◌<◌, ◌≤◌, Bool, true, false, ℤ, pos, ◌+ℤ◌, ◌≤ℤ◌, cond, List, length, slice_index}
+use Rattle.std.specs.Prelude.{◌≡◌, ℕ, zero, suc, ◌+◌, ◌-◌, ◌*◌, ◌<◌, ◌≤◌, Bool, true, false, ℤ, pos, ◌+ℤ◌, ◌≤ℤ◌, ◌<ℤ◌, ◌^◌, cond, List, length, slice_index}
 use Rattle.std.specs.List.{sum_by}
 use Rattle.layering_laws.specs.declared.network.NetEdge.{NetEdge}
 use Rattle.layering_laws.specs.Network.{edge_at, EndsBelow}
@@ -19,10 +19,10 @@ abbrev pub surplus : List NetEdge → List ℕ → ℕ → ℕ
 surplus edges flow zero = 0
 surplus edges flow (suc n) = surplus edges flow n + (given edges flow n - asked edges flow n)
 
--- a node that asks for more was never raised, so it stands at its first layer
+-- a node that asks for more was never raised, so it stands at its first layer, and that is below this bound
 abbrev pub LackingIsLow : ℕ → List NetEdge → List ℤ → List ℕ → Type 0
 LackingIsLow nodes edges layers flow =
-    (v : ℕ) → v < nodes → given edges flow v < asked edges flow v → layer_of layers v ≤ℤ pos (all_least edges)
+    (v : ℕ) → v < nodes → given edges flow v < asked edges flow v → layer_of layers v <ℤ pos (2 ^ 62)
 
 -- between two searches
 pub record IsRound (nodes : ℕ) (edges : List NetEdge) (layers : List ℤ) (flow : List ℕ) (most : ℕ) : Type 0 where
@@ -31,14 +31,14 @@ pub record IsRound (nodes : ℕ) (edges : List NetEdge) (layers : List ℤ) (flo
   pub layering : IsLayering edges layers
   pub on_tight : FlowOnTight edges layers flow
   pub from_zero : (v : ℕ) → v < nodes → pos 0 ≤ℤ layer_of layers v
-  pub low : (v : ℕ) → v < nodes → layer_of layers v ≤ℤ pos (2 * all_least edges)
+  pub low : (v : ℕ) → v < nodes → layer_of layers v <ℤ pos (2 ^ 62 + all_least edges)
   pub lacking : LackingIsLow nodes edges layers flow
   pub flow_low : (k : ℕ) → slice_index flow k + surplus edges flow nodes ≤ most
 
 -- within a search, before it has found a node that asks for more
 pub record StaysLow (nodes : ℕ) (edges : List NetEdge) (layers : List ℤ) (flow : List ℕ) (set : ℕ → Bool) : Type 0 where
-  pub outside : (v : ℕ) → v < nodes → set v ≡ false → layer_of layers v ≤ℤ pos (2 * all_least edges)
-  pub all : (v : ℕ) → v < nodes → layer_of layers v ≤ℤ pos (3 * all_least edges)
+  pub outside : (v : ℕ) → v < nodes → set v ≡ false → layer_of layers v <ℤ pos (2 ^ 62 + all_least edges)
+  pub all : (v : ℕ) → v < nodes → layer_of layers v <ℤ pos (2 ^ 62 + 2 * all_least edges)
   pub lacking : LackingIsLow nodes edges layers flow
   pub none_lacks : (v : ℕ) → set v ≡ true → asked edges flow v ≤ given edges flow v
 
@@ -51,14 +51,14 @@ RaiseStaysLow =
     → (layer_of layers (edge_at edges k).tail +ℤ pos (edge_at edges k).least +ℤ pos by ≡ layer_of layers (edge_at edges k).head)
     → StaysLow nodes edges layers flow (marked reached) → StaysLow nodes edges layers' flow (marked reached)
 
--- once a node that asks for more is reached, all layers are as low as at the beginning
+-- once a node that asks for more is reached, all layers are as low as between two searches
 abbrev pub FoundIsLow : Type 0
 FoundIsLow =
     (nodes : ℕ) (edges : List NetEdge) (layers : List ℤ) (flow : List ℕ) (source turn to : ℕ) (reached : List Bool) (labels : List Label) (tree : List Bool) (set : ℕ → Bool)
     → IsSearch edges layers flow source turn reached labels tree → StaysLow nodes edges layers flow set
     → ((v : ℕ) → marked reached v ≡ false → set v ≡ false)
     → to < nodes → marked reached to ≡ true → given edges flow to < asked edges flow to
-    → (v : ℕ) → v < nodes → layer_of layers v ≤ℤ pos (2 * all_least edges)
+    → (v : ℕ) → v < nodes → layer_of layers v <ℤ pos (2 ^ 62 + all_least edges)
 
 -- an augmentation keeps the state, and the surplus falls by the amount
 abbrev pub PushKeeps : Type 0
@@ -109,7 +109,7 @@ pub record IsFound (nodes : ℕ) (edges : List NetEdge) (flow : List ℕ) (sourc
   pub layering : IsLayering edges layers
   pub from_zero : (v : ℕ) → pos 0 ≤ℤ layer_of layers v
   pub on_tight : FlowOnTight edges layers flow
-  pub low : (v : ℕ) → v < nodes → layer_of layers v ≤ℤ pos (2 * all_least edges)
+  pub low : (v : ℕ) → v < nodes → layer_of layers v <ℤ pos (2 ^ 62 + all_least edges)
   pub lacking : LackingIsLow nodes edges layers flow
 
 -- where a search ends there is a state between two searches again

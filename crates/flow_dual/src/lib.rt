@@ -18,7 +18,7 @@ mod tests;
 mod turns;
 
 pub use layering_laws::{NetEdge, Network, Solution};
-pub use solving::{parts, solve};
+pub use solving::{parts, solve, solve_from};
 
 /// The sum of weight times rise.
 fn total_cost(edges: &[NetEdge], layer: &[i64]) -> u128

@@ -1,16 +1,15 @@
 //! Layerings of least cost: the start, the augmentations, and each part lowered to begin at layer 0.
 
-ghost use Rattle.std.specs.Prelude.{◌≡◌, ◌≤◌, ◌<◌, ◌^◌, ℕ, pos, ◌≤ℤ◌, map, length, OnOk, IfOk, slice_index};
+ghost use Rattle.std.specs.Prelude.{◌≡◌, ◌≤◌, ◌<◌, ◌^◌, ℕ, pos, ◌≤ℤ◌, ◌<ℤ◌, length, OnOk, IfOk, slice_index};
 ghost use Rattle.layering_laws.specs.Network.{EndsBelow, IsNetwork};
 ghost use Rattle.layering_laws.specs.Layering.{IsLayering, layer_of, IsSolution};
 ghost use Rattle.layering_laws.specs.Parts.{ArePartNumbers};
-ghost use Rattle.layering_laws.specs.Paths.{AreGreatestSums};
 ghost use Rattle.layering_laws.specs.Tight.{IsDone};
 ghost use Rattle.flow_dual.specs.Searching.{IsBetween, IsCleared};
 ghost use Rattle.flow_dual.specs.Augmented.{AreDrained};
 
 use crate::augment::drain_all;
-use crate::start::{as_layers, tally};
+use crate::start::{as_layers, begin};
 use crate::{Label, finish};
 use layering_laws::{
     End, NetEdge, Network, Solution, begin_at_zero, greatest_sums, link_edges, part_numbers,
@@ -37,8 +36,9 @@ fn run(
     dist: &mut [u128],
 ) -> Result<(), AllocError>
     requires network { IsNetwork (length layer.old) edges.now }
-    requires greatest { AreGreatestSums (length layer.old) edges.now layer.old }
     requires layering { IsLayering edges.now layer.old }
+    requires from_zero { (v : ℕ) → v < length layer.old → pos 0 ≤ℤ layer_of layer.old v }
+    requires low { (v : ℕ) → v < length layer.old → layer_of layer.old v <ℤ pos (2 ^ 62) }
     requires flow { length flow.old ≡ length edges.now }
     requires no_flow { (k : ℕ) → slice_index flow.old k ≡ 0 }
     requires excess { length excess.old ≡ length layer.old }
@@ -49,7 +49,7 @@ fn run(
 {
     let tails = link_edges(alloc, layer.len() as u32, edges, End::Tail)?;
     let heads = link_edges(alloc, layer.len() as u32, edges, End::Head)?;
-    tally(edges, excess);
+    begin(edges, layer, flow, excess);
     drain_all(
         alloc, edges, &tails, &heads, layer, flow, excess, reached, labels, dist,
     )?;
@@ -57,18 +57,17 @@ fn run(
     Ok(())
 }
 
-/// Makes what the searches need, and runs them from these sums on.
+/// Makes what the searches need, and runs them from this layering on.
 fn run_from(
     alloc: Global,
     edges: &[NetEdge],
-    sums: &[u64],
     layer: &mut [i64],
     flow: &mut [u64],
 ) -> Result<(), AllocError>
     requires network { IsNetwork (length layer.old) edges.now }
-    requires same { length layer.old ≡ length sums.now }
-    requires greatest { AreGreatestSums (length layer.old) edges.now (map pos sums.now) }
-    requires layering { IsLayering edges.now (map pos sums.now) }
+    requires layering { IsLayering edges.now layer.old }
+    requires from_zero { (v : ℕ) → v < length layer.old → pos 0 ≤ℤ layer_of layer.old v }
+    requires low { (v : ℕ) → v < length layer.old → layer_of layer.old v <ℤ pos (2 ^ 62) }
     requires flow { length flow.old ≡ length edges.now }
     requires no_flow { (k : ℕ) → slice_index flow.old k ≡ 0 }
     ensures { OnOk result (IsDone (length layer.old) edges.now layer.new flow.new) }
@@ -83,7 +82,6 @@ fn run_from(
     let mut reached: Vec<bool> = vec![in alloc; false; nodes]?;
     let mut labels: Vec<Label> = vec![in alloc; blank; nodes]?;
     let mut dist: Vec<u128> = vec![in alloc; 0; nodes]?;
-    as_layers(sums, layer);
     run(
         alloc,
         edges,
@@ -96,24 +94,34 @@ fn run_from(
     )
 }
 
-/// A layering of least cost, and a flow that proves it: each head stands at least `least` above its tail, the least
-/// layer of each part is 0, and no layering costs less. The method is the primal-dual one of Ford and Fulkerson: from
-/// the layering of greatest path sums on it raises what a node with a surplus reaches over tight edges and used ones,
-/// and pushes the surplus to a node that asks for more.
+/// A layering of least cost, and a flow that proves it, found from a layering whose layers are from 0 on: each head
+/// stands at least `least` above its tail, the least layer of each part is 0, and no layering costs less. The method
+/// is the primal-dual one of Ford and Fulkerson: from the first layering on it raises what a node with a surplus
+/// reaches over tight edges and used ones, and pushes the surplus to a node that asks for more. The nearer the first
+/// layering is to one of least cost, the fewer nodes a search reaches.
+pub fn solve_from(alloc: Global, net: &Network, first: Vec<i64>) -> Result<Solution, AllocError>
+    requires network { IsNetwork net.now.nodes net.now.edges.items }
+    requires as_many { length first.items ≡ net.now.nodes }
+    requires layering { IsLayering net.now.edges.items first.items }
+    requires from_zero { (v : ℕ) → v < net.now.nodes → pos 0 ≤ℤ layer_of first.items v }
+    requires low { (v : ℕ) → v < net.now.nodes → layer_of first.items v <ℤ pos (2 ^ 62) }
+    ensures { IfOk result (λ s. IsSolution net.now.nodes net.now.edges.items s.layer.items s.flow.items s.cost) }
+{
+    let edges = net.edges.as_slice();
+    let mut layer = first;
+    let mut flow: Vec<u64> = vec![in alloc; 0; edges.len()]?;
+    run_from(alloc, edges, layer.as_mut_slice(), flow.as_mut_slice())?;
+    Ok(finish(net.nodes, edges, layer, flow))
+}
+
+/// A layering of least cost, and a flow that proves it, as `solve_from` finds them from the layering of greatest path
+/// sums.
 pub fn solve(alloc: Global, net: &Network) -> Result<Solution, AllocError>
     requires { IsNetwork net.now.nodes net.now.edges.items }
     ensures { IfOk result (λ s. IsSolution net.now.nodes net.now.edges.items s.layer.items s.flow.items s.cost) }
 {
     let edges = net.edges.as_slice();
     let sums = greatest_sums(alloc, net.nodes, edges)?;
-    let mut layer: Vec<i64> = vec![in alloc; 0; net.nodes as usize]?;
-    let mut flow: Vec<u64> = vec![in alloc; 0; edges.len()]?;
-    run_from(
-        alloc,
-        edges,
-        sums.as_slice(),
-        layer.as_mut_slice(),
-        flow.as_mut_slice(),
-    )?;
-    Ok(finish(net.nodes, edges, layer, flow))
+    let first = as_layers(alloc, sums.as_slice())?;
+    solve_from(alloc, net, first)
 }

@@ -37,7 +37,8 @@ fn is_open_back(reached: &[bool], e: NetEdge, amount: u64) -> bool
     amount > 0
 }
 
-fn slack_of(layer: &[i64], e: NetEdge) -> u128
+/// How much further down the head stands than it has to.
+pub fn slack_of(layer: &[i64], e: NetEdge) -> u128
     requires tail { e.tail < length layer.now }
     requires head { e.head < length layer.now }
     requires from_zero { (v : ℕ) → v < length layer.now → pos 0 ≤ℤ layer_of layer.now v }

@@ -16,6 +16,7 @@ use Rattle.ns_place.specs.declared.least.PairFlow.{PairFlow}
 use Rattle.ns_place.specs.Pairs.{distance, IsPair}
 use Rattle.ns_place.specs.Heights.{size, link_height, heights_together, pins_together}
 use Rattle.ns_place.specs.Network.{edge_of, joining, edge_for, alone_of, edges_of, HasPins}
+use Rattle.ns_place.specs.Start.{joint_layer, lowest, completed}
 use Rattle.ns_place.proofs.PairLemmas.{All-left, All-right, IsApart}
 use Rattle.ns_place.proofs.SumLemmas.{natural_of}
 use Rattle.ns_place.proofs.NetworkLemmas.{joining_all, edges_all, all_both}
@@ -54,10 +55,6 @@ links_cost_least joint (l ∷ ls) layers pins h =
     let one = joint_least (layer_of layers l.tail) (layer_of layers l.head) (layer_of layers joint) l.tail_at l.head_at (rise layers first) (rise layers second)
     (rise_of layers first r) (rise_of layers second r') (omega (arith, ints, r, n)) (omega (arith, ints, r', m)) in
     omega (arith, ints, rest, one)
-
--- where a link's own node may stand at most
-abbrev pub joint_layer : List ℤ → Link → ℤ
-joint_layer tops l = int_min (top_of tops l.tail +ℤ l.tail_at) (top_of tops l.head +ℤ l.head_at) -ℤ (l.tail_at +ℤ l.head_at)
 
 joint_rises : (t h a b z : ℤ) → z ≡ int_min (t +ℤ a) (h +ℤ b) -ℤ (a +ℤ b) → ((z +ℤ b) ≤ℤ t) × ((z +ℤ a) ≤ℤ h)
 joint_rises t h a b z e = (omega (arith, ints, clamps, e), omega (arith, ints, clamps, e))
@@ -104,29 +101,22 @@ links_cost_most joint (l ∷ ls) layers pins at =
 
 -- tops, completed to a layering of the network
 
-abbrev pub lowest : List ℤ → ℤ
-lowest [] = pos 0
-lowest (t ∷ ts) = int_min t (lowest ts)
-
 lowest_is : (ts : List ℤ) (u : ℕ) → u < length ts → lowest ts ≤ℤ top_of ts u
 lowest_is [] u h = absurd (omega (arith, h))
 lowest_is (t ∷ ts) zero h = omega (arith, ints, clamps)
 lowest_is (t ∷ ts) (suc u) h = let rest = lowest_is ts u (omega (arith, h)) in omega (arith, ints, clamps, rest)
 
-abbrev pub completed : List ℤ → List Link → List ℤ
-completed tops ls = tops ++ (map (joint_layer tops) ls ++ lowest tops ∷ [])
-
-at_unit : (tops : List ℤ) (ls : List Link) (u : ℕ) → u < length tops → layer_of (completed tops ls) u ≡ top_of tops u
+pub at_unit : (tops : List ℤ) (ls : List Link) (u : ℕ) → u < length tops → layer_of (completed tops ls) u ≡ top_of tops u
 at_unit tops ls u h = get_or_append_left tops (map (joint_layer tops) ls ++ lowest tops ∷ []) (pos 0) u h
 
-at_joint : (tops : List ℤ) (ls : List Link) (k : ℕ) → k < length ls → layer_of (completed tops ls) (length tops + k) ≡ joint_layer tops (link_at ls k)
+pub at_joint : (tops : List ℤ) (ls : List Link) (k : ℕ) → k < length ls → layer_of (completed tops ls) (length tops + k) ≡ joint_layer tops (link_at ls k)
 at_joint tops ls k h =
     let long = length-map ls (joint_layer tops) in
     get_or-append-add tops (map (joint_layer tops) ls ++ lowest tops ∷ []) k (pos 0)
     ∙ get_or_append_left (map (joint_layer tops) ls) (lowest tops ∷ []) (pos 0) k (omega (arith, long, h))
     ∙ get_or-map (joint_layer tops) ls k (record { edge = 0; tail = 0; head = 0; tail_rank = 0; head_rank = 0; tail_at = pos 0; head_at = pos 0 }) (pos 0) h
 
-at_alone : (tops : List ℤ) (ls : List Link) → layer_of (completed tops ls) (length tops + length ls) ≡ lowest tops
+pub at_alone : (tops : List ℤ) (ls : List Link) → layer_of (completed tops ls) (length tops + length ls) ≡ lowest tops
 at_alone tops ls =
     get_or-append-add tops (map (joint_layer tops) ls ++ lowest tops ∷ []) (length ls) (pos 0)
     ∙ get_or_push (map (joint_layer tops) ls) (lowest tops) (pos 0) (length ls) (length-map ls (joint_layer tops))

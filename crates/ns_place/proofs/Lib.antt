@@ -7,3 +7,4 @@ pub mod CostLemmas
 pub mod TopLemmas
 pub mod PlacingLemmas
 pub mod WritingLemmas
+pub mod FirstLemmas

@@ -20,7 +20,8 @@ use Rattle.ns_place.specs.Tops.{AreClosedTops}
 use Rattle.ns_place.proofs.PairLemmas.{IsApart, are_pairs, all_apart, distances_kept, kept_distances, no_flow_yet}
 use Rattle.ns_place.proofs.NetworkLemmas.{joining_long, edges_long, link_ends, have_pins}
 use Rattle.ns_place.proofs.FlowLemmas.{AreLinkFlows, link_flows_are, flows_of, two_each, none_below, unit_balance, value_split}
-use Rattle.ns_place.proofs.CostLemmas.{HasEndsBelow, cost_least, layers_apart, is_layering, cost_most, completed}
+use Rattle.ns_place.proofs.CostLemmas.{HasEndsBelow, cost_least, layers_apart, is_layering, cost_most}
+use Rattle.ns_place.specs.Start.{completed}
 
 pub solved_from : (l : Plain) (rows : List (List ℕ)) (nodes : ℕ) (edges : List NetEdge) (pairs : List PairFlow) (layers : List ℤ) (flow : List ℕ) (total : ℕ)
     → nodes ≡ alone_of l + 1 → edges ≡ edges_of l pairs → pairs ≡ all_pairs l rows → IsSolution nodes edges layers flow total → IsSolution (alone_of l + 1) (edges_of l (all_pairs l rows)) layers flow total

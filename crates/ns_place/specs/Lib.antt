@@ -4,3 +4,4 @@ pub mod Network
 pub mod Closing
 pub mod Flows
 pub mod Tops
+pub mod Start

@@ -13,9 +13,7 @@ mod least;
 mod network;
 mod pairs;
 mod placing;
+mod start;
 
 pub use least::{LeastPlacing, PairFlow};
 pub use placing::place_least;
-
-#[cfg(test)]
-mod tests;

@@ -13,8 +13,9 @@ use crate::heights::total_height;
 use crate::least::LeastPlacing;
 use crate::network::network_of;
 use crate::pairs::pairs_of;
+use crate::start::first_layers;
 use elk_layers::{Layered, Lines, Order};
-use flow_dual::solve;
+use flow_dual::solve_from;
 use std::alloc::{AllocError, Global};
 
 /// The greatest of the three spacings.
@@ -56,7 +57,8 @@ pub fn place_least(
 {
     let pairs = pairs_of(alloc, layered, order)?;
     let net = network_of(alloc, layered, pairs.as_slice())?;
-    let solution = solve(alloc, &net)?;
+    let first = first_layers(alloc, layered, order)?;
+    let solution = solve_from(alloc, &net, first)?;
     let links = layered.links.as_slice();
     let flow = solution.flow.as_slice();
     let top = tops_of(alloc, layered, solution.layer.as_slice())?;

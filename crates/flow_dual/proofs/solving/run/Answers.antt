@@ -1,6 +1,5 @@
-use Rattle.std.proofs.Common.{◌≡◌, length, arith, subst}
+use Rattle.std.proofs.Common.{◌≡◌, length, arith, subst, refl}
 use Rattle.layering_laws.specs.Layering.{PartsBeginAtZero}
-use Rattle.flow_dual.specs.Searching.{TellsExcess}
 use Rattle.flow_dual.proofs.Starting.{first_between}
 use Rattle.flow_dual.proofs.Finishing.{done}
 use Rattle.flow_dual.proofs.solving.run.Goals as goal
@@ -13,6 +12,4 @@ returns c =
 
 pub drain_all-requires-clause-between : goal.drain_all-requires-clause-between
 drain_all-requires-clause-between c =
-    let n : length c.tally.new.excess ≡ length c.args.layer.now = let a = c.requires.excess in omega (arith, a) in
-    let t = subst (λ x. TellsExcess x c.args.edges.now c.args.flow.now c.tally.new.excess) c.requires.excess (c.tally.ensures c.args.flow.now c.requires.no_flow) in
-    first_between (length c.args.layer.now) c.args.edges.now c.args.layer.now c.args.flow.now c.tally.new.excess c.args.reached.now c.args.labels.now c.args.dist.now c.requires.network c.requires.greatest c.requires.layering c.requires.flow c.requires.no_flow n t c.requires.cleared c.requires.dist
+    first_between (length c.args.layer.now) c.args.edges.now c.args.layer.now c.begin.new.flow c.begin.new.excess c.args.reached.now c.args.labels.now c.args.dist.now c.requires.network refl c.requires.layering c.requires.from_zero c.requires.low c.begin.ensures c.requires.cleared c.requires.dist

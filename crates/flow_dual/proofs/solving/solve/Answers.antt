@@ -1,45 +1,31 @@
-use Rattle.std.proofs.Common.{◌≡◌, ◌++◌, pos, length, take, drop, map, arith, subst, sym, ◌∙◌, ap}
-use Rattle.std.proofs.lemmas.List.{length-replicate, length-map, take_at}
+use Rattle.std.proofs.Common.{◌≡◌, ◌<◌, ◌^◌, pos, map, subst, sym, ◌∙◌, ap}
+use Rattle.std.specs.List.{All}
 use Rattle.layering_laws.specs.Network.{IsNetwork}
 use Rattle.layering_laws.specs.Layering.{IsLayering}
 use Rattle.layering_laws.specs.Paths.{AreGreatestSums}
-use Rattle.layering_laws.specs.Tight.{IsDone}
-use Rattle.flow_dual.proofs.Finishing.{same_everywhere}
+use Rattle.flow_dual.proofs.Finishing.{sums_fit, sum_layers}
 use Rattle.flow_dual.proofs.solving.solve.Goals as goal
 
-pub run_from-requires : goal.run_from-requires
-run_from-requires c =
+pub as_layers-requires : goal.as_layers-requires
+as_layers-requires c =
     let nodes = c.args.net.now.nodes in
     let edges = c.as_slice-edges.result.now in
-    let ee = c.as_slice-edges.ensures.value in
-    let el = c.as_mut_slice.ensures.value ∙ c.in_ok-layer.ensures.items_if_clones_equal (λ y e. e) in
-    let ef = c.as_mut_slice-2.ensures.value ∙ c.in_ok-flow.ensures.items_if_clones_equal (λ y e. e) in
-    let es = c.as_slice.ensures.value in
-    let n : length c.as_mut_slice.result.now ≡ nodes = ap length el ∙ length-replicate nodes (pos 0) in
-    let g = c.in_ok-sums.ensures.greatest in
-    let gl = g.layer_for_each in
-    let ml = length-map c.in_ok-sums.sums.items pos in
-    record {
-      network = subst (λ x. IsNetwork x edges) (sym n) (subst (λ xs. IsNetwork nodes xs) (sym ee) c.requires);
-      same = n ∙ (sym gl ∙ (ml ∙ sym (ap length es)));
-      greatest = subst (λ x. AreGreatestSums x edges (map pos c.as_slice.result.now)) (sym n) (subst (λ xs. AreGreatestSums nodes edges (map pos xs)) (sym es) g);
-      layering = subst (λ xs. IsLayering edges (map pos xs)) (sym es) c.in_ok-sums.ensures.layering;
-      flow = ap length ef ∙ length-replicate (length edges) 0;
-      no_flow = λ k. same_everywhere (length edges) k 0 c.as_mut_slice-2.result.now ef;
-    }
+    let net : IsNetwork nodes edges = subst (λ xs. IsNetwork nodes xs) (sym c.as_slice-edges.ensures.value) c.requires in
+    subst (λ xs. All (λ n. n < 2 ^ 63) xs) (sym c.as_slice.ensures.value) (sums_fit nodes edges c.in_ok-sums.sums.items net c.in_ok-sums.ensures.greatest)
 
-pub finish-requires : goal.finish-requires
-finish-requires c =
+pub solve_from-requires : goal.solve_from-requires
+solve_from-requires c =
     let nodes = c.args.net.now.nodes in
     let edges = c.as_slice-edges.result.now in
     let ee = c.as_slice-edges.ensures.value in
-    let el = c.as_mut_slice.ensures.value ∙ c.in_ok-layer.ensures.items_if_clones_equal (λ y e. e) in
-    let n : length c.as_mut_slice.result.now ≡ nodes = ap length el ∙ length-replicate nodes (pos 0) in
-    let a = take_at c.run_from.new.layer (drop (length c.run_from.new.layer) c.in_ok-layer.layer.items) c.in_ok-layer.layer.len (omega arith) in
-    let b = take_at c.run_from.new.flow (drop (length c.run_from.new.flow) c.in_ok-flow.flow.items) c.in_ok-flow.flow.len (omega arith) in
     let net : IsNetwork nodes edges = subst (λ xs. IsNetwork nodes xs) (sym ee) c.requires in
+    let is : c.in_ok-first.first.items ≡ map pos c.in_ok-sums.sums.items = c.in_ok-first.ensures ∙ ap (map pos) c.as_slice.ensures.value in
+    let g : AreGreatestSums nodes edges c.in_ok-first.first.items = subst (λ xs. AreGreatestSums nodes edges xs) (sym is) c.in_ok-sums.ensures.greatest in
+    let low = sum_layers nodes edges c.in_ok-first.first.items net g in
     record {
-      few = net.few_edges;
-      ends = net.ends;
-      done = subst (λ xs. IsDone nodes edges xs (take c.in_ok-flow.flow.len (c.run_from.new.flow ++ drop (length c.run_from.new.flow) c.in_ok-flow.flow.items))) (sym a) (subst (λ xs. IsDone nodes edges c.run_from.new.layer xs) (sym b) (subst (λ x. IsDone x edges c.run_from.new.layer c.run_from.new.flow) n c.in_ok-run_from.ensures));
+      network = c.requires;
+      as_many = g.layer_for_each;
+      layering = subst (λ es. IsLayering es c.in_ok-first.first.items) ee (subst (λ xs. IsLayering edges xs) (sym is) c.in_ok-sums.ensures.layering);
+      from_zero = λ v l. (low v l).0;
+      low = λ v l. (low v l).1;
     }

@@ -1,11 +1,16 @@
-use Rattle.std.proofs.Common.{◌<◌, pos, map, length, arith, ◌∙◌, sym}
-use Rattle.std.proofs.lemmas.List.{ext_get_or, get_or-map, length-map}
+use Rattle.std.proofs.Common.{◌≡◌, ◌++◌, ◌∷◌, [], pos, map, get_or, arith, ap, sym, ◌∙◌, to_z, w64}
+use Rattle.std.proofs.lemmas.Int.{ints}
+use Rattle.std.proofs.lemmas.List.{map_more, take_all}
 use Rattle.flow_dual.proofs.start.as_layers.Goals as goal
 
+pub loop-sum-preserved : goal.loop-sum-preserved
+loop-sum-preserved c =
+    let h = c.loop-sum-test.true in
+    let xs = c.args.sums.now in
+    let n = get_or xs c.loop-sum.sum-index 0 in
+    let small = c.requires c.loop-sum.sum-index 0 h in
+    let is : to_z w64 n ≡ pos n = omega (arith, ints, small) in
+    c.in_ok-push.ensures.items ∙ ap (λ z. c.loop-sum.layer.items ++ z ∷ []) is ∙ ap (λ zs. zs ++ pos n ∷ []) c.loop-sum.invariant ∙ sym (map_more pos xs c.loop-sum.sum-index 0 h)
+
 pub returns : goal.returns
-returns c =
-    let sums = c.args.sums.now in
-    let n = c.loop-v.invariant.0 in
-    let t = c.loop-v-test.false in
-    ext_get_or (pos 0) c.loop-v.layer (map pos sums) (n ∙ sym (length-map sums pos))
-    (λ v l. let b : v < length sums = omega (arith, n, l) in c.loop-v.invariant.1 v (omega (arith, t, b)) ∙ sym (get_or-map pos sums v 0 (pos 0) b))
+returns c = c.loop-sum.invariant ∙ ap (map pos) (take_all c.loop-sum.sum-index c.args.sums.now (omega arith))

@@ -1,5 +1,6 @@
-use Rattle.std.proofs.Common.{◌≡◌, ◌∙◌, pos, length, IfOk, replicate, false, arith, subst, sym, ap}
+use Rattle.std.proofs.Common.{◌≡◌, ◌∙◌, ◌<◌, ◌^◌, pos, length, IfOk, replicate, false, arith, subst, sym, ap}
 use Rattle.std.proofs.lemmas.List.{length-replicate}
+use Rattle.std.proofs.lemmas.List.Elements.{All-get_or}
 use Rattle.layering_laws.specs.Network.{IsNetwork}
 use Rattle.layering_laws.specs.Layering.{IsLayering}
 use Rattle.layering_laws.specs.Paths.{AreGreatestSums}
@@ -9,7 +10,8 @@ use Rattle.net_simplex.specs.Outcome.{Outcome}
 use Rattle.net_simplex.proofs.solving.run_from.Goals as goal
 
 pub as_layers-requires-clause-fits : goal.as_layers-requires-clause-fits
-as_layers-requires-clause-fits c = sums_fit (length c.args.layers.now) c.args.edges.now c.args.sums.now c.requires.network c.requires.greatest
+as_layers-requires-clause-fits c v l =
+    All-get_or (λ n. n < 2 ^ 63) c.args.sums.now v 0 l (sums_fit (length c.args.layers.now) c.args.edges.now c.args.sums.now c.requires.network c.requires.greatest)
 
 pub run_on-requires : goal.run_on-requires
 run_on-requires c =

@@ -2,6 +2,7 @@ use Rattle.std.proofs.Common.{ℕ, ◌*◌, ◌<◌, ◌≤◌, length, get_or, 
 use Rattle.std.specs.List.{All}
 use Rattle.elk_layers.specs.Layered.{plain, rows_of}
 use Rattle.layering_laws.specs.Network.{IsNetwork}
+use Rattle.layering_laws.specs.Layering.{IsLayering}
 use Rattle.ns_place.specs.Pairs.{all_pairs, IsPair}
 use Rattle.ns_place.specs.Network.{edges_of}
 use Rattle.ns_place.specs.Heights.{heights_together, IsNearLink}
@@ -24,14 +25,22 @@ network_of-requires c =
       pairs = subst (All (IsPair l)) (sym (c.as_slice.ensures.value ∙ c.in_ok-pairs.ensures)) (are_pairs l rows c.requires.rows);
     }
 
-pub solve-requires : goal.solve-requires
-solve-requires c =
+pub solve_from-requires : goal.solve_from-requires
+solve_from-requires c =
     let l = plain c.args.layered.now in
     let rows = rows_of c.args.order.now in
+    let first = c.in_ok-first.ensures in
+    let nodes = c.in_ok-net.ensures.nodes in
     let edges = c.in_ok-net.ensures.edges ∙ ap (edges_of l) (c.as_slice.ensures.value ∙ c.in_ok-pairs.ensures) in
-    subst (λ es. IsNetwork c.in_ok-net.net.nodes es) (sym edges)
-    (subst (λ n. IsNetwork n (edges_of l (all_pairs l rows))) (sym c.in_ok-net.ensures.nodes)
-    (is_network l rows c.requires.sound c.requires.rows c.requires.few_units c.requires.few_links c.requires.together))
+    record {
+      network = subst (λ es. IsNetwork c.in_ok-net.net.nodes es) (sym edges)
+          (subst (λ n. IsNetwork n (edges_of l (all_pairs l rows))) (sym nodes)
+          (is_network l rows c.requires.sound c.requires.rows c.requires.few_units c.requires.few_links c.requires.together));
+      as_many = first.as_many ∙ sym nodes;
+      layering = subst (λ es. IsLayering es c.in_ok-first.first.items) (sym edges) first.layering;
+      from_zero = λ v h. first.from_zero v (subst (λ n. v < n) nodes h);
+      low = λ v h. first.low v (subst (λ n. v < n) nodes h);
+    }
 
 pub link_flows-requires-clause-there : goal.link_flows-requires-clause-there
 link_flows-requires-clause-there c =
