@@ -1,4 +1,4 @@
--- The boxes of a drawing are in range.
+-- The boxes of a drawing are in range, and small.
 use Rattle.std.proofs.Common.{ℕ, zero, suc, ◌<◌, length, All, arith}
 use Rattle.std.proofs.lemmas.Int.{ints}
 use Rattle.std.proofs.lemmas.List.Elements.{All-from_get_or}
@@ -12,7 +12,7 @@ use Rattle.elk_doc.specs.Shapes.{Holds}
 use Rattle.elk_doc.specs.Sound.{IsSound}
 use Rattle.elk_doc.proofs.PlaceLaws.{outline_to-least}
 use Rattle.elk_doc.proofs.SoundLaws.{parent_of-in}
-use Rattle.drawing_fits.specs.Held.{IsHeld, IsModest}
+use Rattle.drawing_fits.specs.Held.{IsHeld, IsModest, IsSmallBox}
 use Rattle.drawing_fits.proofs.ParentLemmas.{reach, child_of_parent, options_there, level_in_reach}
 
 -- the outline of a node that is not the root lies from 0 to 2^51
@@ -39,3 +39,19 @@ box_fits d p sound held (suc n) there =
 pub boxes_fit : (d : Document) (p : Placed) → IsSound d → IsHeld d p → All FitsBox p.boxes
 boxes_fit d p sound held =
     All-from_get_or FitsBox p.boxes no_rect (λ n there. box_fits d p sound held n (omega (arith, held.counts.boxes)))
+
+held_box_small : (outline r : Rect) → IsModest r → Holds reach outline → Holds outline r → IsSmallBox r
+held_box_small outline r modest inside held = omega (arith, ints)
+
+root_box_small : (p : Placed) → IsRooted p → IsModest (box_of p 0) → IsSmallBox (box_of p 0)
+root_box_small p root modest = omega (arith, ints, root.x, root.y)
+
+box_small : (d : Document) (p : Placed) → IsSound d → IsHeld d p → (n : ℕ) → n < length d.nodes → IsSmallBox (box_of p n)
+box_small d p sound held zero there = root_box_small p held.root (held.sizes 0 there)
+box_small d p sound held (suc n) there =
+    let c = suc n in
+    held_box_small (outline_of d p c) (box_of p c) (held.sizes c there) (outline_in_reach d p c sound held (omega arith) there) (outline_to-least d p c (length d.ports)).box
+
+pub boxes_small : (d : Document) (p : Placed) → IsSound d → IsHeld d p → All IsSmallBox p.boxes
+boxes_small d p sound held =
+    All-from_get_or IsSmallBox p.boxes no_rect (λ n there. box_small d p sound held n (omega (arith, held.counts.boxes)))

@@ -1,7 +1,9 @@
 -- Drawings whose coordinates are in range because each level lies within its node.
-use Rattle.std.specs.Prelude.{◌≡◌, ℕ, ◌<◌, ◌^◌, pos, length, Some}
+use Rattle.std.specs.Prelude.{◌≡◌, ℕ, ◌<◌, ◌^◌, ℤ, pos, neg_ℤ, ◌<ℤ◌, length, Some, All}
+use Rattle.elk_doc.specs.declared.shape.Point.{Point}
 use Rattle.elk_doc.specs.declared.shape.Rect.{Rect}
 use Rattle.elk_doc.specs.declared.document.LevelOptions.{LevelOptions}
+use Rattle.elk_doc.specs.declared.drawing.Section.{Section}
 use Rattle.elk_doc.specs.declared.drawing.Placed.{Placed}
 use Rattle.elk_doc.specs.Document.{Document, node_at}
 use Rattle.elk_doc.specs.Drawing.{box_of}
@@ -31,3 +33,32 @@ pub record IsHeld (d : Document) (p : Placed) : Type 0 where
 -- lies from -2^53 to 2^53.
 abbrev pub HeldDrawingsFit : Type 0
 HeldDrawingsFit = (d : Document) (p : Placed) → IsSound d → IsHeld d p → Fits d p
+
+-- a number below 2^53 in size, one that a double holds with both its neighbours
+pub record IsSmall (z : ℤ) : Type 0 where
+  pub above : neg_ℤ (pos (2 ^ 53)) <ℤ z
+  pub below : z <ℤ pos (2 ^ 53)
+
+pub record IsSmallPoint (q : Point) : Type 0 where
+  pub x : IsSmall q.x
+  pub y : IsSmall q.y
+
+pub record IsSmallBox (r : Rect) : Type 0 where
+  pub place : IsSmallPoint (record { x = r.x; y = r.y })
+  pub width : IsSmall r.width
+  pub height : IsSmall r.height
+
+pub record IsSmallSection (s : Section) : Type 0 where
+  pub start : IsSmallPoint s.start
+  pub bends : All IsSmallPoint s.bends
+  pub end : IsSmallPoint s.end
+
+-- all places and sizes of boxes, all places of ports and all points of routes are below 2^53 in size
+pub record HasSmallCoordinates (p : Placed) : Type 0 where
+  pub boxes : All IsSmallBox p.boxes
+  pub ports : All IsSmallPoint p.ports
+  pub sections : All IsSmallSection p.sections
+
+-- No coordinate of such a drawing reaches 2^53.
+abbrev pub HeldDrawingsAreSmall : Type 0
+HeldDrawingsAreSmall = (d : Document) (p : Placed) → IsSound d → IsHeld d p → HasSmallCoordinates p

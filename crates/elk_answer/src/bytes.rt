@@ -3,8 +3,8 @@ ghost use Rattle.std.specs.Prelude.{IfErr, IfOk, OnOk};
 ghost use Rattle.elk_json.specs.Refused.{MatchFault};
 ghost use Rattle.elk_answer.specs.Answer.{IsAccepted, IsAnswer, Refuses};
 
-use compound::{is_built, lay_out};
-use elk_json::{DocFault, Refusal, Rule, parse, read_doc};
+use compound::lay_out;
+use elk_json::{DocFault, parse, read_doc};
 use elk_write::{answer_value, text_of};
 use std::alloc::Global;
 
@@ -18,12 +18,6 @@ pub fn answer(alloc: Global, bytes: &[u8]) -> Result<Vec<u8>, DocFault>
 {
     let value = parse(alloc, bytes)?;
     let doc = read_doc(alloc, &value)?;
-    if !is_built(&doc) {
-        return Err(DocFault::Refused(Refusal {
-            rule: Rule::NotBuilt,
-            place: None,
-        }));
-    }
     let placed = lay_out(alloc, &doc)?;
     let answer = answer_value(alloc, &value, &doc, &placed)?;
     Ok(text_of(alloc, &answer)?)

@@ -1,54 +1,31 @@
 -- The value that is written says the drawing again, and the same document but for the places of ports.
-use Rattle.std.proofs.Common.{◌≡◌, ℕ, zero, suc, ◌+◌, ◌<◌, List, [], ◌∷◌, ◌++◌, length, map, take, filter, get_or, Bool, true, false, not, ◌&&◌, ◌||◌, cond, Option, Some, None, option_map, if◌then◌else◌, ℤ, pos, refl, sym, ap, ◌∙◌, subst, arith, append_assoc, IsSome, IsNone, ne_eqb}
-use Rattle.std.specs.Prelude.{option_and_then, codes, slice_get, slice_index_or, IsTrue, is_none, is_some, unwrap_or, ◌==◌, nat_lt}
-use Rattle.std.specs.Option.{option_map_or, option_or}
-use Rattle.std.specs.List.{list_all}
+use Rattle.std.proofs.Common.{◌≡◌, ℕ, zero, suc, ◌+◌, ◌<◌, List, [], ◌∷◌, length, map, filter, Bool, true, false, not, ◌&&◌, cond, Option, Some, None, option_map, if◌then◌else◌, pos, refl, sym, ap, ◌∙◌, subst, arith, IsNone, ne_eqb}
+use Rattle.std.specs.Prelude.{option_and_then, codes, slice_get, IsTrue, is_some}
+use Rattle.std.specs.Option.{option_map_or}
 use Rattle.std.specs.Ordering.{int_eq}
 use Rattle.std.proofs.lemmas.Bool.Decides.{Decides-int_eq}
-use Rattle.std.proofs.lemmas.List.{length-map, length-append}
+use Rattle.std.proofs.lemmas.List.{length-map}
 use Rattle.std.proofs.lemmas.Option.{slice_get_within, slice_get-get_or, slice_get-map, get_or_from_slice_get}
-use Rattle.serde_json.specs.Data.{Data, null}
-use Rattle.serde_json.specs.Find.{get}
 use Rattle.elk_doc.specs.declared.shape.Point.{Point}
-use Rattle.elk_doc.specs.declared.shape.Rect.{Rect}
 use Rattle.elk_doc.specs.declared.shape.Size.{Size}
 use Rattle.elk_doc.specs.declared.document.Node.{Node}
-use Rattle.elk_doc.specs.declared.document.Port.{Port}
 use Rattle.elk_doc.specs.declared.document.Edge.{Edge as DocEdge}
-use Rattle.elk_doc.specs.declared.document.End.{End}
-use Rattle.elk_doc.specs.declared.document.End.TheVariants.{Node as AtNode, Port as AtPort}
 use Rattle.elk_doc.specs.declared.document.LevelOptions.{LevelOptions}
-use Rattle.elk_doc.specs.declared.drawing.Section.{Section}
 use Rattle.elk_doc.specs.declared.drawing.Certificate.{Certificate}
 use Rattle.elk_doc.specs.declared.drawing.Placed.{Placed}
-use Rattle.elk_doc.specs.Document.{Document, document, node_at, edge_at, port_at, no_node, no_port, no_edge, origin}
-use Rattle.elk_doc.specs.Numbers.{count_below}
-use Rattle.elk_doc.specs.Level.{is_number, is_child, is_edge_of, level_of_edge, node_of_end, source_node, target_node, is_loop}
+use Rattle.elk_doc.specs.Document.{Document, node_at, no_node, origin}
 use Rattle.elk_doc.specs.Drawing.{box_of as drawn_box, certificate_of, section_of, port_place, no_rect, no_section}
-use Rattle.elk_doc.specs.Fits.{Fits, FitsBox, FitsLevel, FitsCertificate, KeepsSize, child_count, edge_count}
+use Rattle.elk_doc.specs.Fits.{Fits, FitsBox, FitsLevel, FitsCertificate}
 use Rattle.elk_options.specs.declared.options.Role.TheVariants as role
 use Rattle.elk_options.specs.Reading.{options_of}
-use Rattle.elk_json.specs.declared.elements.Kind.{Kind}
-use Rattle.elk_json.specs.declared.elements.Kind.TheVariants as kind
-use Rattle.elk_json.specs.Elements.{Element, elements}
-use Rattle.elk_json.specs.Members.{kind_is_node, kind_is_port, kind_is_edge, is_node, is_port, is_edge, is_compound, node_role, options_at, options_data}
-use Rattle.elk_json.specs.Keyed.{IsKeyed}
-use Rattle.elk_json.specs.Rules.{refused, first_at}
-use Rattle.elk_json.specs.Document.{IsDocument, node_of, port_of, edge_of, nodes_of, ports_of, edges_of, number_at, sure_id}
-use Rattle.elk_write.specs.Numbers.{from_zero}
+use Rattle.elk_json.specs.Elements.{Element}
+use Rattle.elk_json.specs.Members.{is_node, is_port, is_edge, is_compound, node_role, options_at, options_data}
+use Rattle.elk_json.specs.Document.{node_of, edge_of, nodes_of, edges_of}
 use Rattle.elk_write.specs.Values.{whole, sections_data, layering_data}
-use Rattle.elk_write.specs.Written.{AllFrom, IfThere, Has, HasLevel, IsNodeWritten, IsPortWritten, IsEdgeWritten, IsPlacedBy, is_split}
-use Rattle.elk_write.specs.Reading.{point_in, size_in, sections_in, certificate_in, certificate_of as certificate_made, flow_in, layers_in, parts_in, reversed_in, span_in, is_listable, are_listable, listable, is_ascending, edge_named, list_in, counted, large_in, small_in}
-use Rattle.elk_write.specs.Placing.{is_origin, rooted, node_size_in, box_of, box_in, level_in, box_at, level_at, place_at, section_at, given, IsGiven, lacks, of_kind, number_of, is_unplaced, first_unplaced, document_in, not_placed, IsDrawing}
-use Rattle.elk_write.specs.ReadBack.{without_place, SameButPlaces, SaysBack, IsHeld, IsHeldLevel, AreHeld}
-use Rattle.elk_write.proofs.Growing.{filter_push}
-use Rattle.elk_write.proofs.Known.{whole_by, shaped_by}
-use Rattle.elk_write.proofs.Pairs.{pairs_whole}
-use Rattle.elk_write.proofs.Law.{answer_of, answer_placed}
-use Rattle.elk_write.proofs.Inherited.{each_whole}
-use Rattle.elk_write.proofs.Alike.{AllAlike, alike_whole}
-use Rattle.elk_write.proofs.SameDocument.{same_nodes, same_ports, same_edges}
-use Rattle.elk_write.proofs.Distinct.{has_id, have_ids, FoundAt, edges_found}
+use Rattle.elk_write.specs.Written.{AllFrom, IfThere, Has, HasLevel, IsNodeWritten, IsPortWritten, IsEdgeWritten, is_split}
+use Rattle.elk_write.specs.Reading.{sections_in, certificate_in}
+use Rattle.elk_write.specs.Placing.{is_origin, rooted, node_size_in, box_of, box_in, level_in, box_at, level_at, place_at, section_at, given, IsGiven}
+use Rattle.elk_write.specs.ReadBack.{IsHeld, IsHeldLevel, AreHeld}
 use Rattle.elk_write.proofs.Returned.{AreFound, point_back, size_back, sections_back, certificate_back}
 
 -- ---- lists

@@ -1,5 +1,5 @@
 -- The elements of an answer say the same as those of the value, but for the written members.
-use Rattle.std.proofs.Common.{◌≡◌, ℕ, ◌+◌, List, [], ◌∷◌, ◌++◌, length, map, Bool, true, false, not, ◌&&◌, ◌||◌, bytes_eq, refl, sym, ap, ◌∙◌, subst, Option, Some, None, option_map}
+use Rattle.std.proofs.Common.{◌≡◌, ℕ, List, [], ◌∷◌, Bool, true, false, not, ◌&&◌, ◌||◌, bytes_eq, refl, sym, ap, ◌∙◌, subst, Option, Some, None, option_map}
 use Rattle.std.specs.Prelude.{codes, is_some, slice_get, if◌then◌else◌}
 use Rattle.serde_json.specs.Data.{Data, null, boolean, number, string, array, object, Members, no_members, member, put}
 use Rattle.serde_json.specs.Find.{get, get_member}
@@ -13,7 +13,7 @@ use Rattle.elk_doc.specs.Document.{Document}
 use Rattle.elk_json.specs.declared.elements.Kind.{Kind}
 use Rattle.elk_json.specs.declared.elements.Kind.TheVariants.{Node, Port, Edge}
 use Rattle.elk_json.specs.Elements.{Element, elements}
-use Rattle.elk_json.specs.Members.{kind_is_node, kind_is_port, kind_is_edge, is_node, is_port, is_root, is_compound, has_children}
+use Rattle.elk_json.specs.Members.{kind_is_node, kind_is_port, kind_is_edge, is_root, is_compound, has_children}
 use Rattle.elk_json.specs.Shape.{is_good, is_good_node, is_good_port, is_good_edge, has_bad_shape}
 use Rattle.elk_json.specs.Keyed.{IsKeyed, AreMembersKeyed}
 use Rattle.elk_write.specs.declared.numbers.Numbers.{Numbers}

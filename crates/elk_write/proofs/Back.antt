@@ -1,5 +1,5 @@
 -- What is written is read back.
-use Rattle.std.proofs.Common.{◌≡◌, ℕ, ◌<◌, List, [], ◌∷◌, length, map, filter, get_or, Option, Some, None, option_map, refl, sym, ap, ◌∙◌, subst, arith}
+use Rattle.std.proofs.Common.{◌≡◌, List, length, map, filter, get_or, Some, None, option_map, refl, sym, ap, ◌∙◌, arith}
 use Rattle.std.specs.Prelude.{slice_get}
 use Rattle.std.proofs.lemmas.List.{length-map}
 use Rattle.std.proofs.lemmas.Option.{slice_get-get_or, slice_get-map, get_or_from_slice_get}
@@ -11,13 +11,12 @@ use Rattle.elk_doc.specs.Fits.{Fits}
 use Rattle.elk_json.specs.declared.elements.Kind.TheVariants as kind
 use Rattle.elk_json.specs.declared.fault.Rule.TheVariants as rules
 use Rattle.elk_json.specs.Elements.{Element, elements}
-use Rattle.elk_json.specs.Members.{is_node, is_port, is_edge}
+use Rattle.elk_json.specs.Members.{is_port, is_edge}
 use Rattle.elk_json.specs.Keyed.{IsKeyed}
 use Rattle.elk_json.specs.Rules.{refused, at}
 use Rattle.elk_json.specs.Document.{IsDocument, edge_of, port_of, nodes_of, ports_of, edges_of, sure_id}
-use Rattle.elk_write.specs.Written.{IsPlacedBy}
 use Rattle.elk_write.specs.Reading.{first_number}
-use Rattle.elk_write.specs.Placing.{given, IsGiven, document_in, not_placed, IsDrawing, first_unplaced}
+use Rattle.elk_write.specs.Placing.{IsGiven, document_in, not_placed, first_unplaced}
 use Rattle.elk_write.specs.ReadBack.{without_place, SameButPlaces, SaysBack, AreHeld}
 use Rattle.elk_write.proofs.Known.{whole_by, shaped_by}
 use Rattle.elk_write.proofs.Pairs.{pairs_whole}

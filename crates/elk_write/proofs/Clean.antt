@@ -39,11 +39,11 @@ AreMembersClean ms = (members_have_float ms ≡ false) × AreMembersKeyed ms
 join : (a b : Bool) → a ≡ false → b ≡ false → (a || b) ≡ false
 join a b h k = rw (h, k) refl
 
-left_of : (a b : Bool) → (a || b) ≡ false → a ≡ false
+pub left_of : (a b : Bool) → (a || b) ≡ false → a ≡ false
 left_of true b h = absurd (cc)
 left_of false b h = refl
 
-right_of : (a b : Bool) → (a || b) ≡ false → b ≡ false
+pub right_of : (a b : Bool) → (a || b) ≡ false → b ≡ false
 right_of true b h = absurd (cc)
 right_of false b h = h
 

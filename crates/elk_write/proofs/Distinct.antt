@@ -1,29 +1,27 @@
 -- An edge is found by its id, since no two edges have one id.
 use Rattle.std.proofs.Common.{◌≡◌, ℕ, suc, ◌+◌, List, [], ◌∷◌, ◌++◌, length, map, filter, Bool, true, false, not, ◌&&◌, ◌||◌, bytes_eq, cond, refl, sym, ap, ◌∙◌, subst, Option, Some, None, arith, append_assoc, append-nil}
-use Rattle.std.specs.Prelude.{codes, option_and_then, option_map, unwrap_or, slice_get, is_some, if◌then◌else◌, pos}
-use Rattle.std.specs.Option.{option_map_or, option_or}
+use Rattle.std.specs.Prelude.{codes, option_and_then, unwrap_or, if◌then◌else◌, pos}
+use Rattle.std.specs.Option.{option_map_or}
 use Rattle.std.specs.List.{list_any}
-use Rattle.std.specs.Ordering.{int_eq}
 use Rattle.std.proofs.lemmas.Bool.{and_parts}
 use Rattle.std.proofs.lemmas.Bool.Decides.{Decides-int_eq}
-use Rattle.std.proofs.lemmas.List.{length-append, length-map}
+use Rattle.std.proofs.lemmas.List.{length-append}
 use Rattle.std.proofs.lemmas.Slice.Eq.{bytes_eq-Decides}
 use Rattle.serde_json.specs.Data.{Data, Num, unsigned, negative, float, null, boolean, number, string, array, object}
-use Rattle.serde_json.specs.Find.{get, as_str, as_number, as_integer, is_float}
+use Rattle.serde_json.specs.Find.{get, is_float}
 use Rattle.elk_doc.specs.declared.document.Id.{Id}
 use Rattle.elk_doc.specs.declared.document.Id.TheVariants.{Text, Whole}
 use Rattle.elk_doc.specs.declared.document.Edge.{Edge as DocEdge}
 use Rattle.elk_json.specs.declared.elements.Kind.{Kind}
 use Rattle.elk_json.specs.declared.elements.Kind.TheVariants.{Node, Port, Edge}
 use Rattle.elk_json.specs.declared.fault.Rule.TheVariants as rules
-use Rattle.elk_json.specs.declared.fault.Refusal.{Refusal}
 use Rattle.elk_json.specs.Elements.{Element, elements}
-use Rattle.elk_json.specs.Members.{kind_is_node, kind_is_port, kind_is_edge, is_edge, is_root, is_id, to_id, id_of, there_and, absent_or, is_object}
-use Rattle.elk_json.specs.Shape.{is_good, is_good_node, is_good_port, is_good_edge, has_bad_shape, is_extended, has_ids, has_ends}
-use Rattle.elk_json.specs.Whole.{all_whole, members_whole}
+use Rattle.elk_json.specs.Members.{kind_is_edge, is_edge, is_id, to_id, id_of, there_and, absent_or, is_object}
+use Rattle.elk_json.specs.Shape.{is_good, is_good_edge, has_bad_shape, is_extended, has_ids, has_ends}
+use Rattle.elk_json.specs.Whole.{all_whole}
 use Rattle.elk_json.specs.Ends.{is_same_id, is_some_same_id, is_double, first_double}
 use Rattle.elk_json.specs.Document.{edge_of, edges_of, sure_id}
-use Rattle.elk_json.specs.Rules.{refused, edge_refusal, option_refusal, value_refusal, at}
+use Rattle.elk_json.specs.Rules.{refused, edge_refusal, value_refusal, at}
 use Rattle.elk_write.specs.Reading.{first_number}
 use Rattle.elk_write.specs.Written.{AllFrom}
 use Rattle.elk_write.proofs.Known.{not_false, split_or, or_left, or_right}

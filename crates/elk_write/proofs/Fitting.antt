@@ -1,7 +1,7 @@
 -- A drawing that the elements of a value give fits the document of the value.
-use Rattle.std.proofs.Common.{◌≡◌, ◌≢◌, ℕ, zero, suc, ◌+◌, ◌<◌, ◌^◌, List, [], ◌∷◌, length, map, filter, get_or, Bool, true, false, not, ◌&&◌, T, Option, Some, None, option_map, if◌then◌else◌, ℤ, pos, neg_ℤ, refl, sym, ap, ◌∙◌, subst, arith, eqb-true, All, ltb-true, leb-true, eq-eqb, ◌≤◌}
-use Rattle.std.specs.Prelude.{option_and_then, int_le, ◌==◌, nat_lt, nat_le, codes, slice_index, slice_index_or, IsNone, IsSome}
-use Rattle.std.specs.List.{list_all, slice_get}
+use Rattle.std.proofs.Common.{◌≡◌, ◌≢◌, ℕ, zero, suc, ◌+◌, ◌<◌, ◌^◌, List, [], ◌∷◌, length, Bool, true, false, not, ◌&&◌, T, Option, Some, None, option_map, if◌then◌else◌, ℤ, pos, neg_ℤ, refl, sym, ap, ◌∙◌, subst, arith, eqb-true, All, ltb-true, leb-true, eq-eqb, ◌≤◌}
+use Rattle.std.specs.Prelude.{option_and_then, int_le, ◌==◌, nat_lt, nat_le, codes, slice_index}
+use Rattle.std.specs.List.{list_all}
 use Rattle.std.specs.Int.Signed.{le_z_yes}
 use Rattle.std.proofs.lemmas.Bool.{and_parts}
 use Rattle.std.proofs.lemmas.List.Elements.{All-nil, All-cons}
@@ -14,11 +14,11 @@ use Rattle.elk_doc.specs.declared.document.LevelOptions.{LevelOptions}
 use Rattle.elk_doc.specs.declared.drawing.Section.{Section}
 use Rattle.elk_doc.specs.declared.drawing.Certificate.{Certificate}
 use Rattle.elk_doc.specs.Document.{Document}
-use Rattle.elk_doc.specs.Level.{level_of_edge, source_node, target_node, is_loop, is_edge_of}
+use Rattle.elk_doc.specs.Level.{level_of_edge, is_loop, is_edge_of}
 use Rattle.elk_doc.specs.Sound.{IsWithin}
 use Rattle.elk_doc.specs.Fits.{IsNear, FitsSection, FitsCertificate, IsAscending, MayBeListed, child_count, edge_count}
 use Rattle.elk_options.specs.Values.{if_within}
-use Rattle.elk_write.specs.Reading.{coordinate_in, length_in, integer_in, point_in, size_in, all_in, list_in, bends_in, route_in, section_in, is_sole, sole_section_in, sections_in, counted, are_from, is_ascending, is_listable, are_listable, listable, flow_in, layers_in, parts_in, reversed_in, span_in, certificate_of, certificate_in, large_in, small_in, edge_named}
+use Rattle.elk_write.specs.Reading.{coordinate_in, length_in, integer_in, point_in, size_in, all_in, list_in, bends_in, route_in, section_in, is_sole, sole_section_in, sections_in, counted, are_from, is_ascending, is_listable, are_listable, listable, flow_in, layers_in, parts_in, reversed_in, span_in, certificate_in, edge_named}
 
 -- ---- values that are there
 

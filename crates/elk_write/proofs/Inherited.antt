@@ -1,5 +1,5 @@
 -- A fact that a value hands on to all that stands in it holds of each of its elements.
-use Rattle.std.proofs.Common.{◌≡◌, ℕ, ◌+◌, List, [], ◌∷◌, ◌++◌, length, map, Ordering, Less, Equal, Greater, Bool, true, false, ◌&&◌, bytes_eq, refl, Option, Some, None}
+use Rattle.std.proofs.Common.{◌≡◌, ℕ, ◌+◌, List, [], ◌∷◌, ◌++◌, length, map, Ordering, Less, Equal, Greater, Bool, true, false, bytes_eq, Option, Some, None}
 use Rattle.std.specs.Prelude.{codes, option_and_then, if◌then◌else◌}
 use Rattle.std.specs.Option.{option_map_or}
 use Rattle.std.specs.Ordering.{match_ordering}
@@ -7,7 +7,7 @@ use Rattle.std.proofs.lemmas.Bool.{and_parts}
 use Rattle.serde_json.specs.Data.{Data, null, boolean, number, string, array, object, Items, no_items, item, Members, no_members, member}
 use Rattle.serde_json.specs.Find.{get, get_member, as_array}
 use Rattle.elk_json.specs.declared.elements.Kind.{Kind}
-use Rattle.elk_json.specs.declared.elements.Kind.TheVariants.{Node, Port, Edge}
+use Rattle.elk_json.specs.declared.elements.Kind.TheVariants.{Port, Edge}
 use Rattle.elk_json.specs.Elements.{Element, items_list, listed, part, own_elements, elements_at, elements_below, elements_within, elements_among, elements}
 use Rattle.elk_json.specs.Keyed.{IsKeyed, AreItemsKeyed, AreMembersKeyed}
 use Rattle.elk_json.specs.Whole.{all_whole, items_whole, members_whole}

@@ -37,7 +37,7 @@ pub or_right : (o r : Option Refusal) → option_or o r ≡ None → r ≡ None
 or_right None r h = h
 or_right (Some x) r h = absurd (cc)
 
-so_false : (rule : Rule) (b : Bool) → if_so rule b ≡ None → b ≡ false
+pub so_false : (rule : Rule) (b : Bool) → if_so rule b ≡ None → b ≡ false
 so_false rule true h = absurd (cc)
 so_false rule false h = refl
 
@@ -45,7 +45,7 @@ pub not_false : (b : Bool) → not b ≡ false → b ≡ true
 not_false true h = refl
 not_false false h = absurd (cc)
 
-no_value_refusal : (d : Data) → refused d ≡ None → value_refusal d ≡ None
+pub no_value_refusal : (d : Data) → refused d ≡ None → value_refusal d ≡ None
 unfolding refused
 no_value_refusal d h = or_left (value_refusal d) (option_or (edge_refusal (elements d)) (option_refusal (elements d))) h
 

@@ -25,3 +25,17 @@ pub mod Moved
 pub mod Complete
 pub mod Back
 pub mod Refusing
+pub mod OtherPlaces
+pub mod OtherLevels
+pub mod OtherPorts
+pub mod OtherFitted
+pub mod Redrawn
+pub mod Depth
+pub mod SameRules
+pub mod GoodShape
+pub mod Near
+pub mod InRange
+pub mod PortsStand
+pub mod NotRefused
+pub mod Nesting
+pub mod LineFeed

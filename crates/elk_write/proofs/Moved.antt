@@ -1,5 +1,5 @@
 -- A drawing that elements give for a document they give for each that differs in the places of ports alone.
-use Rattle.std.proofs.Common.{◌≡◌, ℕ, zero, suc, ◌+◌, List, [], ◌∷◌, length, map, Bool, not, ◌&&◌, Option, Some, None, option_map, if◌then◌else◌, refl, sym, ap, ◌∙◌, subst}
+use Rattle.std.proofs.Common.{◌≡◌, ℕ, zero, suc, ◌+◌, List, [], ◌∷◌, length, map, Bool, not, ◌&&◌, Option, Some, None, option_map, if◌then◌else◌, refl, sym, ap, ◌∙◌}
 use Rattle.std.specs.Prelude.{option_and_then, codes, slice_get, slice_index_or, unwrap_or, ◌==◌, nat_lt}
 use Rattle.std.specs.List.{list_all}
 use Rattle.serde_json.specs.Data.{Data}
@@ -16,11 +16,11 @@ use Rattle.elk_doc.specs.Numbers.{count_below}
 use Rattle.elk_doc.specs.Level.{is_number, is_edge_of, level_of_edge, node_of_end, source_node, target_node, is_loop}
 use Rattle.elk_doc.specs.Fits.{child_count, edge_count}
 use Rattle.elk_json.specs.Elements.{Element}
-use Rattle.elk_json.specs.Members.{is_node, is_port, is_edge}
+use Rattle.elk_json.specs.Members.{is_node, is_edge}
 use Rattle.elk_json.specs.Ends.{is_same_id}
 use Rattle.elk_json.specs.Members.{to_id}
 use Rattle.std.specs.Prelude.{filter}
-use Rattle.elk_write.specs.Reading.{sections_in, certificate_in, certificate_of, flow_in, layers_in, parts_in, reversed_in, span_in, is_listable, are_listable, listable, is_ascending, edge_named, first_number, list_in, counted, large_in, small_in}
+use Rattle.elk_write.specs.Reading.{sections_in, certificate_in, certificate_of, flow_in, layers_in, parts_in, reversed_in, span_in, is_listable, listable, is_ascending, edge_named, first_number, list_in, counted, large_in, small_in}
 use Rattle.elk_write.specs.Placing.{box_in, level_in, box_at, level_at, section_at, given, IsGiven}
 use Rattle.elk_write.specs.ReadBack.{without_place, SameButPlaces}
 

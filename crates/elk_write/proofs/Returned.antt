@@ -1,29 +1,28 @@
 -- What is written of a drawing's parts is read again.
-use Rattle.std.proofs.Common.{◌≡◌, ◌≢◌, ℕ, zero, suc, ◌+◌, ◌<◌, ◌^◌, List, [], ◌∷◌, ◌++◌, length, map, Bool, true, false, not, ◌&&◌, T, bytes_eq, Option, Some, None, option_map, if◌then◌else◌, ℤ, pos, negsuc, neg_ℤ, refl, sym, ap, ◌∙◌, subst, arith, All, lt-ltb, le-leb, eq-eqb, ne_eqb, ◌≤◌}
-use Rattle.std.specs.Prelude.{option_and_then, int_le, ◌==◌, nat_lt, nat_le, codes, slice_index, slice_get, IsTrue}
+use Rattle.std.proofs.Common.{◌≡◌, ℕ, suc, ◌+◌, ◌<◌, ◌^◌, List, [], ◌∷◌, ◌++◌, length, map, Bool, true, false, not, ◌&&◌, T, Option, Some, None, option_map, if◌then◌else◌, ℤ, pos, negsuc, refl, ap, ◌∙◌, subst, arith, All, lt-ltb, le-leb, eq-eqb, ne_eqb, ◌≤◌}
+use Rattle.std.specs.Prelude.{option_and_then, int_le, nat_lt, nat_le, codes, slice_index, slice_get}
 use Rattle.std.specs.Option.{option_map_or}
 use Rattle.std.specs.List.{list_all}
 use Rattle.std.proofs.lemmas.List.Elements.{All-head, All-tail}
 use Rattle.std.proofs.lemmas.Option.{slice_get-get_or}
-use Rattle.serde_json.specs.Data.{Data, number, string, array, object, Items, no_items, item, Members, no_members, member}
-use Rattle.serde_json.specs.Find.{get, get_member, as_array, as_number, as_integer, of_integer}
+use Rattle.serde_json.specs.Data.{Data, string, array, object, Members}
+use Rattle.serde_json.specs.Find.{get, get_member}
 use Rattle.serde_json.specs.View.{items_of}
 use Rattle.elk_doc.specs.declared.shape.Point.{Point}
 use Rattle.elk_doc.specs.declared.shape.Size.{Size}
 use Rattle.elk_doc.specs.declared.document.Id.{Id}
 use Rattle.elk_doc.specs.declared.document.Id.TheVariants.{Text, Whole}
-use Rattle.elk_doc.specs.declared.document.Edge.{Edge as DocEdge}
 use Rattle.elk_doc.specs.declared.document.LevelOptions.{LevelOptions}
 use Rattle.elk_doc.specs.declared.drawing.Section.{Section}
 use Rattle.elk_doc.specs.declared.drawing.Certificate.{Certificate}
 use Rattle.elk_doc.specs.Document.{Document, no_edge, edge_at}
-use Rattle.elk_doc.specs.Level.{is_loop, is_edge_of, level_of_edge}
+use Rattle.elk_doc.specs.Level.{is_loop, is_edge_of}
 use Rattle.elk_doc.specs.Sound.{IsWithin}
 use Rattle.elk_doc.specs.Fits.{IsNear, FitsSection, FitsCertificate, IsAscending, MayBeListed, child_count, edge_count}
 use Rattle.elk_options.specs.Values.{if_within}
 use Rattle.elk_json.specs.Members.{to_id}
-use Rattle.elk_write.specs.Values.{whole, wholes, point_data, section_id, end_members, with_bends, sections_data, id_data, edge_id, edge_ids, with_parts, layering_data}
-use Rattle.elk_write.specs.Reading.{integer_in, coordinate_in, length_in, large_in, small_in, point_in, size_in, all_in, list_in, counted, is_text, bends_in, route_in, section_in, sole_section_in, sections_in, first_number, edge_named, are_from, is_ascending, is_listable, are_listable, listable, flow_in, layers_in, reversed_in, parts_in, span_in, certificate_of, certificate_in}
+use Rattle.elk_write.specs.Values.{whole, wholes, point_data, section_id, end_members, with_bends, sections_data, id_data, edge_id, edge_ids, layering_data}
+use Rattle.elk_write.specs.Reading.{integer_in, coordinate_in, length_in, large_in, small_in, point_in, size_in, all_in, list_in, counted, is_text, bends_in, route_in, sole_section_in, sections_in, first_number, edge_named, are_from, is_ascending, is_listable, listable, flow_in, layers_in, reversed_in, parts_in, span_in, certificate_of, certificate_in}
 use Rattle.elk_write.specs.Written.{Has}
 use Rattle.elk_write.specs.ReadBack.{IsHeld}
 use Rattle.elk_write.proofs.Distinct.{has_id, same_bytes}

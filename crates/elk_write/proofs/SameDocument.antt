@@ -1,5 +1,5 @@
 -- Elements that say the same have the same document, but for the places of ports.
-use Rattle.std.proofs.Common.{◌≡◌, ℕ, zero, suc, ◌+◌, List, [], ◌∷◌, length, map, take, filter, Bool, true, false, not, ◌&&◌, ◌||◌, cond, refl, sym, ap, ◌∙◌, subst, Option, Some, None, option_map, nat_eq}
+use Rattle.std.proofs.Common.{◌≡◌, ℕ, zero, suc, ◌+◌, List, [], ◌∷◌, length, map, take, filter, Bool, true, false, not, ◌&&◌, ◌||◌, cond, refl, sym, ap, ◌∙◌, Option, Some, None, option_map, nat_eq}
 use Rattle.std.specs.Prelude.{codes, is_some, option_and_then, slice_get, if◌then◌else◌, unwrap_or, ℤ, pos}
 use Rattle.std.specs.Option.{option_map_or, option_eq}
 use Rattle.serde_json.specs.Data.{Data}
@@ -21,28 +21,28 @@ use Rattle.elk_options.specs.Names.{or_empty}
 use Rattle.elk_options.specs.Reading.{options_of}
 use Rattle.elk_json.specs.declared.elements.Kind.{Kind}
 use Rattle.elk_json.specs.declared.elements.Kind.TheVariants.{Node, Port, Edge}
-use Rattle.elk_json.specs.Elements.{Element, items_list, listed}
-use Rattle.elk_json.specs.Members.{kind_is_node, kind_is_port, kind_is_edge, is_node, is_port, is_edge, is_compound, has_children, to_id, id_of, whole_at, options_data, options_at, node_role, role_of}
+use Rattle.elk_json.specs.Elements.{Element, items_list}
+use Rattle.elk_json.specs.Members.{kind_is_node, kind_is_port, kind_is_edge, is_node, is_port, is_compound, has_children, to_id, id_of, whole_at, options_data, options_at, node_role, role_of}
 use Rattle.elk_json.specs.Ends.{is_some_same_id, first_place, is_named, named, element_at, port_at_node, primitive_end, extended_end, source_of, target_of}
-use Rattle.elk_json.specs.Document.{number_at, size_of, place_of, node_size, owner_number, node_of, sure_id, port_of, end_at, edge_of, nodes_of, ports_of, edges_of}
+use Rattle.elk_json.specs.Document.{number_at, size_of, node_size, owner_number, node_of, sure_id, port_of, end_at, edge_of, nodes_of, ports_of, edges_of}
 use Rattle.elk_write.specs.Keys.{is_flat_key}
 use Rattle.elk_write.specs.ReadBack.{without_place}
 use Rattle.elk_write.proofs.Alike.{Gets, Alike, AllAlike}
 
 -- ---- options
 
-and_ext : {A B : Type 0} (f g : A → Option B) (o : Option A) → ((x : A) → f x ≡ g x) → option_and_then f o ≡ option_and_then g o
+pub and_ext : {A B : Type 0} (f g : A → Option B) (o : Option A) → ((x : A) → f x ≡ g x) → option_and_then f o ≡ option_and_then g o
 and_ext f g None h = refl
 and_ext f g (Some x) h = h x
 
-map_ext : {A B : Type 0} (f g : A → B) (o : Option A) → ((x : A) → f x ≡ g x) → option_map f o ≡ option_map g o
+pub map_ext : {A B : Type 0} (f g : A → B) (o : Option A) → ((x : A) → f x ≡ g x) → option_map f o ≡ option_map g o
 map_ext f g None h = refl
 map_ext f g (Some x) h = ap (λ y. Some y) (h x)
 
 -- ---- one element
 
 module _ (e f : Element) (a : Alike e f) where
-  same_id : id_of f.value ≡ id_of e.value
+  pub same_id : id_of f.value ≡ id_of e.value
   same_id = ap (option_and_then to_id) a.id
 
   compound_by : (k : Kind) → e.kind ≡ k → is_compound f ≡ is_compound e
@@ -58,16 +58,16 @@ module _ (e f : Element) (a : Alike e f) where
       ap (λ k. kind_is_node k && (not (is_some f.owner) || has_children f.value)) (a.kind ∙ is)
       ∙ sym (ap (λ k. kind_is_node k && (not (is_some e.owner) || has_children e.value)) is)
 
-  same_compound : is_compound f ≡ is_compound e
+  pub same_compound : is_compound f ≡ is_compound e
   same_compound = compound_by e.kind refl
 
-  same_options : options_at f ≡ options_at e
+  pub same_options : options_at f ≡ options_at e
   same_options =
       ap (λ o. options_of (role_of f) (or_empty o)) a.options
       ∙ ap (λ k. options_of (if kind_is_node k then node_role (is_compound f) else (if kind_is_port k then role.Port else role.Edge)) (options_data e.value)) a.kind
       ∙ ap (λ b. options_of (if kind_is_node e.kind then node_role b else (if kind_is_port e.kind then role.Port else role.Edge)) (options_data e.value)) same_compound
 
-  same_size : is_compound e ≡ false → size_of f.value ≡ size_of e.value
+  pub same_size : is_compound e ≡ false → size_of f.value ≡ size_of e.value
   same_size leaf =
       ap (λ o. let s : Size = record { width = unwrap_or (option_and_then as_integer (option_and_then as_number o)) (pos 0); height = whole_at (codes "height") f.value } in s) (a.width leaf)
       ∙ ap (λ o. let s : Size = record { width = whole_at (codes "width") e.value; height = unwrap_or (option_and_then as_integer (option_and_then as_number o)) (pos 0) } in s) (a.height leaf)
@@ -96,7 +96,7 @@ module _ (test : Kind → Bool) where
   count_if true e f es fs h = ap suc h
   count_if false e f es fs h = h
 
-  count_alike : (es fs : List Element) → AllAlike es fs → length (filter of fs) ≡ length (filter of es)
+  pub count_alike : (es fs : List Element) → AllAlike es fs → length (filter of fs) ≡ length (filter of es)
   count_alike [] [] h = refl
   count_alike [] (f ∷ fs) h = absurd h
   count_alike (e ∷ es) [] h = absurd h
@@ -104,7 +104,7 @@ module _ (test : Kind → Bool) where
       ap (λ k. length (cond (test k) (f ∷ filter of fs) (filter of fs))) h.0.kind
       ∙ count_if (test e.kind) e f (filter of es) (filter of fs) (count_alike es fs h.1)
 
-  number_alike : (es fs : List Element) → AllAlike es fs → (n : ℕ) → number_at of fs n ≡ number_at of es n
+  pub number_alike : (es fs : List Element) → AllAlike es fs → (n : ℕ) → number_at of fs n ≡ number_at of es n
   number_alike es fs h n = count_alike (take n es) (take n fs) (take_alike n es fs h)
 
   -- what a map of both sides gives
@@ -122,7 +122,7 @@ module _ (test : Kind → Bool) where
       ∙ mapped_if g h (test e.kind) e f (filter of es) (filter of fs) (one e f a.0) (mapped g h one es fs a.1)
 
 -- a test that comes out the same on both
-found_alike : (test : Element → Bool) → ((e f : Element) → Alike e f → test f ≡ test e) → (es fs : List Element) → AllAlike es fs → (n : ℕ)
+pub found_alike : (test : Element → Bool) → ((e f : Element) → Alike e f → test f ≡ test e) → (es fs : List Element) → AllAlike es fs → (n : ℕ)
     → option_map_or test (slice_get fs n) false ≡ option_map_or test (slice_get es n) false
 found_alike test same [] [] h n = refl
 found_alike test same [] (f ∷ fs) h n = absurd h
@@ -150,7 +150,7 @@ node_one e f a = ap kind_is_node a.kind
 port_one : (n : ℕ) (e f : Element) → Alike e f → (is_port f && option_eq nat_eq f.owner (Some n)) ≡ (is_port e && option_eq nat_eq e.owner (Some n))
 port_one n e f a = ap (λ k. kind_is_port k && option_eq nat_eq f.owner (Some n)) a.kind ∙ ap (λ o. kind_is_port e.kind && option_eq nat_eq o (Some n)) a.owner
 
-named_by : (es fs : List Element) → AllAlike es fs → (d : Data) → named fs d ≡ named es d
+pub named_by : (es fs : List Element) → AllAlike es fs → (d : Data) → named fs d ≡ named es d
 unfolding named
 named_by es fs h d = first_alike (is_named d) (named_one d) es fs h 0
 
@@ -190,7 +190,7 @@ same_end_from es x y a b c d e f s t hx hs ha hc he =
     ∙ ap (λ o. end_from es (is_some x || is_some s) a o f) hc
     ∙ ap (λ o. end_from es (is_some x || is_some s) a c o) he
 
-abbrev EdgeGets : Data → Data → Type 0
+abbrev pub EdgeGets : Data → Data → Type 0
 EdgeGets d w = (q : List ℕ) → is_flat_key true q ≡ false → Gets q d w
 
 source_gets : (es fs : List Element) → AllAlike es fs → (d w : Data) → EdgeGets d w → source_of fs w ≡ source_of es d
@@ -231,7 +231,7 @@ same_edge i j s t a b v w c d e f =
     ∙ ap (λ z. let x : DocEdge = record { id = j; source = t; target = z; weight = v } in x) e
     ∙ ap (λ z. let x : DocEdge = record { id = j; source = t; target = b; weight = z } in x) f
 
-port_leaf : (e : Element) → kind_is_port e.kind ≡ true → is_compound e ≡ false
+pub port_leaf : (e : Element) → kind_is_port e.kind ≡ true → is_compound e ≡ false
 port_leaf e t = leaf_by e.kind t
   where
     leaf_by : (k : Kind) → kind_is_port k ≡ true → (kind_is_node k && (not (is_some e.owner) || has_children e.value)) ≡ false
@@ -240,10 +240,10 @@ port_leaf e t = leaf_by e.kind t
     leaf_by Edge t = absurd (cc)
 
 module _ (es fs : List Element) (h : AllAlike es fs) (e f : Element) (a : Alike e f) where
-  source_by : kind_is_edge e.kind ≡ true → source_of fs f.value ≡ source_of es e.value
+  pub source_by : kind_is_edge e.kind ≡ true → source_of fs f.value ≡ source_of es e.value
   source_by t = source_gets es fs h e.value f.value (a.ends t)
 
-  target_by : kind_is_edge e.kind ≡ true → target_of fs f.value ≡ target_of es e.value
+  pub target_by : kind_is_edge e.kind ≡ true → target_of fs f.value ≡ target_of es e.value
   target_by t = target_gets es fs h e.value f.value (a.ends t)
 
   owner_by : owner_number fs f ≡ owner_number es e

@@ -1,6 +1,6 @@
 -- The drawing that the elements of a value give fits its document.
-use Rattle.std.proofs.Common.{◌≡◌, ℕ, zero, suc, ◌+◌, ◌<◌, ◌≤◌, ◌^◌, List, [], ◌∷◌, length, map, filter, get_or, Bool, true, false, not, ◌&&◌, Option, Some, None, option_map, if◌then◌else◌, ℤ, pos, refl, sym, ap, ◌∙◌, subst, arith, All, IsNone, IsSome}
-use Rattle.std.specs.Prelude.{option_and_then, ◌==◌, codes, slice_get, slice_index_or, ◌≤ℤ◌, IsFalse}
+use Rattle.std.proofs.Common.{◌≡◌, ℕ, zero, suc, ◌+◌, ◌<◌, ◌^◌, List, [], ◌∷◌, length, map, filter, Bool, true, false, not, ◌&&◌, Option, Some, None, option_map, if◌then◌else◌, ℤ, pos, refl, sym, ap, ◌∙◌, subst, arith, All, IsNone}
+use Rattle.std.specs.Prelude.{option_and_then, ◌==◌, codes, slice_get, slice_index_or}
 use Rattle.std.specs.Ordering.{int_eq}
 use Rattle.std.proofs.lemmas.Bool.{and_parts}
 use Rattle.std.proofs.lemmas.Bool.Decides.{Decides-int_eq}
@@ -15,18 +15,17 @@ use Rattle.elk_doc.specs.declared.shape.Rect.{Rect}
 use Rattle.elk_doc.specs.declared.shape.Size.{Size}
 use Rattle.elk_doc.specs.declared.document.Node.{Node}
 use Rattle.elk_doc.specs.declared.document.LevelOptions.{LevelOptions}
-use Rattle.elk_doc.specs.declared.document.Edge.{Edge}
 use Rattle.elk_doc.specs.declared.drawing.Section.{Section}
 use Rattle.elk_doc.specs.declared.drawing.Certificate.{Certificate}
 use Rattle.elk_doc.specs.declared.drawing.Placed.{Placed}
 use Rattle.elk_doc.specs.Document.{Document, node_at, no_node}
 use Rattle.elk_doc.specs.Drawing.{box_of as drawn_box, certificate_of, no_rect}
 use Rattle.elk_doc.specs.Sound.{IsSound, IsWithin, IsSoundNode, IsSoundSize}
-use Rattle.elk_doc.specs.Fits.{Fits, FitsBox, FitsSection, FitsLevel, FitsCertificate, HasCounts, IsRooted, IsInRange, IsNear, KeepsSize, LeavesKept, HasCertificates}
+use Rattle.elk_doc.specs.Fits.{Fits, FitsBox, FitsSection, FitsLevel, HasCounts, IsNear}
 use Rattle.elk_json.specs.Elements.{Element}
 use Rattle.elk_json.specs.Members.{is_node, is_port, is_edge}
 use Rattle.elk_json.specs.Document.{node_of, port_of, edge_of, nodes_of, ports_of, edges_of}
-use Rattle.elk_write.specs.Reading.{point_in, size_in, sections_in, certificate_in}
+use Rattle.elk_write.specs.Reading.{point_in, sections_in, certificate_in}
 use Rattle.elk_write.specs.Placing.{is_origin, rooted, node_size_in, box_of, box_in, level_in, box_at, level_at, place_at, section_at, given, IsGiven}
 use Rattle.elk_write.proofs.Fitting.{and_some, map_some, near, FitsSize, fits_size, sections_fit, certificate_fits}
 

@@ -1,9 +1,11 @@
 // A value with the written members.
-ghost use Rattle.std.specs.Prelude.{◌≡◌, ◌<◌, ◌^◌, false, None, All, IfOk, option_map, option_and_then, slice_get};
-ghost use Rattle.serde_json.specs.Data.{no_members};
+ghost use Rattle.std.specs.Prelude.{◌≡◌, ◌<◌, ◌≤◌, ◌^◌, false, None, All, IfOk, option_map, option_and_then, slice_get};
+ghost use Rattle.serde_json.specs.Data.{no_members, depth};
+ghost use Rattle.serde_json.specs.Read.{max_depth};
 ghost use Rattle.serde_json.specs.View.{view, members_view, items_view};
 ghost use Rattle.elk_json.specs.Members.{has_children as children_test};
 ghost use Rattle.serde_json.specs.Written.{has_float};
+ghost use Rattle.elk_doc.specs.Drawn.{Drawn};
 ghost use Rattle.elk_doc.specs.Fits.{Fits};
 ghost use Rattle.elk_json.specs.Document.{IsDocument};
 ghost use Rattle.elk_json.specs.Keyed.{IsKeyed};
@@ -11,7 +13,7 @@ ghost use Rattle.elk_json.specs.Rules.{refused};
 ghost use Rattle.elk_write.specs.Keys.{is_node_key as node_key_test};
 ghost use Rattle.elk_write.specs.Numbers.{past_node, past_members, past_member, past_children};
 ghost use Rattle.elk_write.specs.Written.{is_split, IsPlacedBy};
-ghost use Rattle.elk_write.specs.ReadBack.{SaysBack, IsHeld, IsHeldLevel};
+ghost use Rattle.elk_write.specs.ReadBack.{SaysBack, IsReadBack, IsHeld, IsHeldLevel};
 ghost use Rattle.elk_write.specs.Answered.{with_place, with_size, with_layering, with_node, answer_node as node_answer, answer_into, answer_member as member_answer, answer_children as children_answer, parts_answer};
 
 use crate::marks::{layering_value, with_member};
@@ -25,8 +27,9 @@ use serde_json::value::Map;
 use std::alloc::{AllocError, Global};
 
 /// The value with the written members of the drawing: each node's and port's place, each compound node's size and layering,
-/// each edge's section. All else stays as it is. What is read of the answer by `placed_of` is the same drawing, and the same
-/// document but for the places of ports.
+/// each edge's section. All else stays as it is. The answer says the same drawing, and the same document but for the places
+/// of ports; a rule may refuse it, as where a port stands further out than a given one may. Where the drawing obeys its
+/// document, no rule does: `placed_of` reads the answer, and the drawing obeys the document that it reads.
 pub fn answer_value(
     alloc: Global,
     value: &Value,
@@ -40,7 +43,9 @@ pub fn answer_value(
     ensures placed { IfOk result (λ w. IsPlacedBy (view value.now) doc.now placed.now (view w)) }
     ensures keyed { IfOk result (λ w. IsKeyed (view w)) }
     ensures whole { IfOk result (λ w. has_float (view w) ≡ false) }
+    ensures nests { IfOk result (λ w. depth (view value.now) ≤ max_depth → depth (view w) ≤ max_depth) }
     ensures read_back { IfOk result (λ w. SaysBack doc.now placed.now (view w)) }
+    ensures drawn { IfOk result (λ w. Drawn doc.now placed.now → IsReadBack doc.now placed.now (view w)) }
 {
     levels_are_held(placed.levels.as_slice());
     let mut at = Numbers {

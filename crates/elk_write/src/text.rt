@@ -1,17 +1,22 @@
 // The text of a value.
-ghost use Rattle.std.specs.Prelude.{◌≡◌, false, IfOk};
+ghost use Rattle.std.specs.Prelude.{◌≡◌, ◌≤◌, false, Some, IfOk};
+ghost use Rattle.serde_json.specs.Data.{depth};
+ghost use Rattle.serde_json.specs.Read.{max_depth};
 ghost use Rattle.serde_json.specs.View.{view};
 ghost use Rattle.serde_json.specs.Written.{has_float};
+ghost use Rattle.elk_json.specs.Bytes.{reading};
 ghost use Rattle.elk_write.specs.Text.{text};
 
 use serde_json::Value;
 use std::alloc::{AllocError, Global};
 
 /// The compact text of a value whose numbers are all whole, and a line feed. The members of each object stand in the order
-/// in which the value has them.
+/// in which the value has them. It is read as the same value, unless that nests deeper than a text may.
 pub fn text_of(alloc: Global, value: &Value) -> Result<Vec<u8>, AllocError>
     requires { has_float (view value.now) ≡ false }
-    ensures { IfOk result (λ b. b.items ≡ text (view value.now)) }
+    ensures written { IfOk result (λ b. b.items ≡ text (view value.now)) }
+    ensures read { IfOk result (λ b. depth (view value.now) ≤ max_depth
+        → reading b.items ≡ Some (view value.now)) }
 {
     let mut bytes = value.to_vec(alloc)?;
     bytes.push(b'\n')?;
