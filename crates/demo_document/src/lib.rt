@@ -4,8 +4,6 @@
 mod counting;
 mod laws;
 mod making;
-#[cfg(test)]
-mod tests;
 mod totals;
 
 pub use counting::counts;

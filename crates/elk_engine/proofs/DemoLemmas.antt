@@ -1,6 +1,6 @@
 -- A drawing of the document of `demo` turns no edge round, so its span is the least of the level as it is given.
-use Rattle.std.proofs.Common.{◌≡◌, ℕ, zero, suc, ◌+◌, ◌<◌, ◌≤◌, inl, inr, Bool, true, false, List, length, Option, None, Some, IfSome, refl, sym, ◌∙◌, ap, subst, arith}
-use Rattle.std.specs.Prelude.{ℤ, pos, ◌+ℤ◌, ◌*ℤ◌, ◌-ℤ◌, ◌≤ℤ◌, Contains, ◌==◌, if◌then◌else◌}
+use Rattle.std.proofs.Common.{◌≡◌, ℕ, zero, suc, ◌<◌, ◌≤◌, inl, inr, Bool, true, false, List, length, Option, None, Some, IfSome, refl, sym, ◌∙◌, ap, subst, arith}
+use Rattle.std.specs.Prelude.{ℤ, pos, ◌*ℤ◌, ◌-ℤ◌, ◌≤ℤ◌, Contains, ◌==◌}
 use Rattle.std.specs.List.{list_any}
 use Rattle.std.proofs.lemmas.Bool.{cases_Bool, eqb-true}
 use Rattle.std.proofs.lemmas.List.Elements.{All-contains}
@@ -8,8 +8,8 @@ use Rattle.std.proofs.lemmas.Map.Views.{Contains-from_any}
 use Rattle.elk_doc.specs.declared.document.LevelOptions.{LevelOptions}
 use Rattle.elk_doc.specs.declared.drawing.Certificate.{Certificate}
 use Rattle.elk_doc.specs.declared.drawing.Placed.{Placed}
-use Rattle.elk_doc.specs.Document.{Document, edge_at, node_at}
-use Rattle.elk_doc.specs.Level.{IsEdge, is_edge_of, level_of_edge, node_of_end, source_node, target_node}
+use Rattle.elk_doc.specs.Document.{Document, edge_at}
+use Rattle.elk_doc.specs.Level.{is_edge_of, source_node, target_node}
 use Rattle.elk_doc.specs.Drawing.{certificate_of, is_listed, lists, tail_node, head_node}
 use Rattle.elk_doc.specs.Paths.{Reaches, stay, go}
 use Rattle.elk_doc.specs.Fits.{FitsLevel}
@@ -18,9 +18,8 @@ use Rattle.elk_doc.specs.Reversed.{Reversed, UnlistedStep}
 use Rattle.elk_doc.specs.Layering.{IsLayering, span_of, written_layer}
 use Rattle.elk_doc.specs.Drawn.{Drawn}
 use Rattle.drawing_laws.proofs.DualityLaw.{flow_shows_least}
-use Rattle.demo_document.specs.Demo.{demo_document, default_options, edge_count, total_weight, LeadsOn}
-use Rattle.demo_document.proofs.DemoLaws.{demo_sound, edges_lead_on, levels_plain}
-use Rattle.compound.specs.Built.{IsBuilt, IsWholeLevel}
+use Rattle.demo_document.specs.Demo.{demo_document, default_options, edge_count, total_weight}
+use Rattle.demo_document.proofs.DemoLaws.{demo_sound, edges_lead_on}
 use Rattle.elk_engine.specs.Demo.{no_drawing, demo_text, IsDemoLine, IsLeastSpan}
 
 listed_in : (e : ℕ) (xs : List ℕ) → list_any (λ x. x == e) xs ≡ true → Contains xs e
@@ -102,11 +101,3 @@ module _ (n : ℕ) where
         least = subst (λ s. IsLeastSpan d 0 s) (sym same) (least_span p found.0 some few found.1 drawn);
         text_is = is;
       }
-
--- the document is of the kind that is laid out
-plain_level : (n m : ℕ) (level : Option LevelOptions) → (node_at (demo_document n) m).level ≡ level → IfSome level IsWholeLevel
-plain_level n m None is = tt
-plain_level n m (Some o) is = let plain = levels_plain n m o is in record { whole = plain.whole }
-
-pub demo_built : (n : ℕ) → IsBuilt (demo_document n)
-demo_built n m h = plain_level n m (node_at (demo_document n) m).level refl

@@ -1,2 +1,4 @@
+mod BatchLemmas
 mod DemoLemmas
 mod Outcomes
+mod AgainLaw

@@ -3,46 +3,60 @@ use Rattle.std.specs.Prelude.{◌≡◌, ◌⊎◌, ℕ, ◌^◌, ◌<◌, List,
 use Rattle.elk_json.specs.declared.fault.Refusal.{Refusal}
 use Rattle.elk_answer.specs.Answer as answer
 use Rattle.elk_engine.specs.Check as check
+use Rattle.elk_engine.specs.Batch as batch
 use Rattle.elk_engine.specs.Demo as demo
 use Rattle.elk_words.specs.declared.Command.{Command}
-use Rattle.elk_words.specs.declared.Command.TheVariants.{Layout, Check, Demo}
+use Rattle.elk_words.specs.declared.Command.TheVariants.{Layout, Check, Batch, Demo}
 use Rattle.elk_engine.specs.Notes.{refused_note}
 
 -- the most bytes that it takes of its input; none where it reads nothing
 abbrev pub limit : Command → ℕ
 limit Layout = 2 ^ 24
 limit Check = 2 ^ 28
+limit Batch = 2 ^ 32
 limit (Demo leaves) = 0
 
 -- it reads its input, so that this holds where it is done; nothing is asked of a command that reads none
 abbrev pub Reads : Command → Type 0 → Type 0
 Reads Layout at_end = at_end
 Reads Check at_end = at_end
+Reads Batch at_end = at_end
 Reads (Demo leaves) at_end = ⊤
 
 -- it refuses this input with this note
 abbrev pub Refuses : Command → List ℕ → List ℕ → Type 0
 Refuses Layout input note = (r : Refusal) × answer.Refuses input r × (note ≡ refused_note r)
 Refuses Check input note = (r : Refusal) × check.Refuses input r × (note ≡ refused_note r)
+Refuses Batch input note = ⊥
 Refuses (Demo leaves) input note = ⊥
 
 -- it answers this input by this status, 0 or 1, and this text
 abbrev pub Answers : Command → List ℕ → ℕ → List ℕ → Type 0
 Answers Layout input status text = (status ≡ 0) × answer.IsAnswer input text
 Answers Check input status text = check.IsJudged input status text
+Answers Batch input status text = (status ≡ 0) × batch.AreAllReplies input text
 Answers (Demo leaves) input status text = (status ≡ 0) × demo.IsDemoLine leaves text
 
 -- the input is longer than it takes
 abbrev pub IsTooLong : Command → List ℕ → Type 0
 IsTooLong Layout input = limit Layout < length input
 IsTooLong Check input = limit Check < length input
+IsTooLong Batch input = limit Batch < length input
 IsTooLong (Demo leaves) input = ⊥
 
 -- what it has written when it ends early, having taken these bytes
 abbrev pub Begun : Command → List ℕ → List ℕ → Type 0
 Begun Layout taken text = text ≡ []
 Begun Check taken text = text ≡ []
+Begun Batch taken text = batch.AreFedReplies taken text
 Begun (Demo leaves) taken text = text ≡ []
+
+-- it writes nothing before it has the answer to its whole input
+abbrev pub IsWhole : Command → Type 0
+IsWhole Layout = ⊤
+IsWhole Check = ⊤
+IsWhole Batch = ⊥
+IsWhole (Demo leaves) = ⊤
 
 -- ---- the same for all commands
 

@@ -25,7 +25,7 @@ abbrev pub write_fault_note : List ℕ
 write_fault_note = codes "write fault\n"
 
 abbrev pub usage_note : List ℕ
-usage_note = codes "usage: elk layout\n" ++ codes "       elk check\n" ++ codes "       elk demo <n>\n"
+usage_note = codes "usage: elk layout\n" ++ codes "       elk check\n" ++ codes "       elk demo <n>\n" ++ codes "       elk batch\n"
 
 abbrev pub out_of_memory_note : List ℕ
 out_of_memory_note = codes "out of memory\n"

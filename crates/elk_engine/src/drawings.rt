@@ -83,22 +83,32 @@ const LEAST_HIGH: Drawing = Drawing {
     answer: "{\"children\":[{\"height\":30,\"id\":\"a\",\"width\":30,\"x\":12,\"y\":62},{\"height\":30,\"id\":\"b\",\"width\":30,\"x\":62,\"y\":12},{\"height\":30,\"id\":\"c\",\"width\":30,\"x\":62,\"y\":62},{\"height\":30,\"id\":\"d\",\"width\":30,\"x\":62,\"y\":112}],\"edges\":[{\"id\":\"e\",\"sections\":[{\"bendPoints\":[{\"x\":52,\"y\":69},{\"x\":52,\"y\":27}],\"endPoint\":{\"x\":62,\"y\":27},\"id\":\"e_s0\",\"startPoint\":{\"x\":42,\"y\":69}}],\"sources\":[\"a\"],\"targets\":[\"b\"]},{\"id\":\"f\",\"sections\":[{\"endPoint\":{\"x\":62,\"y\":77},\"id\":\"f_s0\",\"startPoint\":{\"x\":42,\"y\":77}}],\"sources\":[\"a\"],\"targets\":[\"c\"]},{\"id\":\"g\",\"sections\":[{\"bendPoints\":[{\"x\":52,\"y\":84},{\"x\":52,\"y\":127}],\"endPoint\":{\"x\":62,\"y\":127},\"id\":\"g_s0\",\"startPoint\":{\"x\":42,\"y\":84}}],\"sources\":[\"a\"],\"targets\":[\"d\"]}],\"height\":154,\"id\":\"r\",\"layering\":{\"flow\":[1,1,1],\"layers\":[0,1,1,1],\"reversed\":[],\"span\":3},\"layoutOptions\":{\"elk.layered.nodePlacement.strategy\":\"NETWORK_SIMPLEX\"},\"width\":104,\"x\":0,\"y\":0}",
 };
 
+// Three boxes that no edge joins, each a part of its own.
+const APART: Drawing = Drawing {
+    input: "{\"id\":\"r\",\"layoutOptions\":{\"elk.separateConnectedComponents\":\"true\"},\"children\":[{\"id\":\"a\",\"width\":10,\"height\":10},{\"id\":\"b\",\"width\":10,\"height\":10},{\"id\":\"c\",\"width\":10,\"height\":10}]}",
+    answer: "{\"children\":[{\"height\":10,\"id\":\"a\",\"width\":10,\"x\":12,\"y\":12},{\"height\":10,\"id\":\"b\",\"width\":10,\"x\":42,\"y\":12},{\"height\":10,\"id\":\"c\",\"width\":10,\"x\":12,\"y\":42}],\"height\":64,\"id\":\"r\",\"layering\":{\"flow\":[],\"layers\":[0,0,0],\"parts\":[0,1,2],\"reversed\":[],\"span\":0},\"layoutOptions\":{\"elk.separateConnectedComponents\":\"true\"},\"width\":64,\"x\":0,\"y\":0}",
+};
+
 // A diagram as editors write it: labels, unknown options, nesting, spacing as texts and numbers.
 const DIAGRAM: Drawing = Drawing {
     input: "{\"id\":\"r\",\"layoutOptions\":{\"elk.algorithm\":\"layered\",\"elk.direction\":\"RIGHT\",\"elk.hierarchyHandling\":\"INCLUDE_CHILDREN\",\"elk.spacing.nodeNode\":\"40\",\"elk.layered.spacing.nodeNodeBetweenLayers\":60,\"elk.layered.mergeEdges\":\"true\"},\"children\":[{\"id\":\"src\",\"x\":5,\"y\":5,\"width\":120,\"height\":60,\"labels\":[{\"id\":\"src.label\",\"text\":\"Source\",\"width\":46,\"height\":15}],\"ports\":[{\"id\":\"src.out\",\"width\":8,\"height\":8}]},{\"id\":\"proc\",\"layoutOptions\":{\"elk.padding\":\"[top=40,left=12,bottom=12,right=12]\"},\"children\":[{\"id\":\"f1\",\"width\":80,\"height\":40},{\"id\":\"f2\",\"width\":80,\"height\":40}],\"edges\":[{\"id\":\"f\",\"sources\":[\"f1\"],\"targets\":[\"f2\"]}]},{\"id\":\"snk\",\"width\":120,\"height\":60}],\"edges\":[{\"id\":\"e1\",\"sources\":[\"src.out\"],\"targets\":[\"proc\"]},{\"id\":\"e2\",\"sources\":[\"proc\"],\"targets\":[\"snk\"]}]}",
     answer: "{\"children\":[{\"height\":60,\"id\":\"src\",\"labels\":[{\"height\":15,\"id\":\"src.label\",\"text\":\"Source\",\"width\":46}],\"ports\":[{\"height\":8,\"id\":\"src.out\",\"width\":8,\"x\":120,\"y\":26}],\"width\":120,\"x\":12,\"y\":28},{\"children\":[{\"height\":40,\"id\":\"f1\",\"width\":80,\"x\":12,\"y\":40},{\"height\":40,\"id\":\"f2\",\"width\":80,\"x\":112,\"y\":40}],\"edges\":[{\"id\":\"f\",\"sections\":[{\"endPoint\":{\"x\":112,\"y\":60},\"id\":\"f_s0\",\"startPoint\":{\"x\":92,\"y\":60}}],\"sources\":[\"f1\"],\"targets\":[\"f2\"]}],\"height\":92,\"id\":\"proc\",\"layering\":{\"flow\":[1],\"layers\":[0,1],\"reversed\":[],\"span\":1},\"layoutOptions\":{\"elk.padding\":\"[top=40,left=12,bottom=12,right=12]\"},\"width\":204,\"x\":200,\"y\":12},{\"height\":60,\"id\":\"snk\",\"width\":120,\"x\":464,\"y\":28}],\"edges\":[{\"id\":\"e1\",\"sections\":[{\"endPoint\":{\"x\":200,\"y\":58},\"id\":\"e1_s0\",\"startPoint\":{\"x\":140,\"y\":58}}],\"sources\":[\"src.out\"],\"targets\":[\"proc\"]},{\"id\":\"e2\",\"sections\":[{\"endPoint\":{\"x\":464,\"y\":58},\"id\":\"e2_s0\",\"startPoint\":{\"x\":404,\"y\":58}}],\"sources\":[\"proc\"],\"targets\":[\"snk\"]}],\"height\":116,\"id\":\"r\",\"layering\":{\"flow\":[1,1],\"layers\":[0,1,2],\"reversed\":[],\"span\":2},\"layoutOptions\":{\"elk.algorithm\":\"layered\",\"elk.direction\":\"RIGHT\",\"elk.hierarchyHandling\":\"INCLUDE_CHILDREN\",\"elk.layered.mergeEdges\":\"true\",\"elk.layered.spacing.nodeNodeBetweenLayers\":60,\"elk.spacing.nodeNode\":\"40\"},\"width\":596,\"x\":0,\"y\":0}",
 };
 
-const DRAWINGS: [Drawing; 13] = [
+const DRAWINGS: [Drawing; 14] = [
     PARALLEL, SUCCESSORS, WEST_PORT, NORTH_PORT, PORT_LOOP, NODE_LOOP, NESTED, DOWN, UP, LEFT,
-    RAISED, LEAST_HIGH, DIAGRAM,
+    RAISED, LEAST_HIGH, APART, DIAGRAM,
 ];
 
 // Runs a command on an input without faults: its status and what it wrote.
-fn run_on(alloc: Global, command: &str, input: &str) -> Result<(u8, MemSink), AllocError> {
+pub(crate) fn run_on(
+    alloc: Global,
+    command: &str,
+    input: &[u8],
+) -> Result<(u8, MemSink), AllocError> {
     let mut words = Vec::new(alloc);
     words.push(String::from_str(alloc, command)?)?;
-    let bytes = input.as_bytes().to_vec(alloc)?;
+    let bytes = input.to_vec(alloc)?;
     let mut source = MemSource::new(bytes, 4096, Vec::new(alloc));
     let mut out = MemSink::new(alloc, 4096, 4096, Vec::new(alloc))?;
     let mut notes = MemSink::new(alloc, 64, 64, Vec::new(alloc))?;
@@ -110,7 +120,7 @@ fn run_on(alloc: Global, command: &str, input: &str) -> Result<(u8, MemSink), Al
 fn documents_are_drawn(rt: HostRuntime) -> Result<(), Fail> {
     let alloc = rt.alloc();
     for drawing in DRAWINGS.iter() {
-        let (status, out) = run_on(alloc, "layout", drawing.input)?;
+        let (status, out) = run_on(alloc, "layout", drawing.input.as_bytes())?;
         assert_eq!(rt; status, 0);
         let mut wanted = drawing.answer.as_bytes().to_vec(alloc)?;
         wanted.push(10)?;
@@ -123,7 +133,7 @@ fn documents_are_drawn(rt: HostRuntime) -> Result<(), Fail> {
 fn drawings_are_obedient(rt: HostRuntime) -> Result<(), Fail> {
     let alloc = rt.alloc();
     for drawing in DRAWINGS.iter() {
-        let (status, out) = run_on(alloc, "check", drawing.answer)?;
+        let (status, out) = run_on(alloc, "check", drawing.answer.as_bytes())?;
         assert_eq!(rt; status, 0);
         assert_eq!(rt; out.taken(), "yes\n".as_bytes());
     }
@@ -133,7 +143,7 @@ fn drawings_are_obedient(rt: HostRuntime) -> Result<(), Fail> {
 #[test]
 fn drawings_stay_when_drawn_again(rt: HostRuntime) -> Result<(), Fail> {
     let alloc = rt.alloc();
-    let (status, out) = run_on(alloc, "layout", DIAGRAM.answer)?;
+    let (status, out) = run_on(alloc, "layout", DIAGRAM.answer.as_bytes())?;
     assert_eq!(rt; status, 0);
     let mut wanted = DIAGRAM.answer.as_bytes().to_vec(alloc)?;
     wanted.push(10)?;

@@ -17,7 +17,8 @@ pub(crate) const READ_FAULT: &[u8] = b"read fault\n";
 
 pub(crate) const WRITE_FAULT: &[u8] = b"write fault\n";
 
-pub(crate) const USAGE: &[u8] = b"usage: elk layout\n       elk check\n       elk demo <n>\n";
+pub(crate) const USAGE: &[u8] =
+    b"usage: elk layout\n       elk check\n       elk demo <n>\n       elk batch\n";
 
 pub(crate) const OUT_OF_MEMORY: &[u8] = b"out of memory\n";
 

@@ -1,18 +1,20 @@
 // A run of one command.
-ghost use Rattle.std.specs.Prelude.{◌≡◌, ◌⊎◌, ◌≤◌, ⊤, ℕ, List, IsTrue, IsFalse};
+ghost use Rattle.std.specs.Prelude.{◌≡◌, ◌≤◌, ◌^◌, ⊤, ℕ, List, IsTrue, IsFalse};
 ghost use Rattle.std.specs.Io.KnownBytes.{Consumes, IsAtEnd, Keeps};
 ghost use Rattle.elk_outer.specs.Causes.{Rose};
 ghost use Rattle.elk_words.specs.Words.{IsBounded};
-ghost use Rattle.elk_engine.specs.Command.{Answers, IsAccepted, IsTooLong, Reads, limit};
+ghost use Rattle.elk_words.specs.declared.Command.TheVariants.{Batch};
+ghost use Rattle.elk_engine.specs.Command.{Answers, IsAccepted, IsTooLong, IsWhole, Reads, limit};
 ghost use Rattle.elk_engine.specs.Outcome.{Outcome};
 
 use crate::Command;
+use crate::batch::batch;
 use crate::notes::{OUT_OF_MEMORY, READ_FAULT, TOO_LONG, WRITE_FAULT, noted};
 use crate::reply::{Stop, reply_to};
 use elk_outer::{ReadFault, Sink, Source, read_whole, write_whole};
 use std::alloc::Global;
 
-/// Reads the input, if the command does, replies to it and writes the reply.
+/// Does what one command asks for.
 pub(crate) fn perform<S: Source, K: Sink, N: Sink>(
     alloc: Global,
     command: Command,
@@ -23,10 +25,46 @@ pub(crate) fn perform<S: Source, K: Sink, N: Sink>(
     requires { IsBounded command }
     ensures outcome { (taken : List ℕ) × Consumes (S.left source.old) (S.left source.new) taken
         × Outcome command result taken (IsAtEnd (S.left source.new))
+        (Rose (S.faults source.old) (S.faults source.new)) (Rose (K.faults out.old) (K.faults out.new)) (Rose (N.faults notes.old) (N.faults notes.new))
         (K.taken out.old) (K.taken out.new) (N.taken notes.old) (N.taken notes.new) }
     ensures unread { Reads command ⊥ → (S.faults source.new ≡ S.faults source.old) × Keeps (S.left source.old) (S.left source.new) }
-    ensures read_fault { result ≡ 3 → Rose (S.faults source.old) (S.faults source.new) }
-    ensures write_fault { result ≡ 4 → Rose (K.faults out.old) (K.faults out.new) ⊎ Rose (N.faults notes.old) (N.faults notes.new) }
+    ensures sure_out { (room : ℕ) → K.sure out.old room → K.sure out.new room }
+    ensures sure_notes { (room : ℕ) → N.sure notes.old room → N.sure notes.new room }
+{
+    if is_whole(command) {
+        return perform_whole(alloc, command, source, out, notes);
+    }
+    batch(alloc, source, out, notes)
+}
+
+// Whether the command replies to its input as a whole, and not to one line after the other.
+fn is_whole(command: Command) -> bool
+    ensures yes { IsTrue result → IsWhole command }
+    ensures no { IsFalse result → command ≡ Batch }
+{
+    match command {
+        Command::Layout => true,
+        Command::Check => true,
+        Command::Batch => false,
+        Command::Demo(_) => true,
+    }
+}
+
+// Reads the whole input, if the command does, replies to it and writes the reply.
+fn perform_whole<S: Source, K: Sink, N: Sink>(
+    alloc: Global,
+    command: Command,
+    source: &mut S,
+    out: &mut K,
+    notes: &mut N,
+) -> u8
+    requires bounded { IsBounded command }
+    requires whole { IsWhole command }
+    ensures outcome { (taken : List ℕ) × Consumes (S.left source.old) (S.left source.new) taken
+        × Outcome command result taken (IsAtEnd (S.left source.new))
+        (Rose (S.faults source.old) (S.faults source.new)) (Rose (K.faults out.old) (K.faults out.new)) (Rose (N.faults notes.old) (N.faults notes.new))
+        (K.taken out.old) (K.taken out.new) (N.taken notes.old) (N.taken notes.new) }
+    ensures unread { Reads command ⊥ → (S.faults source.new ≡ S.faults source.old) × Keeps (S.left source.old) (S.left source.new) }
     ensures sure_out { (room : ℕ) → K.sure out.old room → K.sure out.new room }
     ensures sure_notes { (room : ℕ) → N.sure notes.old room → N.sure notes.new room }
 {
@@ -49,6 +87,7 @@ fn is_reader(command: Command) -> bool
     match command {
         Command::Layout => true,
         Command::Check => true,
+        Command::Batch => true,
         Command::Demo(_) => false,
     }
 }
@@ -56,10 +95,12 @@ fn is_reader(command: Command) -> bool
 // The most bytes that the command takes of its input.
 fn limit_of(command: Command) -> u64
     ensures limit { result ≡ limit command }
+    ensures small { IsWhole command → result ≤ 2 ^ 28 }
 {
     match command {
         Command::Layout => 1 << 24,
         Command::Check => 1 << 28,
+        Command::Batch => 1 << 32,
         Command::Demo(_) => 0,
     }
 }
@@ -73,11 +114,10 @@ pub(crate) fn replied<K: Sink, N: Sink>(
     notes: &mut N,
 ) -> u8
     requires bounded { IsBounded command }
+    requires whole { IsWhole command }
     requires not_long { IsTooLong command bytes.now → ⊥ }
-    ensures outcome { Outcome command result bytes.now ⊤
+    ensures outcome { Outcome command result bytes.now ⊤ ⊥ (Rose (K.faults out.old) (K.faults out.new)) (Rose (N.faults notes.old) (N.faults notes.new))
         (K.taken out.old) (K.taken out.new) (N.taken notes.old) (N.taken notes.new) }
-    ensures read_fault { result ≡ 3 → ⊥ }
-    ensures write_fault { result ≡ 4 → Rose (K.faults out.old) (K.faults out.new) ⊎ Rose (N.faults notes.old) (N.faults notes.new) }
     ensures sure_out { (room : ℕ) → K.sure out.old room → K.sure out.new room }
     ensures sure_notes { (room : ℕ) → N.sure notes.old room → N.sure notes.new room }
 {
@@ -99,18 +139,13 @@ fn written<K: Sink, N: Sink>(
 ) -> u8
     requires accepted { IsAccepted _command _bytes.now }
     requires answer { Answers _command _bytes.now status text.now }
-    ensures outcome { Outcome _command result _bytes.now ⊤
+    ensures outcome { Outcome _command result _bytes.now ⊤ ⊥ (Rose (K.faults out.old) (K.faults out.new)) (Rose (N.faults notes.old) (N.faults notes.new))
         (K.taken out.old) (K.taken out.new) (N.taken notes.old) (N.taken notes.new) }
-    ensures read_fault { result ≡ 3 → ⊥ }
-    ensures write_fault { result ≡ 4 → Rose (K.faults out.old) (K.faults out.new) }
     ensures sure_out { (room : ℕ) → K.sure out.old room → K.sure out.new room }
     ensures sure_notes { (room : ℕ) → N.sure notes.old room → N.sure notes.new room }
 {
     match write_whole(out, text) {
         Ok(()) => status,
-        Err(_) => {
-            let _ = write_whole(notes, WRITE_FAULT);
-            4
-        }
+        Err(_) => noted(notes, WRITE_FAULT, 4),
     }
 }

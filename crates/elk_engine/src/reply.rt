@@ -1,6 +1,6 @@
 // What a command answers to its whole input.
 ghost use Rattle.std.specs.Prelude.{◌≡◌, ◌≤◌, ℕ, List, IfOk, OnOk, IfErr};
-ghost use Rattle.elk_engine.specs.Command.{Answers, Refuses};
+ghost use Rattle.elk_engine.specs.Command.{Answers, IsWhole, Refuses};
 ghost use Rattle.elk_engine.specs.Demo.{IsDemoLine};
 ghost use Rattle.elk_engine.specs.Reply.{IsCause, IsStop};
 ghost use Rattle.elk_words.specs.Words.{IsBounded};
@@ -53,9 +53,10 @@ fn demonstrate(alloc: Global, leaves: u32) -> Result<Reply, Stop>
     }
 }
 
-/// The command's reply to its whole input.
+/// The reply of a command to its whole input.
 pub(crate) fn reply_to(alloc: Global, command: Command, bytes: &[u8]) -> Result<Reply, Stop>
-    requires { IsBounded command }
+    requires bounded { IsBounded command }
+    requires whole { IsWhole command }
     ensures answered { IfOk result (λ reply. Answers command bytes.now reply.status reply.text.items) }
     ensures accepted { OnOk result ((note : List ℕ) → Refuses command bytes.now note → ⊥) }
     ensures refused { IfErr result (IsCause command bytes.now) }
@@ -66,6 +67,7 @@ pub(crate) fn reply_to(alloc: Global, command: Command, bytes: &[u8]) -> Result<
             Err(fault) => Err(stopped(alloc, &fault)),
         },
         Command::Check => verdict_on(alloc, bytes),
+        Command::Batch => unreachable!(),
         Command::Demo(leaves) => demonstrate(alloc, leaves),
     }
 }

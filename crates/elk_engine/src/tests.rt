@@ -1,5 +1,7 @@
 // Runs of the top call: statuses and texts, with and without faults.
 use super::*;
+use compound::lay_out;
+use demo_document::demo;
 use elk_outer::{MemSink, MemSource};
 use std::test::Fail;
 
@@ -42,11 +44,26 @@ const NO_START: &str =
 const ALONG_THE_SIDE: &str =
     "{\"children\":[{\"height\":30,\"id\":\"a\",\"width\":30,\"x\":12,\"y\":12},{\"height\":30,\"id\":\"b\",\"width\":30,\"x\":62,\"y\":12}],\"edges\":[{\"id\":\"e\",\"sections\":[{\"endPoint\":{\"x\":62,\"y\":22},\"id\":\"e_s0\",\"startPoint\":{\"x\":42,\"y\":22}}],\"sources\":[\"a\"],\"targets\":[\"b\"]},{\"id\":\"f\",\"sections\":[{\"bendPoints\":[{\"x\":42,\"y\":22},{\"x\":62,\"y\":22}],\"endPoint\":{\"x\":62,\"y\":32},\"id\":\"f_s0\",\"startPoint\":{\"x\":42,\"y\":32}}],\"sources\":[\"a\"],\"targets\":[\"b\"]}],\"height\":54,\"id\":\"r\",\"layering\":{\"flow\":[1,1],\"layers\":[0,1],\"reversed\":[],\"span\":2},\"width\":104,\"x\":0,\"y\":0}";
 
-// A level that is to be split into its parts, which isn't laid out yet.
-const SPLIT: &str =
-    "{\"id\":\"r\",\"layoutOptions\":{\"elk.separateConnectedComponents\":\"true\"}}";
+// Three boxes that no edge joins, of which two are said to be one part.
+const PARTS_JOINED: &str =
+    "{\"children\":[{\"height\":10,\"id\":\"a\",\"width\":10,\"x\":12,\"y\":12},{\"height\":10,\"id\":\"b\",\"width\":10,\"x\":42,\"y\":12},{\"height\":10,\"id\":\"c\",\"width\":10,\"x\":12,\"y\":42}],\"height\":64,\"id\":\"r\",\"layering\":{\"flow\":[],\"layers\":[0,0,0],\"parts\":[0,0,1],\"reversed\":[],\"span\":0},\"layoutOptions\":{\"elk.separateConnectedComponents\":\"true\"},\"width\":64,\"x\":0,\"y\":0}";
 
-const USAGE_NOTE: &str = "usage: elk layout\n       elk check\n       elk demo <n>\n";
+const USAGE_NOTE: &str =
+    "usage: elk layout\n       elk check\n       elk demo <n>\n       elk batch\n";
+
+// Three lines, of which the second is no JSON and the last has no line feed, and their replies.
+const LINES: &str = "{\"id\":\"r\"}\n{\"id\":\n{\"id\":\"r\"}";
+
+const REPLIES: &str =
+    "{\"height\":24,\"id\":\"r\",\"layering\":{\"flow\":[],\"layers\":[],\"reversed\":[],\"span\":0},\"width\":24,\"x\":0,\"y\":0}\nrefused 1 NotJson -\n{\"height\":24,\"id\":\"r\",\"layering\":{\"flow\":[],\"layers\":[],\"reversed\":[],\"span\":0},\"width\":24,\"x\":0,\"y\":0}\n";
+
+// The replies to the first two.
+const FIRST_REPLIES: &str =
+    "{\"height\":24,\"id\":\"r\",\"layering\":{\"flow\":[],\"layers\":[],\"reversed\":[],\"span\":0},\"width\":24,\"x\":0,\"y\":0}\nrefused 1 NotJson -\n";
+
+// The first reply and a part of the second.
+const BROKEN_REPLIES: &str =
+    "{\"height\":24,\"id\":\"r\",\"layering\":{\"flow\":[],\"layers\":[],\"reversed\":[],\"span\":0},\"width\":24,\"x\":0,\"y\":0}\nref";
 
 const NEVER: u64 = 99;
 
@@ -63,7 +80,7 @@ struct Row {
     notes: &'static str,
 }
 
-const ROWS: [Row; 26] = [
+const ROWS: [Row; 32] = [
     Row {
         words: &["layout"],
         input: ROOT,
@@ -242,6 +259,17 @@ const ROWS: [Row; 26] = [
     },
     Row {
         words: &["check"],
+        input: PARTS_JOINED,
+        read_fails: NEVER,
+        out_fails: NEVER,
+        notes_fail: NEVER,
+        room: 512,
+        status: 1,
+        out: "no 6 \"b\" -\n",
+        notes: "",
+    },
+    Row {
+        words: &["check"],
         input: EDGE_INPUT,
         read_fails: NEVER,
         out_fails: NEVER,
@@ -296,17 +324,6 @@ const ROWS: [Row; 26] = [
         notes: "write fault\n",
     },
     Row {
-        words: &["layout"],
-        input: SPLIT,
-        read_fails: NEVER,
-        out_fails: NEVER,
-        notes_fail: NEVER,
-        room: 512,
-        status: 2,
-        out: "",
-        notes: "refused 14 NotBuilt -\n",
-    },
-    Row {
         words: &["--help"],
         input: "",
         read_fails: 0,
@@ -348,6 +365,72 @@ const ROWS: [Row; 26] = [
         room: 14,
         status: 4,
         out: "nodes 10 edges",
+        notes: "write fault\n",
+    },
+    Row {
+        words: &["batch"],
+        input: LINES,
+        read_fails: NEVER,
+        out_fails: NEVER,
+        notes_fail: NEVER,
+        room: 512,
+        status: 0,
+        out: REPLIES,
+        notes: "",
+    },
+    Row {
+        words: &["batch"],
+        input: "{\"id\":\"r\"}\r\n\n",
+        read_fails: NEVER,
+        out_fails: NEVER,
+        notes_fail: NEVER,
+        room: 512,
+        status: 0,
+        out: FIRST_REPLIES,
+        notes: "",
+    },
+    Row {
+        words: &["batch"],
+        input: "",
+        read_fails: NEVER,
+        out_fails: NEVER,
+        notes_fail: NEVER,
+        room: 512,
+        status: 0,
+        out: "",
+        notes: "",
+    },
+    Row {
+        words: &["batch"],
+        input: LINES,
+        read_fails: 2,
+        out_fails: NEVER,
+        notes_fail: NEVER,
+        room: 512,
+        status: 3,
+        out: FIRST_REPLIES,
+        notes: "read fault\n",
+    },
+    Row {
+        words: &["batch"],
+        input: LINES,
+        read_fails: 1,
+        out_fails: NEVER,
+        notes_fail: 0,
+        room: 512,
+        status: 4,
+        out: "",
+        notes: "",
+    },
+    Row {
+        words: &["batch"],
+        input: LINES,
+        read_fails: NEVER,
+        out_fails: NEVER,
+        notes_fail: NEVER,
+        room: 107,
+        status: 4,
+        out: BROKEN_REPLIES,
         notes: "write fault\n",
     },
 ];
@@ -395,5 +478,52 @@ fn other_words(rt: HostRuntime) -> Result<(), Fail> {
         assert_eq!(rt; out.taken().len(), 0);
         assert_eq!(rt; notes.taken(), USAGE_NOTE.as_bytes());
     }
+    Ok(())
+}
+
+#[test]
+fn lines_end_in_each_way(rt: HostRuntime) -> Result<(), Fail> {
+    let alloc = rt.alloc();
+    let cases: [(&str, &str); 4] = [
+        (LINES, REPLIES),
+        ("{\"id\":\"r\"}\n", ROOT_ANSWER),
+        ("{\"id\":\"r\"}\n\r", FIRST_REPLIES),
+        ("{\"id\":\"r\"}\r\n\r\n", FIRST_REPLIES),
+    ];
+    for (input, replies) in &cases {
+        for piece in [1, 4096] {
+            let mut words = Vec::new(alloc);
+            words.push(String::from_str(alloc, "batch")?)?;
+            let bytes = input.as_bytes().to_vec(alloc)?;
+            let mut source = MemSource::new(bytes, piece, Vec::new(alloc));
+            let mut out = MemSink::new(alloc, 512, 512, Vec::new(alloc))?;
+            let mut notes = MemSink::new(alloc, 64, 64, Vec::new(alloc))?;
+            let status = run(alloc, &words, &mut source, &mut out, &mut notes);
+            assert_eq!(rt; status, 0);
+            assert_eq!(rt; out.taken(), replies.as_bytes());
+            assert_eq!(rt; notes.taken().len(), 0);
+        }
+    }
+    Ok(())
+}
+
+#[test]
+fn a_demo_has_the_span_of_its_drawing(rt: HostRuntime) -> Result<(), Fail> {
+    let alloc = rt.alloc();
+    let doc = demo(alloc, 5)?;
+    let placed = lay_out(alloc, &doc)?;
+    let span = match placed.levels.as_slice().first() {
+        Some(Some(certificate)) => certificate.span,
+        _ => 0,
+    };
+    assert_eq!(rt; span, 6);
+    let mut words = Vec::new(alloc);
+    words.push(String::from_str(alloc, "demo")?)?;
+    words.push(String::from_str(alloc, "5")?)?;
+    let mut source = MemSource::new(Vec::new(alloc), 1, Vec::new(alloc));
+    let mut out = MemSink::new(alloc, 64, 64, Vec::new(alloc))?;
+    let mut notes = MemSink::new(alloc, 64, 64, Vec::new(alloc))?;
+    assert_eq!(rt; run(alloc, &words, &mut source, &mut out, &mut notes), 0);
+    assert_eq!(rt; out.taken(), "nodes 5 edges 5 weight 6 span 6\n".as_bytes());
     Ok(())
 }

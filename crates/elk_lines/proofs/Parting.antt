@@ -1,5 +1,5 @@
 -- Lines as parts of bytes.
-use Rattle.std.proofs.Common.{◌≡◌, ◌≢◌, ◌⊎◌, ℕ, ◌+◌, ◌-◌, ◌<◌, ◌≤◌, true, false, List, [], ◌∷◌, ◌++◌, length, get_or, take, drop, slice_range, Option, Some, Ok, append_assoc, arith, refl, sym, ap, ◌∙◌, subst, inl, inr, ⊎_elim}
+use Rattle.std.proofs.Common.{◌≡◌, ◌≢◌, ◌⊎◌, ℕ, ◌+◌, ◌-◌, ◌<◌, ◌≤◌, Bool, true, false, List, [], ◌∷◌, ◌++◌, length, get_or, take, drop, slice_range, cond, Option, None, Some, Ok, IsTrue, append_assoc, arith, refl, sym, ap, ◌∙◌, subst, inl, inr, ⊎_elim}
 use Rattle.std.proofs.lemmas.Bool.{cases_Bool, cases_lt}
 use Rattle.std.proofs.lemmas.List.{append-nil, take-append-drop, drop_more, drop-take, drop-drop, length-take, take-append-le, drop-append-le, length-drop, length-append}
 use Rattle.std.proofs.lemmas.List.Elements.{All-append}
@@ -55,36 +55,44 @@ is_empty_or [] = inl refl
 is_empty_or (x ∷ xs) = inr (λ e. cc)
 
 -- what a draft is at the end of the source
-pub last_answer : (longest : ℕ) (bytes x : List ℕ) (d : Draft) (left : Option (List ℕ)) (piece : Piece) → HasNoFeed bytes → IsDraft longest bytes d → length x ≡ 0 → IsAtEnd left → (d.long ≡ true → piece ≡ Long) → (d.long ≡ false → d.bytes.items ≢ [] → piece ≡ Line) → (d.long ≡ false → d.bytes.items ≡ [] → piece ≡ End) → IsAnswer longest (bytes ++ x) x (told_by d) left (Ok piece)
+pub last_answer : (longest : ℕ) (bytes x : List ℕ) (d : Draft) (left : Option (List ℕ)) (piece : Piece) → HasNoFeed bytes → IsDraft longest bytes d → length x ≡ 0 → IsAtEnd left → (d.long ≡ true → piece ≡ Long) → (d.long ≡ false → d.bytes.items ≢ [] → piece ≡ Line) → (d.long ≡ false → d.bytes.items ≡ [] → piece ≡ End) → IsAnswer longest (bytes ++ x) x (told_by d) left true (Ok piece)
 last_answer longest bytes (b ∷ x) d left piece h dr none end long short empty = absurd (omega (arith, none))
 last_answer longest bytes [] d left piece h dr none end long short empty =
     elim (cases_Bool d.long) [
       | inl t ↦
-          subst (λ (p : Piece). IsAnswer longest (bytes ++ []) [] (told_by d) left (Ok p)) (sym (long t))
-          (bytes, record { no_feed = h; parted = inr (append-nil bytes, refl, longer longest bytes (dr.long t), end) }, dr.long t)
+          subst (λ (p : Piece). IsAnswer longest (bytes ++ []) [] (told_by d) left true (Ok p)) (sym (long t))
+          (bytes, record { no_feed = h; parted = (append-nil bytes, refl, longer longest bytes (dr.long t), end) }, dr.long t)
       | inr f ↦
           elim (is_empty_or d.bytes.items) [
             | inl e ↦
-                subst (λ (p : Piece). IsAnswer longest (bytes ++ []) [] (told_by d) left (Ok p)) (sym (empty f e))
-                (append-nil bytes ∙ (sym (dr.short f) ∙ e), refl, end)
+                subst (λ (p : Piece). IsAnswer longest (bytes ++ []) [] (told_by d) left true (Ok p)) (sym (empty f e))
+                (append-nil bytes ∙ (sym (dr.short f) ∙ e), refl, end, refl)
             | inr n ↦
-                subst (λ (p : Piece). IsAnswer longest (bytes ++ []) [] (told_by d) left (Ok p)) (sym (short f n))
-                (bytes, record { no_feed = h; parted = inr (append-nil bytes, refl, (λ e. n (dr.short f ∙ e)), end) }, dr.fits f, ap Some (dr.short f))
+                subst (λ (p : Piece). IsAnswer longest (bytes ++ []) [] (told_by d) left true (Ok p)) (sym (short f n))
+                (bytes, record { no_feed = h; parted = (append-nil bytes, refl, (λ e. n (dr.short f ∙ e)), end) }, dr.fits f, ap Some (dr.short f))
           ]
     ]
 
 -- what a draft is at a line feed
-pub found_answer : (longest : ℕ) (bytes before now : List ℕ) (d : Draft) (left : Option (List ℕ)) (piece : Piece) → HasNoFeed bytes → MovesHeld longest bytes before now d true → (d.long ≡ false → piece ≡ Line) → (d.long ≡ true → piece ≡ Long) → IsAnswer longest ((bytes ++ before) ++ []) now (told_by d) left (Ok piece)
-found_answer longest bytes before now d left piece h m short long =
+pub found_answer : (longest : ℕ) (bytes before now : List ℕ) (d : Draft) (left : Option (List ℕ)) (piece : Piece) → HasNoFeed bytes → MovesHeld longest bytes before now d true → (d.long ≡ false → piece ≡ Line) → (d.long ≡ true → piece ≡ Long) → d.ended ≡ false → IsAnswer longest ((bytes ++ before) ++ []) now (told_by d) left d.ended (Ok piece)
+found_answer longest bytes before now d left piece h m short long on =
     let line = m.0 in
     let whole : List ℕ = bytes ++ line in
     let clean : HasNoFeed whole = no_feed_both bytes line h m.1 in
     let parted : (bytes ++ before) ++ [] ≡ whole ++ 10 ∷ now = append-nil (bytes ++ before) ∙ (ap (λ (l : List ℕ). bytes ++ l) m.2 ∙ sym (append_assoc bytes line (10 ∷ now))) in
-    let first : IsFirstLine ((bytes ++ before) ++ []) whole now left = record { no_feed = clean; parted = inl parted } in
-    elim (cases_Bool d.long) [
-      | inl t ↦ subst (λ (p : Piece). IsAnswer longest ((bytes ++ before) ++ []) now (told_by d) left (Ok p)) (sym (long t)) (whole, first, m.3.long t)
-      | inr f ↦ subst (λ (p : Piece). IsAnswer longest ((bytes ++ before) ++ []) now (told_by d) left (Ok p)) (sym (short f)) (whole, first, m.3.fits f, ap Some (m.3.short f))
-    ]
+    let first : IsFirstLine ((bytes ++ before) ++ []) whole now left false = record { no_feed = clean; parted = parted } in
+    subst (λ (e : Bool). IsAnswer longest ((bytes ++ before) ++ []) now (told_by d) left e (Ok piece)) (sym on)
+    (elim (cases_Bool d.long) [
+      | inl t ↦ subst (λ (p : Piece). IsAnswer longest ((bytes ++ before) ++ []) now (told_by d) left false (Ok p)) (sym (long t)) (whole, first, m.3.long t)
+      | inr f ↦ subst (λ (p : Piece). IsAnswer longest ((bytes ++ before) ++ []) now (told_by d) left false (Ok p)) (sym (short f)) (whole, first, m.3.fits f, ap Some (m.3.short f))
+    ])
+
+-- a reader tells its draft where it answers a line
+pub told_answer : (longest : ℕ) (bytes rest : List ℕ) (d : Draft) (left : Option (List ℕ)) (ended : Bool) (piece : Piece) (is_line : Bool) → (piece ≡ Line → IsTrue is_line) → IsAnswer longest bytes rest (told_by d) left ended (Ok piece) → IsAnswer longest bytes rest (cond is_line (told_by d) None) left ended (Ok piece)
+told_answer longest bytes rest d left ended Line true shown a = a
+told_answer longest bytes rest d left ended Line false shown a = (let bad = shown refl in cc)
+told_answer longest bytes rest d left ended Long is_line shown a = a
+told_answer longest bytes rest d left ended End is_line shown a = a
 
 module _ (longest : ℕ) (held0 : List ℕ) (left0 left left' : Option (List ℕ)) (taken0 taken taken' : ℕ) (now rest more : List ℕ) (d d' : Draft) (u : IsUnderWay longest held0 left0 left taken0 taken now d) (took : Consumes left left' more) (count : taken' ≡ taken + length more) where
   pub all_took : Consumes left0 left' (u.more ++ more)

@@ -2,7 +2,8 @@
 use Rattle.std.specs.Prelude.{ℕ, ◌≢◌, Bool, List, All, Option}
 
 -- the bytes that it took and did not give out; the line that it told last, if its last answer was one; how many
--- bytes it took in all; the most bytes of a line, and of all lines; whether it has failed
+-- bytes it took in all; the most bytes of a line, and of all lines; whether it has failed; whether its last answer came
+-- from what the source had to its end
 pub record Reader : Type 0 where
   pub held : List ℕ
   pub line : Option (List ℕ)
@@ -10,6 +11,7 @@ pub record Reader : Type 0 where
   pub longest : ℕ
   pub limit : ℕ
   pub spent : Bool
+  pub ended : Bool
 
 -- none of the bytes is a line feed
 abbrev pub HasNoFeed : List ℕ → Type 0

@@ -46,8 +46,8 @@ pub record IsUnderWay (longest : ℕ) (held0 : List ℕ) (left0 left : Option (L
 -- What one turn leaves, where these bytes were there before it or taken in it, the first of them in the draft.
 abbrev pub AfterTurn : ℕ → List ℕ → List ℕ → Draft → List ℕ → Option (List ℕ) → Result (Option Piece) LineFault → Type 0
 AfterTurn longest before more d rest left (Ok None) = HasNoFeed before × IsDraft longest before d × (rest ≡ more)
-AfterTurn longest before more d rest left (Ok (Some piece)) = IsAnswer longest (before ++ more) rest (told_by d) left (Ok piece)
-AfterTurn longest before more d rest left (Err fault) = IsAnswer longest (before ++ more) rest (told_by d) left (Err fault)
+AfterTurn longest before more d rest left (Ok (Some piece)) = IsAnswer longest (before ++ more) rest (told_by d) left d.ended (Ok piece)
+AfterTurn longest before more d rest left (Err fault) = IsAnswer longest (before ++ more) rest (told_by d) left d.ended (Err fault)
 
 -- ---- the whole reader
 
@@ -60,6 +60,7 @@ reader_of store draft has_line spent longest limit =
       longest = longest;
       limit = limit;
       spent = spent;
+      ended = draft.ended;
     }
 
 -- what a reader keeps
@@ -68,3 +69,4 @@ pub record IsReader (s : Store) (d : Draft) (spent : Bool) (longest limit : ℕ)
   pub within : vec_len d.bytes ≤ longest
   pub small : limit ≤ 2 ^ 32
   pub taken : spent ≡ false → s.taken ≤ limit
+  pub none_after : spent ≡ false → d.ended ≡ true → held s ≡ []

@@ -13,6 +13,8 @@ const FEED: u8 = 10;
 pub(crate) struct Draft {
     pub(crate) bytes: Vec<u8>,
     pub(crate) long: bool,
+    /// Whether the source said that nothing comes after it.
+    pub(crate) ended: bool,
 }
 
 /// Where the first line feed stands.
@@ -31,6 +33,7 @@ pub(crate) fn find_feed(bytes: &[u8]) -> Option<usize>
 pub(crate) fn add(draft: &mut Draft, part: &[u8], longest: usize) -> Result<(), AllocError>
     requires { vec_len draft.old.bytes ≤ longest }
     ensures within { vec_len draft.new.bytes ≤ longest }
+    ensures same { draft.new.ended ≡ draft.old.ended }
     ensures added { OnOk result ((bytes : List ℕ) → IsDraft longest bytes draft.old → IsDraft longest (bytes ++ part.now) draft.new) }
 {
     if draft.long {

@@ -1,7 +1,7 @@
 //! The reader of lines.
-ghost use Rattle.std.specs.Prelude.{◌≡◌, ◌≤◌, ◌+◌, ◌^◌, ◌++◌, ◌↔◌, ℕ, List, [], None, Some, false, Err, IsErr, IsSome, IsTrue, length};
+ghost use Rattle.std.specs.Prelude.{◌≡◌, ◌≤◌, ◌+◌, ◌^◌, ◌++◌, ◌↔◌, ℕ, List, [], None, Some, false, Err, IsErr, IsSome, IsTrue, true, length};
 ghost use Rattle.std.specs.Io.KnownBytes.{Consumes};
-ghost use Rattle.elk_lines.specs.Answers.{HasLineCause, IsAnswer};
+ghost use Rattle.elk_lines.specs.Answers.{HasLineCause, IsAnswer, IsUnmoved};
 
 use crate::answer::{LineFault, Piece};
 use crate::draft::Draft;
@@ -13,7 +13,8 @@ use std::marker::Model;
 
 /// Gives out the lines of a source, one after the other. What is due is what was taken from the source and not given
 /// out, followed by what the source has left. A line ends with a byte 10, which isn't part of it; what follows the
-/// last of them is a line where it isn't empty.
+/// last of them is a line where it isn't empty. Where a read gives no bytes the source has ended, and none is made
+/// after it, since a terminal may give more then.
 #[derive(Drop)]
 pub struct LineReader {
     store: Store,
@@ -56,6 +57,7 @@ impl LineReader {
         ensures nothing_taken { result.taken ≡ 0 }
         ensures no_line { result.line ≡ None }
         ensures not_spent { result.spent ≡ false }
+        ensures not_ended { result.ended ≡ false }
         ensures bounds { (result.longest ≡ longest) × (result.limit ≡ limit) }
     {
         LineReader {
@@ -68,6 +70,7 @@ impl LineReader {
             draft: Draft {
                 bytes: Vec::new(alloc),
                 long: false,
+                ended: false,
             },
             has_line: false,
             spent: false,
@@ -79,12 +82,13 @@ impl LineReader {
     /// Gives out the next line and its line feed. `Line`: `line` has its bytes. `Long`: it has more than `longest`
     /// bytes, and none of them are kept. `End`: nothing is due. `Fault`: the source failed, and what was taken and not
     /// given out has no line feed. `TooLong`: one byte more than the limit was taken, and no line feed before it is
-    /// still due. After an error the reader is spent.
+    /// still due. After an error the reader is spent. Once the source has ended, the answer is `End` and nothing is read.
     pub fn next_line<S: Source>(&mut self, src: &mut S) -> Result<Piece, LineFault>
         requires { self.old.spent ≡ false }
 
-        ensures answer { (taken : List ℕ) × Consumes (S.left src.old) (S.left src.new) taken × (self.new.taken ≡ self.old.taken + length taken)
-            × IsAnswer self.old.longest (self.old.held ++ taken) self.new.held self.new.line (S.left src.new) result }
+        ensures answer { self.old.ended ≡ false → (taken : List ℕ) × Consumes (S.left src.old) (S.left src.new) taken × (self.new.taken ≡ self.old.taken + length taken)
+            × IsAnswer self.old.longest (self.old.held ++ taken) self.new.held self.new.line (S.left src.new) self.new.ended result }
+        ensures after_end { self.old.ended ≡ true → (src.new ≡ src.old) × (result ≡ Ok Piece.End) × IsUnmoved self.old self.new }
         ensures too_long { (result ≡ Err LineFault.TooLong) ↔ (self.new.taken ≡ self.old.limit + 1) }
         ensures within { self.new.taken ≤ self.old.limit + 1 }
         ensures cause { HasLineCause (S.faults src.old) (S.faults src.new) result }
@@ -93,6 +97,9 @@ impl LineReader {
         ensures bounds { (self.new.longest ≡ self.old.longest) × (self.new.limit ≡ self.old.limit) }
     {
         self.has_line = false;
+        if self.draft.ended {
+            return Ok(Piece::End);
+        }
         let longest = self.longest;
         let limit = self.limit;
         match advance(src, &mut self.store, &mut self.draft, longest, limit) {
@@ -113,6 +120,14 @@ impl LineReader {
         ensures { self.now.line ≡ Some result.now }
     {
         self.draft.bytes.as_slice()
+    }
+
+    /// Whether the source has ended, so that nothing is due and nothing more is read. It is so after `End`, and after a
+    /// last line without a line feed.
+    pub fn has_ended(&self) -> bool
+        ensures { result ≡ self.now.ended }
+    {
+        self.draft.ended
     }
 
     /// Whether an answer was an error.

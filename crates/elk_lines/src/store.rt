@@ -46,6 +46,7 @@ pub(crate) fn move_held(
     ensures store { IsStore store.new }
     ensures within { vec_len draft.new.bytes ≤ longest }
     ensures moved { IfOk result (λ found. (bytes : List ℕ) → IsDraft longest bytes draft.old → MovesHeld longest bytes (held store.old) (held store.new) draft.new found) }
+    ensures same_end { draft.new.ended ≡ draft.old.ended }
     ensures same { (store.new.taken ≡ store.old.taken) × (vec_len store.new.bytes ≡ vec_len store.old.bytes) }
 {
     let part = &store.bytes.as_slice()[store.start..store.end];

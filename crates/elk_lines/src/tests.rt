@@ -1,12 +1,16 @@
-ghost use Rattle.std.specs.Prelude.{◌≡◌, false};
+ghost use Rattle.std.specs.Prelude.{◌≡◌, None, false};
 
 use crate::{LineFault, LineReader, Piece};
-use elk_outer::MemSource;
+use elk_outer::{Failed, MemSource, Source};
 use std::alloc::{AllocError, Global};
 use std::test::Fail;
 
 /// Writes the next answer as a text: `=` and the line, `+` for a long line, `.` for the end, `!` and `>` for the faults.
-fn tell(reader: &mut LineReader, src: &mut MemSource, told: &mut String) -> Result<(), AllocError>
+fn tell<S: Source>(
+    reader: &mut LineReader,
+    src: &mut S,
+    told: &mut String,
+) -> Result<(), AllocError>
     requires { reader.old.spent ≡ false }
 {
     match reader.next_line(src) {
@@ -117,5 +121,47 @@ fn a_line_longer_than_a_piece(rt: HostRuntime) -> Result<(), Fail> {
         "+=y....."
     );
     assert_eq!(rt; answers(rt.alloc(), 40000, 100000, stream)?.len(), 40008);
+    Ok(())
+}
+
+/// A source that doesn't tell its bytes. Each second read gives none, and the next one more again, as at a terminal.
+#[derive(Drop)]
+struct Terminal {
+    reads: u64,
+}
+
+impl Source for Terminal {
+    ghost left = { λ _. None };
+
+    ghost faults = { λ _. 0 };
+
+    fn read(&mut self, buf: &mut [u8]) -> Result<usize, Failed> {
+        self.reads = self.reads.saturating_add(1);
+        if self.reads % 2 == 0 {
+            return Ok(0);
+        }
+        let typed = b"ab\ncd";
+        let count = buf.len().min(typed.len());
+        buf[..count].copy_from_slice(&typed[..count]);
+        Ok(count)
+    }
+}
+
+#[test]
+fn nothing_is_read_after_the_end(rt: HostRuntime) -> Result<(), Fail> {
+    let alloc = rt.alloc();
+    let mut src = Terminal { reads: 0 };
+    let mut reader = LineReader::new(alloc, 4, 100);
+    let mut told = String::new(alloc);
+    let ends = [false, true, true, true];
+    for has_ended in &ends {
+        if reader.is_spent() {
+            break;
+        }
+        tell(&mut reader, &mut src, &mut told)?;
+        assert_eq!(rt; reader.has_ended(), *has_ended);
+    }
+    assert_eq!(rt; told.as_str(), "=ab=cd..");
+    assert_eq!(rt; src.reads, 2);
     Ok(())
 }

@@ -34,19 +34,23 @@ fn last_of(draft: &Draft) -> Piece
 fn read_on<S: Source>(
     src: &mut S,
     store: &mut Store,
-    draft: &Draft,
+    draft: &mut Draft,
     longest: usize,
     limit: u64,
 ) -> Result<Option<Piece>, LineFault>
     requires store { IsStore store.old }
     requires room { PIECE ≤ vec_len store.old.bytes }
+    requires within { vec_len draft.old.bytes ≤ longest }
+    requires on { draft.old.ended ≡ false }
     requires taken { store.old.taken ≤ limit }
     requires limit { limit ≤ 2 ^ 32 }
     ensures store { IsStore store.new }
     ensures room { PIECE ≤ vec_len store.new.bytes }
+    ensures within { vec_len draft.new.bytes ≤ longest }
     ensures bytes { (more : List ℕ) × Consumes (S.left src.old) (S.left src.new) more × (store.new.taken ≡ store.old.taken + length more)
-        × ((bytes : List ℕ) → HasNoFeed bytes → IsDraft longest bytes draft.now → AfterTurn longest bytes more draft.now (held store.new) (S.left src.new) result) }
+        × ((bytes : List ℕ) → HasNoFeed bytes → IsDraft longest bytes draft.old → AfterTurn longest bytes more draft.new (held store.new) (S.left src.new) result) }
     ensures goes_on { IfOk result (λ r. IfNone r (store.old.taken < store.new.taken)) }
+    ensures on { IfOk result (λ r. IfNone r (draft.new.ended ≡ false)) }
     ensures past { (result ≡ Err LineFault.TooLong) ↔ (store.new.taken ≡ limit + 1) }
     ensures limit { store.new.taken ≤ limit + 1 }
     ensures cause { HasLineCause (S.faults src.old) (S.faults src.new) result }
@@ -55,6 +59,7 @@ fn read_on<S: Source>(
     match refill(src, store, room) {
         Ok(count) => {
             if count == 0 {
+                draft.ended = true;
                 return Ok(Some(last_of(draft)));
             }
             if store.taken > limit {
@@ -77,6 +82,7 @@ fn turn<S: Source>(
     requires store { IsStore store.old }
     requires room { PIECE ≤ vec_len store.old.bytes }
     requires within { vec_len draft.old.bytes ≤ longest }
+    requires on { draft.old.ended ≡ false }
     requires taken { store.old.taken ≤ limit }
     requires limit { limit ≤ 2 ^ 32 }
     ensures store { IsStore store.new }
@@ -85,6 +91,7 @@ fn turn<S: Source>(
     ensures bytes { (more : List ℕ) × Consumes (S.left src.old) (S.left src.new) more × (store.new.taken ≡ store.old.taken + length more)
         × ((bytes : List ℕ) → HasNoFeed bytes → IsDraft longest bytes draft.old → AfterTurn longest (bytes ++ held store.old) more draft.new (held store.new) (S.left src.new) result) }
     ensures goes_on { IfOk result (λ r. IfNone r (store.old.taken < store.new.taken)) }
+    ensures on { IfOk result (λ r. IfNone r (draft.new.ended ≡ false)) }
     ensures past { (result ≡ Err LineFault.TooLong) ↔ (store.new.taken ≡ limit + 1) }
     ensures limit { store.new.taken ≤ limit + 1 }
     ensures cause { HasLineCause (S.faults src.old) (S.faults src.new) result }
@@ -112,12 +119,13 @@ pub(crate) fn gather<S: Source>(
     requires room { PIECE ≤ vec_len store.old.bytes }
     requires within { vec_len draft.old.bytes ≤ longest }
     requires empty { IsDraft longest [] draft.old }
+    requires on { draft.old.ended ≡ false }
     requires taken { store.old.taken ≤ limit }
     requires limit { limit ≤ 2 ^ 32 }
     ensures store { IsStore store.new }
     ensures within { vec_len draft.new.bytes ≤ longest }
     ensures bytes { (more : List ℕ) × Consumes (S.left src.old) (S.left src.new) more × (store.new.taken ≡ store.old.taken + length more)
-        × IsAnswer longest (held store.old ++ more) (held store.new) (told_by draft.new) (S.left src.new) result }
+        × IsAnswer longest (held store.old ++ more) (held store.new) (told_by draft.new) (S.left src.new) draft.new.ended result }
     ensures past { (result ≡ Err LineFault.TooLong) ↔ (store.new.taken ≡ limit + 1) }
     ensures limit { store.new.taken ≤ limit + 1 }
     ensures cause { HasLineCause (S.faults src.old) (S.faults src.new) result }
@@ -140,12 +148,13 @@ pub(crate) fn advance<S: Source>(
     limit: u64,
 ) -> Result<Piece, LineFault>
     requires store { IsStore store.old }
+    requires on { draft.old.ended ≡ false }
     requires taken { store.old.taken ≤ limit }
     requires limit { limit ≤ 2 ^ 32 }
     ensures store { IsStore store.new }
     ensures within { vec_len draft.new.bytes ≤ longest }
     ensures bytes { (more : List ℕ) × Consumes (S.left src.old) (S.left src.new) more × (store.new.taken ≡ store.old.taken + length more)
-        × IsAnswer longest (held store.old ++ more) (held store.new) (told_by draft.new) (S.left src.new) result }
+        × IsAnswer longest (held store.old ++ more) (held store.new) (told_by draft.new) (S.left src.new) draft.new.ended result }
     ensures past { (result ≡ Err LineFault.TooLong) ↔ (store.new.taken ≡ limit + 1) }
     ensures limit { store.new.taken ≤ limit + 1 }
     ensures cause { HasLineCause (S.faults src.old) (S.faults src.new) result }

@@ -21,7 +21,7 @@ use Rattle.std.specs.List.{list_any}
 use Rattle.std.proofs.lemmas.Bool.{cases_Bool, eqb-true}
 use Rattle.std.proofs.lemmas.Slice.Eq.{bytes_eq-Decides}
 use Rattle.elk_words.specs.declared.Command.{Command}
-use Rattle.elk_words.specs.declared.Command.TheVariants.{Layout, Check, Demo}
+use Rattle.elk_words.specs.declared.Command.TheVariants.{Layout, Check, Batch, Demo}
 use Rattle.elk_words.specs.Words.{asked, chosen_of, command_of_values, without_dashes}
 use Rattle.elk_words.proofs.Numbers.{dashed_none}
 
@@ -52,23 +52,25 @@ value_left : (word : Text) (words : List Text) → bytes_eq word (codes "--") �
 value_left word words e = rw e refl
 
 abbrev pub is_named : Text → Bool
-is_named c = bytes_eq (codes "layout") c || (bytes_eq (codes "check") c || (bytes_eq (codes "demo") c || false))
+is_named c = bytes_eq (codes "layout") c || (bytes_eq (codes "check") c || (bytes_eq (codes "batch") c || (bytes_eq (codes "demo") c || false)))
 
-named_none : (a b d : Bool) → (a || (b || (d || false))) ≡ false → (if a then Some Layout else (if b then Some Check else None)) ≡ None
-named_none true b d e = cc
-named_none false true d e = cc
-named_none false false d e = refl
+named_none : (a b l d : Bool) → (a || (b || (l || (d || false)))) ≡ false → (if a then Some Layout else (if b then Some Check else (if l then Some Batch else None))) ≡ None
+named_none true b l d e = cc
+named_none false true l d e = cc
+named_none false false true d e = cc
+named_none false false false d e = refl
 
-numbered_none : (a b d : Bool) (o : Option Command) → (a || (b || (d || false))) ≡ false → (if d then o else None) ≡ None
-numbered_none true b d o e = cc
-numbered_none false true d o e = cc
-numbered_none false false true o e = cc
-numbered_none false false false o e = refl
+numbered_none : (a b l d : Bool) (o : Option Command) → (a || (b || (l || (d || false)))) ≡ false → (if d then o else None) ≡ None
+numbered_none true b l d o e = cc
+numbered_none false true l d o e = cc
+numbered_none false false true d o e = cc
+numbered_none false false false true o e = cc
+numbered_none false false false false o e = refl
 
 -- a first value that is no command
 unnamed : (c : Text) (rest : List Text) → is_named c ≡ false → command_of_values (c ∷ rest) ≡ None
-unnamed c [] e = named_none (bytes_eq (codes "layout") c) (bytes_eq (codes "check") c) (bytes_eq (codes "demo") c) e
-unnamed c (n ∷ []) e = numbered_none (bytes_eq (codes "layout") c) (bytes_eq (codes "check") c) (bytes_eq (codes "demo") c) _ e
+unnamed c [] e = named_none (bytes_eq (codes "layout") c) (bytes_eq (codes "check") c) (bytes_eq (codes "batch") c) (bytes_eq (codes "demo") c) e
+unnamed c (n ∷ []) e = numbered_none (bytes_eq (codes "layout") c) (bytes_eq (codes "check") c) (bytes_eq (codes "batch") c) (bytes_eq (codes "demo") c) _ e
 unnamed c (n ∷ m ∷ rest) e = refl
 
 dashed_unnamed : (rest : Text) → is_named (45 ∷ rest) ≡ false

@@ -5,7 +5,7 @@ use Rattle.std.specs.Str.Parse.{digits_value, without_leading_plus}
 use Rattle.std.specs.declared.alloc.Global.{Global}
 use Rattle.clap.specs.ValueTests.{is_unsigned_in}
 use Rattle.elk_words.specs.declared.Command.{Command}
-use Rattle.elk_words.specs.declared.Command.TheVariants.{Layout, Check, Demo}
+use Rattle.elk_words.specs.declared.Command.TheVariants.{Layout, Check, Batch, Demo}
 
 -- the texts of the words
 abbrev pub texts : List (String Global) → List (List ℕ)
@@ -18,7 +18,7 @@ without_dashes (word ∷ words) = if bytes_eq word (codes "--") then words else 
 
 -- the command of a name that stands alone
 abbrev pub named_command : List ℕ → Option Command
-named_command word = if bytes_eq (codes "layout") word then Some Layout else (if bytes_eq (codes "check") word then Some Check else None)
+named_command word = if bytes_eq (codes "layout") word then Some Layout else (if bytes_eq (codes "check") word then Some Check else (if bytes_eq (codes "batch") word then Some Batch else None))
 
 -- the number that the decimal digits of a text write, where a plus may stand before them
 abbrev pub value_of : List ℕ → ℕ
@@ -46,6 +46,7 @@ asked words = command_of_values (without_dashes words)
 abbrev pub IsBounded : Command → Type 0
 IsBounded Layout = ⊤
 IsBounded Check = ⊤
+IsBounded Batch = ⊤
 IsBounded (Demo leaves) = (1 ≤ leaves) × (leaves ≤ 1024)
 
 -- ---- what a parse found

@@ -16,11 +16,13 @@ pub enum Command {
     Layout,
     /// Judge a placed document.
     Check,
+    /// Lay out one document a line.
+    Batch,
     /// Lay out a document that is made from this number of leaves.
     Demo(u32),
 }
 
-static NAMES: [&str; 3] = ["layout", "check", "demo"];
+static NAMES: [&str; 4] = ["layout", "check", "batch", "demo"];
 
 /// The command that the words ask for: after removal of the first `--`, the one word that names it, or the two words `demo`
 /// and a number from 1 to 1,024. A request for help or for a version asks for none.
@@ -59,6 +61,7 @@ fn named(name: &str) -> Option<Command>
     match name {
         "layout" => Some(Command::Layout),
         "check" => Some(Command::Check),
+        "batch" => Some(Command::Batch),
         _ => None,
     }
 }

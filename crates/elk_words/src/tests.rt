@@ -5,10 +5,12 @@ use std::test::Fail;
 #[test]
 fn words(rt: HostRuntime) -> Result<(), Fail> {
     let alloc = rt.alloc();
-    let cases: [(&[&str], Option<Command>); 29] = [
+    let cases: [(&[&str], Option<Command>); 31] = [
         (&["layout"], Some(Command::Layout)),
         (&["check"], Some(Command::Check)),
         (&["--", "check"], Some(Command::Check)),
+        (&["batch"], Some(Command::Batch)),
+        (&["batch", "1"], None),
         (&["layout", "--"], Some(Command::Layout)),
         (&["--", "--", "layout"], None),
         (&["--", "layout", "--"], None),

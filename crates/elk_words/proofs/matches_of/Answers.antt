@@ -12,7 +12,7 @@ use Rattle.elk_words.specs.Words.{texts}
 use Rattle.elk_words.proofs.matches_of.Goals as goal
 
 abbrev names : List Text
-names = codes "layout" ∷ codes "check" ∷ codes "demo" ∷ []
+names = codes "layout" ∷ codes "check" ∷ codes "batch" ∷ codes "demo" ∷ []
 
 module _ (c : goal.After-try_get_matches_from) where
   q : (p : ValueParser) × (c.value_parser-command.result.value_parser ≡ Some p) × ((text : Text) → accepts false p text ≡ is_named text)

@@ -1,13 +1,9 @@
-use Rattle.std.proofs.Common.{◌≡◌, ◌∙◌, ap₂, subst, sym}
+use Rattle.std.proofs.Common.{◌∙◌, ap₂, subst}
 use Rattle.std.proofs.lemmas.Result.{IfOk-weaker}
 use Rattle.elk_doc.specs.Drawn.{Drawn}
-use Rattle.compound.specs.Built.{IsBuilt}
 use Rattle.elk_engine.specs.Demo.{demo_text}
-use Rattle.elk_engine.proofs.DemoLemmas.{demo_built, demo_line as is_demo_line}
+use Rattle.elk_engine.proofs.DemoLemmas.{demo_line as is_demo_line}
 use Rattle.elk_engine.proofs.demonstration.demo_line.Goals as goal
-
-pub lay_out-requires : goal.lay_out-requires
-lay_out-requires c = subst IsBuilt (sym c.in_ok-doc.ensures) (demo_built c.args.leaves)
 
 pub returns : goal.returns
 returns c =

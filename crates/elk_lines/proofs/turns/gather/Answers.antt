@@ -19,7 +19,7 @@ returns-in-Ok-Some-clause-bytes g c =
       u.more ++ t.0,
       all_took c.args.longest (held s0) left0 left left' s0.taken s.taken s'.taken (held s) (held s') t.0 d d' u t.1 t.2,
       all_count c.args.longest (held s0) left0 left left' s0.taken s.taken s'.taken (held s) (held s') t.0 d d' u t.1 t.2,
-      subst (λ (l : List ℕ). IsAnswer c.args.longest l (held s') (told_by d') left' (Ok c.in-Ok-Some.piece))
+      subst (λ (l : List ℕ). IsAnswer c.args.longest l (held s') (told_by d') left' d'.ended (Ok c.in-Ok-Some.piece))
           (all_joined c.args.longest (held s0) left0 left left' s0.taken s.taken s'.taken (held s) (held s') t.0 d d' u t.1 t.2) (t.3 u.bytes u.no_feed u.draft),
     )
 
@@ -45,6 +45,7 @@ turns-preserved g c =
       taken = omega (arith, past, most);
       under_way = way_on c.args.longest (held s0) left0 left left' s0.taken s.taken s'.taken (held s) (held s') t.0 d d' u t.1 t.2 a.0 a.1 a.2;
       later = search rules;
+      on = search rules;
     }
 
 pub returns-in-Err-clause-bytes : goal.returns-in-Err-clause-bytes
@@ -62,6 +63,6 @@ returns-in-Err-clause-bytes g c =
       u.more ++ t.0,
       all_took c.args.longest (held s0) left0 left left' s0.taken s.taken s'.taken (held s) (held s') t.0 d d' u t.1 t.2,
       all_count c.args.longest (held s0) left0 left left' s0.taken s.taken s'.taken (held s) (held s') t.0 d d' u t.1 t.2,
-      subst (λ (l : List ℕ). IsAnswer c.args.longest l (held s') (told_by d') left' (Err c.in-Err.fault))
+      subst (λ (l : List ℕ). IsAnswer c.args.longest l (held s') (told_by d') left' d'.ended (Err c.in-Err.fault))
           (all_joined c.args.longest (held s0) left0 left left' s0.taken s.taken s'.taken (held s) (held s') t.0 d d' u t.1 t.2) (t.3 u.bytes u.no_feed u.draft),
     )

@@ -1,4 +1,4 @@
-use Rattle.std.proofs.Common.{◌++◌, Bool, [], arith, subst}
+use Rattle.std.proofs.Common.{◌++◌, ◌∙◌, Bool, [], arith, subst}
 use Rattle.std.proofs.KnownBytes.{Consumes-nil}
 use Rattle.elk_lines.specs.Steps.{held, MovesHeld}
 use Rattle.elk_lines.proofs.Parting.{found_answer, no_feed_both}
@@ -17,7 +17,7 @@ returns-then-found-clause-bytes g c =
       λ bytes h dr.
           found_answer c.args.longest bytes (held s) (held t) d left c.piece_of.result h
           (subst (λ (b : Bool). MovesHeld c.args.longest bytes (held s) (held t) d b) c.if-found.true (c.in-Ok.ensures.moved bytes dr))
-          c.piece_of.ensures.short c.piece_of.ensures.long,
+          c.piece_of.ensures.short c.piece_of.ensures.long (c.in-Ok.ensures.same_end ∙ c.requires.on),
     )
 
 pub returns-else-found-clause-bytes : goal.returns-else-found-clause-bytes
