@@ -1,3 +1,4 @@
+pub mod BoundsLaws
 pub mod BreakLaws
 pub mod ChildLaws
 pub mod NameLaws

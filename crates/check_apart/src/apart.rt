@@ -1,13 +1,14 @@
 //! Children of a level that keep their distances.
-ghost use Rattle.std.specs.Prelude.{◌<◌, IfOk, MatchOption, length};
+ghost use Rattle.std.specs.Prelude.{◌<◌, ℕ, IfOk, IsTrue, MatchOption, length};
 ghost use Rattle.elk_doc.specs.Apart.{Apart};
 ghost use Rattle.elk_doc.specs.Fits.{Fits};
 ghost use Rattle.elk_doc.specs.Sound.{IsSound};
 ghost use Rattle.drawing_faults.specs.Shapes.{AreOutlines};
-ghost use Rattle.check_apart.specs.FirstApart.{AreLayers, AreParts, FirstApart};
+ghost use Rattle.check_apart.specs.FirstApart.{AreLayers, AreParts, FirstApart, FirstPair, PartHolds, PartsHold};
 ghost use Rattle.check_apart.specs.Names.{AreNames};
 
 use crate::beyond::part_fault;
+use crate::bounds::quickly_apart;
 use crate::names::part_names;
 use crate::pairs::{box_fault, near_fault};
 use crate::parts::first_part;
@@ -16,6 +17,43 @@ use elk_doc::document::{Doc, LevelOptions};
 use elk_doc::drawing::{Certificate, Placed};
 use elk_doc::shape::Rect;
 use std::alloc::{AllocError, Global};
+
+// The least children of the first two parts that are too near, if the parts are not known to be apart.
+fn part_fault_unless(
+    doc: &Doc,
+    placed: &Placed,
+    outlines: &[Rect],
+    parts: &[u32],
+    names: &[u32],
+    node: u32,
+    options: &LevelOptions,
+    certificate: &Certificate,
+    apart: bool,
+) -> Option<Fault>
+    requires fits { Fits doc.now placed.now }
+    requires outlines { AreOutlines doc.now placed.now outlines.now }
+    requires parts { AreParts doc.now node certificate.now parts.now }
+    requires names { AreNames doc.now node names.now }
+    requires right { (a : ℕ) → PartHolds doc.now node options.now certificate.now a }
+    requires apart { IsTrue apart → (a b : ℕ) → PartsHold doc.now placed.now node options.now certificate.now a b }
+    ensures { MatchOption result
+        ((a b : ℕ) → PartsHold doc.now placed.now node options.now certificate.now a b)
+        (FirstPair (PartsHold doc.now placed.now node options.now certificate.now)) }
+{
+    if apart {
+        return None;
+    }
+    part_fault(
+        doc,
+        placed,
+        outlines,
+        parts,
+        names,
+        node,
+        options,
+        certificate,
+    )
+}
 
 // The first fault, by names of the parts.
 fn fault_by_names(
@@ -28,6 +66,7 @@ fn fault_by_names(
     node: u32,
     options: &LevelOptions,
     certificate: &Certificate,
+    apart: bool,
 ) -> Option<Fault>
     requires sound { IsSound doc.now }
     requires fits { Fits doc.now placed.now }
@@ -35,6 +74,7 @@ fn fault_by_names(
     requires layers { AreLayers doc.now node certificate.now layers.now }
     requires parts { AreParts doc.now node certificate.now parts.now }
     requires names { AreNames doc.now node names.now }
+    requires apart { IsTrue apart → (a b : ℕ) → PartsHold doc.now placed.now node options.now certificate.now a b }
     ensures { MatchOption result
         (Apart doc.now placed.now node options.now certificate.now)
         (FirstApart doc.now placed.now node options.now certificate.now) }
@@ -54,7 +94,7 @@ fn fault_by_names(
     ) {
         return Some(fault);
     }
-    if let Some(fault) = part_fault(
+    if let Some(fault) = part_fault_unless(
         doc,
         placed,
         outlines,
@@ -63,6 +103,7 @@ fn fault_by_names(
         node,
         options,
         certificate,
+        apart,
     ) {
         return Some(fault);
     }
@@ -95,6 +136,16 @@ pub fn apart_fault(
 {
     let _node = doc.node(node);
     let names = part_names(alloc, doc, node)?;
+    let apart = quickly_apart(
+        alloc,
+        doc,
+        placed,
+        outlines,
+        parts,
+        node,
+        options,
+        certificate,
+    )?;
     let fault = fault_by_names(
         doc,
         placed,
@@ -105,6 +156,7 @@ pub fn apart_fault(
         node,
         options,
         certificate,
+        apart,
     );
     Ok(fault)
 }

@@ -20,7 +20,7 @@ use elk_doc::drawing::{Certificate, Placed, Section};
 use elk_doc::shape::{Point, Rect};
 
 // A point as a rectangle without size.
-fn point_rect(point: Point) -> Rect
+pub(crate) fn point_rect(point: Point) -> Rect
     ensures { result ≡ point_rect point }
 {
     Rect {
@@ -32,7 +32,13 @@ fn point_rect(point: Point) -> Rect
 }
 
 // The written part of a node, of the list of all.
-fn part_at(_doc: &Doc, _node: u32, _certificate: &Certificate, parts: &[u32], child: u32) -> u32
+pub(crate) fn part_at(
+    _doc: &Doc,
+    _node: u32,
+    _certificate: &Certificate,
+    parts: &[u32],
+    child: u32,
+) -> u32
     requires child_in { child < length _doc.now.nodes }
     requires parts { AreParts _doc.now _node _certificate.now parts.now }
     ensures { result ≡ part_in _doc.now _node _certificate.now child }
@@ -699,6 +705,9 @@ pub(crate) fn part_fault(
         ((a b : ℕ) → PartsHold doc.now placed.now node options.now certificate.now a b)
         (FirstPair (PartsHold doc.now placed.now node options.now certificate.now)) }
 {
+    if !options.split {
+        return None;
+    }
     for one in 0..doc.nodes().len() {
         let found = first_part_near(
             doc,

@@ -16,7 +16,7 @@ fn end_of(low: i64, size: i64) -> i128
 }
 
 // The left border of a rectangle in the frame of a direction.
-fn left(way: Direction, r: Rect) -> i128
+pub(crate) fn left(way: Direction, r: Rect) -> i128
     ensures value { result ≡ (turned way r).x }
     ensures small { IsWithin (neg_ℤ (pos (2 ^ 65))) (pos (2 ^ 65)) result }
 {
@@ -29,7 +29,7 @@ fn left(way: Direction, r: Rect) -> i128
 }
 
 // The right border of a rectangle in the frame of a direction.
-fn right(way: Direction, r: Rect) -> i128
+pub(crate) fn right(way: Direction, r: Rect) -> i128
     ensures value { result ≡ right_of (turned way r) }
     ensures small { IsWithin (neg_ℤ (pos (2 ^ 65))) (pos (2 ^ 65)) result }
 {
@@ -42,7 +42,7 @@ fn right(way: Direction, r: Rect) -> i128
 }
 
 // The upper border of a rectangle in the frame of a direction.
-fn top(way: Direction, r: Rect) -> i64
+pub(crate) fn top(way: Direction, r: Rect) -> i64
     ensures { result ≡ (turned way r).y }
 {
     match way {
@@ -54,7 +54,7 @@ fn top(way: Direction, r: Rect) -> i64
 }
 
 // The lower border of a rectangle in the frame of a direction.
-fn bottom(way: Direction, r: Rect) -> i128
+pub(crate) fn bottom(way: Direction, r: Rect) -> i128
     ensures value { result ≡ bottom_of (turned way r) }
     ensures small { IsWithin (neg_ℤ (pos (2 ^ 65))) (pos (2 ^ 65)) result }
 {

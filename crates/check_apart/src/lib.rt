@@ -4,6 +4,7 @@
 
 mod apart;
 mod beyond;
+mod bounds;
 mod distances;
 mod laws;
 mod names;

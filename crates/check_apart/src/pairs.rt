@@ -204,6 +204,9 @@ fn first_near(
     requires parts { AreParts doc.now node certificate.now parts.now }
     ensures { IsFirst (LayersHold doc.now placed.now node options.now certificate.now one) result }
 {
+    if !is_child(doc, node, one) {
+        return None;
+    }
     for other in 0..doc.nodes().len() {
         let holds = layers_hold(
             doc,
@@ -242,6 +245,9 @@ pub(crate) fn near_fault(
         ((a b : ℕ) → LayersHold doc.now placed.now node options.now certificate.now a b)
         (FirstPair (LayersHold doc.now placed.now node options.now certificate.now)) }
 {
+    if options.boxes {
+        return None;
+    }
     for one in 0..doc.nodes().len() {
         let found = first_near(
             doc,
@@ -329,6 +335,9 @@ fn first_box(
     requires outlines { AreOutlines doc.now placed.now outlines.now }
     ensures { IsFirst (BoxesHold doc.now placed.now node options.now one) result }
 {
+    if !is_child(doc, node, one) {
+        return None;
+    }
     for other in 0..doc.nodes().len() {
         if !boxes_hold(doc, placed, outlines, node, options, one, other as u32) {
             return Some(other as u32);
@@ -350,6 +359,9 @@ pub(crate) fn box_fault(
         ((a b : ℕ) → BoxesHold doc.now placed.now node options.now a b)
         (FirstPair (BoxesHold doc.now placed.now node options.now)) }
 {
+    if !options.boxes {
+        return None;
+    }
     for one in 0..doc.nodes().len() {
         if let Some(other) = first_box(doc, placed, outlines, node, options, one as u32) {
             return Some(Fault {

@@ -27,7 +27,10 @@ fn ends_at(doc: &Doc, node: u32, ends: &[u32], child: u32, edge: u32) -> bool
     requires ends { length ends.now ≡ length doc.now.edges }
     ensures { result ≡ ends_at doc.now node ends.now child edge }
 {
-    is_edge_of(doc, node, edge) && (ends[edge as usize] == child && !is_loop(doc, edge))
+    if ends[edge as usize] != child {
+        return false;
+    }
+    is_edge_of(doc, node, edge) && !is_loop(doc, edge)
 }
 
 // The sum of the numbers of the edges that have their end at a child.

@@ -6,10 +6,9 @@ use Rattle.elk_doc.specs.declared.drawing.Placed.{Placed}
 use Rattle.elk_doc.specs.Document.{Document, node_at, node_of_port, parent_of}
 use Rattle.elk_doc.specs.Level.{IsChild, IsEdge, is_number, level_of_edge}
 use Rattle.elk_doc.specs.PortsKept.{KeepsPorts, PortsKept, Spot, a_port, an_end}
-use Rattle.elk_doc.specs.Sides.{end_node, end_of}
+use Rattle.elk_doc.specs.Sides.{end_of}
 use Rattle.elk_doc.specs.Sound.{IsSound, IsEndIn}
-use Rattle.elk_doc.proofs.SoundLaws.{node_of_end-in}
-use Rattle.check_ports.specs.FirstPorts.{CountsWith, EndKept, EndsHold, FaultBreaksPorts, PortHolds, PortKept, PortPair, SpotsDiffer}
+use Rattle.check_ports.specs.FirstPorts.{CountsWith, EndKept, EndsHold, FaultBreaksPorts, PortHolds, PortPair, SpotsDiffer}
 use Rattle.check_ports.proofs.LevelLaws.{below_root, level_at_end}
 use Rattle.check_ports.proofs.SpotLaws.{node_at_end}
 

@@ -1,6 +1,6 @@
 -- Spots on the sides of nodes.
-use Rattle.std.proofs.Common.{◌≡◌, ◌↔◌, ℕ, Bool, true, false, not, eq-eqb, ℤ, ◌+ℤ◌, ◌-ℤ◌, arith, refl, sym, ap, ◌∙◌, subst, IsTrue}
-use Rattle.std.proofs.lemmas.Bool.{and_parts, and_from, eqb-true}
+use Rattle.std.proofs.Common.{◌≡◌, ◌≢◌, ◌↔◌, ◌&&◌, inl, inr, ℕ, Bool, true, false, not, eq-eqb, ℤ, ◌+ℤ◌, ◌-ℤ◌, arith, refl, sym, ap, ◌∙◌, subst, IsTrue}
+use Rattle.std.proofs.lemmas.Bool.{and_parts, and_from, cases_Bool, eqb-true}
 use Rattle.std.proofs.lemmas.Int.{ints}
 use Rattle.elk_doc.specs.declared.shape.Point.{Point}
 use Rattle.elk_doc.specs.declared.shape.Size.{Size}
@@ -13,7 +13,7 @@ use Rattle.elk_doc.specs.declared.drawing.Placed.{Placed}
 use Rattle.elk_doc.specs.Document.{Document}
 use Rattle.elk_doc.specs.Level.{node_of_end}
 use Rattle.elk_doc.specs.Drawing.{box_of}
-use Rattle.elk_doc.specs.Places.{anchor_at, middle_of, offset_on, section_end}
+use Rattle.elk_doc.specs.Places.{anchor_at, dock_of, middle_of, offset_on, section_end}
 use Rattle.elk_doc.specs.PortsKept.{IsSpread, Spot, a_port, an_end, is_at_node, is_side, size_along, spot_offset}
 use Rattle.elk_doc.specs.Shapes.{half_of, moved_by, rect_at}
 use Rattle.elk_doc.specs.Sides.{end_node, end_of, side_of_end}
@@ -66,6 +66,14 @@ at_node (AtPort k) m e = absurd cc
 pub node_at_end : (d : Document) (e : ℕ) (t : Bool) (m : ℕ) → end_of d e t ≡ AtNode m → end_node d e t ≡ m
 node_at_end d e true m at = ap (node_of_end d) at
 node_at_end d e false m at = ap (node_of_end d) at
+
+-- an end whose dock is elsewhere stands at no side of this node
+pub elsewhere : (d : Document) (p : Placed) (e : ℕ) (t : Bool) (m : ℕ) (b : Bool) → (dock_of d p e t).node ≢ m → (is_at_node (end_of d e t) m && b) ≡ false
+elsewhere d p e t m b away =
+    elim (cases_Bool (is_at_node (end_of d e t) m)) [
+      | inl here ↦ absurd (away (node_at_end d e t m (at_node (end_of d e t) m here)))
+      | inr not_here ↦ ap (λ x. x && b) not_here
+    ]
 
 implicit_end : (d : Document) (x : End) (m : ℕ) → IsTrue (is_implicit x) → node_of_end d x ≡ m → x ≡ AtNode m
 implicit_end d (AtNode n) m i e = ap AtNode e

@@ -220,8 +220,12 @@ fn is_spread_end(
     requires docks { AreDocks doc.now placed.now at_source docks.now }
     ensures { result ≡ is_spread_end doc.now placed.now node side at_source edge }
 {
+    let dock = dock_of(doc, placed, docks, edge, at_source);
+    if dock.node != node {
+        return false;
+    }
     let of_node = is_at_node(end_of(doc, edge, at_source), node);
-    let on_side = is_side(dock_of(doc, placed, docks, edge, at_source).side, side);
+    let on_side = is_side(dock.side, side);
     of_node && on_side
 }
 

@@ -8,9 +8,11 @@ ghost use Rattle.elk_doc.specs.Places.{outline_of};
 ghost use Rattle.elk_doc.specs.Route.{Route};
 ghost use Rattle.drawing_faults.specs.Faults.{IsFirst};
 ghost use Rattle.drawing_faults.specs.Shapes.{AreOutlines};
+ghost use Rattle.check_routes.specs.Bounds.{HoldsRoute};
 ghost use Rattle.check_routes.specs.FirstRoutes.{ChildClear, ClearHolds, FirstClear};
 ghost use Rattle.check_routes.specs.Stretches.{AreParallel, KeepsOff, KeepsOut};
 
+use crate::bounds::{RouteBounds, bounds_of, lie_off};
 use drawing_faults::{
     Fault, Place, is_child, is_edge_of, node_of, outline_at, point_at, point_count,
 };
@@ -87,11 +89,33 @@ fn is_clear(doc: &Doc, placed: &Placed, outlines: &[Rect], edge: u32, child: u32
     }
 }
 
-// Whether a node, if it is a child, is clear of a route.
+// Whether a node is no end node of an edge, and its outline lies off the bounds of the edge's route.
+fn is_far(
+    doc: &Doc,
+    placed: &Placed,
+    outlines: &[Rect],
+    bounds: RouteBounds,
+    edge: u32,
+    child: u32,
+) -> bool
+    requires edge_in { edge < length doc.now.edges }
+    requires child_in { child < length doc.now.nodes }
+    requires outlines { AreOutlines doc.now placed.now outlines.now }
+    requires bounds { HoldsRoute bounds (section_of placed.now edge) }
+    ensures { IsTrue result → Clear doc.now placed.now edge child }
+{
+    if !lie_off(bounds, outline_at(doc, placed, outlines, child)) {
+        return false;
+    }
+    !is_end_node(doc, edge, child)
+}
+
+// Whether a node, if it is a child, is clear of a route, by the bounds of the route first.
 fn child_clear(
     doc: &Doc,
     placed: &Placed,
     outlines: &[Rect],
+    bounds: RouteBounds,
     node: u32,
     edge: u32,
     child: u32,
@@ -101,8 +125,12 @@ fn child_clear(
     requires fits { Fits doc.now placed.now }
     requires outlines { AreOutlines doc.now placed.now outlines.now }
     requires parallel { AreParallel (section_of placed.now edge) }
+    requires bounds { HoldsRoute bounds (section_of placed.now edge) }
     ensures { IsTrue result ↔ ChildClear doc.now placed.now node edge child }
 {
+    if is_far(doc, placed, outlines, bounds, edge, child) {
+        return true;
+    }
     if !is_child(doc, node, child) {
         return true;
     }
@@ -117,8 +145,9 @@ fn first_met(doc: &Doc, placed: &Placed, outlines: &[Rect], node: u32, edge: u32
     requires route { Route doc.now placed.now edge }
     ensures { IsFirst (ChildClear doc.now placed.now node edge) result }
 {
+    let bounds = bounds_of(placed.section(edge));
     for child in 0..doc.nodes().len() {
-        if !child_clear(doc, placed, outlines, node, edge, child as u32) {
+        if !child_clear(doc, placed, outlines, bounds, node, edge, child as u32) {
             return Some(child as u32);
         }
     }

@@ -107,7 +107,7 @@ fn is_sharing(
 }
 
 // Whether two edges, if they belong to the level of the node and the other has the greater number, share rightly.
-fn sharing_holds(
+pub(crate) fn sharing_holds(
     doc: &Doc,
     placed: &Placed,
     sources: &[Dock],

@@ -1,5 +1,2 @@
 pub mod BreakLaws
 pub mod DrawnLaws
-mod ExampleLaws
-mod FlatLaws
-mod LevelLaws

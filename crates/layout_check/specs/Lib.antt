@@ -1,4 +1,3 @@
 pub mod Definitions
-pub mod Example
 pub mod Judged
 pub mod Verdicts

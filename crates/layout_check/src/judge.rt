@@ -13,7 +13,7 @@ use check_apart::apart_fault;
 use check_inside::inside_fault;
 use check_levels::{flow_fault, flows, layering_fault, layers, parts, reversed_fault};
 use check_ports::ports_fault;
-use check_routes::{clear_fault, route_fault, sharing_fault};
+use check_routes::{clear_fault, route_fault, sharing_fault_by_bounds};
 use drawing_faults::Fault;
 use elk_doc::document::{Doc, LevelOptions};
 use elk_doc::drawing::{Certificate, Placed};
@@ -150,11 +150,12 @@ fn sharing(
     requires routes { Holds Route doc.now placed.now node _options.now _certificate.now }
     ensures { Judges Sharing doc.now placed.now node _options.now _certificate.now result }
 {
-    sharing_fault(
+    sharing_fault_by_bounds(
         doc,
         placed,
         shapes.sources.as_slice(),
         shapes.targets.as_slice(),
+        shapes.bounds.as_slice(),
         node,
     )
 }

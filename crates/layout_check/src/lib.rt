@@ -3,12 +3,8 @@
 
 mod definition;
 mod judge;
-#[cfg(test)]
-mod level_tests;
 mod levels;
 mod shapes;
-#[cfg(test)]
-mod tests;
 mod verdict;
 
 pub use definition::Definition;

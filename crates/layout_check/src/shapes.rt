@@ -4,6 +4,7 @@ ghost use Rattle.elk_doc.specs.Fits.{Fits};
 ghost use Rattle.layout_check.specs.Judged.{AreShapes};
 
 use check_levels::{heads, tails, weights};
+use check_routes::{RouteBounds, route_bounds};
 use drawing_faults::{docks, listed, outlines, sides};
 use elk_doc::document::Doc;
 use elk_doc::drawing::Placed;
@@ -20,6 +21,7 @@ pub(crate) struct Shapes {
     pub heads: Vec<u32>,
     pub tails: Vec<u32>,
     pub weights: Vec<u64>,
+    pub bounds: Vec<RouteBounds>,
 }
 
 // The shapes of a drawing.
@@ -38,5 +40,6 @@ pub(crate) fn shapes_of(alloc: Global, doc: &Doc, placed: &Placed) -> Result<Sha
         heads: heads(alloc, doc, placed)?,
         tails: tails(alloc, doc, placed)?,
         weights: weights(alloc, doc)?,
+        bounds: route_bounds(alloc, doc, placed)?,
     })
 }

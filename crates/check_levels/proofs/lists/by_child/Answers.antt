@@ -1,4 +1,4 @@
-use Rattle.std.proofs.Common.{◌≡◌, sym, ap, ◌∙◌, arith, slice_index, ℕ, List}
+use Rattle.std.proofs.Common.{◌≡◌, sym, ap, ◌∙◌, arith, slice_index, ℕ}
 use Rattle.elk_doc.specs.Level.{is_child, place_of_child}
 use Rattle.elk_doc.proofs.NumberLaws.{count_below-zero, count_below-more, count_below-same}
 use Rattle.drawing_faults.proofs.ListLaws.{Lists-none, Lists-push}

@@ -1,4 +1,5 @@
-use Rattle.std.proofs.Common.{rules, below_more, IsTrue}
+use Rattle.std.proofs.Common.{rules, below_more, subst, IsTrue}
+use Rattle.check_routes.specs.Bounds.{HoldsRoute}
 use Rattle.check_routes.specs.FirstRoutes.{ChildClear}
 use Rattle.check_routes.proofs.ParallelLaws.{route_parallel}
 use Rattle.check_routes.proofs.clear.first_met.Goals as goal
@@ -11,6 +12,7 @@ child_clear-requires c =
       fits = c.requires.fits;
       outlines = c.requires.outlines;
       parallel = route_parallel _ _ _ c.requires.route;
+      bounds = subst (λ s. HoldsRoute c.bounds_of-bounds.result s) c.section.ensures c.bounds_of-bounds.ensures;
     }
 
 pub loop-child-preserved : goal.loop-child-preserved

@@ -1,0 +1,345 @@
+//! Parts that stand apart by the rectangles that hold them: a quick test in front of the one that compares all their shapes.
+ghost use Rattle.std.specs.Prelude.{◌≡◌, ◌<◌, ◌≤ℤ◌, ℕ, IfOk, IsTrue, length};
+ghost use Rattle.elk_doc.specs.Fits.{Fits};
+ghost use Rattle.drawing_faults.specs.Shapes.{AreOutlines};
+ghost use Rattle.check_apart.specs.Bounds.{BoundsApart, Covers, Encloses, Held, Keeps, OutlineHeld, RouteHeld, SectionHeld, bounds_at};
+ghost use Rattle.check_apart.specs.FirstApart.{AreParts, PartsHold};
+
+use crate::beyond::{part_at, point_rect};
+use crate::distances::{bottom, left, right, top};
+use drawing_faults::{is_child, is_edge_of, node_of, outline_at, point_at, point_count};
+use elk_doc::document::{Direction, Doc, LevelOptions};
+use elk_doc::drawing::{Certificate, Placed, Section};
+use elk_doc::shape::Rect;
+use std::alloc::{AllocError, Global};
+
+// The borders of all shapes of a part in the frame of a direction, the far ones with the room of components behind them.
+#[derive(Clone, Copy)]
+pub(crate) struct Bounds {
+    pub left: i128,
+    pub top: i128,
+    pub right: i128,
+    pub bottom: i128,
+}
+
+// Bounds that hold nothing, and lie apart from all others.
+fn no_bounds() -> Bounds {
+    Bounds {
+        left: i128::MAX,
+        top: i128::MAX,
+        right: i128::MIN,
+        bottom: i128::MIN,
+    }
+}
+
+// The bounds of one rectangle.
+fn bounds_of(gap: i64, way: Direction, r: Rect) -> Bounds
+    ensures { Encloses gap way result r }
+{
+    Bounds {
+        left: left(way, r),
+        top: i128::from(top(way, r)),
+        right: right(way, r) + i128::from(gap),
+        bottom: bottom(way, r) + i128::from(gap),
+    }
+}
+
+// A number below two others.
+fn lower(one: i128, other: i128) -> i128
+    ensures one { result ≤ℤ one }
+    ensures other { result ≤ℤ other }
+{
+    if one < other { one } else { other }
+}
+
+// A number above two others.
+fn upper(one: i128, other: i128) -> i128
+    ensures one { one ≤ℤ result }
+    ensures other { other ≤ℤ result }
+{
+    if one < other { other } else { one }
+}
+
+// Bounds that hold two others.
+fn join(one: Bounds, other: Bounds) -> Bounds
+    ensures one { Covers result one }
+    ensures other { Covers result other }
+{
+    Bounds {
+        left: lower(one.left, other.left),
+        top: lower(one.top, other.top),
+        right: upper(one.right, other.right),
+        bottom: upper(one.bottom, other.bottom),
+    }
+}
+
+// Lets the bounds of a part hold a rectangle, if there are such bounds.
+fn add(options: &LevelOptions, bounds: &mut [Bounds], part: u32, r: Rect) -> bool
+    ensures kept { Keeps options.now bounds.old bounds.new }
+    ensures held { IsTrue result → Held options.now bounds.new part r }
+{
+    if part as usize >= bounds.len() {
+        return false;
+    }
+    let around = bounds_of(options.component, options.direction, r);
+    bounds[part as usize] = join(bounds[part as usize], around);
+    true
+}
+
+// Lets the bounds of its part hold a node, if that is a child.
+fn add_child(
+    doc: &Doc,
+    placed: &Placed,
+    outlines: &[Rect],
+    parts: &[u32],
+    node: u32,
+    options: &LevelOptions,
+    certificate: &Certificate,
+    bounds: &mut [Bounds],
+    child: u32,
+) -> bool
+    requires child_in { child < length doc.now.nodes }
+    requires outlines { AreOutlines doc.now placed.now outlines.now }
+    requires parts { AreParts doc.now node certificate.now parts.now }
+    ensures kept { Keeps options.now bounds.old bounds.new }
+    ensures held { IsTrue result → OutlineHeld doc.now placed.now node options.now certificate.now bounds.new child }
+{
+    if !is_child(doc, node, child) {
+        return true;
+    }
+    let part = part_at(doc, node, certificate, parts, child);
+    let outline = outline_at(doc, placed, outlines, child);
+    add(options, bounds, part, outline)
+}
+
+// Lets the bounds of the parts hold all children.
+fn add_children(
+    doc: &Doc,
+    placed: &Placed,
+    outlines: &[Rect],
+    parts: &[u32],
+    node: u32,
+    options: &LevelOptions,
+    certificate: &Certificate,
+    bounds: &mut [Bounds],
+) -> bool
+    requires outlines { AreOutlines doc.now placed.now outlines.now }
+    requires parts { AreParts doc.now node certificate.now parts.now }
+    ensures { IsTrue result → (a : ℕ) → OutlineHeld doc.now placed.now node options.now certificate.now bounds.new a }
+{
+    for child in 0..doc.nodes().len() {
+        let held = add_child(
+            doc,
+            placed,
+            outlines,
+            parts,
+            node,
+            options,
+            certificate,
+            bounds,
+            child as u32,
+        );
+        if !held {
+            return false;
+        }
+    }
+    true
+}
+
+// Lets the bounds of a part hold all points of a route.
+fn add_section(options: &LevelOptions, bounds: &mut [Bounds], part: u32, section: &Section) -> bool
+    ensures kept { Keeps options.now bounds.old bounds.new }
+    ensures held { IsTrue result → SectionHeld options.now bounds.new part section.now }
+{
+    for i in 0..point_count(section) {
+        if !add(options, bounds, part, point_rect(point_at(section, i))) {
+            return false;
+        }
+    }
+    true
+}
+
+// Lets the bounds of its part hold the route of an edge, if that belongs to the level.
+fn add_route(
+    doc: &Doc,
+    placed: &Placed,
+    parts: &[u32],
+    node: u32,
+    options: &LevelOptions,
+    certificate: &Certificate,
+    bounds: &mut [Bounds],
+    edge: u32,
+) -> bool
+    requires edge_in { edge < length doc.now.edges }
+    requires fits { Fits doc.now placed.now }
+    requires parts { AreParts doc.now node certificate.now parts.now }
+    ensures kept { Keeps options.now bounds.old bounds.new }
+    ensures held { IsTrue result → RouteHeld doc.now placed.now node options.now certificate.now bounds.new edge }
+{
+    if !is_edge_of(doc, node, edge) {
+        return true;
+    }
+    let source = node_of(doc, doc.edge(edge).source);
+    let part = part_at(doc, node, certificate, parts, source);
+    add_section(options, bounds, part, placed.section(edge))
+}
+
+// Lets the bounds of the parts hold all routes of the level.
+fn add_routes(
+    doc: &Doc,
+    placed: &Placed,
+    parts: &[u32],
+    node: u32,
+    options: &LevelOptions,
+    certificate: &Certificate,
+    bounds: &mut [Bounds],
+) -> bool
+    requires fits { Fits doc.now placed.now }
+    requires parts { AreParts doc.now node certificate.now parts.now }
+    ensures kept { Keeps options.now bounds.old bounds.new }
+    ensures held { IsTrue result → (e : ℕ) → RouteHeld doc.now placed.now node options.now certificate.now bounds.new e }
+{
+    for edge in 0..doc.edges().len() {
+        let held = add_route(
+            doc,
+            placed,
+            parts,
+            node,
+            options,
+            certificate,
+            bounds,
+            edge as u32,
+        );
+        if !held {
+            return false;
+        }
+    }
+    true
+}
+
+// Whether the one bounds lie left of the others or above them, or the other way round.
+fn lie_apart(one: Bounds, other: Bounds) -> bool
+    ensures { IsTrue result → BoundsApart one other }
+{
+    if one.right <= other.left {
+        return true;
+    }
+    if other.right <= one.left {
+        return true;
+    }
+    if one.bottom <= other.top {
+        return true;
+    }
+    other.bottom <= one.top
+}
+
+// Whether bounds lie apart from all of greater number.
+fn is_apart_from_later(bounds: &[Bounds], i: usize) -> bool
+    requires { i < length bounds.now }
+    ensures { IsTrue result → (j : ℕ) → i < j → j < length bounds.now → BoundsApart (bounds_at bounds.now i) (bounds_at bounds.now j) }
+{
+    let one = bounds[i];
+    for j in i + 1..bounds.len() {
+        if !lie_apart(one, bounds[j]) {
+            return false;
+        }
+    }
+    true
+}
+
+// Whether any two bounds lie apart.
+fn are_apart(bounds: &[Bounds]) -> bool
+    ensures { IsTrue result → (i j : ℕ) → i < j → j < length bounds.now → BoundsApart (bounds_at bounds.now i) (bounds_at bounds.now j) }
+{
+    for i in 0..bounds.len() {
+        if !is_apart_from_later(bounds, i) {
+            return false;
+        }
+    }
+    true
+}
+
+// How many bounds the parts of the children want, of no more than there are nodes.
+fn part_count(doc: &Doc, node: u32, certificate: &Certificate, parts: &[u32]) -> usize
+    requires { AreParts doc.now node certificate.now parts.now }
+{
+    let most = doc.nodes().len();
+    let mut count = 0;
+    for child in 0..most {
+        if is_child(doc, node, child as u32) {
+            let part = part_at(doc, node, certificate, parts, child as u32) as usize;
+            if count <= part && part < most {
+                count = part + 1;
+            }
+        }
+    }
+    count
+}
+
+// Whether any two parts stand apart, by the bounds that hold them. Where they don't, they may yet.
+fn are_parts_apart(
+    doc: &Doc,
+    placed: &Placed,
+    outlines: &[Rect],
+    parts: &[u32],
+    node: u32,
+    options: &LevelOptions,
+    certificate: &Certificate,
+    bounds: &mut [Bounds],
+) -> bool
+    requires fits { Fits doc.now placed.now }
+    requires outlines { AreOutlines doc.now placed.now outlines.now }
+    requires parts { AreParts doc.now node certificate.now parts.now }
+    ensures { IsTrue result → (a b : ℕ) → PartsHold doc.now placed.now node options.now certificate.now a b }
+{
+    if !add_children(
+        doc,
+        placed,
+        outlines,
+        parts,
+        node,
+        options,
+        certificate,
+        bounds,
+    ) {
+        return false;
+    }
+    if !add_routes(doc, placed, parts, node, options, certificate, bounds) {
+        return false;
+    }
+    are_apart(bounds)
+}
+
+// Whether any two parts of a split level stand apart, by the bounds that hold them. Where they don't, they may yet.
+pub(crate) fn quickly_apart(
+    alloc: Global,
+    doc: &Doc,
+    placed: &Placed,
+    outlines: &[Rect],
+    parts: &[u32],
+    node: u32,
+    options: &LevelOptions,
+    certificate: &Certificate,
+) -> Result<bool, AllocError>
+    requires fits { Fits doc.now placed.now }
+    requires outlines { AreOutlines doc.now placed.now outlines.now }
+    requires parts { AreParts doc.now node certificate.now parts.now }
+    ensures { IfOk result (λ apart. IsTrue apart → (a b : ℕ) → PartsHold doc.now placed.now node options.now certificate.now a b) }
+{
+    if !options.split {
+        return Ok(true);
+    }
+    let count = part_count(doc, node, certificate, parts);
+    let mut bounds = vec![in alloc; no_bounds(); count]?;
+    let apart = are_parts_apart(
+        doc,
+        placed,
+        outlines,
+        parts,
+        node,
+        options,
+        certificate,
+        bounds.as_mut_slice(),
+    );
+    Ok(apart)
+}

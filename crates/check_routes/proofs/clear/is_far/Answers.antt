@@ -1,0 +1,20 @@
+use Rattle.std.proofs.Common.{◌≡◌, ◌⊎◌, IsTrue, rules, subst}
+use Rattle.elk_doc.specs.declared.shape.Rect.{Rect}
+use Rattle.elk_doc.specs.Drawing.{section_of}
+use Rattle.elk_doc.specs.Level.{source_node, target_node}
+use Rattle.check_routes.specs.Stretches.{KeepsOff}
+use Rattle.check_routes.proofs.BoundsLaws.{route_off}
+use Rattle.check_routes.proofs.clear.is_far.Goals as goal
+
+pub returns : goal.returns
+returns c =
+    let d = c.args.doc.now in
+    let e = c.args.edge in
+    let a = c.args.child in
+    let s = section_of c.args.placed.now e in
+    let off = route_off c.args.bounds s c.outline_at.result c.requires.bounds (c.lie_off.ensures c.if-not-lie_off.false) in
+    let P : Rect → Type 0 = λ r. KeepsOff s r in
+    let keeps = subst P c.outline_at.ensures off in
+    λ t.
+    let no_end : (source_node d e ≡ a) ⊎ (target_node d e ≡ a) → ⊥ = λ o. let yes : IsTrue c.is_end_node.result = c.is_end_node.ensures.1 o in absurd (search rules) in
+    record { foreign = λ _ _. keeps; own = λ o. absurd (no_end o) }
