@@ -1,10 +1,8 @@
 -- A drawing all of whose nodes are laid out, with the ports of its root, is one of the whole document.
-use Rattle.std.proofs.Common.{◌≡◌, ℕ, List, get_or, None, sym, ap, ◌∙◌, subst, arith}
-use Rattle.std.specs.Prelude.{Option, IfSome}
+use Rattle.std.proofs.Common.{◌≡◌, ℕ, List, get_or, None, sym, ap, ◌∙◌, arith}
 use Rattle.std.proofs.lemmas.Int.{ints}
 use Rattle.elk_doc.specs.declared.shape.Rect.{Rect}
 use Rattle.elk_doc.specs.declared.shape.Size.{Size}
-use Rattle.elk_doc.specs.declared.document.LevelOptions.{LevelOptions}
 use Rattle.elk_doc.specs.declared.drawing.Placed.{Placed}
 use Rattle.elk_doc.specs.Document.{Document}
 use Rattle.elk_doc.specs.Drawing.{box_of, certificate_of, no_rect, no_section}
@@ -16,16 +14,10 @@ use Rattle.level_writing.specs.Back.{size_of}
 use Rattle.document_plan.proofs.PlanLemmas.{plans_stay}
 use Rattle.nested_bounds.proofs.NestedLemmas.{planned_boxes_are_small}
 use Rattle.root_ports.specs.Rooted.{AreRootPortsPlaced, IsRootBox}
-use Rattle.document_rules.specs.Whole.{HasWholeLevels, IsLaidOutDocument, IsWellDrawnDocument}
+use Rattle.document_rules.specs.Whole.{IsLaidOutDocument, IsWellDrawnDocument}
 use Rattle.document_rules.proofs.WholeLemmas.{documents_are_drawn}
-use Rattle.compound.specs.Built.{IsBuilt, IsWholeLevel}
 use Rattle.compound.specs.Work.{IsWork}
 use Rattle.compound.proofs.TreeLemmas.{child_after}
-
-pub whole_levels : (d : Document) → IsBuilt d → HasWholeLevels d
-whole_levels d built n o there is =
-    let plain : IsWholeLevel o = subst (λ (level : Option LevelOptions). IfSome level IsWholeLevel) is (built n there) in
-    plain.whole
 
 -- the box of the root has its size
 pub root_box : (d : Document) (p : Placed) (sizes : List Size) → IsSound d → IsWork d p sizes 0 → IsRootBox (box_of p 0)
@@ -72,5 +64,5 @@ module _ (d : Document) (p q : Placed) (sizes : List Size) (sound : IsSound d) (
         };
       }
 
-  pub well_drawn : IsBuilt d → IsWellDrawnDocument d q
-  well_drawn built = documents_are_drawn d q sound (whole_levels d built) laid_out
+  pub well_drawn : IsWellDrawnDocument d q
+  well_drawn = documents_are_drawn d q sound laid_out

@@ -1,7 +1,7 @@
 -- A level that is written and framed is planned, and all else stays as it was.
-use Rattle.std.proofs.Common.{◌≡◌, ◌≢◌, ⊎_elim, ℕ, suc, ◌<◌, ◌≤◌, List, [], length, get_or, set, ℤ, pos, None, refl, sym, ap, ◌∙◌, subst, arith}
-use Rattle.std.specs.Prelude.{Some, IsNone}
-use Rattle.std.proofs.lemmas.Bool.{cases_eq}
+use Rattle.std.proofs.Common.{◌≡◌, ◌≢◌, inl, inr, ⊎_elim, ℕ, suc, ◌<◌, ◌≤◌, List, [], length, get_or, set, ℤ, pos, None, refl, sym, ap, ◌∙◌, subst, arith}
+use Rattle.std.specs.Prelude.{IfSome, IsFalse, IsNone, IsTrue, Option, Some}
+use Rattle.std.proofs.lemmas.Bool.{both_ways, cases_Bool, cases_eq}
 use Rattle.std.proofs.lemmas.List.{get_or-set_other, get_or-set_same, length-set}
 use Rattle.elk_doc.specs.declared.shape.Rect.{Rect}
 use Rattle.elk_doc.specs.declared.shape.Size.{Size}
@@ -11,7 +11,7 @@ use Rattle.elk_doc.specs.Document.{Document, no_size, node_at}
 use Rattle.elk_doc.specs.Level.{IsChild}
 use Rattle.elk_doc.specs.Drawing.{box_of, certificate_of}
 use Rattle.elk_doc.specs.Fits.{IsRooted, KeepsSize}
-use Rattle.elk_doc.specs.Sound.{IsSound}
+use Rattle.elk_doc.specs.Sound.{IsSound, IsSoundLevel}
 use Rattle.route_lines.specs.Points.{PlainGap}
 use Rattle.level_plan.specs.FromPlan.{PlainTrace}
 use Rattle.level_nets.specs.Held.{plain_gaps}
@@ -26,9 +26,10 @@ use Rattle.level_writing.specs.Back.{size_of}
 use Rattle.level_writing.specs.Figure.{figure_in}
 use Rattle.level_writing.specs.Sizes.{IsSizeRound}
 use Rattle.level_writing.specs.Written.{HasCertificate}
+use Rattle.document_plan.specs.Parted.{IsPartedPlan}
 use Rattle.document_plan.specs.Planned.{ArePlannedFrom, IsLayeredPlan, IsPlannedLevel}
 use Rattle.document_plan.proofs.PlanLemmas.{plans_stay}
-use Rattle.compound.specs.Figures.{IsLayered}
+use Rattle.compound.specs.Figures.{IsLayered, IsParted}
 use Rattle.compound.specs.Work.{IsFigureOf, IsFramedRound, IsWork}
 use Rattle.compound.proofs.BoxLemmas.{boxed_planned}
 use Rattle.compound.proofs.TreeLemmas.{child_after, leaf_or_level, same_options}
@@ -112,10 +113,31 @@ module _ (d : Document) (old now : Placed) (sizes : List Size) (n : ℕ) (o : Le
         size = subst (λ (f : LevelFigure). IsSizeRound d n o f.extent (box_size now n)) h.is round.framed.size;
       }
 
+  parted_planned : IsParted layout.level o v → IsPartedPlan d now n o
+  parted_planned h =
+      record {
+        level = layout.level;
+        out = h.out;
+        is = layout.is ∙ level_now;
+        fixed = layout.fixed;
+        placing = layout.placing;
+        laid_out = h.laid_out;
+        certificate = subst (λ (f : LevelFigure). HasCertificate d n now f.certificate) h.is certificate_is;
+        drawn = subst (λ (f : LevelFigure). IsTurnedDrawing d now n o.direction (figure_in f [] [] (pos 0) (pos 0)) (start_of o.direction o.padding f.extent)) h.is (drawn_now [] [] (pos 0) (pos 0));
+        size = subst (λ (f : LevelFigure). IsSizeRound d n o f.extent (box_size now n)) h.is round.framed.size;
+      }
+
+  -- a level that is split is none of boxes
+  not_boxes : IsTrue o.split → IsFalse o.boxes
+  not_boxes split =
+      let level : IsSoundLevel d n o = subst (λ (l : Option LevelOptions). IfSome l (IsSoundLevel d n)) options (sound.levels.options n there) in
+      elim (cases_Bool o.boxes) [ inl boxes ↦ absurd (both_ways o.split (level.boxes_not_split boxes) split) | inr layered ↦ layered ]
+
   level_planned : IsPlannedLevel d now n o
   level_planned =
       record {
-        layered = λ layers. layered_planned (layout.figure.layered layers);
+        layered = λ layers whole. layered_planned (layout.figure.layered layers whole);
+        parted = λ split. parted_planned (layout.figure.parted (not_boxes split) split);
         boxed = λ boxes.
             boxed_planned d now n o layout.level v sound there options boxes (layout.is ∙ level_now) layout.fixed layout.placing (layout.figure.boxed boxes)
             (drawn_now [] [] (pos 0) (pos 0)) certificate_is round.framed.size;

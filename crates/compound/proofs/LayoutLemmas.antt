@@ -1,5 +1,5 @@
 -- A level whose children have their sizes can be laid out, and its layout can be written.
-use Rattle.std.proofs.Common.{◌≡◌, inl, inr, ℕ, suc, ◌<◌, ◌≤◌, List, length, get_or, sym, ap, ◌∙◌, subst, arith}
+use Rattle.std.proofs.Common.{◌≡◌, inl, inr, ℕ, suc, ◌<◌, ◌≤◌, List, [], length, get_or, pos, sym, ap, ◌∙◌, subst, arith}
 use Rattle.std.specs.Prelude.{Option, Some, IfSome, IsTrue}
 use Rattle.std.proofs.lemmas.Bool.{cases_Bool}
 use Rattle.std.proofs.lemmas.Int.{ints}
@@ -10,7 +10,7 @@ use Rattle.elk_doc.specs.declared.drawing.Placed.{Placed}
 use Rattle.elk_doc.specs.Document.{Document, node_at}
 use Rattle.elk_doc.specs.Level.{children, edges_of, IsChild}
 use Rattle.elk_doc.specs.Drawing.{box_of}
-use Rattle.elk_doc.specs.Sound.{IsSound, IsSoundLevel, IsSoundSpacing}
+use Rattle.elk_doc.specs.Sound.{IsDistance, IsSound, IsSoundLevel, IsSoundSpacing}
 use Rattle.port_order.specs.Conditions.{IsSmall}
 use Rattle.level_plan.specs.declared.level.LevelIn.{LevelIn}
 use Rattle.level_plan.specs.Conditions.{IsLevel, plain_level}
@@ -33,6 +33,7 @@ use Rattle.level_writing.specs.Back.{size_of}
 use Rattle.level_writing.specs.Ranges.{IsLongBox, IsLongSize}
 use Rattle.level_writing.specs.declared.figure.LevelFigure.{LevelFigure}
 use Rattle.level_writing.specs.Figure.{figure_of}
+use Rattle.level_writing.specs.Room.{HasPlaces}
 use Rattle.level_writing.specs.Written.{ArePortPlaces, IsWritable}
 use Rattle.level_writing.proofs.RoomLemmas.{writable}
 use Rattle.level_layout.specs.Layout.{IsLaidOut}
@@ -40,7 +41,13 @@ use Rattle.document_plan.specs.Planned.{ArePlannedFrom}
 use Rattle.drawn_boxes.proofs.EdgeLemmas.{edges_none}
 use Rattle.nested_bounds.specs.Nested.{IsSmallBox}
 use Rattle.nested_bounds.proofs.NestedLemmas.{planned_boxes_are_small, planned_levels_have_room}
-use Rattle.compound.specs.Figures.{IsBoxed}
+use Rattle.joined_drawings.specs.Joined.{with_gaps}
+use Rattle.split_layout.specs.declared.layout.PartsOut.{PartsOut}
+use Rattle.split_layout.specs.Laws.{IsPartedDrawing}
+use Rattle.split_layout.specs.Parts.{IsPartsLayout, whole_drawing}
+use Rattle.split_layout.proofs.WholeLemmas.{parts_are_drawn}
+use Rattle.split_layout.proofs.BoundLemmas.{parts_are_bounded}
+use Rattle.compound.specs.Figures.{IsBoxed, figure_of_parts}
 use Rattle.compound.specs.Work.{IsFigureOf, IsWork}
 use Rattle.compound.proofs.BoxLemmas.{alone_is}
 use Rattle.compound.proofs.TreeLemmas.{child_after}
@@ -86,10 +93,14 @@ module _ (d : Document) (p : Placed) (sizes : List Size) (n : ℕ) (o : LevelOpt
   room : HasRoom d p n o
   room = planned_levels_have_room d p n o sound there options work.planned
 
+  level_sound : IsSoundLevel d n o
+  level_sound = subst (λ (level : Option LevelOptions). IfSome level (IsSoundLevel d n)) options (sound.levels.options n there)
+
   spacing : IsSoundSpacing o.spacing
-  spacing =
-      let level : IsSoundLevel d n o = subst (λ (level : Option LevelOptions). IfSome level (IsSoundLevel d n)) options (sound.levels.options n there) in
-      level.spacing
+  spacing = level_sound.spacing
+
+  pub component : IsDistance o.component
+  component = level_sound.component
 
   pub is_level : (l : LevelIn) → plain_level l ≡ level_of d p n o → IsLevel (plain_level l)
   is_level l is = subst IsLevel (sym is) (levels_are_levels d p n o sound spacing room)
@@ -113,9 +124,11 @@ module _ (d : Document) (p : Placed) (sizes : List Size) (n : ℕ) (o : LevelOpt
       let drawn : IsDrawnFrom (level_of d p n o) plan laid.orders (drawn_in v left top) =
       subst (λ (m : PlainLevel). IsDrawnFrom m plan laid.orders (drawn_in v left top)) is (laid.drawn.drawing.from_plan laid.orders laid.ready)
       in
+      let places : HasPlaces (level_of d p n o) (drawn_in v left top) =
+      record { box_count = drawn.box_count; port_lists = drawn.port_lists; port_counts = λ c h. (drawn.children c h).as_many; section_count = drawn.section_count } in
       let tight : IsTight (level_of d p n o) (drawn_in v left top) = subst (λ (m : PlainLevel). IsTight m (drawn_in v left top)) is laid.drawn.drawing.tight in
       let edges : length (plain_level l).edges ≡ length (edges_of d n) = ap (λ (m : PlainLevel). length m.edges) is ∙ (levels_are_listed d p n o).edge_count in
-      writable d p n o plan laid.orders (figure_of v) (plain_gaps v.plan.gaps) (plain_traces v.plan.traces) left top sound drawn tight long long_child
+      writable d p n o (figure_of v) (plain_gaps v.plan.gaps) (plain_traces v.plan.traces) left top sound places tight long long_child
       (λ i z below.
       let closes = laid.certificate.reversed.closes (get_or v.certificate.reversed i z) (has_holds v.certificate.reversed (get_or v.certificate.reversed i z) (has_at v.certificate.reversed i z below)) in
       let of_level = closes.of_level in
@@ -142,12 +155,39 @@ module _ (d : Document) (p : Placed) (sizes : List Size) (n : ℕ) (o : LevelOpt
         reversed = λ i z below. absurd (omega (arith, below));
       })
 
+  -- and what comes from a layout part by part
+  parted_writable : (l : LevelIn) (v : PartsOut) → plain_level l ≡ level_of d p n o → IsPartsLayout l o.component v → IsWritable d p n (figure_of_parts v)
+  parted_writable l v is laid =
+      let drawn = subst (λ (m : PlainLevel). IsPartedDrawing m o.component v) is (parts_are_drawn l o.component v component.above laid) in
+      let places : HasPlaces (level_of d p n o) (with_gaps (whole_drawing v) drawn.rules.gaps) =
+      record {
+        box_count = laid.drawing.box_count ∙ ap (λ (m : PlainLevel). length m.children) is;
+        port_lists = laid.drawing.port_lists ∙ ap (λ (m : PlainLevel). length m.children) is;
+        port_counts = drawn.ports;
+        section_count = laid.drawing.section_count ∙ ap (λ (m : PlainLevel). length m.edges) is;
+      } in
+      let long = parts_are_bounded l o.component v component laid in
+      let edges : length (plain_level l).edges ≡ length (edges_of d n) = ap (λ (m : PlainLevel). length m.edges) is ∙ (levels_are_listed d p n o).edge_count in
+      writable d p n o (figure_of_parts v) drawn.rules.gaps [] (pos 0) (pos 0) sound places drawn.rules.tight
+      (record { width = long.wide; height = long.high }) long_child
+      (λ i z below.
+      let closes = drawn.proof.reversed.closes (get_or v.certificate.reversed i z) (has_holds v.certificate.reversed (get_or v.certificate.reversed i z) (has_at v.certificate.reversed i z below)) in
+      let of_level = closes.of_level in
+      let count = (levels_are_listed d p n o).edge_count in
+      omega (arith, of_level, count))
+
   -- a drawing of the level can be written
   pub figure_writable : (v : LevelFigure) → IsFigureOf d p n o v → IsWritable d p n v
   figure_writable v h =
       elim (cases_Bool o.boxes) [
         | inl boxes ↦ boxes_writable h.level v h.is boxes (h.figure.boxed boxes)
         | inr layered ↦
-            (let figure = h.figure.layered layered in
-            subst (IsWritable d p n) (sym figure.is) (layout_writable h.level figure.out h.is figure.laid_out))
+            elim (cases_Bool o.split) [
+              | inl split ↦
+                  (let figure = h.figure.parted layered split in
+                  subst (IsWritable d p n) (sym figure.is) (parted_writable h.level figure.out h.is figure.laid_out))
+              | inr whole ↦
+                  (let figure = h.figure.layered layered whole in
+                  subst (IsWritable d p n) (sym figure.is) (layout_writable h.level figure.out h.is figure.laid_out))
+            ]
       ]

@@ -8,6 +8,8 @@ use Rattle.level_draw.specs.declared.drawing.LevelOut.{LevelOut}
 use Rattle.level_layout.specs.Layout.{IsLaidOut}
 use Rattle.level_boxes.specs.declared.layout.BoxesOut.{BoxesOut}
 use Rattle.level_boxes.specs.Boxes.{HasRoom, IsBoxesLayout}
+use Rattle.split_layout.specs.declared.layout.PartsOut.{PartsOut}
+use Rattle.split_layout.specs.Parts.{IsPartsLayout}
 use Rattle.level_writing.specs.declared.figure.LevelFigure.{LevelFigure}
 use Rattle.level_writing.specs.Figure.{figure_of}
 
@@ -35,7 +37,18 @@ pub record IsBoxed (level : LevelIn) (o : LevelOptions) (v : LevelFigure) : Type
   pub room : HasRoom out
   pub is : v ≡ figure_of_boxes out
 
--- a level of boxes is laid out as one, and each other level in layers
+-- the drawing of a level whose parts stand apart
+abbrev pub figure_of_parts : PartsOut → LevelFigure
+figure_of_parts v = record { boxes = v.boxes; ports = v.ports; sections = v.sections; certificate = v.certificate; extent = v.extent }
+
+-- what is left of a layout part by part
+pub record IsParted (level : LevelIn) (o : LevelOptions) (v : LevelFigure) : Type 0 where
+  pub out : PartsOut
+  pub laid_out : IsPartsLayout level o.component out
+  pub is : v ≡ figure_of_parts out
+
+-- a level of boxes is laid out as one, a level that is split part by part, and each other level in layers
 pub record IsFigureIn (level : LevelIn) (o : LevelOptions) (v : LevelFigure) : Type 0 where
-  pub layered : IsFalse o.boxes → IsLayered level v
+  pub layered : IsFalse o.boxes → IsFalse o.split → IsLayered level v
+  pub parted : IsFalse o.boxes → IsTrue o.split → IsParted level o v
   pub boxed : IsTrue o.boxes → IsBoxed level o v

@@ -9,7 +9,7 @@ ghost use Rattle.level_reading.specs.Indexed.{IsIndex};
 ghost use Rattle.level_writing.specs.Canvas.{IsDrawingOf, drawing_of};
 ghost use Rattle.level_writing.specs.Written.{IsWritable};
 ghost use Rattle.document_plan.specs.Planned.{Planned};
-ghost use Rattle.compound.specs.Built.{IsBuilt};
+ghost use Rattle.drawing_fits.specs.Held.{HasSmallCoordinates};
 ghost use Rattle.compound.specs.Work.{IsFigureOf, IsFramedRound, IsWork};
 
 use crate::figures::figure_in;
@@ -141,16 +141,16 @@ fn lay_out_levels(
     Ok(())
 }
 
-/// The drawing of a document no level of which is split into its connected parts: it obeys the document, has no more room than it
-/// needs, and comes from layouts of the levels, in layers or as boxes.
+/// The drawing of a document: it obeys the document, has no more room than it needs, and comes from layouts of the levels, in layers,
+/// part by part, or as boxes. No coordinate reaches 2^53 in size.
 ///
 /// Every level is laid out after those that lie in it, in the frame in which its direction runs to the right, and turned back.
 /// The only error is want of memory.
 pub fn lay_out(alloc: Global, doc: &Doc) -> Result<Placed, AllocError>
-    requires { IsBuilt doc.now }
     ensures drawn { IfOk result (Drawn doc.now) }
     ensures fitted { IfOk result (Fitted doc.now) }
     ensures planned { IfOk result (Planned doc.now) }
+    ensures small { IfOk result HasSmallCoordinates }
 {
     let index = index_of(alloc, doc)?;
     let mut work = Work {

@@ -2,10 +2,8 @@
 //! and then turned back, and the ports of the root.
 #![tactic(auto)]
 
-mod built;
 mod figures;
 mod layout;
 mod sizes;
 
-pub use built::is_built;
 pub use layout::lay_out;

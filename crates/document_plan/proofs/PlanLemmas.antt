@@ -20,7 +20,9 @@ use Rattle.turned_boxes.specs.Framed.{start_of}
 use Rattle.level_writing.specs.Sizes.{IsSizeRound}
 use Rattle.document_plan.specs.Boxed.{IsBoxedPlan, corner_of, outline_sizes, size_of}
 use Rattle.document_plan.specs.Laws.{PlansStay}
+use Rattle.document_plan.specs.Parted.{IsPartedPlan}
 use Rattle.document_plan.specs.Planned.{IsLayeredPlan}
+use Rattle.split_layout.specs.Parts.{whole_drawing}
 
 -- ---- outlines
 
@@ -66,6 +68,22 @@ layered_stays d p q n o agree certificate size planned =
       size = subst (λ s. IsSizeRound d n o planned.out.extent s) size planned.size;
     }
 
+parted_stays : (d : Document) (p q : Placed) (n : ℕ) (o : LevelOptions)
+    → AgreeAt d p q n → certificate_of p n ≡ certificate_of q n → box_size p n ≡ box_size q n → IsPartedPlan d p n o → IsPartedPlan d q n o
+parted_stays d p q n o agree certificate size planned =
+    let made = planned.certificate in
+    record {
+      level = planned.level;
+      out = planned.out;
+      is = planned.is ∙ levels_read_sizes d p q n o (λ c h. ap size_of (agree.boxes c h));
+      fixed = planned.fixed;
+      placing = planned.placing;
+      laid_out = planned.laid_out;
+      certificate = record { written = made.written; is_written = sym certificate ∙ made.is_written; numbered = made.numbered; parts = made.parts };
+      drawn = drawings_read_levels d p q n o.direction (whole_drawing planned.out) (start_of o.direction o.padding planned.out.extent) agree planned.drawn;
+      size = subst (λ s. IsSizeRound d n o planned.out.extent s) size planned.size;
+    }
+
 boxed_stays : (d : Document) (p q : Placed) (n : ℕ) (o : LevelOptions)
     → AgreeAt d p q n → certificate_of p n ≡ certificate_of q n → box_size p n ≡ box_size q n → IsBoxedPlan d p n o → IsBoxedPlan d q n o
 boxed_stays d p q n o agree certificate size planned =
@@ -95,6 +113,7 @@ boxed_stays d p q n o agree certificate size planned =
 pub plans_stay : PlansStay
 plans_stay d p q n o agree certificate size planned =
     record {
-      layered = λ layers. layered_stays d p q n o agree certificate size (planned.layered layers);
+      layered = λ layers whole. layered_stays d p q n o agree certificate size (planned.layered layers whole);
+      parted = λ split. parted_stays d p q n o agree certificate size (planned.parted split);
       boxed = λ boxes. boxed_stays d p q n o agree certificate size (planned.boxed boxes);
     }

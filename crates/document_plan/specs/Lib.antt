@@ -1,3 +1,4 @@
 pub mod Boxed
+pub mod Parted
 pub mod Planned
 pub mod Laws

@@ -18,6 +18,7 @@ use Rattle.turned_boxes.specs.Framed.{start_of}
 use Rattle.level_writing.specs.Sizes.{IsSizeRound}
 use Rattle.level_writing.specs.Written.{HasCertificate}
 use Rattle.document_plan.specs.Boxed.{IsBoxedPlan}
+use Rattle.document_plan.specs.Parted.{IsPartedPlan}
 
 -- The level of n, which has these options, comes from a layout of its children, with their sizes in the drawing, and its edges,
 -- in the frame of its direction: its boxes, ports and routes are those of the layout, turned back and moved to begin at the
@@ -34,9 +35,11 @@ pub record IsLayeredPlan (d : Document) (p : Placed) (n : ℕ) (o : LevelOptions
   pub drawn : (left top : ℤ) → IsTurnedDrawing d p n o.direction (drawn_in out left top) (start_of o.direction o.padding out.extent)
   pub size : IsSizeRound d n o out.extent (box_size p n)
 
--- The level of n, which has these options, comes from a layout of it, as a level of boxes where it is one.
+-- The level of n, which has these options, comes from a layout of it: as a level of boxes where it is one, and part by part where
+-- its connected parts are to stand apart.
 pub record IsPlannedLevel (d : Document) (p : Placed) (n : ℕ) (o : LevelOptions) : Type 0 where
-  pub layered : IsFalse o.boxes → IsLayeredPlan d p n o
+  pub layered : IsFalse o.boxes → IsFalse o.split → IsLayeredPlan d p n o
+  pub parted : IsTrue o.split → IsPartedPlan d p n o
   pub boxed : IsTrue o.boxes → IsBoxedPlan d p n o
 
 -- the root as a child: alone in a level of its own direction, without edges

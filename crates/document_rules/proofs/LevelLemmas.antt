@@ -20,7 +20,7 @@ use Rattle.level_draw.specs.Drawing.{drawn_in, IsDrawing, plan_from}
 use Rattle.turned_levels.specs.Turned.{level_of}
 use Rattle.turned_levels.proofs.NumberedLemmas.{levels_are_listed}
 use Rattle.turned_boxes.specs.Framed.{IsFramed, start_of}
-use Rattle.turned_certificates.specs.Certified.{IsCertified}
+use Rattle.turned_certificates.specs.Certified.{IsCertified, IsProofOf}
 use Rattle.turned_certificates.proofs.WholeLemmas.{certificates_turn_back}
 use Rattle.turned_docks.specs.Laws.{IsFromLevel}
 use Rattle.turned_ports.proofs.SpreadLemmas.{ports_turn_back}
@@ -31,6 +31,8 @@ use Rattle.level_writing.proofs.FramedLemmas.{framed}
 use Rattle.document_plan.specs.Boxed.{boxes_certificate}
 use Rattle.document_plan.specs.Planned.{IsLayeredPlan, IsPlannedLevel}
 use Rattle.drawn_boxes.specs.Boxes.{IsBoxDrawing}
+use Rattle.drawn_parts.specs.Parted.{IsPartsDrawing}
+use Rattle.drawn_parts.proofs.LevelLemmas.{parted_levels_are_drawn}
 use Rattle.drawn_boxes.proofs.BoxLemmas.{boxes_are_drawn}
 
 module _ (d : Document) (p : Placed) (n : ℕ) (o : LevelOptions) (sound : IsSound d) (leaves : LeavesKept d p) (options : (node_at d n).level ≡ Some o) (planned : IsLayeredPlan d p n o) where
@@ -57,6 +59,17 @@ module _ (d : Document) (p : Placed) (n : ℕ) (o : LevelOptions) (sound : IsSou
 
   of_level : IsCertificateOf laid made
   of_level = subst (λ (l : PlainLevel). IsCertificateOf l made) planned.is planned.laid_out.certificate
+
+  -- what is read of the certificate
+  proof : IsProofOf laid made
+  proof =
+      record {
+        reversed = of_level.reversed;
+        layer_for_each = of_level.layer_for_each;
+        flow_for_each = of_level.flow_for_each;
+        loops = of_level.loops;
+        solves = of_level.solves;
+      }
 
   ready : IsReady laid plan orders written.layers
   unfolding written
@@ -92,7 +105,7 @@ module _ (d : Document) (p : Placed) (n : ℕ) (o : LevelOptions) (sound : IsSou
 
   certified : IsCertified d p n o made written
   unfolding written
-  certified = record { of_level = of_level; numbered = planned.certificate.numbered; is_written = planned.certificate.is_written }
+  certified = record { of_level = proof; numbered = planned.certificate.numbered; is_written = planned.certificate.is_written }
 
   has_certificate : certificate_of p n ≡ Some written
   unfolding written
@@ -131,21 +144,26 @@ pub record IsPlannedDrawing (d : Document) (p : Placed) (n : ℕ) (o : LevelOpti
   pub fits : FitsCertificate d n o certificate
   pub drawn : ((c : ℕ) → IsChild d n c → IsSolid (box_of p c)) → KeepsPorts d p n → IsWellDrawn d p n o certificate
 
-pub planned_drawing : (d : Document) (p : Placed) (n : ℕ) (o : LevelOptions) → IsSound d → LeavesKept d p → n < length d.nodes → (node_at d n).level ≡ Some o → IsFalse o.split → IsPlannedLevel d p n o
-    → IsPlannedDrawing d p n o
-planned_drawing d p n o sound leaves there options whole planned =
+pub planned_drawing : (d : Document) (p : Placed) (n : ℕ) (o : LevelOptions) → IsSound d → LeavesKept d p → n < length d.nodes → (node_at d n).level ≡ Some o → IsPlannedLevel d p n o → IsPlannedDrawing d p n o
+planned_drawing d p n o sound leaves there options planned =
     elim (cases_Bool o.boxes) [
       | inl boxes ↦
           (let plan = planned.boxed boxes in
           let drawn : IsBoxDrawing d p n o = boxes_are_drawn d p n o (record { sound = sound; there = there; options = options; boxes = boxes; leaves = leaves; planned = plan }) in
           record { certificate = boxes_certificate d n; is_written = plan.certificate; ports = drawn.ports; fits = drawn.certificate; drawn = drawn.drawn })
       | inr layered ↦
-          (let plan = planned.layered layered in
-          record {
-            certificate = written d p n o sound leaves options plan;
-            is_written = has_certificate d p n o sound leaves options plan;
-            ports = ports_kept d p n o sound leaves options plan;
-            fits = certificate_fits d p n o sound leaves options plan whole;
-            drawn = well_drawn d p n o sound leaves options plan whole layered;
-          })
+          elim (cases_Bool o.split) [
+            | inl split ↦
+                (let drawn : IsPartsDrawing d p n o = parted_levels_are_drawn d p n o (record { sound = sound; there = there; options = options; split = split; leaves = leaves; planned = planned.parted split }) in
+                record { certificate = drawn.certificate; is_written = drawn.is_written; ports = drawn.ports; fits = drawn.fits; drawn = drawn.drawn })
+            | inr whole ↦
+                (let plan = planned.layered layered whole in
+                record {
+                  certificate = written d p n o sound leaves options plan;
+                  is_written = has_certificate d p n o sound leaves options plan;
+                  ports = ports_kept d p n o sound leaves options plan;
+                  fits = certificate_fits d p n o sound leaves options plan whole;
+                  drawn = well_drawn d p n o sound leaves options plan whole layered;
+                })
+          ]
     ]

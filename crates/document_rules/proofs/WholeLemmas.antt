@@ -13,11 +13,11 @@ use Rattle.elk_doc.specs.PortsKept.{KeepsPorts}
 use Rattle.elk_doc.specs.Sound.{IsSound, IsWithin}
 use Rattle.turned_drawings.specs.Levels.{IsWellDrawn}
 use Rattle.drawing_fits.specs.Held.{IsHeld}
-use Rattle.drawing_fits.proofs.HeldLemmas.{held_drawings_fit}
+use Rattle.drawing_fits.proofs.HeldLemmas.{held_drawings_are_small, held_drawings_fit}
 use Rattle.nested_bounds.proofs.NestedLemmas.{planned_boxes_are_small}
 use Rattle.root_ports.proofs.KeptLemmas.{root_ports_are_kept}
 use Rattle.document_plan.specs.Planned.{ArePlannedFrom}
-use Rattle.document_rules.specs.Whole.{DocumentsAreDrawn, HasWholeLevels, IsLaidOutDocument}
+use Rattle.document_rules.specs.Whole.{DocumentsAreDrawn, IsLaidOutDocument}
 use Rattle.document_rules.proofs.LevelLemmas.{IsPlannedDrawing, planned_drawing}
 
 -- a node that is not the root is a child of its parent
@@ -25,7 +25,7 @@ some_number : (o : Option ℕ) → IsSome o → is_number o (unwrap_or o 0) ≡ 
 some_number None h = absurd (let bad : false ≡ true = h in cc)
 some_number (Some n) h = eq-eqb n n refl
 
-module _ (d : Document) (p : Placed) (sound : IsSound d) (whole : HasWholeLevels d) (laid : IsLaidOutDocument d p) where
+module _ (d : Document) (p : Placed) (sound : IsSound d) (laid : IsLaidOutDocument d p) where
   planned_from : (m : ℕ) → ArePlannedFrom d p m
   planned_from m =
       record { leaves = λ n h there leaf. laid.leaves n there leaf; levels = λ n o h there options. laid.planned.levels n o there options }
@@ -42,7 +42,7 @@ module _ (d : Document) (p : Placed) (sound : IsSound d) (whole : HasWholeLevels
       record { width = small.width.above; height = small.height.above }
 
   level_drawn : (n : ℕ) (o : LevelOptions) → n < length d.nodes → (node_at d n).level ≡ Some o → IsPlannedDrawing d p n o
-  level_drawn n o there options = planned_drawing d p n o sound laid.leaves there options (whole n o there options) (laid.planned.levels n o there options)
+  level_drawn n o there options = planned_drawing d p n o sound laid.leaves there options (laid.planned.levels n o there options)
 
   -- the ports of every node are kept
   kept : (n : ℕ) → n < length d.nodes → KeepsPorts d p n
@@ -97,8 +97,9 @@ module _ (d : Document) (p : Placed) (sound : IsSound d) (whole : HasWholeLevels
       wider z h = let low = h.above in let high = h.below in record { above = low; below = omega (arith, ints, high) }
 
 pub documents_are_drawn : DocumentsAreDrawn
-documents_are_drawn d p sound whole laid =
+documents_are_drawn d p sound laid =
     record {
-      drawn = record { fits = held_drawings_fit d p sound (held d p sound whole laid); levels = λ n o c there options is. (drawn_level d p sound whole laid n o c there options is).drawn };
-      fitted = λ n o c there options is. (drawn_level d p sound whole laid n o c there options is).fitted;
+      drawn = record { fits = held_drawings_fit d p sound (held d p sound laid); levels = λ n o c there options is. (drawn_level d p sound laid n o c there options is).drawn };
+      fitted = λ n o c there options is. (drawn_level d p sound laid n o c there options is).fitted;
+      small = held_drawings_are_small d p sound (held d p sound laid);
     }

@@ -2,7 +2,7 @@
 ghost use Rattle.document_rules.specs.Whole.{DocumentsAreDrawn};
 
 /// A drawing whose levels and root's ports come from layouts obeys its document at every level, and has no more room than it
-/// needs, where no level is split.
+/// needs.
 pub fn documents_are_drawn()
     ensures { DocumentsAreDrawn }
 {}

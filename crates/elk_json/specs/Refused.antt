@@ -26,7 +26,6 @@ rule_number rules.CrossLevel = 10
 rule_number rules.OptionValue = 11
 rule_number rules.PortInside = 12
 rule_number rules.NotPlaced = 13
-rule_number rules.NotBuilt = 14
 
 abbrev pub rule_name : Rule → List ℕ
 rule_name rules.NotJson = codes "NotJson"
@@ -42,4 +41,3 @@ rule_name rules.CrossLevel = codes "CrossLevel"
 rule_name rules.OptionValue = codes "OptionValue"
 rule_name rules.PortInside = codes "PortInside"
 rule_name rules.NotPlaced = codes "NotPlaced"
-rule_name rules.NotBuilt = codes "NotBuilt"

@@ -21,7 +21,6 @@ pub enum Rule {
     OptionValue,
     PortInside,
     NotPlaced,
-    NotBuilt,
 }
 
 /// The number of a rule, from 1.
@@ -42,7 +41,6 @@ pub fn rule_number(rule: Rule) -> u32
         Rule::OptionValue => 11,
         Rule::PortInside => 12,
         Rule::NotPlaced => 13,
-        Rule::NotBuilt => 14,
     }
 }
 
@@ -64,7 +62,6 @@ pub fn rule_name(rule: Rule) -> &'static str
         Rule::OptionValue => "OptionValue",
         Rule::PortInside => "PortInside",
         Rule::NotPlaced => "NotPlaced",
-        Rule::NotBuilt => "NotBuilt",
     }
 }
 

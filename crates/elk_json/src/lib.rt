@@ -25,6 +25,3 @@ mod whole;
 pub use bytes::parse;
 pub use document::read_doc;
 pub use fault::{DocFault, Refusal, Rule, rule_name, rule_number};
-
-#[cfg(test)]
-mod tests;

@@ -12,6 +12,3 @@ mod values;
 pub use names::OptionName;
 pub use options::{BadValue, Options, Role, read_options};
 pub use padding::read_padding;
-
-#[cfg(test)]
-mod tests;

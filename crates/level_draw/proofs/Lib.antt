@@ -1,7 +1,5 @@
 pub mod Answering
 pub mod Assembled
-pub mod BareLemmas
-pub mod ChainedLemmas
 pub mod FarParts
 pub mod Joining
 pub mod Nearness
@@ -9,12 +7,7 @@ pub mod Outlined
 pub mod OutlinesMove
 pub mod PartsMade
 pub mod Planned
-pub mod PortedLemmas
 pub mod ReachFar
-pub mod ReadyLemmas
-pub mod ReadyLooped
-pub mod ReadyNorth
-pub mod ReadyParallel
 pub mod RulesKept
 pub mod SectionLemmas
 pub mod Sketching

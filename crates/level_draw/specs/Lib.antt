@@ -1,9 +1,6 @@
 pub mod Drawing
-pub mod Examples
 pub mod Joined
-pub mod LoopedPlan
 pub mod Outlines
 pub mod Parts
 pub mod Shifted
 pub mod Sketched
-pub mod WorkedPlans

@@ -9,10 +9,3 @@ mod sections;
 mod shifting;
 
 pub use drawing::{LevelOut, Plan, draw};
-
-#[cfg(test)]
-mod looped;
-#[cfg(test)]
-mod tests;
-#[cfg(test)]
-mod worked;

@@ -6,6 +6,3 @@ mod spanning;
 
 pub use laws::reach_moves;
 pub use spanning::{Reach, reach_of};
-
-#[cfg(test)]
-mod tests;

@@ -4,5 +4,4 @@ pub mod ListLemmas
 pub mod LowLayers
 pub mod MadeLemmas
 pub mod NetLemmas
-pub mod PartLemmas
 pub mod TurnLemmas

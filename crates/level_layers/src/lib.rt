@@ -5,8 +5,6 @@ mod certificates;
 mod laws;
 mod networks;
 mod orienting;
-#[cfg(test)]
-mod tests;
 
 pub use certificates::certificate_of;
 pub use laws::layers_stay_low;

@@ -1,7 +1,8 @@
 -- Crossings and sweeps read only the layers of units, and the ends and ranks of links: orders that reduce crossings do so for
 -- all units and links that have these.
-use Rattle.std.proofs.Common.{◌≡◌, ℕ, suc, ◌+◌, ◌≤◌, ◌*◌, ◌==◌, cond, Bool, true, false, not, ◌&&◌, ◌||◌, List, [], ◌∷◌, length, get_or, reverse, refl, sym, subst, ap, ap₂, ◌∙◌, ⊎_elim, arith}
+use Rattle.std.proofs.Common.{◌≡◌, ℕ, suc, ◌+◌, ◌<◌, ◌≤◌, ◌*◌, ◌==◌, cond, Bool, true, false, not, ◌&&◌, ◌||◌, List, [], ◌∷◌, length, get_or, reverse, refl, sym, subst, ap, ap₂, ◌∙◌, ⊎_elim, inl, inr, arith}
 use Rattle.std.proofs.lemmas.Bool.{cases_Bool}
+use Rattle.std.proofs.lemmas.List.Elements.{All-weaker}
 use Rattle.std.proofs.lemmas.List.Sums.{sum_by-cons}
 use Rattle.std.specs.Prelude.{nat_lt}
 use Rattle.std.specs.List.{All, count_by, filter, sum_by}
@@ -9,6 +10,7 @@ use Rattle.elk_layers.specs.declared.units.Link.{Link}
 use Rattle.elk_layers.specs.Layered.{Plain, gap_of, head_key, layer_of, link_at, place_in, place_of, row_at, tail_key}
 use Rattle.elk_layers.specs.Crossings.{cross, crossings, crossings_among, exchanged}
 use Rattle.elk_layers.specs.Sweeps.{Ends, backward_sweep, far_count, far_sum, forward_sweep, has_links, insert_by, mean_le, ordered, refilled, sorted_by, sweep_orders, swept, swept_after, to_left, to_right}
+use Rattle.cross_reduce.specs.Reduced.{AtMostOf, FewerThan, IsExchangedFromFewest, IsFirstOfFewest, Lowers, LowersTo, go, stay}
 use Rattle.level_pins.specs.Fitted.{AreKept}
 use Rattle.level_layout.specs.Chosen.{IsReduced}
 
@@ -184,6 +186,44 @@ module _ (a b : Plain) (kept : AreKept a b) where
         backward_same (forward_sweep b (backward_sweep b (forward_sweep b start))),
       ) refl
 
+  lowers_same : (xs ys : List (List ℕ)) → Lowers a xs ys → Lowers b xs ys
+  lowers_same xs ys s =
+      let here = same_crossings a b kept ys in
+      let there = same_crossings a b kept xs in
+      let less = s.fewer in
+      record { r = s.r; i = s.i; row = s.row; place = s.place; swapped = s.swapped; fewer = omega (arith, here, there, less) }
+
+  lowers_to_same : (xs ys : List (List ℕ)) → LowersTo a xs ys → LowersTo b xs ys
+  lowers_to_same xs ys (stay _) = stay xs
+  lowers_to_same xs ys (go _ m _ s rest) = go xs m ys (lowers_same xs m s) (lowers_to_same m ys rest)
+
+  fewer_same : (rows : List (List ℕ)) (others : List (List (List ℕ))) → FewerThan a rows others → FewerThan b rows others
+  fewer_same rows others h =
+      let here = same_crossings a b kept rows in
+      All-weaker (λ (o : List (List ℕ)). crossings a rows < crossings a o) (λ (o : List (List ℕ)). crossings b rows < crossings b o)
+      (λ o k. let there = same_crossings a b kept o in omega (arith, here, there, k)) others h
+
+  most_same : (rows : List (List ℕ)) (others : List (List (List ℕ))) → AtMostOf a rows others → AtMostOf b rows others
+  most_same rows others h =
+      let here = same_crossings a b kept rows in
+      All-weaker (λ (o : List (List ℕ)). crossings a rows ≤ crossings a o) (λ (o : List (List ℕ)). crossings b rows ≤ crossings b o)
+      (λ o k. let there = same_crossings a b kept o in omega (arith, here, there, k)) others h
+
+  first_same : (orders : List (List (List ℕ))) (rows : List (List ℕ)) → IsFirstOfFewest a orders rows → IsFirstOfFewest b orders rows
+  first_same orders rows s =
+      record { before = s.before; behind = s.behind; splits = s.splits; fewer = fewer_same rows s.before s.fewer; at_most = most_same rows s.behind s.at_most }
+
+  from_fewest_same : (start rows : List (List ℕ)) → IsExchangedFromFewest a start rows → IsExchangedFromFewest b start rows
+  from_fewest_same start rows s =
+      record {
+        from = s.from;
+        reached = lowers_to_same s.from rows s.reached;
+        best = elim s.best [
+          | inl h ↦ inl (subst (λ (xs : List (List (List ℕ))). IsFirstOfFewest b (start ∷ xs) s.from) (orders_same start) (first_same (start ∷ sweep_orders a start) s.from h))
+          | inr h ↦ inr (subst (λ (xs : List (List (List ℕ))). FewerThan b s.from (start ∷ xs)) (orders_same start) (fewer_same s.from (start ∷ sweep_orders a start) h))
+        ];
+      }
+
   pub reduced_for : (start rows : List (List ℕ)) → IsReduced a start rows → IsReduced b start rows
   reduced_for start rows r =
       let here = same_crossings a b kept rows in
@@ -195,6 +235,7 @@ module _ (a b : Plain) (kept : AreKept a b) where
         sweeps = subst (All (λ swept. crossings b rows ≤ crossings b swept)) (orders_same start)
             (λ k e less. at_most here (same_crossings a b kept (get_or (sweep_orders a start) k e)) (r.sweeps k e less));
         settled = λ n i h k. let after = same_crossings a b kept (exchanged rows n i) in let less = r.settled n i h k in omega (arith, here, after, less);
+        from_fewest = from_fewest_same start rows r.from_fewest;
         without_crossings = λ none. r.without_crossings (there ∙ none);
       }
     where

@@ -21,7 +21,7 @@ use Rattle.level_plan.specs.Conditions.{IsLevel, plain_level, plain_plan}
 use Rattle.level_plan.specs.Level.{Orders, PlainLevel}
 use Rattle.level_plan.specs.Units.{AreLinked}
 use Rattle.level_layers.specs.Certificate.{IsCertificateOf}
-use Rattle.level_pins.specs.Alike.{AreAlike}
+use Rattle.level_pins.specs.Alike.{AreAlike, LanesStay}
 use Rattle.level_pins.specs.Fitted.{AreFitted, AreKept}
 use Rattle.level_units.specs.Layering.{IsLayerCount}
 use Rattle.level_draw.specs.declared.drawing.LevelOut.{LevelOut}
@@ -101,8 +101,13 @@ alike_through a b c h k =
       head_is = λ m. k.head_is m ∙ h.head_is m;
     }
 
+lanes_through : (a b c : Plain) → AreAlike a b → LanesStay a b → LanesStay b c → LanesStay a c
+lanes_through a b c alike h k u none = k u (alike.child_is u ∙ none) ∙ h u none
+
 numbered_through : (l : PlainLevel) (c : Certificate) (u v : Layered) → AreRankedUnits l c u → AreKept (plain u) (plain v) → AreNumberedAs l c (plain v)
-numbered_through l c u v ranked kept = (ranked.numbered.0, ranked.numbered.1, alike_through ranked.numbered.0 (plain u) (plain v) ranked.numbered.2 kept.alike)
+numbered_through l c u v ranked kept =
+    let n = ranked.numbered in
+    (n.0, n.1, alike_through n.0 (plain u) (plain v) n.2 kept.alike, lanes_through n.0 (plain u) (plain v) n.2 n.3 kept.lanes)
 
 -- rows that begin in the order of numbers do so for all units of the same layers
 start_alike : (a b : Plain) (rows : List (List ℕ)) → AreAlike a b → IsStart a rows → IsStart b rows

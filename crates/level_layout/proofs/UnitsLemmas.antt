@@ -32,7 +32,7 @@ units_with l c b v linked numbered few count nn en ee ranked kept sound =
     record {
       linked = λ rows tops. no_heights.linked l (plan_with b rows tops c.reversed) (plain v) tops c.layers kept.alike refl (flat (plain v) sound) (linked rows tops);
       sound = sound;
-      numbered = (plain b, numbered, kept.alike);
+      numbered = (plain b, numbered, kept.alike, λ u none. ap (λ units. unit_at units u) kept.units_are);
       ranked = ranked;
       layers = subst (IsLayerCount c.layers) (sym kept.alike.layers_are) count;
       few_layers = let same = kept.alike.layers_are in omega (arith, same, few);

@@ -8,18 +8,21 @@ use Rattle.elk_layers.specs.Layered.{Plain}
 use Rattle.elk_layers.specs.Crossings.{crossings, HasSameRows, NoBetterSwap}
 use Rattle.elk_layers.specs.Lines.{AreApart}
 use Rattle.elk_layers.specs.Sweeps.{sweep_orders}
+use Rattle.cross_reduce.specs.Reduced.{IsExchangedFromFewest}
 use Rattle.block_lines.specs.Constraints.{EndsWithinStack}
 use Rattle.bk_place.specs.Placement.{AreLinesOf}
 use Rattle.ns_place.specs.declared.least.PairFlow.{PairFlow}
 use Rattle.ns_place.specs.Heights.{IsLeastPlacing}
 
 -- The rows of a start in an order with no more crossings than the start and each of its four sweep orders, which no exchange
--- of two neighbours makes better, and the start itself where it has no crossings.
+-- of two neighbours makes better, and the start itself where it has no crossings. It comes by exchanges that lower the crossings
+-- from the first of fewest crossings among these five orders, or from an order that has fewer than all five.
 pub record IsReduced (l : Plain) (start rows : List (List ℕ)) : Type 0 where
   pub same_rows : HasSameRows start rows
   pub no_more : crossings l rows ≤ crossings l start
   pub sweeps : All (λ swept. crossings l rows ≤ crossings l swept) (sweep_orders l start)
   pub settled : NoBetterSwap l rows
+  pub from_fewest : IsExchangedFromFewest l start rows
   pub without_crossings : crossings l start ≡ 0 → rows ≡ start
 
 -- No tops that keep the distances have links that are together less high than at these, and a flow shows it.

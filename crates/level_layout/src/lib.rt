@@ -1,5 +1,5 @@
 //! The layout of one level, in the frame in which its direction runs to the right: its edges are oriented, its children put
-//! into layers, long edges split, rows ordered and placed, and the level drawn.
+//! into layers, units and links made from these, rows ordered and placed, and the level drawn.
 #![tactic(auto)]
 
 mod layout;

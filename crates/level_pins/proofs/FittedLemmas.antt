@@ -28,7 +28,7 @@ use Rattle.level_ends.specs.Bounds.{AreNumbersIn}
 use Rattle.level_ends.specs.Lanes.{room}
 use Rattle.level_ends.proofs.ReadyLemmas.{have_children}
 use Rattle.level_nets.specs.Routed.{AreMarks}
-use Rattle.level_pins.specs.Alike.{AreAlike, AreFlat, with_layered}
+use Rattle.level_pins.specs.Alike.{AreAlike, AreFlat, LanesStay, with_layered}
 use Rattle.level_pins.specs.Fitted.{AreFitted, AreKept}
 use Rattle.level_pins.specs.Reading.{AreFittedLinks, AreFittedUnits, HasChildIn, IsLinkIn, IsReadable, anchor_below, end_of, is_on_lane, pin_at, pin_of, roomy}
 use Rattle.level_pins.proofs.AlikeLemmas.{child_same, no_heights, unit_same}
@@ -129,10 +129,18 @@ module _ (l : PlainLevel) (p : PlainPlan) (o : Orders) (t : Table) (marks : List
         head_is = link_field (λ (x : Link). x.head) l.spacing t us marks p.layered.links ks links (λ x. (is_link_with l.spacing t us marks x).head);
       }
 
+  lanes_stay : LanesStay p.layered (plain_with p us ks)
+  lanes_stay u none =
+      ⊎_elim
+      (λ less. units.each u less ∙ with_none l.spacing t.children (unit_at p.layered.units u) none)
+      (λ past. let many = units.as_many in get_or_past us u (unit_at [] 0) (omega (arith, past, many)) ∙ sym (get_or_past p.layered.units u (unit_at [] 0) past))
+      (cases_lt u (length p.layered.units))
+
   pub are_kept : AreKept p.layered (plain_with p us ks)
   are_kept =
       record {
         alike = alike;
+        lanes = lanes_stay;
         tail_rank_is = link_field (λ (x : Link). x.tail_rank) l.spacing t us marks p.layered.links ks links (λ x. (is_link_with l.spacing t us marks x).tail_rank);
         head_rank_is = link_field (λ (x : Link). x.head_rank) l.spacing t us marks p.layered.links ks links (λ x. (is_link_with l.spacing t us marks x).head_rank);
         node_node = refl;

@@ -21,6 +21,10 @@ pub record AreAlike (a b : Plain) : Type 0 where
 abbrev pub AreFlat : Plain → Type 0
 AreFlat a = (u : ℕ) → (unit_at a.units u).child ≡ None → (unit_at a.units u).height ≡ pos 0
 
+-- the units of lanes of long edges stay as they are
+abbrev pub LanesStay : Plain → Plain → Type 0
+LanesStay a b = (u : ℕ) → (unit_at a.units u).child ≡ None → unit_at b.units u ≡ unit_at a.units u
+
 -- a plan with these units and links, and with these tops
 abbrev pub with_layered : PlainPlan → Plain → List ℤ → PlainPlan
 with_layered p v tops = record { layers = v.layers; layered = v; rows = p.rows; tops = tops; reversed = p.reversed }

@@ -4,7 +4,7 @@ use Rattle.elk_layers.specs.Layered.{Plain, link_at}
 use Rattle.level_plan.specs.Level.{Orders, PlainLevel, PlainPlan}
 use Rattle.level_plan.specs.Nets.{below_top, head_line, tail_line}
 use Rattle.level_plan.specs.Units.{AreLinked, AreOrders, HasRoom}
-use Rattle.level_pins.specs.Alike.{AreAlike}
+use Rattle.level_pins.specs.Alike.{AreAlike, LanesStay}
 
 -- Units and links are those of the level, with the heights and pins that they have under the orders of its sides. Nothing is
 -- said of the ranks of pins.
@@ -18,9 +18,10 @@ pub record AreFitted (l : PlainLevel) (p : PlainPlan) (o : Orders) (layers : Lis
   pub edge_node : p.layered.edge_node ≡ l.spacing.edge_node
   pub edge_edge : p.layered.edge_edge ≡ l.spacing.edge_edge
 
--- what is not heights and pins stays: units and links, the ranks of pins, and the distances
+-- what is not heights and pins stays: units and links, lanes of long edges whole, the ranks of pins, and the distances
 pub record AreKept (a b : Plain) : Type 0 where
   pub alike : AreAlike a b
+  pub lanes : LanesStay a b
   pub tail_rank_is : (k : ℕ) → (link_at b.links k).tail_rank ≡ (link_at a.links k).tail_rank
   pub head_rank_is : (k : ℕ) → (link_at b.links k).head_rank ≡ (link_at a.links k).head_rank
   pub node_node : b.node_node ≡ a.node_node

@@ -12,6 +12,3 @@ mod pins;
 
 pub use fitting::pinned;
 pub use laws::tables_read_no_heights;
-
-#[cfg(test)]
-mod tests;

@@ -11,4 +11,3 @@ pub mod FlowLemmas
 pub mod MeaningLemmas
 pub mod RankedLemmas
 pub mod MadeLemmas
-pub mod WorkedLemmas

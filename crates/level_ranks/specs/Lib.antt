@@ -5,4 +5,3 @@ pub mod Ports
 pub mod Reading
 pub mod Levels
 pub mod Laws
-pub mod Worked

@@ -13,6 +13,3 @@ mod ranking;
 
 pub use laws::{fitted_units_are_units, ranks_need_no_rows};
 pub use ranking::ranked;
-
-#[cfg(test)]
-mod tests;

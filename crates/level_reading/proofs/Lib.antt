@@ -6,4 +6,3 @@ pub mod PortLemmas
 pub mod TotalLemmas
 pub mod ChildLemmas
 pub mod LevelLemmas
-pub mod SmallLemmas

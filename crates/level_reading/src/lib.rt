@@ -15,6 +15,3 @@ pub use grouping::Groups;
 pub use index::{Index, index_of};
 pub use laws::{levels_are_levels, levels_of_leaves_are_levels};
 pub use reading::{level_in, read_child};
-
-#[cfg(test)]
-mod tests;

@@ -6,6 +6,3 @@ mod moving;
 
 pub use laws::drawings_move;
 pub use moving::{move_gaps, move_points, move_traces, moved_sections};
-
-#[cfg(test)]
-mod tests;

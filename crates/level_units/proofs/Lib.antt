@@ -8,4 +8,3 @@ pub mod SoundLemmas
 pub mod LinkedLemmas
 pub mod GrowingLemmas
 pub mod RowLemmas
-pub mod WorkedLemmas

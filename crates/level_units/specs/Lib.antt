@@ -2,4 +2,3 @@ pub mod Layering
 pub mod Numbered
 pub mod Grown
 pub mod Started
-pub mod Worked

@@ -8,6 +8,3 @@ mod units;
 
 pub use rows::start_of;
 pub use units::units_of;
-
-#[cfg(test)]
-mod tests;

@@ -18,9 +18,9 @@ use Rattle.elk_doc.specs.Shapes.{hull, point_rect, right_of, bottom_of}
 use Rattle.elk_doc.specs.Fits.{IsSolid}
 use Rattle.elk_doc.specs.Sound.{IsSound}
 use Rattle.port_order.specs.Child as laid
-use Rattle.level_plan.specs.Level.{PlainLevel, PlainPlan, Orders, child_at}
+use Rattle.level_plan.specs.Level.{PlainLevel, child_at}
 use Rattle.route_lines.specs.Points.{PlainGap}
-use Rattle.level_plan.specs.FromPlan.{Drawn, IsDrawnFrom, PlainTrace, point_or}
+use Rattle.level_plan.specs.FromPlan.{Drawn, PlainTrace, point_or}
 use Rattle.level_shift.specs.Ranges.{IsFar, IsFarPoint, IsFarSection}
 use Rattle.level_extent.specs.Reach.{points_along, points_of}
 use Rattle.level_stands.specs.Apart.{drawn_box, drawn_outline, drawn_outline_from, drawn_port}
@@ -35,6 +35,7 @@ use Rattle.turned_boxes.proofs.ShapeLemmas.{hulls_solid}
 use Rattle.level_writing.specs.declared.figure.LevelFigure.{LevelFigure}
 use Rattle.level_writing.specs.Figure.{figure_in}
 use Rattle.level_writing.specs.Ranges.{IsLong, IsLongBox, IsLongSize}
+use Rattle.level_writing.specs.Room.{HasPlaces}
 use Rattle.level_writing.specs.Written.{IsWritable}
 use Rattle.level_writing.proofs.PartLemmas.{any_default}
 
@@ -108,9 +109,9 @@ along_has (t ∷ ss) s q h k =
     (λ rest. has_right (points_along t) (points_of ss) q (along_has ss s q rest k))
     h
 
-module _ (d : Document) (p : Placed) (n : ℕ) (o : LevelOptions) (plan : PlainPlan) (orders : Orders) (v : LevelFigure) (gaps : List PlainGap) (traces : List PlainTrace) (left top : ℤ)
+module _ (d : Document) (p : Placed) (n : ℕ) (o : LevelOptions) (v : LevelFigure) (gaps : List PlainGap) (traces : List PlainTrace) (left top : ℤ)
     (sound : IsSound d)
-    (drawn : IsDrawnFrom (level_of d p n o) plan orders (figure_in v gaps traces left top))
+    (drawn : HasPlaces (level_of d p n o) (figure_in v gaps traces left top))
     (tight : IsTight (level_of d p n o) (figure_in v gaps traces left top))
     (long : IsLongSize v.extent)
     (sizes : (c : ℕ) → IsChild d n c → IsLongBox (box_of p c)) where
@@ -207,7 +208,7 @@ module _ (d : Document) (p : Placed) (n : ℕ) (o : LevelOptions) (plan : PlainP
   port_counts : (i : ℕ) → i < length (children d n) → length (get_or v.ports i []) ≡ length (ports_of d (child_number d n i))
   port_counts i h =
       let many = child_count in
-      (drawn.children i (omega (arith, h, many))).as_many ∙ (levels_are_listed d p n o).port_count i h
+      drawn.port_counts i (omega (arith, h, many)) ∙ (levels_are_listed d p n o).port_count i h
 
   pub writable : All (λ e. e < length (edges_of d n)) v.certificate.reversed → IsWritable d p n v
   writable reversed =

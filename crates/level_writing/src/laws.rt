@@ -7,7 +7,7 @@ pub fn sizes_frame()
     ensures { SizesFrame }
 {}
 
-/// What is drawn from a plan, begins at 0 and has a tight extent of at most 2^59 can be written.
+/// What has all places, begins at 0 and has a tight extent of at most 2^59 can be written.
 pub fn tight_drawings_are_writable()
     ensures { TightDrawingsAreWritable }
 {}

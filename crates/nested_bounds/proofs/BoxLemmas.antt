@@ -43,7 +43,7 @@ use Rattle.drawn_boxes.proofs.EdgeLemmas.{level_sound}
 use Rattle.drawn_boxes.proofs.PortLemmas as boxed
 use Rattle.drawn_boxes.proofs.RowLemmas.{size_count, sizes_solid, spaced}
 use Rattle.nested_bounds.proofs.ListLemmas.{over_numbers}
-use Rattle.nested_bounds.proofs.NodeLemmas.{content_least, content_most, framed_most, framed_solid, level_short, size_sum, turned_least, turned_sum}
+use Rattle.nested_bounds.proofs.NodeLemmas.{content_least, content_most, framed_most, framed_solid, level_short, parted_least, parted_most, size_sum, turned_least, turned_sum}
 use Rattle.nested_bounds.proofs.OutlineLemmas.{outline_high, outline_wide}
 use Rattle.nested_bounds.proofs.SumLemmas.{cost, room}
 
@@ -211,7 +211,7 @@ module _ (d : Document) (p : Placed) (n : ℕ) (o : LevelOptions) (s : IsSound d
       let many = length-numbers_below (is_child d n) (length d.nodes) in
       joined _ _ _ _ (over (size_sum p) (children d n)) (total_below (is_child d n) (size_sum p) (length d.nodes)) (length (children d n)) (child_count d n) (edge_count d n) (child_count d n * edge_count d n) w h most all many
     where
-      joined : (a b x y u t : ℤ) (k c e z : ℕ) → a ≤ℤ x → b ≤ℤ y → (x +ℤ y) ≤ℤ (u +ℤ pos (k * (2 ^ 24 + 2 ^ 21))) → u ≡ t → k ≡ c → (a +ℤ b) ≤ℤ (t +ℤ pos (c * 2 ^ 24 + 2 ^ 23 * (c + e + z + 1)))
+      joined : (a b x y u t : ℤ) (k c e z : ℕ) → a ≤ℤ x → b ≤ℤ y → (x +ℤ y) ≤ℤ (u +ℤ pos (k * (2 ^ 24 + 2 ^ 21))) → u ≡ t → k ≡ c → (a +ℤ b) ≤ℤ (t +ℤ pos (c * 2 ^ 25 + 2 ^ 23 * (c + e + z + 1)))
       joined a b x y u t k c e z p q h m n = omega (arith, ints, p, q, h, m, n)
 
   turned_extent_most : ((turned_size o.direction extent).width +ℤ (turned_size o.direction extent).height) ≤ℤ (total_below (is_child d n) (size_sum p) (length d.nodes) +ℤ pos (room (child_count d n) (edge_count d n)))
@@ -234,9 +234,16 @@ module _ (d : Document) (p : Placed) (n : ℕ) (o : LevelOptions) (s : IsSound d
       elim (cases_Bool o.boxes) [
         | inl boxes ↦ boxes_solid d p n o s within is boxes (planned.boxed boxes)
         | inr layered ↦
-            (let plan = planned.layered layered in
-            let least = content_least d p n o s plan in
-            framed_solid d p n o s within is plan.out.extent least.0 least.1 plan.size)
+            elim (cases_Bool o.split) [
+              | inl split ↦
+                  (let plan = planned.parted split in
+                  let least = parted_least d p n o s within is plan in
+                  framed_solid d p n o s within is plan.out.extent least.0 least.1 plan.size)
+              | inr whole ↦
+                  (let plan = planned.layered layered whole in
+                  let least = content_least d p n o s plan in
+                  framed_solid d p n o s within is plan.out.extent least.0 least.1 plan.size)
+            ]
       ]
 
   pub level_most : size_sum p n ≤ℤ (total_below (is_child d n) (size_sum p) (length d.nodes) +ℤ pos (cost d n))
@@ -244,7 +251,14 @@ module _ (d : Document) (p : Placed) (n : ℕ) (o : LevelOptions) (s : IsSound d
       elim (cases_Bool o.boxes) [
         | inl boxes ↦ boxes_most d p n o s within is boxes (planned.boxed boxes)
         | inr layered ↦
-            (let plan = planned.layered layered in
-            let least = content_least d p n o s plan in
-            framed_most d p n o s within is plan.out.extent least.0 least.1 plan.size (content_most d p n o s plan))
+            elim (cases_Bool o.split) [
+              | inl split ↦
+                  (let plan = planned.parted split in
+                  let least = parted_least d p n o s within is plan in
+                  framed_most d p n o s within is plan.out.extent least.0 least.1 plan.size (parted_most d p n o s within is plan))
+              | inr whole ↦
+                  (let plan = planned.layered layered whole in
+                  let least = content_least d p n o s plan in
+                  framed_most d p n o s within is plan.out.extent least.0 least.1 plan.size (content_most d p n o s plan))
+            ]
       ]

@@ -31,14 +31,14 @@ module _ (l : PlainLevel) (p : PlainPlan) (o : Orders) (layers : List ℕ) (d : 
   abbrev no_child : Child
   no_child = child_at (record { children = []; edges = []; spacing = l.spacing }) 0
 
-  wide_at : (m i : ℕ) → m ≡ 0 + i → i < length l.children → (drawn_outline l d m).width ≤ℤ ((child_at l i).size.width +ℤ pos (2 ^ 23))
+  pub wide_at : (m i : ℕ) → m ≡ 0 + i → i < length l.children → (drawn_outline l d m).width ≤ℤ ((child_at l i).size.width +ℤ pos (2 ^ 23))
   wide_at m i e h =
       let same : i ≡ m = omega (arith, e) in
       subst (λ j. (drawn_outline l d j).width ≤ℤ ((child_at l i).size.width +ℤ pos (2 ^ 23))) same
       (subst (λ (r : Rect). r.width ≤ℤ ((child_at l i).size.width +ℤ pos (2 ^ 23))) (sym (outlines_are_drawn l p o d i (drawn.children i h)))
       (outline_wide l p o ready.level ready.units.orders i h (short i h)))
 
-  high_at : (m i : ℕ) → m ≡ 0 + i → i < length l.children → (drawn_outline l d m).height ≤ℤ ((child_at l i).size.height +ℤ pos (2 ^ 23))
+  pub high_at : (m i : ℕ) → m ≡ 0 + i → i < length l.children → (drawn_outline l d m).height ≤ℤ ((child_at l i).size.height +ℤ pos (2 ^ 23))
   high_at m i e h =
       let same : i ≡ m = omega (arith, e) in
       subst (λ j. (drawn_outline l d j).height ≤ℤ ((child_at l i).size.height +ℤ pos (2 ^ 23))) same
@@ -57,5 +57,5 @@ module _ (l : PlainLevel) (p : PlainPlan) (o : Orders) (layers : List ℕ) (d : 
       sides d.extent.width d.extent.height (outline_widths l d) (outline_heights l d) (over wide l.children) (over high l.children) (length l.children) (length l.edges) (length l.children * length l.edges) bounded.width bounded.height widths_most heights_most
     where
       sides : (w h a b x y : ℤ) (c e n : ℕ) → w ≤ℤ (a +ℤ pos (2 ^ 22 * (c + e + n + 1))) → h ≤ℤ (b +ℤ pos (2 ^ 22 * (c + e + n + 1))) → a ≤ℤ (x +ℤ pos (c * 2 ^ 23)) → b ≤ℤ (y +ℤ pos (c * 2 ^ 23))
-          → (w +ℤ h) ≤ℤ ((x +ℤ y) +ℤ pos (c * 2 ^ 24 + 2 ^ 23 * (c + e + n + 1)))
+          → (w +ℤ h) ≤ℤ ((x +ℤ y) +ℤ pos (c * 2 ^ 25 + 2 ^ 23 * (c + e + n + 1)))
       sides w h a b x y c e n p q r s = omega (arith, ints, p, q, r, s)

@@ -19,7 +19,7 @@ use Rattle.elk_doc.specs.Fits.{IsSolid, KeepsSize, child_count, edge_count}
 use Rattle.elk_doc.specs.Fitted.{IsGreatestOf}
 use Rattle.elk_doc.specs.Level.{children, edges_of, is_child, is_edge_of}
 use Rattle.elk_doc.specs.Numbers.{total_below}
-use Rattle.elk_doc.specs.Sound.{IsSound, IsSoundSize, IsWithin, along}
+use Rattle.elk_doc.specs.Sound.{IsDistance, IsSound, IsSoundSize, IsWithin, along}
 use Rattle.elk_doc.proofs.NumberLaws.{length-numbers_below}
 use Rattle.port_order.specs.declared.children.ChildPort.{ChildPort}
 use Rattle.level_plan.specs.Conditions.{plain_level}
@@ -31,9 +31,12 @@ use Rattle.turned_levels.proofs.NumberedLemmas.{levels_are_listed, numbers_match
 use Rattle.level_reading.proofs.ReadLemmas.{turned_sound}
 use Rattle.level_bounds.proofs.Bounded.{extents_bounded, extents_small}
 use Rattle.level_writing.specs.Sizes.{Asks, IsSizeRound, end_across, end_down, end_of, padded_height, padded_width, pinned_under}
+use Rattle.document_plan.specs.Parted.{IsPartedPlan}
 use Rattle.document_plan.specs.Planned.{IsLayeredPlan}
 use Rattle.drawn_boxes.proofs.EdgeLemmas.{level_sound}
 use Rattle.nested_bounds.proofs.ExtentLemmas.{AllShort, extent_most, high, wide}
+use Rattle.nested_bounds.proofs.PartLemmas.{parts_most}
+use Rattle.split_layout.proofs.BoundLemmas.{parts_are_bounded}
 use Rattle.level_bounds.proofs.Sums.{over}
 use Rattle.nested_bounds.proofs.ListLemmas.{over_both, over_numbers}
 use Rattle.nested_bounds.proofs.SumLemmas.{cost, room}
@@ -185,6 +188,23 @@ module _ (d : Document) (p : Placed) (n : ℕ) (o : LevelOptions) (s : IsSound d
       (laid.drawn.drawing.from_plan laid.orders laid.ready) (subst AllShort (sym planned.is) (level_short d p n o s))
       (extents_bounded planned.level planned.out laid.drawn.left laid.drawn.top laid)
       in
+      let here = subst (λ (l : PlainLevel). (planned.out.extent.width +ℤ planned.out.extent.height) ≤ℤ ((over wide l.children +ℤ over high l.children) +ℤ pos (room (length l.children) (length l.edges)))) planned.is most in
+      joined _ _ _ _ _ here (children_sum d p n o.direction) (room_is d p n o)
+    where
+      joined : (w a b : ℤ) (x y : ℕ) → w ≤ℤ (a +ℤ pos x) → a ≡ b → x ≡ y → w ≤ℤ (b +ℤ pos y)
+      joined w a b x y h e f = omega (arith, ints, h, e, f)
+
+-- and so is a level that is laid out part by part
+module _ (d : Document) (p : Placed) (n : ℕ) (o : LevelOptions) (s : IsSound d) (there : n < length d.nodes) (is : (node_at d n).level ≡ Some o) (planned : IsPartedPlan d p n o) where
+  apart : IsDistance o.component
+  apart = (level_sound d n o s there is).component
+
+  pub parted_least : (pos 0 ≤ℤ planned.out.extent.width) × (pos 0 ≤ℤ planned.out.extent.height)
+  parted_least = let most = parts_are_bounded planned.level o.component planned.out apart planned.laid_out in (most.wide.above, most.high.above)
+
+  pub parted_most : (planned.out.extent.width +ℤ planned.out.extent.height) ≤ℤ (total_below (is_child d n) (size_sum p) (length d.nodes) +ℤ pos (room (child_count d n) (edge_count d n)))
+  parted_most =
+      let most = parts_most planned.level o.component planned.out apart planned.laid_out (subst AllShort (sym planned.is) (level_short d p n o s)) in
       let here = subst (λ (l : PlainLevel). (planned.out.extent.width +ℤ planned.out.extent.height) ≤ℤ ((over wide l.children +ℤ over high l.children) +ℤ pos (room (length l.children) (length l.edges)))) planned.is most in
       joined _ _ _ _ _ here (children_sum d p n o.direction) (room_is d p n o)
     where

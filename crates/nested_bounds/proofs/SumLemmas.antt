@@ -164,7 +164,7 @@ child_behind d n k s h is =
 
 -- the room that a level with c children and e edges takes besides its children
 abbrev pub room : ℕ → ℕ → ℕ
-room c e = c * 2 ^ 24 + 2 ^ 23 * (c + e + c * e + 1)
+room c e = c * 2 ^ 25 + 2 ^ 23 * (c + e + c * e + 1)
 
 -- what a node may be larger than its children together: the room of its level, its padding and its pinned ports
 abbrev pub cost : Document → ℕ → ℕ
@@ -292,7 +292,7 @@ keyed_few key m (suc many) =
     omega (arith, before, here, split, both)
 
 costs_by : (d : Document) (n : ℕ) → IsSound d
-    → costs d n ≤ sum_first (child_count d) n * 2 ^ 24 + 2 ^ 23 * (sum_first (child_count d) n + sum_first (edge_count d) n + sum_first (child_count d) n * 2048 + n) + n * 2 ^ 23
+    → costs d n ≤ sum_first (child_count d) n * 2 ^ 25 + 2 ^ 23 * (sum_first (child_count d) n + sum_first (edge_count d) n + sum_first (child_count d) n * 2048 + n) + n * 2 ^ 23
 unfolding costs sum_first
 costs_by d zero s = omega arith
 costs_by d (suc n) s =
@@ -305,8 +305,8 @@ costs_by d (suc n) s =
     at_most : (e : ℕ) → e ≤ length d.edges → length d.edges ≤ 2048 → e ≤ 2048
     at_most e h k = omega (arith, h, k)
 
-    step : (t c e x a b n : ℕ) → t ≤ a * 2 ^ 24 + 2 ^ 23 * (a + b + a * 2048 + n) + n * 2 ^ 23 → x ≤ c * 2048
-        → t + (c * 2 ^ 24 + 2 ^ 23 * (c + e + x + 1) + 2 ^ 23) ≤ (a + c) * 2 ^ 24 + 2 ^ 23 * ((a + c) + (b + e) + (a + c) * 2048 + suc n) + suc n * 2 ^ 23
+    step : (t c e x a b n : ℕ) → t ≤ a * 2 ^ 25 + 2 ^ 23 * (a + b + a * 2048 + n) + n * 2 ^ 23 → x ≤ c * 2048
+        → t + (c * 2 ^ 25 + 2 ^ 23 * (c + e + x + 1) + 2 ^ 23) ≤ (a + c) * 2 ^ 25 + 2 ^ 23 * ((a + c) + (b + e) + (a + c) * 2048 + suc n) + suc n * 2 ^ 23
     step t c e x a b n h k = omega (arith, h, k)
 
 pub costs_most : (d : Document) → IsSound d → costs d (length d.nodes) ≤ 2 ^ 45 + 2 ^ 37
@@ -316,7 +316,7 @@ costs_most d s =
     let edges = keyed_few (λ e. Some (level_of_edge d e)) (length d.nodes) (length d.edges) in
     step (costs d (length d.nodes)) (sum_first (child_count d) (length d.nodes)) (sum_first (edge_count d) (length d.nodes)) (length d.nodes) (length d.edges) most children edges s.few_nodes s.few_edges
   where
-    step : (t a b n e : ℕ) → t ≤ a * 2 ^ 24 + 2 ^ 23 * (a + b + a * 2048 + n) + n * 2 ^ 23 → a ≤ n → b ≤ e → n ≤ 2048 → e ≤ 2048 → t ≤ 2 ^ 45 + 2 ^ 37
+    step : (t a b n e : ℕ) → t ≤ a * 2 ^ 25 + 2 ^ 23 * (a + b + a * 2048 + n) + n * 2 ^ 23 → a ≤ n → b ≤ e → n ≤ 2048 → e ≤ 2048 → t ≤ 2 ^ 45 + 2 ^ 37
     step t a b n e h h1 h2 h3 h4 = omega (arith, h, h1, h2, h3, h4)
 
 -- So children are together at most 2^45 and 2^37 long where all nodes behind theirs are no larger than their children and their

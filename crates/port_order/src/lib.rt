@@ -10,8 +10,6 @@ mod ranks;
 mod sides;
 mod spots;
 mod spreading;
-#[cfg(test)]
-mod tests;
 
 pub use children::{Child, ChildPort};
 pub use docks::dock_of;

@@ -1,5 +1,5 @@
 //! The ports of the root at their places.
-ghost use Rattle.std.specs.Prelude.{◌≡◌, ◌<◌, Some, length, IfOk, OnOk};
+ghost use Rattle.std.specs.Prelude.{◌≡◌, ◌<◌, Some, length, IfOk, OnErr, OnOk};
 ghost use Rattle.elk_doc.specs.declared.drawing.Placed.{Placed};
 ghost use Rattle.elk_doc.specs.Document.{node_at};
 ghost use Rattle.elk_doc.specs.Drawing.{box_of};
@@ -70,7 +70,8 @@ fn place_with(
     requires index { IsIndex doc.now index.now }
     requires canvas { IsDrawingOf doc.now (drawing_of canvas.old) }
     requires size { IsRootBox (box_of (drawing_of canvas.old) 0) }
-    ensures { OnOk result (AreRootPortsPlaced doc.now (drawing_of canvas.old) (drawing_of canvas.new)) }
+    ensures placed { OnOk result (AreRootPortsPlaced doc.now (drawing_of canvas.old) (drawing_of canvas.new)) }
+    ensures unchanged { OnErr result (canvas.new ≡ canvas.old) }
 {
     let outer = canvas.boxes.as_slice()[0];
     let size = size_of(outer);
@@ -85,7 +86,7 @@ fn place_with(
 
 /// Puts the ports of the document's root at their places in its box, as if the root were alone in a level of its own direction,
 /// without edges. All else stays. The box of the root has its size already, from 0 to 2^45 + 2^37 each way. The only error is want of
-/// memory.
+/// memory; the drawing is as it was then.
 pub fn place_root_ports(
     alloc: Global,
     doc: &Doc,
@@ -95,7 +96,8 @@ pub fn place_root_ports(
     requires index { IsIndex doc.now index.now }
     requires canvas { IsDrawingOf doc.now (drawing_of canvas.old) }
     requires size { IsRootBox (box_of (drawing_of canvas.old) 0) }
-    ensures { OnOk result (AreRootPortsPlaced doc.now (drawing_of canvas.old) (drawing_of canvas.new)) }
+    ensures placed { OnOk result (AreRootPortsPlaced doc.now (drawing_of canvas.old) (drawing_of canvas.new)) }
+    ensures unchanged { OnErr result (canvas.new ≡ canvas.old) }
 {
     match &doc.nodes()[0].level {
         None => Ok(()),

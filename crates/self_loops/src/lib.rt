@@ -3,7 +3,5 @@
 #![tactic(auto)]
 
 mod lanes;
-#[cfg(test)]
-mod tests;
 
 pub use lanes::{LoopEnds, LoopLane, lanes_of_loops, loop_legs};

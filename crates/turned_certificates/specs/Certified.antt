@@ -1,5 +1,5 @@
 -- The certificate of a level is one of the document.
-use Rattle.std.specs.Prelude.{◌≡◌, ℕ, length, Some, if◌then◌else◌}
+use Rattle.std.specs.Prelude.{◌≡◌, ◌<◌, ℕ, pos, length, map, Some, IsTrue, if◌then◌else◌}
 use Rattle.elk_doc.specs.declared.document.LevelOptions.{LevelOptions}
 use Rattle.elk_doc.specs.declared.drawing.Certificate.{Certificate}
 use Rattle.elk_doc.specs.declared.drawing.Placed.{Placed}
@@ -12,13 +12,25 @@ use Rattle.elk_doc.specs.Apart.{InOnePart}
 use Rattle.elk_doc.specs.Reversed.{Reversed}
 use Rattle.elk_doc.specs.Layering.{Layering}
 use Rattle.elk_doc.specs.FlowProof.{FlowProof}
-use Rattle.level_layers.specs.Certificate.{IsCertificateOf}
+use Rattle.layering_laws.specs.Layering.{IsSolution}
+use Rattle.level_plan.specs.Level.{PlainLevel, is_loop}
+use Rattle.level_layers.specs.Certificate.{AreReversed, flow_at, link_flows, network}
 use Rattle.turned_levels.specs.Turned.{level_of}
 use Rattle.turned_levels.specs.Drawing.{IsNumberedAs}
 
+-- What is read of a level's certificate: the edges that are turned round close cycles, and none is left; there is a layer for
+-- each child and a flow for each edge, 0 at self-loops; and layers, flow and span are a solution of the level's network. However
+-- the solution was found, and whatever parts are named, it proves the same.
+pub record IsProofOf (l : PlainLevel) (c : Certificate) : Type 0 where
+  pub reversed : AreReversed l c.reversed
+  pub layer_for_each : length c.layers ≡ length l.children
+  pub flow_for_each : length c.flow ≡ length l.edges
+  pub loops : (e : ℕ) → e < length l.edges → IsTrue (is_loop l e) → flow_at c.flow e ≡ 0
+  pub solves : IsSolution (length l.children) (network l c.reversed) (map pos c.layers) (link_flows l c.flow) c.span
+
 -- What is written for the level of n is a certificate of that level, with the document's numbers of its edges.
 pub record IsCertified (d : Document) (p : Placed) (n : ℕ) (o : LevelOptions) (made written : Certificate) : Type 0 where
-  pub of_level : IsCertificateOf (level_of d p n o) made
+  pub of_level : IsProofOf (level_of d p n o) made
   pub numbered : IsNumberedAs d n written made
   pub is_written : certificate_of p n ≡ Some written
 

@@ -3,6 +3,7 @@ use Rattle.elk_doc.specs.Drawn.{Drawn}
 use Rattle.elk_doc.specs.Fitted.{Fitted}
 use Rattle.level_writing.specs.Canvas.{drawing_of}
 use Rattle.document_plan.specs.Planned.{Planned}
+use Rattle.drawing_fits.specs.Held.{HasSmallCoordinates}
 use Rattle.compound.specs.Work.{given_size}
 use Rattle.compound.proofs.EndLemmas.{laid_out, root_box, well_drawn}
 use Rattle.compound.proofs.StartLemmas.{started}
@@ -23,18 +24,25 @@ returns-clause-drawn c =
     let d = c.args.doc.now in
     subst (Drawn d) (sym c.placed.ensures)
     (well_drawn d (drawing_of c.lay_out_levels.new.work.canvas) (drawing_of c.place_root_ports.new.canvas) c.lay_out_levels.new.work.sizes.items
-    c.nodes.ensures.sound c.in_ok-lay_out_levels.ensures c.in_ok-place_root_ports.ensures c.requires).drawn
+    c.nodes.ensures.sound c.in_ok-lay_out_levels.ensures c.in_ok-place_root_ports.ensures.placed).drawn
 
 pub returns-clause-fitted : goal.returns-clause-fitted
 returns-clause-fitted c =
     let d = c.args.doc.now in
     subst (Fitted d) (sym c.placed.ensures)
     (well_drawn d (drawing_of c.lay_out_levels.new.work.canvas) (drawing_of c.place_root_ports.new.canvas) c.lay_out_levels.new.work.sizes.items
-    c.nodes.ensures.sound c.in_ok-lay_out_levels.ensures c.in_ok-place_root_ports.ensures c.requires).fitted
+    c.nodes.ensures.sound c.in_ok-lay_out_levels.ensures c.in_ok-place_root_ports.ensures.placed).fitted
 
 pub returns-clause-planned : goal.returns-clause-planned
 returns-clause-planned c =
     let d = c.args.doc.now in
     subst (Planned d) (sym c.placed.ensures)
     (laid_out d (drawing_of c.lay_out_levels.new.work.canvas) (drawing_of c.place_root_ports.new.canvas) c.lay_out_levels.new.work.sizes.items
-    c.nodes.ensures.sound c.in_ok-lay_out_levels.ensures c.in_ok-place_root_ports.ensures).planned
+    c.nodes.ensures.sound c.in_ok-lay_out_levels.ensures c.in_ok-place_root_ports.ensures.placed).planned
+
+pub returns-clause-small : goal.returns-clause-small
+returns-clause-small c =
+    let d = c.args.doc.now in
+    subst HasSmallCoordinates (sym c.placed.ensures)
+    (well_drawn d (drawing_of c.lay_out_levels.new.work.canvas) (drawing_of c.place_root_ports.new.canvas) c.lay_out_levels.new.work.sizes.items
+    c.nodes.ensures.sound c.in_ok-lay_out_levels.ensures c.in_ok-place_root_ports.ensures.placed).small

@@ -9,7 +9,8 @@ reduce-requires-clause-rows c = subst (AreRows (plain c.args.layered.now)) (sym 
 pub returns-clause-reduced : goal.returns-clause-reduced
 returns-clause-reduced c =
     reduced_from (plain c.args.layered.now) (rows_of c.args.start.now) (rows_of c.in_ok-copy.copy) (rows_of c.in_ok-order.order) c.in_ok-copy.ensures
-    c.in_ok-order.ensures.same_rows c.in_ok-order.ensures.no_more c.in_ok-order.ensures.sweeps c.in_ok-order.ensures.settled c.in_ok-order.ensures.without_crossings
+    c.in_ok-order.ensures.same_rows c.in_ok-order.ensures.no_more c.in_ok-order.ensures.sweeps c.in_ok-order.ensures.settled c.in_ok-order.ensures.from_fewest
+    c.in_ok-order.ensures.without_crossings
 
 pub returns-clause-rows : goal.returns-clause-rows
 returns-clause-rows c =

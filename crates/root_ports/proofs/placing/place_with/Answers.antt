@@ -64,8 +64,8 @@ write_ports_of-requires-clause-long c =
     let old = drawing_of c.args.canvas.now in
     subst IsLongBox (sym (box_read old c.as_slice.result.now c.as_slice.ensures.value)) (root_long old c.requires.size)
 
-pub returns : goal.returns
-returns c =
+pub returns-clause-placed : goal.returns-clause-placed
+returns-clause-placed c =
     let d = c.args.doc.now in
     let canvas = c.args.canvas.now in
     let old = drawing_of c.args.canvas.now in

@@ -1,0 +1,5 @@
+pub mod ListLemmas
+pub mod EdgeLemmas
+pub mod TurnLemmas
+pub mod NetLemmas
+pub mod WholeLemmas

@@ -1,0 +1,53 @@
+use Rattle.std.proofs.Common.{ℕ, zero, suc, ◌<◌, [], arith, sym, subst}
+use Rattle.std.proofs.lemmas.Int.{ints}
+use Rattle.elk_doc.specs.declared.document.PortRule.TheVariants.{Free}
+use Rattle.level_plan.specs.Conditions.{IsLevel, IsLevelChild, IsLevelEdge}
+use Rattle.level_plan.specs.Examples.{square}
+use Rattle.level_plan.specs.Level.{child_at}
+use Rattle.part_levels.specs.Examples.{mixed}
+use Rattle.split_layout.proofs.tests.parts_keep_their_edges.Goals as goal
+
+below_four : (P : ℕ → Type 0) → P 0 → P 1 → P 2 → P 3 → (k : ℕ) → k < 4 → P k
+below_four P a b c d zero h = a
+below_four P a b c d (suc zero) h = b
+below_four P a b c d (suc (suc zero)) h = c
+below_four P a b c d (suc (suc (suc zero))) h = d
+below_four P a b c d (suc (suc (suc (suc k)))) h = absurd (omega (arith, h))
+
+below_five : (P : ℕ → Type 0) → P 0 → P 1 → P 2 → P 3 → P 4 → (k : ℕ) → k < 5 → P k
+below_five P a b c d e zero h = a
+below_five P a b c d e (suc zero) h = b
+below_five P a b c d e (suc (suc zero)) h = c
+below_five P a b c d e (suc (suc (suc zero))) h = d
+below_five P a b c d e (suc (suc (suc (suc zero)))) h = e
+below_five P a b c d e (suc (suc (suc (suc (suc k))))) h = absurd (omega (arith, h))
+
+a_child : IsLevelChild (square [] Free)
+a_child =
+    record {
+      sound = record {
+        size = record { width = record { above = omega (arith, ints); below = omega (arith, ints) }; height = record { above = omega (arith, ints); below = omega (arith, ints) } };
+        ports = λ k h. absurd (omega (arith, h));
+      };
+      near = λ k h. absurd (omega (arith, h));
+    }
+
+is_level : IsLevel mixed
+is_level =
+    record {
+      few_children = omega arith;
+      few_ports = omega arith;
+      few_edges = omega arith;
+      children = below_five (λ c. IsLevelChild (child_at mixed c)) a_child a_child a_child a_child a_child;
+      edges = below_four (IsLevelEdge mixed)
+          (record { source = record { child = omega arith; port = tt }; target = record { child = omega arith; port = tt }; weight_above = omega arith; weight_below = omega arith })
+          (record { source = record { child = omega arith; port = tt }; target = record { child = omega arith; port = tt }; weight_above = omega arith; weight_below = omega arith })
+          (record { source = record { child = omega arith; port = tt }; target = record { child = omega arith; port = tt }; weight_above = omega arith; weight_below = omega arith })
+          (record { source = record { child = omega arith; port = tt }; target = record { child = omega arith; port = tt }; weight_above = omega arith; weight_below = omega arith });
+      spacing = omega (arith, ints);
+      widths = omega (arith, ints);
+      heights = omega (arith, ints);
+    }
+
+pub layout_parts-requires : goal.layout_parts-requires
+layout_parts-requires g c = record { level = subst IsLevel (sym c.in_ok-level.ensures) is_level; component = record { above = omega (arith, ints); below = omega (arith, ints) } }

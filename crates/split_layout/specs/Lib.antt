@@ -1,0 +1,5 @@
+pub mod Limits
+pub mod Gathered
+pub mod Steps
+pub mod Parts
+pub mod Laws
