@@ -1,0 +1,130 @@
+'use strict';
+// The document that the engine reads of a graph, and its answer put back into the graph.
+
+const { endIds, isObject, Levels } = require('./levels');
+const { withWholePlace, withWholeSize } = require('./numbers');
+const { onlyKnown, withGeneral } = require('./options');
+
+const LISTS = { ports: 'port', edges: 'edge', children: 'node' };
+
+// The members that the engine reads, by docs/FORMAT.md. Nothing else is sent, so that neither a fraction in a label
+// nor an editor's own data stands in its way.
+const READ = {
+  node: ['id', 'width', 'height', 'layoutOptions', ...Object.keys(LISTS)],
+  port: ['id', 'width', 'height', 'x', 'y', 'layoutOptions'],
+  edge: ['id', 'sources', 'targets', 'source', 'target', 'sourcePort', 'targetPort', 'layoutOptions'],
+};
+
+const WRITTEN = ['x', 'y', 'width', 'height', 'layering'];
+
+// What an earlier drawing may have left at an edge.
+const OUTDATED = ['sections', 'bendPoints', 'junctionPoints', 'sourcePoint', 'targetPoint', 'container'];
+
+const listsOf = (element) => Object.keys(LISTS).filter((name) => Array.isArray(element[name]));
+
+/** A graph whose elements and lists are its own. What stands in them besides is shared with the given one. */
+function copyOf(element) {
+  if (!isObject(element)) {
+    return element;
+  }
+  const copy = { ...element };
+  for (const name of listsOf(element)) {
+    copy[name] = element[name].map(copyOf);
+  }
+  return copy;
+}
+
+const pick = (element, names) =>
+  Object.fromEntries(names.filter((name) => name in element).map((name) => [name, element[name]]));
+
+/** Whose options an element reads; `kind` is node, port or edge. */
+function roleOf(element, kind, isRoot) {
+  if (kind !== 'node') {
+    return `${kind}s`;
+  }
+  return isRoot || (Array.isArray(element.children) && element.children.length > 0) ? 'levels' : 'nodes';
+}
+
+function withOptions(element, general, role) {
+  const { layoutOptions: own = {} } = element;
+  // What is no object of options is for the engine to refuse.
+  if (!isObject(own)) {
+    return element;
+  }
+  const layoutOptions = withGeneral(own, general, role);
+  return Object.keys(layoutOptions).length === 0 ? element : { ...element, layoutOptions };
+}
+
+function readable(element, kind, node) {
+  const read = pick(element, READ[kind]);
+  if (isObject(read.layoutOptions)) {
+    read.layoutOptions = onlyKnown(read.layoutOptions);
+  }
+  if (kind === 'edge') {
+    return read;
+  }
+  return kind === 'port' ? withWholePlace(read, node) : withWholeSize(read);
+}
+
+/**
+ * The document that is sent for a graph.
+ * @param {object} graph
+ * @param {{ numbers: 'ceil' | 'exact', general: object }} how whether numbers are made whole, and the options that
+ *   count wherever an element has none of its own
+ */
+function documentOf(graph, { numbers, general }) {
+  const rewrite = (element, kind, holder) => {
+    if (!isObject(element)) {
+      return element;
+    }
+    const full = withOptions(element, general, roleOf(element, kind, !holder));
+    const sent = numbers === 'ceil' ? readable(full, kind, holder) : { ...full };
+    if (kind === 'node') {
+      for (const name of listsOf(element)) {
+        sent[name] = element[name].map((it) => rewrite(it, LISTS[name], element));
+      }
+    }
+    return sent;
+  };
+  return rewrite(graph, 'node');
+}
+
+function placeNode(node, answer) {
+  Object.assign(node, pick(answer, WRITTEN));
+  for (const name of listsOf(answer)) {
+    answer[name].forEach((it, at) => (name === 'edges' ? placeEdge : placeNode)(node[name][at], it));
+  }
+}
+
+function placeEdge(edge, answer) {
+  for (const name of OUTDATED) {
+    delete edge[name];
+  }
+  edge.sections = answer.sections;
+}
+
+// ELK tells with each edge the node to whose content its points are relative, and with each section its two ends.
+function tellEnds(graph) {
+  const levels = new Levels(graph);
+  for (const declared of levels.declared) {
+    const { edge } = declared;
+    const container = levels.levelOf(declared).id;
+    if (container !== undefined) {
+      edge.container = container;
+    }
+    const [incomingShape, outgoingShape] = ['source', 'target'].map((end) => endIds(edge, end)[0]);
+    edge.sections = edge.sections.map((section) => ({ ...section, incomingShape, outgoingShape }));
+  }
+}
+
+/**
+ * Writes the engine's answer into a graph from which the document was made.
+ * @param {object} graph changed in place
+ * @param {object} answer the placed document
+ */
+function place(graph, answer) {
+  placeNode(graph, answer);
+  tellEnds(graph);
+}
+
+module.exports = { copyOf, documentOf, place, READ };

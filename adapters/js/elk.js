@@ -1,0 +1,111 @@
+'use strict';
+// The call that users of elkjs know, answered by the program `elk`.
+
+const path = require('node:path');
+const { copyOf, documentOf, place } = require('./document');
+const { junctionPoints } = require('./junctions');
+const { LAYOUT_ALGORITHMS, LAYOUT_CATEGORIES, LAYOUT_OPTIONS } = require('./options');
+const { Batch, ProgramError } = require('./process');
+const { Refusal, refusalOf } = require('./refusals');
+
+const LAUNCHER = path.join(__dirname, '..', '..', 'elk');
+
+const NUMBERS = ['ceil', 'exact'];
+
+const copy = (list) => structuredClone(list);
+
+/** Lays out graphs in ELK's JSON. */
+class ELK {
+  #batch;
+  #numbers;
+
+  /**
+   * @param {object} [given]
+   * @param {Record<string, unknown>} [given.defaultLayoutOptions] the options of every call that gives none
+   * @param {'ceil' | 'exact'} [given.numbers] 'ceil' rounds sizes up and places of ports to the nearest whole number
+   *   before a call, 'exact' hands all on as given, so that fractions are refused
+   * @param {string} [given.program] the path of the program `elk`; else that of the environment's ELK_PROGRAM, else
+   *   the repository's launcher
+   */
+  constructor({ defaultLayoutOptions = {}, numbers = 'ceil', program } = {}) {
+    if (!NUMBERS.includes(numbers)) {
+      throw new TypeError(`numbers is 'ceil' or 'exact', not ${JSON.stringify(numbers)}`);
+    }
+    this.defaultLayoutOptions = defaultLayoutOptions;
+    this.#numbers = numbers;
+    this.#batch = new Batch(program ?? (process.env.ELK_PROGRAM || LAUNCHER));
+  }
+
+  /**
+   * Lays out a graph. The given object stays as it is.
+   * @param {object} graph in ELK's JSON
+   * @param {object} [given]
+   * @param {Record<string, unknown>} [given.layoutOptions] options of every element that has none of its own; they
+   *   stand in place of the constructor's
+   * @param {boolean} [given.logging] whether `logging` of the result tells which program answered
+   * @param {boolean} [given.measureExecutionTime] whether it tells how many seconds that took
+   * @returns {Promise<object>} the placed graph; a Refusal where the engine doesn't draw it, a ProgramError where the
+   *   program fails
+   */
+  async layout(graph, { layoutOptions = this.defaultLayoutOptions, logging = false, measureExecutionTime = false } = {}) {
+    if (!graph) {
+      throw new Error("Missing mandatory parameter 'graph'.");
+    }
+    // Taken now, so that the caller may go on with the graph while the call waits.
+    const placed = copyOf(graph);
+    const document = documentOf(placed, { numbers: this.#numbers, general: layoutOptions ?? {} });
+    const { reply, seconds } = await this.#batch.ask(JSON.stringify(document));
+    place(placed, answerOf(reply, document));
+    for (const [edge, points] of junctionPoints(placed)) {
+      edge.junctionPoints = points;
+    }
+    if (logging || measureExecutionTime) {
+      placed.logging = {
+        name: 'elk batch',
+        ...(measureExecutionTime && { executionTime: seconds }),
+        ...(logging && { logs: [] }),
+        children: [],
+      };
+    }
+    return placed;
+  }
+
+  /** All options that the engine reads. */
+  async knownLayoutOptions() {
+    return copy(LAYOUT_OPTIONS);
+  }
+
+  /** All algorithms that the engine has. */
+  async knownLayoutAlgorithms() {
+    return copy(LAYOUT_ALGORITHMS);
+  }
+
+  /** The kinds of drawing that the algorithms make. */
+  async knownLayoutCategories() {
+    return copy(LAYOUT_CATEGORIES);
+  }
+
+  /** Ends the process. Waiting calls fail; a later call starts it again. */
+  terminateWorker() {
+    this.#batch.stop();
+  }
+}
+
+function answerOf(reply, document) {
+  const refusal = refusalOf(reply, document);
+  if (refusal) {
+    throw refusal;
+  }
+  // What the program writes begins with a brace, whatever it answers.
+  if (!reply.startsWith('{')) {
+    throw new ProgramError(`the program's reply is no answer: ${reply.slice(0, 80)}`);
+  }
+  return JSON.parse(reply);
+}
+
+// One object for `require`, for `import ELK from` and for `import { ELK } from`.
+module.exports = ELK;
+module.exports.ELK = ELK;
+module.exports.default = ELK;
+module.exports.Refusal = Refusal;
+module.exports.ProgramError = ProgramError;

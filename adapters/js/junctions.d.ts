@@ -1,0 +1,11 @@
+import { ElkEdge, ElkNode, ElkPoint } from './elk';
+
+/**
+ * The junction points of a placed document: where the routes of edges with a common dock part or join, relative to
+ * what the edges' points are relative to.
+ * @returns the points by edge, without those edges that have none
+ */
+export function junctionPoints(placed: ElkNode): Map<ElkEdge, ElkPoint[]>;
+
+/** The points of an edge's route, from its start to its end; none where it isn't placed. */
+export function routeOf(edge: ElkEdge): ElkPoint[];

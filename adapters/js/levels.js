@@ -1,0 +1,91 @@
+'use strict';
+// What the ids of a document tell: where each node stands, which nodes an edge joins, and at which level it lies.
+
+const isObject = (value) => typeof value === 'object' && value !== null && !Array.isArray(value);
+
+/** The elements of a list of a document; none where it has no such list. */
+const elementsOf = (list) => (Array.isArray(list) ? list.filter(isObject) : []);
+
+const numberOr0 = (value) => (Number.isFinite(value) ? value : 0);
+
+/** The ids at one end of an edge, in the extended or in the primitive form. */
+function endIds(edge, end) {
+  if ('sources' in edge || 'targets' in edge) {
+    const ids = edge[`${end}s`];
+    return Array.isArray(ids) ? ids : [];
+  }
+  return [edge[`${end}Port`] ?? edge[end]];
+}
+
+/** The nearest node that holds both, each counted among the nodes that it holds itself. */
+function commonHolder(places, one, other) {
+  const holders = new Set();
+  for (let node = one; node; node = places.get(node).parent) {
+    holders.add(node);
+  }
+  let node = other;
+  while (node && !holders.has(node)) {
+    node = places.get(node).parent;
+  }
+  return node;
+}
+
+/** The levels of one document, whose coordinates are relative to the parent. */
+class Levels {
+  #nodesById = new Map();
+  #nodesByEnd = new Map();
+
+  /** @param {object} root the document */
+  constructor(root) {
+    /** For each node its parent, its depth and its place in the whole drawing. */
+    this.places = new Map();
+    /** All edges in document order, each with the node at which it is declared. */
+    this.declared = [];
+    this.#enter(root, undefined, { depth: 0, left: 0, top: 0 });
+  }
+
+  #enter(node, parent, { depth, left, top }) {
+    this.places.set(node, { parent, depth, left, top });
+    this.#name(node);
+    for (const edge of elementsOf(node.edges)) {
+      this.declared.push({ edge, at: node });
+    }
+    for (const child of elementsOf(node.children)) {
+      this.#enter(child, node, {
+        depth: depth + 1,
+        left: left + numberOr0(child.x),
+        top: top + numberOr0(child.y),
+      });
+    }
+  }
+
+  // Only what has an id is named by it: the root needs none, and an end may be missing.
+  #name(node) {
+    if (node.id !== undefined) {
+      this.#nodesById.set(node.id, node);
+    }
+    for (const { id } of [node, ...elementsOf(node.ports)]) {
+      if (id !== undefined) {
+        this.#nodesByEnd.set(id, node);
+      }
+    }
+  }
+
+  /** The node at the source or the target of an edge, which may be named by one of its ports. */
+  nodeAt(edge, end) {
+    return this.#nodesByEnd.get(endIds(edge, end)[0]);
+  }
+
+  /** The node to whose content the points of an edge are relative. */
+  levelOf({ edge, at }) {
+    const container = this.#nodesById.get(edge.container);
+    const [source, target] = [this.nodeAt(edge, 'source'), this.nodeAt(edge, 'target')];
+    if (container || !source || !target) {
+      return container ?? at;
+    }
+    const [above, beside] = [source, target].map((node) => this.places.get(node).parent);
+    return commonHolder(this.places, above, beside) ?? at;
+  }
+}
+
+module.exports = { Levels, elementsOf, endIds, isObject, numberOr0 };

@@ -1,0 +1,42 @@
+'use strict';
+
+const assert = require('node:assert/strict');
+const { spawnSync } = require('node:child_process');
+const { readFileSync } = require('node:fs');
+const path = require('node:path');
+const test = require('node:test');
+const { PROGRAM, TOP, WITH_PROGRAM } = require('../testing/program');
+const { elementsOfXml } = require('../testing/xml');
+
+const page = readFileSync(path.join(TOP, 'docs', 'EDITORS.md'), 'utf8');
+
+/** The script of the page that stands below a heading, run as a user would run it at the repository's top. */
+function scriptBelow(heading) {
+  const [, below] = page.split(`## ${heading}\n`);
+  const [, script] = /```js\n(.*?)```/s.exec(below);
+  const program = PROGRAM;
+  const environment = { ...process.env, ELK_PROGRAM: program };
+  const words = ['--input-type=module', '--eval', script];
+  const ran = spawnSync(process.execPath, words, { cwd: TOP, encoding: 'utf8', env: environment, timeout: 120_000 });
+  assert.deepEqual([ran.status, ran.stderr], [0, '']);
+  return ran.stdout;
+}
+
+test('the first script of the page for editors draws a diagram', WITH_PROGRAM, () => {
+  const texts = elementsOfXml(scriptBelow('Switching from elkjs')).filter(({ name }) => name === 'text');
+  assert.deepEqual(texts.map(({ content }) => content).sort(), ['filters', 'high', 'low', 'sink', 'source']);
+});
+
+test('the refusal of the page says what the page says', WITH_PROGRAM, () => {
+  const said = scriptBelow('What is refused').trim().split('\n');
+  assert.deepEqual(said, [...page.matchAll(/console\.log\(.*\/\/ (.*)/g)].map(([, comment]) => comment));
+});
+
+test('the flow of the page is placed', WITH_PROGRAM, () => {
+  const places = scriptBelow('Ports and nesting, in the manner of React Flow');
+  assert.deepEqual([...places.matchAll(/id: '(\w+)'/g)].map(([, id]) => id), ['read', 'group', 'parse', 'check']);
+});
+
+test('the circuit of the page tells its junctions', WITH_PROGRAM, () => {
+  assert.equal(scriptBelow('A circuit').match(/x: \d+, y: \d+/g).length, 4);
+});
