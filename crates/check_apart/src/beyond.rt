@@ -12,11 +12,11 @@ ghost use Rattle.check_apart.specs.FirstApart.{AreParts, FirstPair, IsBeyond, Is
 
 use crate::distances::is_beyond;
 use crate::parts::is_leader;
-use drawing_faults::{
-    Fault, Place, is_child, is_edge_of, node_of, outline_at, point_at, point_count,
-};
+use drawing_faults::{Fault, Place, is_edge_of, outline_at, point_at, point_count};
 use elk_doc::document::{Doc, LevelOptions};
 use elk_doc::drawing::{Certificate, Placed, Section};
+use elk_doc::form::is_child;
+use elk_doc::level::node_of;
 use elk_doc::shape::{Point, Rect};
 
 // A point as a rectangle without size.

@@ -7,9 +7,11 @@ ghost use Rattle.check_apart.specs.FirstApart.{AreParts, PartsHold};
 
 use crate::beyond::{part_at, point_rect};
 use crate::distances::{bottom, left, right, top};
-use drawing_faults::{is_child, is_edge_of, node_of, outline_at, point_at, point_count};
+use drawing_faults::{is_edge_of, outline_at, point_at, point_count};
 use elk_doc::document::{Direction, Doc, LevelOptions};
 use elk_doc::drawing::{Certificate, Placed, Section};
+use elk_doc::form::is_child;
+use elk_doc::level::node_of;
 use elk_doc::shape::Rect;
 use std::alloc::{AllocError, Global};
 

@@ -7,9 +7,10 @@ ghost use Rattle.drawing_faults.specs.Shapes.{AreOutlines};
 ghost use Rattle.check_apart.specs.FirstApart.{AreLayers, AreParts, BothApart, BoxesHold, FirstPair, LayersHold, LevelApart, MayBeNear};
 
 use crate::distances::{is_beyond, stands_clear};
-use drawing_faults::{Fault, Place, is_child, outline_at};
+use drawing_faults::{Fault, Place, outline_at};
 use elk_doc::document::{Direction, Doc, LevelOptions};
 use elk_doc::drawing::{Certificate, Placed};
+use elk_doc::form::is_child;
 use elk_doc::shape::Rect;
 
 // Whether one of two rectangles stands above the other.

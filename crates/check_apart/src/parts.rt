@@ -5,9 +5,9 @@ ghost use Rattle.drawing_faults.specs.Faults.{IsFirst};
 ghost use Rattle.check_apart.specs.Names.{AreNames};
 ghost use Rattle.check_apart.specs.FirstApart.{AreParts, PartHolds, is_leader, number_by};
 
-use drawing_faults::is_child;
 use elk_doc::document::{Doc, LevelOptions};
 use elk_doc::drawing::Certificate;
+use elk_doc::form::is_child;
 
 // Whether a node is a child that names its part.
 pub(crate) fn is_leader(doc: &Doc, node: u32, names: &[u32], child: u32) -> bool

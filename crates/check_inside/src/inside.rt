@@ -7,9 +7,10 @@ ghost use Rattle.drawing_faults.specs.Faults.{IsFirst};
 ghost use Rattle.drawing_faults.specs.Shapes.{AreOutlines};
 ghost use Rattle.check_inside.specs.FirstInside.{FirstInside, OutlineHolds, PointsHold, PointsWithin};
 
-use drawing_faults::{Fault, Place, is_child, is_edge_of, outline_at, point_at, point_count};
+use drawing_faults::{Fault, Place, is_edge_of, outline_at, point_at, point_count};
 use elk_doc::document::{Doc, LevelOptions, Padding};
 use elk_doc::drawing::{Placed, Section};
+use elk_doc::form::is_child;
 use elk_doc::shape::{Point, Rect};
 
 // Whether a stretch, given by its low end and its size, ends this far before a limit.

@@ -5,9 +5,11 @@ ghost use Rattle.elk_doc.specs.Level.{is_edge_of};
 ghost use Rattle.elk_doc.specs.Numbers.{sum_below};
 ghost use Rattle.check_levels.specs.FirstLevels.{AreFlows, AreHeads, AreTails, AreWeights, FirstFlow, IsBalanced, IsIdle, ends_at};
 
-use drawing_faults::{Fault, Place, is_child, is_edge_of, is_loop};
+use drawing_faults::{Fault, Place, is_edge_of};
 use elk_doc::document::Doc;
 use elk_doc::drawing::{Certificate, Placed};
+use elk_doc::form::is_child;
+use elk_doc::level::is_loop;
 
 // The number of an edge in a list, and 0 past its end.
 fn value_at(values: &[u64], edge: usize) -> u128

@@ -8,9 +8,10 @@ ghost use Rattle.drawing_faults.specs.Faults.{IsFirst};
 ghost use Rattle.check_levels.specs.FirstLevels.{AreHeads, AreLayers, AreTails, EdgeRises, FirstLayering, end_layer, length_of, rise_of};
 
 use crate::lists::number_at;
-use drawing_faults::{Fault, Place, is_edge_of, is_loop};
+use drawing_faults::{Fault, Place, is_edge_of};
 use elk_doc::document::Doc;
 use elk_doc::drawing::{Certificate, Placed};
+use elk_doc::level::is_loop;
 
 // The layer of the node at an end of an edge, of the lists of all ends and layers.
 fn layer_of(ends: &[u32], layers: &[u32], edge: u32) -> u32

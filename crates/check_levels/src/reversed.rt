@@ -7,9 +7,10 @@ ghost use Rattle.check_levels.specs.FirstLevels.{AreSteps, ClosesAt, FirstRevers
 ghost use Rattle.check_levels.specs.Steps.{AreBelow};
 
 use crate::paths::{Step, reaches};
-use drawing_faults::{Fault, Place, is_edge_of, is_loop, node_of};
+use drawing_faults::{Fault, Place, is_edge_of};
 use elk_doc::document::Doc;
 use elk_doc::drawing::Certificate;
+use elk_doc::level::{is_loop, node_of};
 use std::alloc::{AllocError, Global};
 
 // Whether a list of numbers has this one.

@@ -2,7 +2,6 @@
 ghost use Rattle.std.specs.Prelude.{◌≡◌, ◌↔◌, ◌<◌, IsTrue, false, true, length, not};
 ghost use Rattle.elk_doc.specs.declared.document.End.TheVariants.{Node as AtNode};
 ghost use Rattle.elk_doc.specs.Fits.{Fits};
-ghost use Rattle.elk_doc.specs.Places.{section_end};
 ghost use Rattle.elk_doc.specs.PortsKept.{KeepsEnd, an_end};
 ghost use Rattle.elk_doc.specs.Sides.{end_of, side_of_end};
 ghost use Rattle.drawing_faults.specs.Faults.{IsFirst};
@@ -11,25 +10,13 @@ ghost use Rattle.check_ports.specs.FirstPorts.{EdgeClear, EdgesClear, EndHolds, 
 ghost use Rattle.check_ports.specs.Spots.{IsRoomy};
 
 use crate::sides::is_on_side;
-use crate::spots::{are_apart, end_of, end_spot, is_roomy, lies_on, port_spot};
+use crate::spots::{are_apart, end_spot, is_roomy, lies_on, port_spot};
 use drawing_faults::is_edge_of;
 use elk_doc::document::{Doc, End};
 use elk_doc::drawing::Placed;
-use elk_doc::shape::{Dock, Point, Side};
-
-// The start or the end of an edge's section.
-fn section_end(doc: &Doc, placed: &Placed, edge: u32, at_source: bool) -> Point
-    requires edge_in { edge < length doc.now.edges }
-    requires fits { Fits doc.now placed.now }
-    ensures { result ≡ section_end placed.now edge at_source }
-{
-    let section = placed.section(edge);
-    if at_source {
-        section.start
-    } else {
-        section.end
-    }
-}
+use elk_doc::places::section_end;
+use elk_doc::shape::{Dock, Side};
+use elk_doc::sides::end_of;
 
 // Whether an end at a node lies on its side.
 fn keeps_end(

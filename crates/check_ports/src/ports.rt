@@ -12,9 +12,10 @@ ghost use Rattle.check_ports.specs.Spots.{IsRoomy};
 use crate::order::order_holds;
 use crate::sides::{agree_across, agree_along, is_pinned, stands_flush};
 use crate::spots::{are_apart, is_roomy, lies_on, port_spot};
-use drawing_faults::{is_child, side_at};
+use drawing_faults::side_at;
 use elk_doc::document::Doc;
 use elk_doc::drawing::Placed;
+use elk_doc::form::is_child;
 use elk_doc::shape::{Dock, Side};
 
 // Whether a port is pinned across its side too.

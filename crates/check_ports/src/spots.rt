@@ -6,7 +6,6 @@ ghost use Rattle.elk_doc.specs.Numbers.{count_below};
 ghost use Rattle.elk_doc.specs.Places.{dock_of};
 ghost use Rattle.elk_doc.specs.PortsKept.{is_at_node, is_side, is_spread_end, is_spread_port, port_offset, size_along};
 ghost use Rattle.elk_doc.specs.Shapes.{half_of};
-ghost use Rattle.elk_doc.specs.Sides.{end_of};
 ghost use Rattle.elk_doc.specs.Sound.{IsEndIn, IsPlaceWithin, IsSoundSize, along};
 ghost use Rattle.drawing_faults.specs.Shapes.{AreDocks, AreSides};
 ghost use Rattle.check_ports.specs.Spots.{IsRoomy, KeepApart, LiesOn, end_spot, is_implicit, port_spot};
@@ -16,6 +15,7 @@ use drawing_faults::{dock_of, side_at};
 use elk_doc::document::{Doc, End};
 use elk_doc::drawing::Placed;
 use elk_doc::shape::{Dock, Point, Rect, Side, Size};
+use elk_doc::sides::end_of;
 
 // A port or an end of an edge on a side of its node.
 #[derive(Clone, Copy)]
@@ -74,20 +74,6 @@ pub(crate) fn port_spot(doc: &Doc, placed: &Placed, sides: &[Side], port: u32) -
         side: side_at(doc, placed, sides, port),
         offset,
         spread: !is_pinned(doc, port),
-    }
-}
-
-// An end of an edge.
-pub(crate) fn end_of(doc: &Doc, edge: u32, at_source: bool) -> End
-    requires { edge < length doc.now.edges }
-    ensures value { result ≡ end_of doc.now edge at_source }
-    ensures inside { IsEndIn doc.now result }
-{
-    let found = doc.edge(edge);
-    if at_source {
-        found.source
-    } else {
-        found.target
     }
 }
 

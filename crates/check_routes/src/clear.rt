@@ -13,12 +13,12 @@ ghost use Rattle.check_routes.specs.FirstRoutes.{ChildClear, ClearHolds, FirstCl
 ghost use Rattle.check_routes.specs.Stretches.{AreParallel, KeepsOff, KeepsOut};
 
 use crate::bounds::{RouteBounds, bounds_of, lie_off};
-use drawing_faults::{
-    Fault, Place, is_child, is_edge_of, node_of, outline_at, point_at, point_count,
-};
+use drawing_faults::{Fault, Place, is_edge_of, outline_at, point_at, point_count};
 use elk_doc::document::Doc;
 use elk_doc::drawing::{Placed, Section};
+use elk_doc::form::is_child;
 use elk_doc::geometry::{segment_enters_rect, segment_meets_rect};
+use elk_doc::level::node_of;
 use elk_doc::shape::Rect;
 
 // Whether no segment has a point in the closed rectangle.

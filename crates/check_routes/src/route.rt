@@ -7,11 +7,10 @@ ghost use Rattle.drawing_faults.specs.Shapes.{AreDocks, AreSides};
 ghost use Rattle.check_routes.specs.FirstRoutes.{FirstRoute, IsAnchored, LeavesBoth, RouteHolds};
 ghost use Rattle.check_routes.specs.Stretches.{AreSteps, AreTurns};
 
-use drawing_faults::{
-    Fault, Place, anchor_at, dock_of, is_edge_of, is_loop, point_at, point_count,
-};
+use drawing_faults::{Fault, Place, anchor_at, dock_of, is_edge_of, point_at, point_count};
 use elk_doc::document::Doc;
 use elk_doc::drawing::{Placed, Section};
+use elk_doc::level::is_loop;
 use elk_doc::shape::{Dock, Point, Side};
 
 // Whether two points differ in exactly one coordinate.

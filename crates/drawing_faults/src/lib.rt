@@ -3,14 +3,11 @@
 
 mod anchors;
 mod fault;
-mod given;
 mod read;
 mod shapes;
 mod touch;
 
 pub use anchors::anchor_at;
 pub use fault::{Fault, Place};
-pub use read::{
-    head_node, is_child, is_edge_of, is_listed, is_loop, node_of, point_at, point_count, tail_node,
-};
+pub use read::{head_node, is_edge_of, point_at, point_count, tail_node};
 pub use shapes::{dock_of, docks, listed, outline_at, outlines, side_at, sides};

@@ -1,38 +1,15 @@
 //! Readers of documents and drawings.
 ghost use Rattle.std.specs.Prelude.{◌≡◌, ◌+◌, ◌<◌, length, slice_index_or};
 ghost use Rattle.elk_doc.specs.Document.{origin};
-ghost use Rattle.elk_doc.specs.Drawing.{head_node, is_listed, points_of, tail_node};
+ghost use Rattle.elk_doc.specs.Drawing.{head_node, points_of, tail_node};
 ghost use Rattle.elk_doc.specs.Fits.{Fits};
-ghost use Rattle.elk_doc.specs.Level.{is_child, is_edge_of, is_loop, node_of_end};
-ghost use Rattle.elk_doc.specs.Sound.{IsEndIn};
+ghost use Rattle.elk_doc.specs.Level.{is_edge_of};
 
-use elk_doc::document::{Doc, End};
+use elk_doc::document::Doc;
 use elk_doc::drawing::{Placed, Section};
-use elk_doc::level::level_of;
+use elk_doc::level::{level_of, node_of};
 use elk_doc::shape::Point;
-
-/// The node at which an end stands.
-pub fn node_of(doc: &Doc, end: End) -> u32
-    requires { IsEndIn doc.now end }
-    ensures value { result ≡ node_of_end doc.now end }
-    ensures inside { result < length doc.now.nodes }
-{
-    match end {
-        End::Node(node) => node,
-        End::Port(port) => doc.port(port).node,
-    }
-}
-
-/// Whether a node is a child of another.
-pub fn is_child(doc: &Doc, node: u32, child: u32) -> bool
-    requires { child < length doc.now.nodes }
-    ensures { result ≡ is_child doc.now node child }
-{
-    match doc.node(child).parent {
-        Some(parent) => parent == node,
-        None => false,
-    }
-}
+use elk_doc::sides::is_listed;
 
 /// Whether an edge belongs to the level of a node.
 pub fn is_edge_of(doc: &Doc, node: u32, edge: u32) -> bool
@@ -40,28 +17,6 @@ pub fn is_edge_of(doc: &Doc, node: u32, edge: u32) -> bool
     ensures { result ≡ is_edge_of doc.now node edge }
 {
     level_of(doc, edge) == node
-}
-
-/// Whether both ends of an edge stand at one node.
-pub fn is_loop(doc: &Doc, edge: u32) -> bool
-    requires { edge < length doc.now.edges }
-    ensures { result ≡ is_loop doc.now edge }
-{
-    let source = doc.edge(edge).source;
-    let target = doc.edge(edge).target;
-    node_of(doc, source) == node_of(doc, target)
-}
-
-/// Whether an edge is written as reversed.
-pub fn is_listed(doc: &Doc, placed: &Placed, edge: u32) -> bool
-    requires edge_in { edge < length doc.now.edges }
-    requires fits { Fits doc.now placed.now }
-    ensures { result ≡ is_listed doc.now placed.now edge }
-{
-    match placed.certificate(level_of(doc, edge)) {
-        Some(certificate) => certificate.reversed.as_slice().contains(&edge),
-        None => false,
-    }
 }
 
 /// The node at which the oriented edge leaves.

@@ -6,13 +6,12 @@ ghost use Rattle.elk_doc.specs.Fits.{Fits};
 ghost use Rattle.drawing_faults.specs.Shapes.{AreDocks, AreListed, AreOutlines, AreSides, AreTouched};
 
 use crate::anchors::dock_for;
-use crate::given::{frame_of, given_side, side_or};
-use crate::read::is_listed;
 use crate::touch::touched;
 use elk_doc::document::Doc;
 use elk_doc::drawing::Placed;
 use elk_doc::places::outline;
 use elk_doc::shape::{Dock, Rect, Side};
+use elk_doc::sides::{frame_of, given_side, is_listed, side_or};
 use std::alloc::{AllocError, Global};
 
 /// The outlines of all nodes, each relative to the node's parent.

@@ -3,9 +3,9 @@ ghost use Rattle.std.specs.Prelude.{◌≡◌, ◌+◌, ◌<◌, IfOk, length};
 ghost use Rattle.elk_doc.specs.Sound.{IsEndIn};
 ghost use Rattle.drawing_faults.specs.Shapes.{AreListed, AreTouched, AreTouchedBelow, oriented_end};
 
-use crate::read::is_loop;
 use elk_doc::document::{Doc, End};
 use elk_doc::drawing::Placed;
+use elk_doc::level::is_loop;
 use std::alloc::{AllocError, Global};
 
 // The end at which an oriented edge enters, or at which it leaves.

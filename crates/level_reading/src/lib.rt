@@ -4,7 +4,6 @@
 //! level is read in a time that follows its own size.
 #![tactic(auto)]
 
-mod given;
 mod grouping;
 mod index;
 mod laws;

@@ -9,12 +9,12 @@ ghost use Rattle.turned_levels.specs.Turned.{level_edge, level_of, level_port, s
 ghost use Rattle.level_reading.specs.Indexed.{IsIndex};
 ghost use Rattle.level_reading.specs.Read.{AreSizes, HasSizes, child_with, size_at, sized_child};
 
-use crate::given::given_side;
 use crate::index::Index;
 use crate::turning::{half_along, turned_given, turned_place, turned_size};
 use elk_doc::document::{Direction, Doc, End, LevelOptions};
 use elk_doc::list::Items;
 use elk_doc::shape::Size;
+use elk_doc::sides::given_side;
 use level_plan::{LevelEdge, LevelIn, Spoke};
 use port_order::{Child, ChildPort};
 use std::alloc::{AllocError, Global};

@@ -9,6 +9,7 @@ use crate::children::{Child, port_at};
 use crate::spots::Spot;
 use elk_doc::document::{Direction, PortRule};
 use elk_doc::shape::{Point, Side, Size};
+use elk_doc::sides::side_from;
 
 /// The side of a spot in the working frame. A port lies on the side that its child's rule gives it; every other port,
 /// and every implicit end, lies on the west where edges only enter it, and on the east otherwise.
@@ -79,26 +80,6 @@ fn given_side(child: &Child, port: u32) -> Option<Side>
     let found = port_at(child, port);
     let by_place = side_of_place(child.direction, child.size, found.place, found.size);
     side_from(child.rule, found.side, !child.compound, by_place)
-}
-
-// The side that a port asks for under a rule, or that its place tells.
-fn side_from(
-    rule: PortRule,
-    asked: Option<Side>,
-    leaf: bool,
-    by_place: Option<Side>,
-) -> Option<Side>
-    ensures { result ≡ side_from rule asked leaf by_place }
-{
-    match rule {
-        PortRule::Free => None,
-        PortRule::FixedSide => asked,
-        PortRule::FixedOrder => asked,
-        PortRule::FixedPos => match asked {
-            Some(side) => Some(side),
-            None => { if leaf { by_place } else { None } }
-        },
-    }
 }
 
 // The side of the place that a port is given: the first on which it sticks out, else the first that it touches.

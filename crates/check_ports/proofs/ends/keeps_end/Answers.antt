@@ -13,7 +13,7 @@ use Rattle.check_ports.proofs.ends.keeps_end.Goals as goal
 
 pub returns-then-not-is_on_side : goal.returns-then-not-is_on_side
 returns-then-not-is_on_side c =
-    let line = subst4 (λ (x : SideSpot) (r : Rect) (q : Point) (b : Bool). IsTrue c.is_on_side.result ↔ IsOnSide x.side r q) _ _ _ _ _ _ true true c.end_spot-spot.ensures c.box_of-outer.ensures c.section_end-point.ensures refl c.is_on_side.ensures in
+    let line = subst4 (λ (x : SideSpot) (r : Rect) (q : Point) (b : Bool). IsTrue c.is_on_side.result ↔ IsOnSide x.side r q) _ _ _ _ _ _ true true c.end_spot-spot.ensures c.box_of-outer.ensures c.section_end-point.ensures.value refl c.is_on_side.ensures in
     (λ t. absurd (search rules), λ h. absurd (both_ways c.is_on_side.result c.if-not-is_on_side.true (line.1 h.on_line)))
 
 pub returns : goal.returns
@@ -23,7 +23,7 @@ returns c =
     let m = c.args.node in
     let e = c.args.edge in
     let s = c.args.at_source in
-    let line = subst4 (λ (x : SideSpot) (r : Rect) (q : Point) (b : Bool). IsTrue c.is_on_side.result ↔ IsOnSide x.side r q) _ _ _ _ _ _ true true c.end_spot-spot.ensures c.box_of-outer.ensures c.section_end-point.ensures refl c.is_on_side.ensures in
+    let line = subst4 (λ (x : SideSpot) (r : Rect) (q : Point) (b : Bool). IsTrue c.is_on_side.result ↔ IsOnSide x.side r q) _ _ _ _ _ _ true true c.end_spot-spot.ensures c.box_of-outer.ensures c.section_end-point.ensures.value refl c.is_on_side.ensures in
     let lies = subst4 (λ (x : SideSpot) (r : Rect) (a b : Bool). IsTrue c.lies_on.result ↔ LiesOn true r x) _ _ _ _ true true true true c.end_spot-spot.ensures c.box_of-outer.ensures refl refl c.lies_on.ensures in
     let same = end_offset d p e s m c.requires.at_node in
     let P : ℤ → Type 0 = λ z. IsWithin (pos 0) (side_length (side_of_end d p e s) (box_of p m)) z in (
