@@ -14,6 +14,3 @@ mod spokes;
 mod visiting;
 
 pub use choosing::{Alignment, align};
-
-#[cfg(test)]
-mod tests;

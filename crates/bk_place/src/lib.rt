@@ -11,10 +11,3 @@ mod placing;
 
 pub use alignment::{Alignment, align};
 pub use placing::place;
-
-#[cfg(test)]
-mod checks;
-#[cfg(test)]
-mod long_edges;
-#[cfg(test)]
-mod tests;

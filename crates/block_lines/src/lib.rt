@@ -15,6 +15,3 @@ mod placing;
 mod tops;
 
 pub use placing::place_links;
-
-#[cfg(test)]
-mod tests;

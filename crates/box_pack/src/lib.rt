@@ -4,8 +4,6 @@
 
 mod packing;
 mod squarest;
-#[cfg(test)]
-mod tests;
 mod walk;
 
 pub use packing::{Rows, pack};

@@ -25,6 +25,3 @@ mod sweeping;
 
 pub use counting::crossings;
 pub use reducing::reduce;
-
-#[cfg(test)]
-mod tests;

@@ -8,8 +8,6 @@ mod ordering;
 mod orienting;
 mod placing;
 mod searching;
-#[cfg(test)]
-mod tests;
 
 pub use ordering::topological;
 pub use orienting::{Reversed, orient};

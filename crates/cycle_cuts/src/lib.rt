@@ -23,6 +23,3 @@ pub struct Cuts {
     pub cut: Vec<bool>,
     pub depths: Vec<u32>,
 }
-
-#[cfg(test)]
-mod tests;

@@ -13,6 +13,3 @@ mod units;
 
 pub use distances::{body_room, room};
 pub use units::{Layered, Lines, Link, Order, Unit};
-
-#[cfg(test)]
-mod tests;

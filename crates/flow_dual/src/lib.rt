@@ -13,8 +13,6 @@ mod settle;
 mod solving;
 mod start;
 mod steps;
-#[cfg(test)]
-mod tests;
 mod turns;
 
 pub use layering_laws::{NetEdge, Network, Solution};

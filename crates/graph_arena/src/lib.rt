@@ -11,8 +11,6 @@ mod keys;
 mod links;
 mod relink;
 mod slots;
-#[cfg(test)]
-mod tests;
 
 pub use arena::Arena;
 pub use keys::{EdgeKey, NodeKey};

@@ -9,6 +9,3 @@ mod meeting;
 
 pub use counting::count_above;
 pub use meeting::any_meets;
-
-#[cfg(test)]
-mod tests;

@@ -7,8 +7,6 @@
 mod chains;
 mod heights;
 mod splitting;
-#[cfg(test)]
-mod tests;
 
 pub use chains::{Chains, Lane};
 pub use splitting::split_all;

@@ -11,8 +11,6 @@ mod laws;
 mod passing;
 mod rooted;
 mod solving;
-#[cfg(test)]
-mod tests;
 mod turning;
 mod waiting;
 

@@ -5,8 +5,6 @@ mod dividing;
 mod joining;
 mod laws;
 mod solving;
-#[cfg(test)]
-mod tests;
 
 pub use laws::parts_have_one_numbering;
 pub use layering_laws::{NetEdge, Network, Solution};

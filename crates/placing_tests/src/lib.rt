@@ -1,14 +1,38 @@
-//! Tests of ports, self-loops, routes and places: rows that were worked by hand. They stand above the crates that they call, so that
-//! none of those is proved again with its tests.
+//! Tests of ports, self-loops, routes, rows and places: rows that were worked by hand, and edges drawn by lot. They stand above the
+//! crates that they call, so that none of those is proved again with its tests.
 #![tactic(auto)]
 
 #[cfg(test)]
+mod blocks;
+#[cfg(test)]
+mod checks;
+#[cfg(test)]
+mod counts;
+#[cfg(test)]
+mod crossings;
+#[cfg(test)]
+mod cuts;
+#[cfg(test)]
+mod distances;
+#[cfg(test)]
+mod forks;
+#[cfg(test)]
 mod heights;
+#[cfg(test)]
+mod levelled;
 #[cfg(test)]
 mod lines;
 #[cfg(test)]
 mod loops;
 #[cfg(test)]
+mod packing;
+#[cfg(test)]
 mod ports;
+#[cfg(test)]
+mod slots;
+#[cfg(test)]
+mod straight;
+#[cfg(test)]
+mod sweeps;
 #[cfg(test)]
 mod values;

@@ -53,6 +53,3 @@ pub struct Slots {
     pub count: u32,
     pub routes: Vec<NetRoute>,
 }
-
-#[cfg(test)]
-mod tests;

@@ -1,0 +1,15 @@
+use Rattle.elk_layers.specs.Layered.{plain, rows_of}
+use Rattle.unit_places.proofs.ForkLemmas.{is_sound, are_rows}
+use Rattle.placing_tests.proofs.sweeps.one_beside_two.Goals as goal
+
+pub place-requires-clause-sound : goal.place-requires-clause-sound
+place-requires-clause-sound g c = is_sound (plain c.in_ok-layered.layered) c.in_ok-layered.ensures
+
+pub place-requires-clause-rows : goal.place-requires-clause-rows
+place-requires-clause-rows g c = are_rows (plain c.in_ok-layered.layered) (rows_of c.in_ok-rows.rows) c.in_ok-layered.ensures c.in_ok-rows.ensures
+
+pub place-requires-2-clause-sound : goal.place-requires-2-clause-sound
+place-requires-2-clause-sound g c = is_sound (plain c.in_ok-layered.layered) c.in_ok-layered.ensures
+
+pub place-requires-2-clause-rows : goal.place-requires-2-clause-rows
+place-requires-2-clause-rows g c = are_rows (plain c.in_ok-layered.layered) (rows_of c.in_ok-rows.rows) c.in_ok-layered.ensures c.in_ok-rows.ensures

@@ -1,0 +1,133 @@
+//! Small gaps.
+ghost use Rattle.route_slots.specs.GapFree.{IsNet, AreHeights};
+
+use route_slots::{Net, NetRoute, Pin, assign};
+use std::test::Fail;
+
+// A net from the left to the right.
+fn net(left: u32, right: u32) -> Net
+    ensures pins { IsNet result }
+    ensures heights { AreHeights result }
+{
+    Net {
+        a: Pin {
+            on_left: true,
+            height: i64::from(left),
+        },
+        b: Pin {
+            on_left: false,
+            height: i64::from(right),
+        },
+    }
+}
+
+#[test]
+fn pins_at_one_height_are_joined_straight(rt: HostRuntime) -> Result<(), Fail> {
+    let slots = assign(rt.alloc(), &[net(5, 5)])?;
+    assert_eq!(rt; slots.count, 0);
+    assert_eq!(rt; slots.routes.len(), 1);
+    assert!(rt; matches!(slots.routes[0], NetRoute::Straight));
+    Ok(())
+}
+
+#[test]
+fn pieces_that_do_not_meet_share_a_slot(rt: HostRuntime) -> Result<(), Fail> {
+    let slots = assign(rt.alloc(), &[net(0, 10), net(20, 30)])?;
+    assert_eq!(rt; slots.count, 1);
+    assert_eq!(rt; slots.routes.len(), 2);
+    assert!(rt; matches!(slots.routes[0], NetRoute::One { slot: 0 }));
+    assert!(rt; matches!(slots.routes[1], NetRoute::One { slot: 0 }));
+    Ok(())
+}
+
+#[test]
+fn there_are_as_many_slots_as_pieces_meet(rt: HostRuntime) -> Result<(), Fail> {
+    let slots = assign(rt.alloc(), &[net(0, 10), net(5, 15), net(20, 30)])?;
+    assert_eq!(rt; slots.count, 2);
+    assert_eq!(rt; slots.routes.len(), 3);
+    for route in &slots.routes {
+        assert!(rt; matches!(route, NetRoute::One { .. }));
+    }
+    Ok(())
+}
+
+#[test]
+fn a_chain_of_conflicts_is_not_cut(rt: HostRuntime) -> Result<(), Fail> {
+    let slots = assign(rt.alloc(), &[net(0, 10), net(10, 20)])?;
+    assert_eq!(rt; slots.routes.len(), 2);
+    match slots.routes[0] {
+        NetRoute::One { slot: later } => match slots.routes[1] {
+            NetRoute::One { slot } => assert!(rt; slot <= later),
+            _ => assert!(rt; false),
+        },
+        _ => assert!(rt; false),
+    }
+    Ok(())
+}
+
+#[test]
+fn a_cycle_of_conflicts_is_cut(rt: HostRuntime) -> Result<(), Fail> {
+    let slots = assign(rt.alloc(), &[net(1, 2), net(2, 1)])?;
+    assert_eq!(rt; slots.routes.len(), 2);
+    let mut split = false;
+    for route in &slots.routes {
+        if let NetRoute::Two { height, .. } = route {
+            assert!(rt; *height != 1 && *height != 2);
+            split = true;
+        }
+    }
+    assert!(rt; split);
+    Ok(())
+}
+
+#[test]
+fn of_two_nets_that_exchange_heights_one_turns_between(rt: HostRuntime) -> Result<(), Fail> {
+    let slots = assign(rt.alloc(), &[net(0, 20), net(20, 0)])?;
+    assert_eq!(rt; slots.count, 3);
+    assert_eq!(rt; slots.routes.len(), 2);
+    assert!(rt; matches!(slots.routes[0], NetRoute::One { slot: 1 }));
+    assert!(rt;
+        matches!(
+            slots.routes[1],
+            NetRoute::Two {
+                first: 0,
+                height: 10,
+                second: 2
+            }
+        )
+    );
+    Ok(())
+}
+
+#[test]
+fn of_three_nets_on_a_cycle_one_is_split(rt: HostRuntime) -> Result<(), Fail> {
+    let slots = assign(rt.alloc(), &[net(0, 10), net(10, 20), net(20, 0)])?;
+    assert_eq!(rt; slots.count, 4);
+    assert_eq!(rt; slots.routes.len(), 3);
+    assert!(rt; matches!(slots.routes[0], NetRoute::One { slot: 2 }));
+    assert!(rt; matches!(slots.routes[1], NetRoute::One { slot: 1 }));
+    assert!(rt;
+        matches!(
+            slots.routes[2],
+            NetRoute::Two {
+                first: 0,
+                height: 5,
+                second: 3
+            }
+        )
+    );
+    Ok(())
+}
+
+#[test]
+fn nets_of_a_hub_do_not_cross(rt: HostRuntime) -> Result<(), Fail> {
+    let nets = [net(100, 1), net(102, 51), net(104, 151), net(106, 201)];
+    let slots = assign(rt.alloc(), &nets)?;
+    assert_eq!(rt; slots.count, 2);
+    assert_eq!(rt; slots.routes.len(), 4);
+    assert!(rt; matches!(slots.routes[0], NetRoute::One { slot: 0 }));
+    assert!(rt; matches!(slots.routes[1], NetRoute::One { slot: 1 }));
+    assert!(rt; matches!(slots.routes[2], NetRoute::One { slot: 1 }));
+    assert!(rt; matches!(slots.routes[3], NetRoute::One { slot: 0 }));
+    Ok(())
+}
