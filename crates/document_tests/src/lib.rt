@@ -1,8 +1,15 @@
-//! Tests of how documents are read: options, paddings, and which rule refuses which text. They stand above the crates that read,
-//! so that none of those is proved again with its tests.
+//! Tests of documents: one built in code with its drawing, how texts are read (options, paddings, and which rule refuses which
+//! text), and how placed documents are written and read again. They stand above the crates that they call, so that none of those is
+//! proved again with its tests.
 #![tactic(auto)]
 
 #[cfg(test)]
+mod answers;
+#[cfg(test)]
+mod drawings;
+#[cfg(test)]
 mod options;
+#[cfg(test)]
+mod placed;
 #[cfg(test)]
 mod refusals;

@@ -12,6 +12,3 @@ mod turns;
 
 pub use answer::{LineFault, Piece};
 pub use reader::LineReader;
-
-#[cfg(test)]
-mod tests;

@@ -108,6 +108,3 @@ fn matches_of<'a>(alloc: Global, words: &'a [String]) -> Result<ArgMatches<'a>, 
         .arg(number)?;
     elk.try_get_matches_from(words)
 }
-
-#[cfg(test)]
-mod tests;

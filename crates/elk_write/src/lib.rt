@@ -16,8 +16,3 @@ pub use answer::answer_value;
 pub use ids::id_text;
 pub use placing::placed_of;
 pub use text::text_of;
-
-#[cfg(test)]
-mod placing_tests;
-#[cfg(test)]
-mod tests;

@@ -10,6 +10,3 @@ mod outlines;
 mod placing;
 
 pub use layout::{BoxesOut, layout_boxes};
-
-#[cfg(test)]
-mod tests;

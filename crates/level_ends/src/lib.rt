@@ -18,6 +18,3 @@ mod units;
 
 pub use laws::{tables_need_no_orders, tables_read_no_tops};
 pub use tables::table_of;
-
-#[cfg(test)]
-mod tests;

@@ -7,6 +7,3 @@ mod lines;
 mod phases;
 
 pub use layout::layout_level;
-
-#[cfg(test)]
-mod tests;

@@ -9,6 +9,3 @@ mod routing;
 pub mod sheet;
 
 pub use routing::{LoopLegs, Routing, gaps_of, marks_of};
-
-#[cfg(test)]
-mod tests;

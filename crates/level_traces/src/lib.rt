@@ -8,6 +8,3 @@ mod steps;
 mod tracing;
 
 pub use tracing::{Routes, routes_of};
-
-#[cfg(test)]
-mod tests;

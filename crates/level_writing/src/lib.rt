@@ -16,6 +16,3 @@ pub use figure::{LevelFigure, figure_of};
 pub use laws::{sizes_frame, tight_drawings_are_writable};
 pub use sizes::frame_node;
 pub use writing::{LevelNumbers, write_level, write_ports_of};
-
-#[cfg(test)]
-mod tests;

@@ -8,8 +8,6 @@ mod laws;
 mod levels;
 mod numbering;
 mod splitting;
-#[cfg(test)]
-mod tests;
 
 pub use laws::{parts_are_levels, parts_say_the_same};
 pub use levels::{PartLevel, PartLevels, Seats};

@@ -9,6 +9,3 @@ mod placing;
 
 pub use laws::root_ports_are_kept;
 pub use placing::place_root_ports;
-
-#[cfg(test)]
-mod tests;

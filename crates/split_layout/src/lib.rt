@@ -11,6 +11,3 @@ mod limit;
 
 pub use laws::{parts_are_bounded, parts_are_drawn};
 pub use layout::{PartsOut, layout_parts};
-
-#[cfg(test)]
-mod tests;

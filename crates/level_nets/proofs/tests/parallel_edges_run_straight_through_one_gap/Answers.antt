@@ -1,8 +1,0 @@
-use Rattle.std.proofs.Common.{refl, rules}
-use Rattle.level_nets.specs.Parts.{IsGiven}
-use Rattle.level_nets.proofs.WorkedLemmas.{worked_parts, parallel_given}
-use Rattle.level_nets.proofs.tests.parallel_edges_run_straight_through_one_gap.Goals as goal
-
-pub gaps_of-requires : goal.gaps_of-requires
-gaps_of-requires g c =
-    record { given = worked_parts IsGiven _ _ _ _ _ c.in_ok-level.ensures c.in_ok-layered.ensures (search rules) refl c.in_ok-table.ensures parallel_given }

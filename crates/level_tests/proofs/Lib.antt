@@ -1,0 +1,2 @@
+pub mod SmallLevels
+pub mod TurningLemmas

@@ -1,0 +1,24 @@
+//! The gaps of two children that two parallel edges join.
+use crate::fixtures::{parallel, parallel_layered, parallel_table};
+use elk_layers::Lines;
+use level_nets::gaps_of;
+use std::test::Fail;
+
+#[test]
+fn parallel_edges_run_straight_through_one_gap(rt: HostRuntime) -> Result<(), Fail> {
+    let level = parallel(rt.alloc())?;
+    let layered = parallel_layered(rt.alloc())?;
+    let table = parallel_table(rt.alloc())?;
+    let lines = Lines {
+        top: vec![in rt.alloc(); 0, 0]?,
+    };
+    let routing = gaps_of(rt.alloc(), &level, &layered, &lines, &[], &table)?;
+    assert_eq!(rt; routing.gaps.len(), 3);
+    let gap = routing.gaps.at(1);
+    assert_eq!(rt; (gap.left, gap.right), (30, 50));
+    assert_eq!(rt; (gap.nets.len(), gap.slots.count), (2, 0));
+    assert_eq!(rt; gap.nets.as_slice()[1].a.height, 20);
+    assert_eq!(rt; routing.gaps.at(2).left, 80);
+    assert_eq!(rt; routing.links.as_slice(), [0, 1].as_slice());
+    Ok(())
+}

@@ -1,0 +1,27 @@
+//! The parts of a level whose children and edges are mixed.
+use crate::fixtures::mixed;
+use part_levels::split;
+use std::test::Fail;
+
+#[test]
+fn three_parts(rt: HostRuntime) -> Result<(), Fail> {
+    let alloc = rt.alloc();
+    let level = mixed(alloc)?;
+    let parts = split(alloc, &level)?;
+    assert_eq!(rt; parts.children.parts.as_slice(), [0, 1, 2, 1, 0].as_slice());
+    assert_eq!(rt;
+        parts.children.places.as_slice(),
+        [0, 0, 0, 1, 1].as_slice()
+    );
+    assert_eq!(rt; parts.edges.parts.as_slice(), [1, 0, 2, 1].as_slice());
+    assert_eq!(rt; parts.edges.places.as_slice(), [0, 0, 0, 1].as_slice());
+    assert_eq!(rt; parts.parts.len(), 3);
+    for (part, size) in parts.parts.as_slice().iter().zip([2, 2, 1].iter()) {
+        assert_eq!(rt; part.children.len(), *size);
+        assert_eq!(rt; part.level.children.len(), *size);
+        for edge in part.level.edges.as_slice() {
+            assert!(rt; edge.source.child < 2);
+        }
+    }
+    Ok(())
+}

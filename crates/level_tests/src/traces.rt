@@ -1,0 +1,37 @@
+//! The boxes and traces of two children that two parallel edges join.
+use crate::fixtures::{parallel, parallel_layered, parallel_table};
+use elk_doc::shape::Point;
+use elk_layers::Lines;
+use level_nets::gaps_of;
+use level_traces::routes_of;
+use route_lines::Step;
+use std::test::Fail;
+
+#[test]
+fn parallel_edges_lead_through_one_gap(rt: HostRuntime) -> Result<(), Fail> {
+    let level = parallel(rt.alloc())?;
+    let layered = parallel_layered(rt.alloc())?;
+    let table = parallel_table(rt.alloc())?;
+    let lines = Lines {
+        top: vec![in rt.alloc(); 0, 0]?,
+    };
+    let routing = gaps_of(rt.alloc(), &level, &layered, &lines, &[], &table)?;
+    let routes = routes_of(rt.alloc(), &level, &layered, &lines, &[], &table, &routing)?;
+    assert_eq!(rt;
+        routes.boxes.as_slice(),
+        [Point { x: 0, y: 0 }, Point { x: 50, y: 0 }].as_slice()
+    );
+    assert_eq!(rt; routes.traces.len(), 2);
+    let trace = &routes.traces.as_slice()[1];
+    assert_eq!(rt;
+        (trace.start, trace.end),
+        (Point { x: 30, y: 20 }, Point { x: 50, y: 20 })
+    );
+    assert_eq!(rt; trace.steps.len(), 1);
+    let leg = match trace.steps.as_slice()[0] {
+        Step::Leg { gap, net, from_a } => (gap, net, from_a),
+        Step::Lane(_) => (9, 9, false),
+    };
+    assert_eq!(rt; leg, (1, 1, true));
+    Ok(())
+}
