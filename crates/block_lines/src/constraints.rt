@@ -1,12 +1,12 @@
 //! Distances of units, as bounds on their blocks.
 
-ghost use Rattle.std.specs.Prelude.{◌≡◌, ℕ, ◌<◌, ◌≤◌, ◌^◌, ◌++◌, ◌+ℤ◌, ◌-ℤ◌, ◌≤ℤ◌, pos, length, slice_index_or, IfOk, true};
-ghost use Rattle.std.specs.List.{All, filter};
-ghost use Rattle.elk_layers.specs.Layered.{plain, rows_of, IsSound, AreRows, is_child};
+ghost use Rattle.std.specs.Prelude.{◌≡◌, ◌<◌, ◌≤◌, ◌^◌, ◌++◌, ◌+ℤ◌, ◌-ℤ◌, ◌≤ℤ◌, pos, length, IfOk, true};
+ghost use Rattle.std.specs.List.{All};
+ghost use Rattle.elk_layers.specs.Layered.{plain, rows_of, IsSound, AreRows};
 ghost use Rattle.block_lines.specs.Constraints.{block_at, offset_at, bounds_along, row_bounds, all_bounds};
-ghost use Rattle.block_lines.specs.Phases.{IsSmall, AreSmall, distance_of, CanBeApart};
+ghost use Rattle.block_lines.specs.Phases.{AreSmall, distance_of, CanBeApart};
 
-use elk_layers::{Layered, Order, body_room, room};
+use elk_layers::{Layered, Order, body_room, children_of, room};
 use separation::Bound;
 use std::alloc::{AllocError, Global};
 
@@ -70,28 +70,6 @@ fn push_bounds(
     Ok(())
 }
 
-fn is_child_at(layered: &Layered, unit: u32) -> bool
-    requires { unit < length (plain layered.now).units }
-    ensures { result ≡ is_child (plain layered.now) unit }
-{
-    let units = layered.units.as_slice();
-    units[unit as usize].child.is_some()
-}
-
-/// The children of a row, in its order.
-fn children(alloc: Global, layered: &Layered, row: &[u32]) -> Result<Vec<u32>, AllocError>
-    requires { All (λ u. u < length (plain layered.now).units) row.now }
-    ensures { IfOk result (λ v. v.items ≡ filter (is_child (plain layered.now)) row.now) }
-{
-    let mut found = Vec::new(alloc);
-    for u in row {
-        if is_child_at(layered, *u) {
-            found.push(*u)?;
-        }
-    }
-    Ok(found)
-}
-
 /// Adds the bounds of a row.
 fn push_row_bounds(
     alloc: Global,
@@ -109,7 +87,7 @@ fn push_row_bounds(
     ensures { IfOk result (λ _. bounds.new.items ≡ bounds.old.items ++ row_bounds (plain layered.now) blocks.now offsets.now row.now) }
 {
     push_bounds(layered, false, row, blocks, offsets, bounds)?;
-    let inner = children(alloc, layered, row)?;
+    let inner = children_of(alloc, layered, row)?;
     push_bounds(layered, true, inner.as_slice(), blocks, offsets, bounds)
 }
 

@@ -1,5 +1,5 @@
 //! Parts that stand apart by the rectangles that hold them: a quick test in front of the one that compares all their shapes.
-ghost use Rattle.std.specs.Prelude.{◌≡◌, ◌<◌, ◌≤ℤ◌, ℕ, IfOk, IsTrue, length};
+ghost use Rattle.std.specs.Prelude.{◌<◌, ◌≤ℤ◌, ℕ, IfOk, IsTrue, length};
 ghost use Rattle.elk_doc.specs.Fits.{Fits};
 ghost use Rattle.drawing_faults.specs.Shapes.{AreOutlines};
 ghost use Rattle.check_apart.specs.Bounds.{BoundsApart, Covers, Encloses, Held, Keeps, OutlineHeld, RouteHeld, SectionHeld, bounds_at};

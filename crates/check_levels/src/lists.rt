@@ -1,5 +1,5 @@
 //! What a drawing and a level's certificate have at each node or edge, each computed once.
-ghost use Rattle.std.specs.Prelude.{◌≡◌, ◌<◌, IfOk, length, slice_index};
+ghost use Rattle.std.specs.Prelude.{◌≡◌, ◌<◌, IfOk, slice_index};
 ghost use Rattle.elk_doc.specs.Fits.{Fits};
 ghost use Rattle.check_levels.specs.FirstLevels.{AreByChild, AreFlows, AreHeads, AreLayers, AreParts, AreTails, AreWeights};
 

@@ -1,9 +1,9 @@
 //! Reversed edges that close cycles, and no cycle left.
-ghost use Rattle.std.specs.Prelude.{◌≡◌, ◌↔◌, ◌<◌, ◌≤◌, All, Contains, IfOk, IsTrue, MatchOption, length};
+ghost use Rattle.std.specs.Prelude.{◌≡◌, ◌↔◌, ◌<◌, All, Contains, IfOk, IsTrue, MatchOption, length};
 ghost use Rattle.elk_doc.specs.Fits.{MayBeListed};
 ghost use Rattle.elk_doc.specs.Reversed.{Reversed};
 ghost use Rattle.drawing_faults.specs.Faults.{IsFirst};
-ghost use Rattle.check_levels.specs.FirstLevels.{AreSteps, ClosesAt, FirstReversed, IsAcyclic, IsUnlisted, NeverRound, step_of};
+ghost use Rattle.check_levels.specs.FirstLevels.{AreSteps, ClosesAt, FirstReversed, IsUnlisted, NeverRound, step_of};
 ghost use Rattle.check_levels.specs.Steps.{AreBelow};
 
 use crate::paths::{Step, reaches};

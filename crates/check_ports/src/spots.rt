@@ -1,12 +1,11 @@
 //! Ports and ends of edges as they stand on the sides of their nodes.
 ghost use Rattle.std.specs.Prelude.{◌≡◌, ◌↔◌, ◌≤◌, ◌<◌, ◌^◌, ◌+ℤ◌, ◌≤ℤ◌, IsTrue, false, true, length, pos};
-ghost use Rattle.elk_doc.specs.Document.{node_of_port};
 ghost use Rattle.elk_doc.specs.Fits.{Fits};
 ghost use Rattle.elk_doc.specs.Numbers.{count_below};
 ghost use Rattle.elk_doc.specs.Places.{dock_of};
 ghost use Rattle.elk_doc.specs.PortsKept.{is_at_node, is_side, is_spread_end, is_spread_port, port_offset, size_along};
 ghost use Rattle.elk_doc.specs.Shapes.{half_of};
-ghost use Rattle.elk_doc.specs.Sound.{IsEndIn, IsPlaceWithin, IsSoundSize, along};
+ghost use Rattle.elk_doc.specs.Sound.{IsPlaceWithin, IsSoundSize, along};
 ghost use Rattle.drawing_faults.specs.Shapes.{AreDocks, AreSides};
 ghost use Rattle.check_ports.specs.Spots.{IsRoomy, KeepApart, LiesOn, end_spot, is_implicit, port_spot};
 

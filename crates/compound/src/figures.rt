@@ -2,7 +2,7 @@
 ghost use Rattle.std.specs.Prelude.{◌≡◌, IfOk};
 ghost use Rattle.level_plan.specs.Conditions.{plain_level, IsLevel};
 ghost use Rattle.elk_doc.specs.Sound.{IsDistance};
-ghost use Rattle.compound.specs.Figures.{IsBoxed, IsFigureIn, IsLayered, IsParted, figure_of_boxes, figure_of_parts, flat_certificate, layers_for};
+ghost use Rattle.compound.specs.Figures.{IsBoxed, IsFigureIn, IsLayered, IsParted, figure_of_boxes, flat_certificate, layers_for};
 
 use elk_doc::document::LevelOptions;
 use elk_doc::drawing::Certificate;
@@ -12,7 +12,7 @@ use level_boxes::{BoxesOut, layout_boxes};
 use level_layout::layout_level;
 use level_plan::LevelIn;
 use level_writing::{LevelFigure, figure_of};
-use split_layout::{PartsOut, layout_parts};
+use split_layout::layout_parts;
 use std::alloc::{AllocError, Global};
 
 // Layer 0 for each box.
@@ -62,20 +62,7 @@ fn layered_figure(alloc: Global, level: &LevelIn) -> Result<LevelFigure, AllocEr
     Ok(figure_of(out))
 }
 
-// The drawing of a level whose parts stand apart; the drawings of the parts by themselves are dropped. Nothing is copied.
-fn figure_of_parts(out: PartsOut) -> LevelFigure
-    ensures { result ≡ figure_of_parts out }
-{
-    LevelFigure {
-        boxes: out.boxes,
-        ports: out.ports,
-        sections: out.sections,
-        certificate: out.certificate,
-        extent: out.extent,
-    }
-}
-
-// The drawing of a level part by part.
+// The drawing of a level part by part; the drawings of the parts by themselves are dropped. Nothing is copied.
 fn parted_figure(
     alloc: Global,
     level: &LevelIn,
@@ -86,7 +73,13 @@ fn parted_figure(
     ensures { IfOk result (IsParted level.now options.now) }
 {
     let out = layout_parts(alloc, level, options.component)?;
-    Ok(figure_of_parts(out))
+    Ok(LevelFigure {
+        boxes: out.boxes,
+        ports: out.ports,
+        sections: out.sections,
+        certificate: out.certificate,
+        extent: out.extent,
+    })
 }
 
 // The drawing of a level as boxes.

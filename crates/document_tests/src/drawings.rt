@@ -1,5 +1,5 @@
 //! A document built in code, and what the calls say of its drawing.
-ghost use Rattle.std.specs.Prelude.{◌≡◌, IfOk, Some, None, pos, ℤ};
+ghost use Rattle.std.specs.Prelude.{◌≡◌, IfOk, Some, None};
 ghost use Rattle.elk_doc.specs.declared.document.Direction.TheVariants.{Right};
 ghost use Rattle.elk_doc.specs.declared.document.PortRule.TheVariants.{Free};
 ghost use Rattle.elk_doc.specs.Examples.{root, leaf_named, two_nodes};

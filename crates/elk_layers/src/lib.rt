@@ -9,7 +9,9 @@
 #![tactic(auto)]
 
 mod distances;
+mod rows;
 mod units;
 
 pub use distances::{body_room, room};
+pub use rows::children_of;
 pub use units::{Layered, Lines, Link, Order, Unit};

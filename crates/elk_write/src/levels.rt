@@ -1,19 +1,16 @@
 // Certificates of levels as they stand in a placed value.
-ghost use Rattle.std.specs.Prelude.{◌≡◌, ◌<◌, ◌≤◌, codes, length, IfOk, option_map, option_and_then};
-ghost use Rattle.std.specs.List.{list_all};
+ghost use Rattle.std.specs.Prelude.{◌≡◌, ◌<◌, IfOk, option_map, option_and_then};
 ghost use Rattle.serde_json.specs.Find.{get};
 ghost use Rattle.serde_json.specs.View.{view, items_view};
-ghost use Rattle.elk_doc.specs.Fits.{child_count as child_count_of, edge_count as edge_count_of};
-ghost use Rattle.elk_doc.specs.Level.{is_child as child_test, is_loop as loop_test, node_of_end};
-ghost use Rattle.elk_doc.specs.Sound.{IsEndIn};
 ghost use Rattle.elk_json.specs.Ends.{is_same_id as same_id_test};
 ghost use Rattle.elk_json.specs.Keys.{key_id};
-ghost use Rattle.elk_write.specs.Reading.{all_in, are_listable as listable_test, certificate_in as certificate_spec, certificate_of as certificate_spec_of, counted, edge_named as edge_named_spec, first_number, flow_in as flow_spec, is_ascending as ascending_test, is_listable as one_listable_test, large_in as large_spec, layers_in as layers_spec, list_in, parts_in as parts_spec, reversed_in as reversed_spec, small_in as small_spec, span_in as span_spec};
+ghost use Rattle.elk_write.specs.Reading.{all_in, are_listable as listable_test, certificate_in as certificate_spec, certificate_of as certificate_spec_of, counted, edge_named as edge_named_spec, first_number, flow_in as flow_spec, is_ascending as ascending_test, is_listable as one_listable_test, large_in as large_spec, layers_in as layers_spec, list_in, parts_in as parts_spec, reversed_in as reversed_spec, small_in as small_spec};
 
 use crate::reading::{large_in, small_in};
-use elk_doc::document::{Doc, End, Id};
+use elk_doc::document::{Doc, Id};
 use elk_doc::drawing::Certificate;
-use elk_doc::level::level_of;
+use elk_doc::form::{child_count, edge_count};
+use elk_doc::level::{is_loop, level_of};
 use elk_doc::list::Items;
 use elk_json::key::Key;
 use serde_json::Value;
@@ -66,7 +63,7 @@ fn small_list(
 fn layers_in(
     alloc: Global,
     doc: &Doc,
-    node: usize,
+    node: u32,
     value: &Value,
 ) -> Result<Option<Vec<u32>>, AllocError>
     ensures { IfOk result (λ o. option_map (λ v. v.items) o ≡ layers_spec doc.now node (view value.now)) }
@@ -77,7 +74,7 @@ fn layers_in(
 fn parts_in(
     alloc: Global,
     doc: &Doc,
-    node: usize,
+    node: u32,
     split: bool,
     value: &Value,
 ) -> Result<Option<Vec<u32>>, AllocError>
@@ -93,7 +90,7 @@ fn parts_in(
 fn flow_in(
     alloc: Global,
     doc: &Doc,
-    node: usize,
+    node: u32,
     value: &Value,
 ) -> Result<Option<Vec<u64>>, AllocError>
     ensures { IfOk result (λ o. option_map (λ v. v.items) o ≡ flow_spec doc.now node (view value.now)) }
@@ -105,43 +102,6 @@ fn flow_in(
             _ => Ok(None),
         },
     }
-}
-
-// Whether a node is a child of another.
-fn is_child(doc: &Doc, node: usize, child: u32) -> bool
-    requires { child < length doc.now.nodes }
-    ensures { result ≡ child_test doc.now node child }
-{
-    match doc.node(child).parent {
-        Some(parent) => parent as usize == node,
-        None => false,
-    }
-}
-
-// How many children a node has.
-fn child_count(doc: &Doc, node: usize) -> usize
-    ensures { result ≡ child_count_of doc.now node }
-{
-    let mut count = 0;
-    for child in 0..doc.nodes().len() {
-        if is_child(doc, node, child as u32) {
-            count += 1;
-        }
-    }
-    count
-}
-
-// How many edges the level of a node has.
-fn edge_count(doc: &Doc, node: usize) -> usize
-    ensures { result ≡ edge_count_of doc.now node }
-{
-    let mut count = 0;
-    for edge in 0..doc.edges().len() {
-        if level_of(doc, edge as u32) as usize == node {
-            count += 1;
-        }
-    }
-    count
 }
 
 fn is_id(key: &Key<'_>, id: &Id) -> bool
@@ -212,39 +172,20 @@ fn is_ascending(numbers: &[u32]) -> bool
     true
 }
 
-fn end_node(doc: &Doc, end: End) -> u32
-    requires { IsEndIn doc.now end }
-    ensures { result ≡ node_of_end doc.now end }
-{
-    match end {
-        End::Node(node) => node,
-        End::Port(port) => doc.port(port).node,
-    }
-}
-
-fn is_loop(doc: &Doc, edge: u32) -> bool
-    requires { edge < length doc.now.edges }
-    ensures { result ≡ loop_test doc.now edge }
-{
-    let source = doc.edge(edge).source;
-    let target = doc.edge(edge).target;
-    end_node(doc, source) == end_node(doc, target)
-}
-
-fn is_listable(doc: &Doc, node: usize, edge: u32) -> bool
+fn is_listable(doc: &Doc, node: u32, edge: u32) -> bool
     ensures { result ≡ one_listable_test doc.now node edge }
 {
     if edge as usize >= doc.edges().len() {
         return false;
     }
-    if level_of(doc, edge) as usize != node {
+    if level_of(doc, edge) != node {
         return false;
     }
     !is_loop(doc, edge)
 }
 
 // Whether the level of a node may list these edges as reversed.
-fn are_listable(doc: &Doc, node: usize, edges: &[u32]) -> bool
+fn are_listable(doc: &Doc, node: u32, edges: &[u32]) -> bool
     ensures { result ≡ listable_test doc.now node edges.now }
 {
     if !is_ascending(edges) {
@@ -261,7 +202,7 @@ fn are_listable(doc: &Doc, node: usize, edges: &[u32]) -> bool
 fn reversed_in(
     alloc: Global,
     doc: &Doc,
-    node: usize,
+    node: u32,
     value: &Value,
 ) -> Result<Option<Vec<u32>>, AllocError>
     ensures { IfOk result (λ o. option_map (λ v. v.items) o ≡ reversed_spec doc.now node (view value.now)) }
@@ -302,7 +243,7 @@ fn certificate_from(
 pub(crate) fn certificate_in(
     alloc: Global,
     doc: &Doc,
-    node: usize,
+    node: u32,
     split: bool,
     value: &Value,
 ) -> Result<Option<Certificate>, AllocError>

@@ -106,7 +106,13 @@ fn level_in(
         Some(options) => match value.get("layering") {
             None => Ok(None),
             Some(layering) => {
-                let certificate = certificate_in(alloc, doc, number, options.split, layering)?;
+                let certificate = certificate_in(
+                    alloc,
+                    doc,
+                    number as u32,
+                    options.split,
+                    layering,
+                )?;
                 Ok(certificate.map(Some))
             }
         },

@@ -8,7 +8,7 @@ ghost use Rattle.level_boxes.specs.Boxes.{HasRoom, IsBoxesLayout, alone};
 ghost use Rattle.level_boxes.specs.Outlines.{outline_size};
 
 use crate::outlines::outlines_of;
-use crate::placing::{boxes_of, sizes_of, turned_size};
+use crate::placing::{boxes_of, sizes_of};
 use box_pack::{Squarest, best};
 use elk_doc::document::Direction;
 use elk_doc::list::Items;
@@ -16,6 +16,7 @@ use elk_doc::shape::{Point, Rect, Size};
 use level_layout::layout_level;
 use level_plan::LevelIn;
 use std::alloc::{AllocError, Global};
+use turned_levels::turned_size;
 
 /// A level of boxes as it is drawn: boxes and ports by child, ports as places in their child's box.
 #[derive(Drop)]

@@ -10,24 +10,7 @@ use box_pack::Rows;
 use elk_doc::document::Direction;
 use elk_doc::shape::{Point, Rect, Size};
 use std::alloc::{AllocError, Global};
-
-/// A size in the frame of something that has this size in the document, or the other way round.
-pub(crate) fn turned_size(way: Direction, size: Size) -> Size
-    ensures { result ≡ turned.turned_size way size }
-{
-    match way {
-        Direction::Right => size,
-        Direction::Left => size,
-        Direction::Down => Size {
-            width: size.height,
-            height: size.width,
-        },
-        Direction::Up => Size {
-            width: size.height,
-            height: size.width,
-        },
-    }
-}
+use turned_levels::turned_size;
 
 // Where a stretch begins that lies at `low` in one of this length, when both are mirrored.
 fn mirrored(length: i64, low: i64, size: i64) -> i64

@@ -1,5 +1,5 @@
 //! A level by the sizes of its children's boxes.
-ghost use Rattle.std.specs.Prelude.{◌≡◌, ℕ, ◌<◌, List, map, length, slice_index, IfOk};
+ghost use Rattle.std.specs.Prelude.{◌≡◌, ℕ, ◌<◌, map, length, slice_index, IfOk};
 ghost use Rattle.elk_doc.specs.declared.drawing.Placed.{Placed as PlacedOf};
 ghost use Rattle.elk_doc.specs.Level.{IsChild, IsEdge, node_of_end};
 ghost use Rattle.elk_doc.specs.Sound.{IsEndIn};
@@ -10,7 +10,7 @@ ghost use Rattle.level_reading.specs.Indexed.{IsIndex};
 ghost use Rattle.level_reading.specs.Read.{AreSizes, HasSizes, child_with, size_at, sized_child};
 
 use crate::index::Index;
-use crate::turning::{half_along, turned_given, turned_place, turned_size};
+use crate::turning::{half_along, turned_given, turned_place};
 use elk_doc::document::{Direction, Doc, End, LevelOptions};
 use elk_doc::list::Items;
 use elk_doc::shape::Size;
@@ -18,6 +18,7 @@ use elk_doc::sides::given_side;
 use level_plan::{LevelEdge, LevelIn, Spoke};
 use port_order::{Child, ChildPort};
 use std::alloc::{AllocError, Global};
+use turned_levels::turned_size;
 
 // A document with its index.
 #[derive(Clone, Copy)]

@@ -7,26 +7,10 @@ ghost use Rattle.elk_doc.specs.Shapes.{half_of};
 ghost use Rattle.turning_laws.specs.Turning.{turned_side};
 ghost use Rattle.port_order.specs.Conditions.{IsSmall};
 ghost use Rattle.port_order.specs.Sides.{is_mirrored, side_else};
-ghost use Rattle.turned_levels.specs.Turned.{half_along, turned_given, turned_place, turned_size};
+ghost use Rattle.turned_levels.specs.Turned.{half_along, turned_given, turned_place};
 
 use elk_doc::document::Direction;
 use elk_doc::shape::{Point, Side, Size};
-
-/// A size in the frame.
-pub(crate) fn turned_size(way: Direction, size: Size) -> Size
-    ensures { result ≡ turned_size way size }
-{
-    let exchanged = Size {
-        width: size.height,
-        height: size.width,
-    };
-    match way {
-        Direction::Right => size,
-        Direction::Left => size,
-        Direction::Down => exchanged,
-        Direction::Up => exchanged,
-    }
-}
 
 /// The place of something of this size within a box, from the box's corner in the frame.
 pub(crate) fn turned_place(way: Direction, outer: Size, size: Size, place: Point) -> Point

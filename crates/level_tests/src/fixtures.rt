@@ -1,5 +1,5 @@
 //! Children, distances and small levels that several tests draw.
-ghost use Rattle.std.specs.Prelude.{◌≡◌, [], None, pos, IfOk};
+ghost use Rattle.std.specs.Prelude.{◌≡◌, [], None, IfOk};
 ghost use Rattle.elk_doc.specs.Examples.{options};
 ghost use Rattle.elk_layers.specs.Layered.{plain};
 ghost use Rattle.level_nets.specs.Worked as worked;

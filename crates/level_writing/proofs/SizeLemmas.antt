@@ -4,14 +4,24 @@ use Rattle.std.specs.Int.{int_max}
 use Rattle.std.proofs.lemmas.Bool.{cases_lt}
 use Rattle.std.proofs.lemmas.Int.{ints, clamps, by_lt_z}
 use Rattle.elk_doc.specs.declared.shape.Size.{Size}
+use Rattle.elk_doc.specs.declared.document.Direction.{Direction}
+use Rattle.elk_doc.specs.declared.document.Direction.TheVariants.{Down, Left, Right, Up}
 use Rattle.elk_doc.specs.declared.document.LevelOptions.{LevelOptions}
 use Rattle.elk_doc.specs.Document.{Document}
 use Rattle.elk_doc.specs.Fitted.{IsGreatestOf}
 use Rattle.turned_levels.specs.Numbered.{IsPortOf}
-use Rattle.turned_levels.specs.Turned.{place_of_port, ports_of}
+use Rattle.turned_levels.specs.Turned.{place_of_port, ports_of, turned_size}
 use Rattle.turned_levels.proofs.NumberedLemmas.{numbers_match}
 use Rattle.level_writing.specs.Changed.{number_at}
+use Rattle.level_writing.specs.Ranges.{IsLongSize}
 use Rattle.level_writing.specs.Sizes.{Asks, AsksListed, IsSizeListed, IsSizeRound, end_of, padded_height, padded_width, raised}
+
+-- a size that is long in the frame is long in the document
+pub turned_long : (way : Direction) (s : Size) → IsLongSize s → IsLongSize (turned_size way s)
+turned_long Right s h = h
+turned_long Left s h = h
+turned_long Down s h = record { width = h.height; height = h.width }
+turned_long Up s h = record { width = h.height; height = h.width }
 
 -- a port among the first of a list that ends here
 abbrev Ends : Document → Bool → List ℕ → ℕ → ℤ → Type 0

@@ -4,7 +4,6 @@ ghost use Rattle.elk_doc.specs.Document.{node_at};
 ghost use Rattle.elk_doc.specs.Fitted.{IsGreatestOf};
 ghost use Rattle.elk_doc.specs.Sound.{IsLength, IsPlaceWithin, IsSoundPadding, IsSoundSize};
 ghost use Rattle.turned_levels.specs.Turned as turned;
-ghost use Rattle.level_shift.specs.Ranges.{IsFar};
 ghost use Rattle.level_writing.specs.Canvas.{IsDrawingOf, drawing_of};
 ghost use Rattle.level_writing.specs.Changed.{AreDistinct};
 ghost use Rattle.level_writing.specs.Ranges.{IsLong, IsLongSize};
@@ -16,25 +15,15 @@ use crate::canvas::Canvas;
 use crate::writing::LevelNumbers;
 use elk_doc::document::{Direction, Doc, LevelOptions, PortRule};
 use elk_doc::shape::{Point, Rect, Side, Size};
+use turned_levels::turned_size;
 
-// A size in the document of something that has this size in the frame.
-fn turned_size(way: Direction, size: Size) -> Size
-    requires { IsLongSize size }
-    ensures value { result ≡ turned.turned_size way size }
+// The size in the document of content of this extent in the frame.
+fn content_size(way: Direction, extent: Size) -> Size
+    requires { IsLongSize extent }
+    ensures value { result ≡ turned.turned_size way extent }
     ensures long { IsLongSize result }
 {
-    match way {
-        Direction::Right => size,
-        Direction::Left => size,
-        Direction::Down => Size {
-            width: size.height,
-            height: size.width,
-        },
-        Direction::Up => Size {
-            width: size.height,
-            height: size.width,
-        },
-    }
+    turned_size(way, extent)
 }
 
 // The side on which a port of a compound node is pinned.
@@ -132,7 +121,7 @@ fn size_round(doc: &Doc, ports: &[u32], options: &LevelOptions, extent: Size) ->
     requires extent { IsLongSize extent }
     ensures { IsSizeListed doc.now ports.now options.now extent result }
 {
-    let content = turned_size(options.direction, extent);
+    let content = content_size(options.direction, extent);
     let padding = options.padding;
     let width = padded(padding.left, content.width, padding.right);
     let height = padded(padding.top, content.height, padding.bottom);

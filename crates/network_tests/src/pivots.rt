@@ -1,6 +1,6 @@
 //! Worked networks, whose answers were found by hand, and the costs of both solvers on random networks.
 
-ghost use Rattle.std.specs.Prelude.{◌≡◌, ◌<◌, ◌≤◌, ◌^◌, ℕ, IsTrue, IfOk, length, slice_index};
+ghost use Rattle.std.specs.Prelude.{◌≡◌, ◌<◌, ℕ, IsTrue, IfOk, length, slice_index};
 ghost use Rattle.layering_laws.specs.Network.{IsNetwork};
 ghost use Rattle.net_simplex.specs.Grown.{IsConnected};
 

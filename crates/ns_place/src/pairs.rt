@@ -1,13 +1,13 @@
 //! The pairs of units that keep a distance, and the distance.
 
-ghost use Rattle.std.specs.Prelude.{◌≡◌, ℕ, ◌<◌, ◌++◌, length, IfOk};
-ghost use Rattle.std.specs.List.{All, filter};
-ghost use Rattle.elk_layers.specs.Layered.{plain, rows_of, IsSound, AreRows, is_child};
+ghost use Rattle.std.specs.Prelude.{◌≡◌, ◌<◌, ◌++◌, length, IfOk};
+ghost use Rattle.std.specs.List.{All};
+ghost use Rattle.elk_layers.specs.Layered.{plain, rows_of, IsSound, AreRows};
 ghost use Rattle.ns_place.specs.Pairs.{neighbours, row_pairs, all_pairs, IsPair};
 ghost use Rattle.ns_place.specs.Pairs as lines;
 
 use crate::least::PairFlow;
-use elk_layers::{Layered, Order, body_room, room};
+use elk_layers::{Layered, Order, body_room, children_of, room};
 use std::alloc::{AllocError, Global};
 
 /// The distance of a pair from top to top.
@@ -38,28 +38,6 @@ fn push_neighbours(units: &[u32], body: bool, pairs: &mut Vec<PairFlow>) -> Resu
     Ok(())
 }
 
-fn is_child_at(layered: &Layered, unit: u32) -> bool
-    requires { unit < length (plain layered.now).units }
-    ensures { result ≡ is_child (plain layered.now) unit }
-{
-    let units = layered.units.as_slice();
-    units[unit as usize].child.is_some()
-}
-
-/// The children of a row, in its order.
-fn children(alloc: Global, layered: &Layered, row: &[u32]) -> Result<Vec<u32>, AllocError>
-    requires { All (λ u. u < length (plain layered.now).units) row.now }
-    ensures { IfOk result (λ v. v.items ≡ filter (is_child (plain layered.now)) row.now) }
-{
-    let mut found = Vec::new(alloc);
-    for u in row {
-        if is_child_at(layered, *u) {
-            found.push(*u)?;
-        }
-    }
-    Ok(found)
-}
-
 /// Adds the pairs of a row.
 fn push_row(
     alloc: Global,
@@ -71,7 +49,7 @@ fn push_row(
     ensures { IfOk result (λ _. pairs.new.items ≡ pairs.old.items ++ row_pairs (plain layered.now) row.now) }
 {
     push_neighbours(row, false, pairs)?;
-    let inner = children(alloc, layered, row)?;
+    let inner = children_of(alloc, layered, row)?;
     push_neighbours(inner.as_slice(), true, pairs)
 }
 

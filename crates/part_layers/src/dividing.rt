@@ -9,7 +9,7 @@ use layering_laws::{NetEdge, Network};
 use std::alloc::{AllocError, Global};
 
 /// How many parts there are, by the number of each node's part.
-pub(crate) fn count_parts(numbers: &[u32]) -> u32
+pub fn count_parts(numbers: &[u32]) -> u32
     requires { (v : ℕ) → v < length numbers.now → slice_index numbers.now v < 2 ^ 23 }
     ensures { AreCounted numbers.now (length numbers.now) result }
 {

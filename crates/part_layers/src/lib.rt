@@ -6,6 +6,7 @@ mod joining;
 mod laws;
 mod solving;
 
+pub use dividing::count_parts;
 pub use laws::parts_have_one_numbering;
 pub use layering_laws::{NetEdge, Network, Solution};
 pub use solving::solve_parts;

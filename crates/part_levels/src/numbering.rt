@@ -1,7 +1,6 @@
 //! The numbers of a level's connected parts.
-ghost use Rattle.std.specs.Prelude.{◌≡◌, ◌<◌, ℕ, map, length, slice_index, IfOk};
+ghost use Rattle.std.specs.Prelude.{◌≡◌, ◌<◌, map, length, IfOk};
 ghost use Rattle.level_plan.specs.Conditions.{plain_level, IsLevel};
-ghost use Rattle.part_layers.specs.Dividing.{AreCounted};
 ghost use Rattle.part_levels.specs.Divided.{edge_keys};
 ghost use Rattle.part_levels.specs.Parts.{AreParts, join};
 
@@ -56,18 +55,4 @@ pub(crate) fn edge_numbers(
         found.push(numbers[edge.source.child as usize])?;
     }
     Ok(found)
-}
-
-/// How many parts there are, by the number of each child's part.
-pub(crate) fn count_parts(numbers: &[u32]) -> u32
-    requires { (c : ℕ) → c < length numbers.now → slice_index numbers.now c < 2048 }
-    ensures { AreCounted numbers.now (length numbers.now) result }
-{
-    let mut count = 0;
-    for number in numbers {
-        if *number >= count {
-            count = *number + 1;
-        }
-    }
-    count
 }

@@ -9,9 +9,10 @@ ghost use Rattle.part_levels.specs.Split.{ArePartLevels, IsPartFrom, IsSplit, pa
 use crate::copying::{children_in, edges_in};
 use crate::grouping::{Groups, groups_of};
 use crate::levels::{PartLevel, PartLevels, Seats};
-use crate::numbering::{count_parts, edge_numbers, numbers_of};
+use crate::numbering::{edge_numbers, numbers_of};
 use elk_doc::list::Items;
 use level_plan::LevelIn;
+use part_layers::count_parts;
 use std::alloc::{AllocError, Global};
 
 // A part from the numbers of its children and edges.

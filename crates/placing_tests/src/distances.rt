@@ -1,5 +1,5 @@
 //! Worked rows: crossings and a sweep of five units beside five, and the distances of three units.
-ghost use Rattle.std.specs.Prelude.{◌≡◌, List, [], ◌∷◌};
+ghost use Rattle.std.specs.Prelude.{◌≡◌, [], ◌∷◌};
 ghost use Rattle.elk_doc.specs.declared.document.Sweep.TheVariants.{LeftUp};
 ghost use Rattle.elk_layers.specs.Alignment.{aligned};
 ghost use Rattle.elk_layers.specs.Crossings.{crossings, exchanged};

@@ -7,7 +7,7 @@ ghost use Rattle.port_order.specs.Sides.{first_side, given_side, is_forward, is_
 
 use crate::children::{Child, port_at};
 use crate::spots::Spot;
-use elk_doc::document::{Direction, PortRule};
+use elk_doc::document::Direction;
 use elk_doc::shape::{Point, Side, Size};
 use elk_doc::sides::side_from;
 

@@ -3,8 +3,10 @@
 #![tactic(auto)]
 
 mod laws;
+mod turning;
 
 pub use laws::{
     drawings_read_levels, ends_match, levels_are_listed, levels_read_sizes, levels_turn,
     numbers_match,
 };
+pub use turning::turned_size;

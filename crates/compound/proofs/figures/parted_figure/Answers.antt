@@ -1,4 +1,4 @@
-use Rattle.std.proofs.Common.{FitsSigned, w64, arith, to_z-of_z, subst}
+use Rattle.std.proofs.Common.{FitsSigned, w64, arith, refl, to_z-of_z, subst}
 use Rattle.std.proofs.lemmas.Int.{ints}
 use Rattle.split_layout.specs.Parts.{IsPartsLayout}
 use Rattle.compound.proofs.figures.parted_figure.Goals as goal
@@ -11,5 +11,5 @@ returns c =
     record {
       out = c.in_ok-out.out;
       laid_out = subst (λ z. IsPartsLayout c.args.level.now z c.in_ok-out.out) (to_z-of_z fits) c.in_ok-out.ensures;
-      is = c.figure_of_parts.ensures;
+      is = refl;
     }

@@ -1,7 +1,0 @@
-use Rattle.std.proofs.Common.{◌≡◌, take}
-use Rattle.std.specs.List.{filter}
-use Rattle.elk_layers.specs.Layered.{plain, is_child}
-use Rattle.ns_place.proofs.pairs.children.Given as goal
-
-abbrev pub invariant-loop-u : goal.invariant-loop-u
-invariant-loop-u l = l.found.items ≡ filter (is_child (plain l.layered)) (take l.u-index l.row)
