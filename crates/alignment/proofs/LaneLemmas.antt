@@ -9,10 +9,10 @@ use Rattle.elk_doc.specs.declared.document.Sweep.TheVariants.{LeftUp, LeftDown, 
 use Rattle.elk_layers.specs.Layered.{Plain, IsSound, AreRows, layer_of, row_at, link_at, gap_of, place_of, place_in, is_lane, tail_key, head_key}
 use Rattle.elk_layers.specs.Crossings.{cross}
 use Rattle.elk_layers.specs.Alignment.{goes_left, goes_up, near_end, far_end, visited_row, visits, sorted_links, medians_in, is_beyond, is_free, is_marked, is_inner, far_key, first_of, chosen_at, chosen_after, aligned}
-use Rattle.unit_places.specs.Occurring.{occurs}
-use Rattle.unit_places.specs.Straight.{chosen_link}
-use Rattle.unit_places.proofs.OccursLemmas.{occurs_first, occurs_at, occurs_sorted, occurs-append}
-use Rattle.unit_places.proofs.PlaceLemmas.{place_below, place_reads}
+use Rattle.elk_layers.specs.Occurring.{occurs}
+use Rattle.elk_layers.specs.Straight.{chosen_link}
+use Rattle.elk_layers.proofs.OccursLemmas.{occurs_first, occurs_at, occurs_sorted, occurs-append}
+use Rattle.elk_layers.proofs.PlaceLemmas.{place_below, place_reads}
 use Rattle.alignment.specs.Lanes.{HaveOneLink, LanesKeepOrder, Holds}
 use Rattle.alignment.proofs.StraightLemmas.{first_cases, occurs_medians, ComesAfter, IsVisitOrder, IsChosenSoFar, of_unit, same_near, chosen_more, chosen_same, visits_in_order, apart_from}
 

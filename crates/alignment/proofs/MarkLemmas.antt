@@ -8,8 +8,8 @@ use Rattle.elk_layers.specs.declared.units.Link.{Link}
 use Rattle.elk_layers.specs.Layered.{Plain, IsSound, IsSoundLink, AreRows, gap_of, link_at, place_of, tail_key, head_key}
 use Rattle.elk_layers.specs.Crossings.{cross}
 use Rattle.elk_layers.specs.Alignment.{is_inner, is_marked}
-use Rattle.unit_places.specs.Places.{ArePlaces}
-use Rattle.unit_places.proofs.RowLemmas.{place_small}
+use Rattle.elk_layers.specs.Places.{ArePlaces}
+use Rattle.elk_layers.proofs.RowLemmas.{place_small}
 use Rattle.alignment.specs.declared.reaching.Pin.{Pin}
 use Rattle.alignment.specs.Keys.{key_at}
 use Rattle.alignment.specs.Marks.{pin_of, overtakes, mirrored, is_crossed, IsLow, HoldBoth, AreMarks}

@@ -8,9 +8,9 @@ use Rattle.std.proofs.lemmas.List.Sorted.{sum_by-IsPermutation}
 use Rattle.std.proofs.lemmas.List.Sums.{sum_by-cons}
 use Rattle.elk_layers.specs.Layered.{place_in}
 use Rattle.elk_layers.specs.Sweeps.{insert_by, sorted_by}
-use Rattle.unit_places.proofs.PlaceLemmas.{place_below, place_reads}
-use Rattle.unit_places.specs.Occurring.{occurs, HasNoRepeat}
-use Rattle.unit_places.proofs.OccursLemmas.{occurs_first, occurs_filter, occurs_among, occurs_insert, occurs_sorted}
+use Rattle.elk_layers.proofs.PlaceLemmas.{place_below, place_reads}
+use Rattle.elk_layers.specs.Occurring.{occurs, HasNoRepeat}
+use Rattle.elk_layers.proofs.OccursLemmas.{occurs_first, occurs_filter, occurs_among, occurs_insert, occurs_sorted}
 
 -- each element weighs less than all after it
 abbrev pub Ascends : (ℕ → ℕ) → List ℕ → Type 0

@@ -11,10 +11,10 @@ use Rattle.elk_doc.specs.declared.document.Sweep.{Sweep}
 use Rattle.elk_doc.specs.declared.document.Sweep.TheVariants.{LeftUp, LeftDown, RightUp, RightDown}
 use Rattle.elk_layers.specs.Layered.{Plain, IsSound, AreRows, link_at, place_of}
 use Rattle.elk_layers.specs.Alignment.{near_end, far_key, sorted_links}
-use Rattle.unit_places.specs.Occurring.{occurs}
-use Rattle.unit_places.specs.Places.{ArePlaces}
-use Rattle.unit_places.proofs.OccursLemmas.{occurs_at, occurs_range, occurs_passes, occurs_among, occurs_sorted}
-use Rattle.unit_places.proofs.RowLemmas.{place_small}
+use Rattle.elk_layers.specs.Occurring.{occurs}
+use Rattle.elk_layers.specs.Places.{ArePlaces}
+use Rattle.elk_layers.proofs.OccursLemmas.{occurs_at, occurs_range, occurs_passes, occurs_among, occurs_sorted}
+use Rattle.elk_layers.proofs.RowLemmas.{place_small}
 use Rattle.alignment.specs.declared.spokes.Spoke.{Spoke}
 use Rattle.alignment.specs.Keys.{key_at, far_key_at}
 use Rattle.alignment.specs.Spokes.{spoke_of, numbers_of, AreSpokes, IsFirst, is_of}

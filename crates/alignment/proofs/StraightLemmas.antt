@@ -9,10 +9,10 @@ use Rattle.elk_doc.specs.declared.document.Sweep.{Sweep}
 use Rattle.elk_doc.specs.declared.document.Sweep.TheVariants.{LeftUp, LeftDown, RightUp, RightDown}
 use Rattle.elk_layers.specs.Layered.{Plain, IsSound, AreRows, layer_of, row_at, link_at, gap_of, place_of, place_in}
 use Rattle.elk_layers.specs.Alignment.{goes_left, goes_up, near_end, far_end, far_place, visited_row, visits, sorted_links, medians_in, is_beyond, is_free, is_marked, far_key, first_of, chosen_at, chosen_after, aligned}
-use Rattle.unit_places.specs.Occurring.{occurs}
-use Rattle.unit_places.specs.Straight.{chosen_link, RunsBeside, AreStraight}
-use Rattle.unit_places.proofs.OccursLemmas.{occurs_first, occurs_at, occurs_sorted, occurs_range, occurs_passes, occurs_among, occurs_two}
-use Rattle.unit_places.proofs.PlaceLemmas.{place_below, place_reads, place_at}
+use Rattle.elk_layers.specs.Occurring.{occurs}
+use Rattle.elk_layers.specs.Straight.{chosen_link, RunsBeside, AreStraight}
+use Rattle.elk_layers.proofs.OccursLemmas.{occurs_first, occurs_at, occurs_sorted, occurs_range, occurs_passes, occurs_among, occurs_two}
+use Rattle.elk_layers.proofs.PlaceLemmas.{place_below, place_reads, place_at}
 
 -- members of what a visit looks at
 

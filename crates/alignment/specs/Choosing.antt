@@ -5,7 +5,7 @@ use Rattle.elk_doc.specs.declared.document.Sweep.{Sweep}
 use Rattle.elk_layers.specs.declared.units.Link.{Link}
 use Rattle.elk_layers.specs.Layered.{Plain, link_at, layer_of, IsSound, AreRows}
 use Rattle.elk_layers.specs.Alignment.{goes_up, near_end, far_end, far_place, is_beyond, medians_in, first_of}
-use Rattle.unit_places.specs.Places.{ArePlaces}
+use Rattle.elk_layers.specs.Places.{ArePlaces}
 use Rattle.alignment.specs.declared.spokes.Spoke.{Spoke}
 use Rattle.alignment.specs.Marks.{AreMarks}
 use Rattle.alignment.specs.Spokes.{AreSpokes}

@@ -3,7 +3,7 @@ ghost use Rattle.std.specs.Prelude.{◌≡◌, ℕ, ◌<◌, List, [], ◌∷◌
 ghost use Rattle.std.specs.List.{All};
 ghost use Rattle.elk_layers.specs.Layered.{plain, rows_of, layer_of, link_at, IsSound, AreRows};
 ghost use Rattle.elk_layers.specs.Alignment as spec;
-ghost use Rattle.unit_places.specs.Straight.{AreStraight};
+ghost use Rattle.elk_layers.specs.Straight.{AreStraight};
 ghost use Rattle.alignment.specs.Choosing as choosing;
 ghost use Rattle.alignment.specs.Choosing.{as_list, choice, last_at, AreLast, CanVisit, VisitsTo};
 ghost use Rattle.alignment.specs.Spokes.{numbers_of, AreFirsts, is_of};
@@ -14,9 +14,8 @@ use crate::marking::marks;
 use crate::spokes::{Spoke, fan, firsts_of, spokes_of};
 use crate::visiting::visits;
 use elk_doc::document::Sweep;
-use elk_layers::{Layered, Link, Order};
+use elk_layers::{Layered, Link, Order, places};
 use std::alloc::{AllocError, Global};
-use unit_places::places;
 
 /// Links by number, in the order in which a sweep chose them.
 #[derive(Drop)]

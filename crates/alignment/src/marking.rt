@@ -4,7 +4,7 @@ ghost use Rattle.std.specs.List.{All, list_any};
 ghost use Rattle.elk_layers.specs.Layered as layers;
 ghost use Rattle.elk_layers.specs.Layered.{plain, IsSound, IsSoundLink, AreRows};
 ghost use Rattle.elk_layers.specs.Alignment as spec;
-ghost use Rattle.unit_places.specs.Places.{ArePlaces};
+ghost use Rattle.elk_layers.specs.Places.{ArePlaces};
 ghost use Rattle.alignment.specs.Marks as mark;
 ghost use Rattle.alignment.specs.Marks.{pin_of, IsReach, IsLow, HoldBoth, overtakes, AreMarks};
 

@@ -9,10 +9,10 @@ use Rattle.block_lines.specs.Blocks.{AreNames, IsEntered, names_of, is_before, w
 use Rattle.block_lines.specs.Constraints.{AreBlocks, Rises}
 use Rattle.std.proofs.lemmas.List.Elements.{All-filter, All-from_get_or}
 use Rattle.block_lines.proofs.WeavingLemmas.{woven_names, woven_row, woven_once, woven_occurs, sub_filter, sub_occurs, sub_trans, sub_refl}
-use Rattle.unit_places.specs.Occurring.{occurs, HasNoRepeat}
-use Rattle.unit_places.specs.Straight.{chosen_link, AreStraight}
-use Rattle.unit_places.proofs.OccursLemmas.{occurs_at, no_repeat_from}
-use Rattle.unit_places.proofs.PlaceLemmas.{place_at, place_named, place_below, place_reads, place_once}
+use Rattle.elk_layers.specs.Occurring.{occurs, HasNoRepeat}
+use Rattle.elk_layers.specs.Straight.{chosen_link, AreStraight}
+use Rattle.elk_layers.proofs.OccursLemmas.{occurs_at, no_repeat_from}
+use Rattle.elk_layers.proofs.PlaceLemmas.{place_at, place_named, place_below, place_reads, place_once}
 use Rattle.block_lines.proofs.SublistLemmas.{sub_from, sub_forward}
 
 -- a filter of a list's images is a list of images of a filter

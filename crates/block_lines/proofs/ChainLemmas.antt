@@ -6,8 +6,8 @@ use Rattle.block_lines.specs.Weaving.{until, past, woven, CanWeave}
 use Rattle.block_lines.specs.Blocks.{names_of, name_at}
 use Rattle.block_lines.specs.Chains.{IsChain, inserted_after, last_of, has_entry, IsWeavable, IsWovenAt, StepsTo}
 use Rattle.block_lines.proofs.WeavingLemmas.{split_at, sub_occurs, woven_names, weave_known, weave_new}
-use Rattle.unit_places.specs.Occurring.{occurs, HasNoRepeat}
-use Rattle.unit_places.proofs.OccursLemmas.{occurs-append, occurs_first}
+use Rattle.elk_layers.specs.Occurring.{occurs, HasNoRepeat}
+use Rattle.elk_layers.proofs.OccursLemmas.{occurs-append, occurs_first}
 
 one_self : (n : ℕ) → occurs n (n ∷ []) ≡ 1
 one_self n = rw (eq-eqb n n refl) (omega arith)

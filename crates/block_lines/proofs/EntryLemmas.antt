@@ -5,7 +5,7 @@ use borrow.Author.Count.{below_more}
 use Rattle.elk_layers.specs.Layered.{Plain, IsSound, layer_of, place_of}
 use Rattle.block_lines.specs.Chains.{AreEntries}
 use Rattle.block_lines.specs.Entries.{HaveOwnHeads, AreLinksInto}
-use Rattle.unit_places.specs.Straight.{chosen_link, AreStraight}
+use Rattle.elk_layers.specs.Straight.{chosen_link, AreStraight}
 
 pub into_start : (l : Plain) (chosen : List ℕ) (into : List (Option ℕ)) → length into ≡ length l.units → ((u : ℕ) → get_or into u None ≡ None) → AreLinksInto l chosen 0 into
 into_start l chosen into long none =

@@ -7,7 +7,7 @@ use Rattle.block_lines.specs.Constraints.{offset_at}
 use Rattle.block_lines.specs.Entries.{AreLinksInto}
 use Rattle.elk_layers.proofs.HeightLemmas.{height_below}
 use Rattle.block_lines.specs.Joining.{name_for, offset_for, IsJoined, CanFollow, FollowBounds}
-use Rattle.unit_places.specs.Straight.{chosen_link, AreStraight}
+use Rattle.elk_layers.specs.Straight.{chosen_link, AreStraight}
 
 -- the entry of a unit is none, or a link that begins elsewhere
 abbrev pub BeginsElsewhere : Plain → Option ℕ → ℕ → Type 0

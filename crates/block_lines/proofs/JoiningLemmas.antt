@@ -5,7 +5,7 @@ use Rattle.std.proofs.lemmas.Int.{ints}
 use Rattle.std.proofs.lemmas.Bool.{cases_eq}
 use Rattle.std.proofs.lemmas.List.Elements.{All-set, All-get_or}
 use Rattle.elk_layers.specs.Layered.{Plain, IsSound, AreRows, layer_of, link_at, unit_at, row_at, place_of, place_in}
-use Rattle.unit_places.proofs.PlaceLemmas.{place_at}
+use Rattle.elk_layers.proofs.PlaceLemmas.{place_at}
 use Rattle.block_lines.specs.Constraints.{offset_at}
 use Rattle.block_lines.specs.Joining.{name_for, offset_for, IsJoined, CanFollow, Joins, HaveHeads, height_up_to, StaysNear, ComesBefore, AreJoinedUpTo, AreAllJoined}
 use Rattle.block_lines.proofs.JoinLemmas.{BeginsElsewhere, joined_stays, joined_here}

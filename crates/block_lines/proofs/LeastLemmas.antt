@@ -10,7 +10,7 @@ use Rattle.separation.specs.declared.bounds.Bound.{Bound}
 use Rattle.separation.specs.Lines.{value_at, KeepsBound, Keeps, Settled}
 use Rattle.block_lines.specs.Blocks.{IsEntered}
 use Rattle.block_lines.specs.Constraints.{block_at, offset_at, bounds_along, row_bounds, all_bounds, IsPosed, AreTops, AreLeast}
-use Rattle.unit_places.specs.Straight.{chosen_link, AreStraight}
+use Rattle.elk_layers.specs.Straight.{chosen_link, AreStraight}
 
 All-left : {X : Type 0} (P : X → Type 0) (xs ys : List X) → All P (xs ++ ys) → All P xs
 All-left P [] ys h = All-nil P

@@ -9,10 +9,10 @@ use Rattle.elk_layers.specs.Layered.{Plain, IsSound, AreRows, layer_of, link_at,
 use Rattle.elk_layers.specs.Lines.{room, body_room}
 use Rattle.separation.specs.declared.bounds.Bound.{Bound}
 use Rattle.separation.specs.Lines.{value_at, Settled, IsSolvable}
-use Rattle.unit_places.specs.Occurring.{occurs}
-use Rattle.unit_places.specs.Straight.{chosen_link, AreStraight}
-use Rattle.unit_places.proofs.OccursLemmas.{occurs_at, occurs-append, length_below, no_repeat_from}
-use Rattle.unit_places.proofs.PlaceLemmas.{place_below, place_reads}
+use Rattle.elk_layers.specs.Occurring.{occurs}
+use Rattle.elk_layers.specs.Straight.{chosen_link, AreStraight}
+use Rattle.elk_layers.proofs.OccursLemmas.{occurs_at, occurs-append, length_below, no_repeat_from}
+use Rattle.elk_layers.proofs.PlaceLemmas.{place_below, place_reads}
 use Rattle.block_lines.specs.Blocks.{name_at, AreNames, IsBlockOrder, block_order}
 use Rattle.block_lines.specs.Constraints.{block_at, offset_at, bounds_along, row_bounds, all_bounds, AreBlocks, AreOffsets, AreFloors, IsPosed, AreTops, AreLeast, EndsWithinStack, CanBePlaced}
 use Rattle.block_lines.proofs.LeastLemmas.{least_lines_from}

@@ -13,7 +13,7 @@ use Rattle.separation.specs.Lines.{value_at, KeepsBound, Keeps, Settled, CanKeep
 use Rattle.block_lines.specs.Constraints.{block_at, offset_at, bounds_along, IsPosed, AreTops, greatest_spacing, stacked_height, EndsWithinStack, Counts, CanBePlaced}
 use Rattle.block_lines.proofs.LeastLemmas.{all_from_rows, pairs_from, bound_of_pair}
 use Rattle.block_lines.proofs.SumLemmas.{sum_to, sum_gain, sum_below, sum_nothing, sum_heights, sum_stacked, stacked_bound}
-use Rattle.unit_places.specs.Straight.{chosen_link, AreStraight}
+use Rattle.elk_layers.specs.Straight.{chosen_link, AreStraight}
 
 pub facing_within : (l : Plain) (a b : Bool) → facing l a b ≤ℤ greatest_spacing l
 facing_within l true true = omega (arith, ints, clamps)

@@ -6,9 +6,9 @@ use Rattle.std.proofs.lemmas.List.{drop_more, drop-drop}
 use Rattle.elk_layers.specs.Layered.{place_in}
 use Rattle.block_lines.specs.Weaving.{IsSublist}
 use Rattle.block_lines.proofs.WeavingLemmas.{sub_skip, sub_occurs, sub_tail}
-use Rattle.unit_places.specs.Occurring.{occurs, HasNoRepeat}
-use Rattle.unit_places.proofs.OccursLemmas.{occurs_first}
-use Rattle.unit_places.proofs.PlaceLemmas.{place_below, place_reads}
+use Rattle.elk_layers.specs.Occurring.{occurs, HasNoRepeat}
+use Rattle.elk_layers.proofs.OccursLemmas.{occurs_first}
+use Rattle.elk_layers.proofs.PlaceLemmas.{place_below, place_reads}
 
 -- in a list without repeats, the first of a sublist stands before its others
 pub first_before : (x : ℕ) (xs ys : List ℕ) → IsSublist (x ∷ xs) ys → HasNoRepeat ys → (n : ℕ) → 1 ≤ occurs n xs → place_in ys x < place_in ys n

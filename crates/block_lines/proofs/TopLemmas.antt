@@ -7,8 +7,8 @@ use Rattle.separation.specs.Lines.{value_at}
 use Rattle.elk_layers.specs.Layered.{place_in}
 use Rattle.block_lines.specs.Constraints.{block_at, offset_at}
 use Rattle.block_lines.specs.Phases.{IsLowered, AreFloorsSoFar, AreRootNumbers}
-use Rattle.unit_places.specs.Occurring.{occurs, HasNoRepeat}
-use Rattle.unit_places.proofs.PlaceLemmas.{place_once, place_below, place_reads}
+use Rattle.elk_layers.specs.Occurring.{occurs, HasNoRepeat}
+use Rattle.elk_layers.proofs.PlaceLemmas.{place_once, place_below, place_reads}
 
 pub index_differ : (xs : List ℕ) → HasNoRepeat xs → (i j : ℕ) → i < j → j < length xs → get_or xs i 0 ≢ get_or xs j 0
 index_differ xs once i j less h e =

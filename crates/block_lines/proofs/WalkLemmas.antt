@@ -3,7 +3,7 @@ use Rattle.std.proofs.Common.{◌≡◌, ◌≢◌, ℕ, zero, suc, ◌+◌, ◌
 use Rattle.std.proofs.lemmas.Bool.{cases_lt}
 use Rattle.std.proofs.lemmas.List.{take_more, get_or_past, get_or_default}
 use Rattle.block_lines.specs.Chains.{IsChain, HoldList, IsWalked, WalksTo}
-use Rattle.unit_places.proofs.OccursLemmas.{occurs_at, length_below}
+use Rattle.elk_layers.proofs.OccursLemmas.{occurs_at, length_below}
 
 first_next : (next : List ℕ) (x : ℕ) (ys : List ℕ) (end : ℕ) → IsChain next x ys end → get_or next x 0 ≡ get_or ys 0 end
 first_next next x [] end c = c

@@ -2,9 +2,9 @@
 use Rattle.std.proofs.Common.{◌≡◌, ℕ, ◌+◌, ◌≤◌, ◌==◌, cond, not, List, [], ◌∷◌, ◌++◌, Bool, true, false, arith, refl, sym, ◌∙◌, ap, subst, inl, inr, true≢false, eq-eqb, ne_eqb}
 use Rattle.std.specs.List.{filter}
 use Rattle.std.proofs.lemmas.Bool.{cases_eq, cases_lt, cases_Bool}
-use Rattle.unit_places.proofs.OccursLemmas.{occurs-append, occurs_first, occurs_filter}
+use Rattle.elk_layers.proofs.OccursLemmas.{occurs-append, occurs_first, occurs_filter}
 use Rattle.block_lines.specs.Weaving.{IsSublist, until, past, woven, CanWeave}
-use Rattle.unit_places.specs.Occurring.{occurs, HasNoRepeat}
+use Rattle.elk_layers.specs.Occurring.{occurs, HasNoRepeat}
 
 -- sublists
 

@@ -3,8 +3,8 @@ use Rattle.std.specs.Prelude.{◌≡◌, ℕ, ◌+◌, ◌<◌, ◌≤◌, List,
 use Rattle.std.specs.List.{filter}
 use Rattle.elk_layers.specs.Layered.{Plain, IsSound, AreRows, row_at, layer_of, place_in, is_child}
 use Rattle.block_lines.specs.Weaving.{IsSublist, woven}
-use Rattle.unit_places.specs.Straight.{chosen_link, AreStraight}
-use Rattle.unit_places.specs.Occurring.{occurs, HasNoRepeat}
+use Rattle.elk_layers.specs.Straight.{chosen_link, AreStraight}
+use Rattle.elk_layers.specs.Occurring.{occurs, HasNoRepeat}
 
 abbrev pub name_at : List ℕ → ℕ → ℕ
 name_at names u = slice_index names u

@@ -3,8 +3,8 @@ use Rattle.std.specs.Prelude.{◌≡◌, ◌≢◌, ℕ, ◌<◌, ◌≤◌, Lis
 use Rattle.block_lines.specs.Weaving.{woven, CanWeave}
 use Rattle.elk_layers.specs.Layered.{Plain, IsSound, AreRows}
 use Rattle.block_lines.specs.Blocks.{name_at, names_of, AreNames, IsEntered, IsWovenTo, woven_rows, block_order}
-use Rattle.unit_places.specs.Occurring.{occurs, HasNoRepeat}
-use Rattle.unit_places.specs.Straight.{AreStraight}
+use Rattle.elk_layers.specs.Occurring.{occurs, HasNoRepeat}
+use Rattle.elk_layers.specs.Straight.{AreStraight}
 
 -- from x the links lead through the list, and from its last element to the end
 abbrev pub IsChain : List ℕ → ℕ → List ℕ → ℕ → Type 0

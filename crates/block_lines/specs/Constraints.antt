@@ -8,7 +8,7 @@ use Rattle.elk_layers.specs.Lines.{room, body_room, top_of, AreLines}
 use Rattle.separation.specs.declared.bounds.Bound.{Bound}
 use Rattle.separation.specs.Lines.{value_at, Settled, IsSolvable}
 use Rattle.block_lines.specs.Blocks.{IsEntered}
-use Rattle.unit_places.specs.Straight.{chosen_link, AreStraight}
+use Rattle.elk_layers.specs.Straight.{chosen_link, AreStraight}
 
 abbrev pub block_at : List ℕ → ℕ → ℕ
 block_at blocks u = slice_index blocks u

@@ -1,7 +1,7 @@
 -- The chosen link into each unit.
 use Rattle.std.specs.Prelude.{◌≡◌, ◌≢◌, ℕ, ◌<◌, List, length, slice_index, slice_index_or, Option, Some, None}
 use Rattle.elk_layers.specs.Layered.{Plain}
-use Rattle.unit_places.specs.Straight.{chosen_link}
+use Rattle.elk_layers.specs.Straight.{chosen_link}
 
 -- chosen links end at different units
 pub record HaveOwnHeads (l : Plain) (chosen : List ℕ) : Type 0 where

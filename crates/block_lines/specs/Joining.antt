@@ -5,7 +5,7 @@ use Rattle.elk_layers.specs.Layered.{Plain, IsSound, link_at, layer_of, unit_at,
 use Rattle.block_lines.specs.Blocks.{name_at, AreNames}
 use Rattle.block_lines.specs.Entries.{AreLinksInto}
 use Rattle.block_lines.specs.Constraints.{offset_at}
-use Rattle.unit_places.specs.Straight.{chosen_link, AreStraight}
+use Rattle.elk_layers.specs.Straight.{chosen_link, AreStraight}
 
 -- a unit with a link into it has the name of the link's tail, another one its own
 abbrev pub name_for : Plain → List ℕ → Option ℕ → ℕ → ℕ

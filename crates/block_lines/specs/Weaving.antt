@@ -1,7 +1,7 @@
 -- A row of names woven into a list of names, so that both keep their order.
 use Rattle.std.specs.Prelude.{◌≡◌, ℕ, ◌≤◌, ◌==◌, cond, List, [], ◌∷◌, ◌++◌, Bool, true, ◌⊎◌, ⊤}
 use Rattle.std.specs.List.{filter}
-use Rattle.unit_places.specs.Occurring.{occurs, HasNoRepeat}
+use Rattle.elk_layers.specs.Occurring.{occurs, HasNoRepeat}
 
 -- the first list is what is left of the second without some of its elements
 abbrev pub IsSublist : List ℕ → List ℕ → Type 0

@@ -3,7 +3,7 @@
 ghost use Rattle.std.specs.Prelude.{◌≡◌, ◌<◌, ◌≤◌, ◌^◌, length, IfOk};
 ghost use Rattle.std.specs.List.{All};
 ghost use Rattle.elk_layers.specs.Layered.{plain, rows_of, IsSound, AreRows};
-ghost use Rattle.unit_places.specs.Straight.{AreStraight};
+ghost use Rattle.elk_layers.specs.Straight.{AreStraight};
 ghost use Rattle.block_lines.specs.Constraints.{AreBlocks, AreOffsets, AreLeast, EndsWithinStack, Counts};
 ghost use Rattle.block_lines.specs.Phases.{AreSmall, AreConstraints};
 

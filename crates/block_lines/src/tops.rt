@@ -6,7 +6,7 @@ ghost use Rattle.separation.specs.Lines.{value_at};
 ghost use Rattle.elk_layers.specs.Layered.{place_in};
 ghost use Rattle.block_lines.specs.Constraints.{block_at, offset_at};
 ghost use Rattle.block_lines.specs.Phases.{IsSmall, AreSmall, IsLowered, AreFloorsSoFar, AreRootNumbers};
-ghost use Rattle.unit_places.specs.Occurring.{occurs, HasNoRepeat};
+ghost use Rattle.elk_layers.specs.Occurring.{occurs, HasNoRepeat};
 
 use std::alloc::{AllocError, Global};
 

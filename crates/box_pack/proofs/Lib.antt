@@ -1,3 +1,4 @@
 mod Filling
 mod Standing
 mod Limiting
+pub mod SpacedLemmas

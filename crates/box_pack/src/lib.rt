@@ -3,8 +3,10 @@
 #![tactic(auto)]
 
 mod packing;
+mod spacing;
 mod squarest;
 mod walk;
 
 pub use packing::{Rows, pack};
+pub use spacing::rows_are_spaced;
 pub use squarest::{Squarest, best};

@@ -34,16 +34,16 @@ use Rattle.level_boxes.specs.Placing.{corner}
 use Rattle.turned_levels.specs.Drawing.{IsTurnedDrawing, plus}
 use Rattle.turned_levels.specs.Turned.{box_size, child_number, edge_number, level_edge, level_of, turned_place, turned_size}
 use Rattle.turned_levels.proofs.NumberedLemmas.{levels_are_listed}
-use Rattle.turned_boxes.specs.Framed.{start_of}
-use Rattle.turned_boxes.specs.Outlines.{shifted}
-use Rattle.turned_boxes.proofs.HullLemmas.{hull_moved}
-use Rattle.turned_boxes.proofs.OutlineLemmas.{drawn_port_box, outlines_turn_back}
+use Rattle.turned_drawings.specs.Framed.{start_of}
+use Rattle.turned_drawings.specs.Outlines.{shifted}
+use Rattle.turned_drawings.proofs.HullLemmas.{hull_moved}
+use Rattle.turned_drawings.proofs.OutlineLemmas.{drawn_port_box, outlines_turn_back}
 use Rattle.level_writing.specs.declared.figure.LevelFigure.{LevelFigure}
 use Rattle.level_writing.specs.Figure.{figure_in}
 use Rattle.level_writing.specs.Sizes.{IsSizeRound}
 use Rattle.level_writing.specs.Written.{HasCertificate}
 use Rattle.document_plan.specs.Boxed.{IsBoxedPlan, boxes_certificate, corner_of, inner_corner, lowest, outline_sizes, size_of}
-use Rattle.drawn_boxes.proofs.EdgeLemmas.{no_edges}
+use Rattle.document_rules.proofs.EdgeLemmas.{no_edges}
 use Rattle.compound.specs.Figures.{IsBoxed, figure_of_boxes, layers_for}
 
 -- ---- out of the frame

@@ -12,7 +12,7 @@ use Rattle.turned_levels.specs.Kept.{AgreeAt}
 use Rattle.turned_levels.specs.Turned.{box_size}
 use Rattle.level_writing.specs.Back.{size_of}
 use Rattle.document_plan.proofs.PlanLemmas.{plans_stay}
-use Rattle.nested_bounds.proofs.NestedLemmas.{planned_boxes_are_small}
+use Rattle.document_rules.proofs.NestedLemmas.{planned_boxes_are_small}
 use Rattle.root_ports.specs.Rooted.{AreRootPortsPlaced, IsRootBox}
 use Rattle.document_rules.specs.Whole.{IsLaidOutDocument, IsWellDrawnDocument}
 use Rattle.document_rules.proofs.WholeLemmas.{documents_are_drawn}

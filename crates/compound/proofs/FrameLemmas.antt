@@ -19,7 +19,7 @@ use Rattle.level_traces.specs.Traced.{plain_traces}
 use Rattle.turned_levels.specs.Drawing.{IsTurnedDrawing}
 use Rattle.turned_levels.specs.Turned.{box_size, level_of}
 use Rattle.turned_levels.proofs.KeptLemmas.{drawings_read_levels, levels_read_sizes}
-use Rattle.turned_boxes.specs.Framed.{start_of}
+use Rattle.turned_drawings.specs.Framed.{start_of}
 use Rattle.level_reading.specs.Read.{size_at}
 use Rattle.level_writing.specs.declared.figure.LevelFigure.{LevelFigure}
 use Rattle.level_writing.specs.Back.{size_of}

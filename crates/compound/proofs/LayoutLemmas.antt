@@ -24,7 +24,7 @@ use Rattle.level_draw.specs.declared.drawing.LevelOut.{LevelOut}
 use Rattle.level_draw.specs.Drawing.{IsTight, drawn_in, plan_from}
 use Rattle.turned_levels.specs.Turned.{level_of}
 use Rattle.turned_levels.proofs.NumberedLemmas.{levels_are_listed}
-use Rattle.turned_certificates.proofs.EdgeLemmas.{has_holds}
+use Rattle.turned_drawings.proofs.EdgeLemmas.{has_holds}
 use Rattle.level_bounds.proofs.Bounded.{extents_small}
 use Rattle.level_reading.specs.Levels.{HasRoom}
 use Rattle.level_reading.specs.Read.{AreSizes, HasSizes}
@@ -38,9 +38,9 @@ use Rattle.level_writing.specs.Written.{ArePortPlaces, IsWritable}
 use Rattle.level_writing.proofs.RoomLemmas.{writable}
 use Rattle.level_layout.specs.Layout.{IsLaidOut}
 use Rattle.document_plan.specs.Planned.{ArePlannedFrom}
-use Rattle.drawn_boxes.proofs.EdgeLemmas.{edges_none}
-use Rattle.nested_bounds.specs.Nested.{IsSmallBox}
-use Rattle.nested_bounds.proofs.NestedLemmas.{planned_boxes_are_small, planned_levels_have_room}
+use Rattle.document_rules.proofs.EdgeLemmas.{edges_none}
+use Rattle.document_rules.specs.Nested.{IsSmallBox}
+use Rattle.document_rules.proofs.NestedLemmas.{planned_boxes_are_small, planned_levels_have_room}
 use Rattle.joined_drawings.specs.Joined.{with_gaps}
 use Rattle.split_layout.specs.declared.layout.PartsOut.{PartsOut}
 use Rattle.split_layout.specs.Laws.{IsPartedDrawing}

@@ -9,7 +9,7 @@ ghost use Rattle.level_reading.specs.Indexed.{IsIndex};
 ghost use Rattle.level_writing.specs.Canvas.{IsDrawingOf, drawing_of};
 ghost use Rattle.level_writing.specs.Written.{IsWritable};
 ghost use Rattle.document_plan.specs.Planned.{Planned};
-ghost use Rattle.drawing_fits.specs.Held.{HasSmallCoordinates};
+ghost use Rattle.drawing_laws.specs.Held.{HasSmallCoordinates};
 ghost use Rattle.compound.specs.Work.{IsFigureOf, IsFramedRound, IsWork};
 
 use crate::figures::figure_in;

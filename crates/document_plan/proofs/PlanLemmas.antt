@@ -16,7 +16,7 @@ use Rattle.turned_levels.specs.Turned.{box_size, child_number, port_number, turn
 use Rattle.turned_levels.proofs.KeptLemmas.{drawings_read_levels, levels_read_sizes}
 use Rattle.turned_levels.proofs.NumberedLemmas.{numbers_match}
 use Rattle.level_draw.specs.Drawing.{drawn_in}
-use Rattle.turned_boxes.specs.Framed.{start_of}
+use Rattle.turned_drawings.specs.Framed.{start_of}
 use Rattle.level_writing.specs.Sizes.{IsSizeRound}
 use Rattle.document_plan.specs.Boxed.{IsBoxedPlan, corner_of, outline_sizes, size_of}
 use Rattle.document_plan.specs.Laws.{PlansStay}

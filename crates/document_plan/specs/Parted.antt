@@ -9,7 +9,7 @@ use Rattle.split_layout.specs.declared.layout.PartsOut.{PartsOut}
 use Rattle.split_layout.specs.Parts.{IsPartsLayout, whole_drawing}
 use Rattle.turned_levels.specs.Turned.{box_size, level_of}
 use Rattle.turned_levels.specs.Drawing.{IsTurnedDrawing}
-use Rattle.turned_boxes.specs.Framed.{start_of}
+use Rattle.turned_drawings.specs.Framed.{start_of}
 use Rattle.level_writing.specs.Sizes.{IsSizeRound}
 use Rattle.level_writing.specs.Written.{HasCertificate}
 

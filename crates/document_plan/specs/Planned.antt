@@ -14,7 +14,7 @@ use Rattle.level_draw.specs.Drawing.{drawn_in}
 use Rattle.level_layout.specs.Layout.{IsLaidOut}
 use Rattle.turned_levels.specs.Turned.{box_size, level_child, level_of, port_number, ports_of, turned_place}
 use Rattle.turned_levels.specs.Drawing.{IsTurnedDrawing}
-use Rattle.turned_boxes.specs.Framed.{start_of}
+use Rattle.turned_drawings.specs.Framed.{start_of}
 use Rattle.level_writing.specs.Sizes.{IsSizeRound}
 use Rattle.level_writing.specs.Written.{HasCertificate}
 use Rattle.document_plan.specs.Boxed.{IsBoxedPlan}

@@ -19,21 +19,21 @@ use Rattle.level_layers.specs.Certificate.{IsCertificateOf}
 use Rattle.level_draw.specs.Drawing.{drawn_in, IsDrawing, plan_from}
 use Rattle.turned_levels.specs.Turned.{level_of}
 use Rattle.turned_levels.proofs.NumberedLemmas.{levels_are_listed}
-use Rattle.turned_boxes.specs.Framed.{IsFramed, start_of}
-use Rattle.turned_certificates.specs.Certified.{IsCertified, IsProofOf}
-use Rattle.turned_certificates.proofs.WholeLemmas.{certificates_turn_back}
-use Rattle.turned_docks.specs.Laws.{IsFromLevel}
-use Rattle.turned_ports.proofs.SpreadLemmas.{ports_turn_back}
+use Rattle.turned_drawings.specs.Framed.{IsFramed, start_of}
+use Rattle.turned_drawings.specs.Certified.{IsCertified, IsProofOf}
+use Rattle.turned_drawings.proofs.WholeLemmas.{certificates_turn_back}
+use Rattle.turned_drawings.specs.DockLaws.{IsFromLevel}
+use Rattle.turned_drawings.proofs.SpreadLemmas.{ports_turn_back}
 use Rattle.turned_drawings.specs.Levels.{IsWellDrawn}
 use Rattle.turned_drawings.proofs.LevelLemmas.{anchored, levels_are_drawn, ports_placed}
 use Rattle.level_writing.specs.Sizes.{KeepsPinned}
 use Rattle.level_writing.proofs.FramedLemmas.{framed}
 use Rattle.document_plan.specs.Boxed.{boxes_certificate}
 use Rattle.document_plan.specs.Planned.{IsLayeredPlan, IsPlannedLevel}
-use Rattle.drawn_boxes.specs.Boxes.{IsBoxDrawing}
-use Rattle.drawn_parts.specs.Parted.{IsPartsDrawing}
-use Rattle.drawn_parts.proofs.LevelLemmas.{parted_levels_are_drawn}
-use Rattle.drawn_boxes.proofs.BoxLemmas.{boxes_are_drawn}
+use Rattle.document_rules.specs.Boxes.{IsBoxDrawing}
+use Rattle.document_rules.specs.Parted.{IsPartsDrawing}
+use Rattle.document_rules.proofs.PartedLevelLemmas.{parted_levels_are_drawn}
+use Rattle.document_rules.proofs.BoxLemmas.{boxes_are_drawn}
 
 module _ (d : Document) (p : Placed) (n : ℕ) (o : LevelOptions) (sound : IsSound d) (leaves : LeavesKept d p) (options : (node_at d n).level ≡ Some o) (planned : IsLayeredPlan d p n o) where
   abbrev laid : PlainLevel

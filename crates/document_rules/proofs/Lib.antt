@@ -1,2 +1,17 @@
 pub mod LevelLemmas
 pub mod WholeLemmas
+pub mod EdgeLemmas
+pub mod PortLemmas
+pub mod RowLemmas
+pub mod FitLemmas
+pub mod BoxLemmas
+pub mod ApartLemmas
+pub mod PartedLevelLemmas
+pub mod SumLemmas
+pub mod OutlineLemmas
+pub mod ListLemmas
+pub mod ExtentLemmas
+pub mod PartLemmas
+pub mod NodeLemmas
+pub mod BoundBoxLemmas
+pub mod NestedLemmas

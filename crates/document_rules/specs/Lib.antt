@@ -1,1 +1,4 @@
 pub mod Whole
+pub mod Boxes
+pub mod Parted
+pub mod Nested

@@ -9,7 +9,7 @@ use Rattle.elk_doc.specs.Fitted.{Fitted}
 use Rattle.elk_doc.specs.Sound.{IsSound}
 use Rattle.level_writing.specs.Canvas.{IsDrawingOf}
 use Rattle.document_plan.specs.Planned.{Planned}
-use Rattle.drawing_fits.specs.Held.{HasSmallCoordinates}
+use Rattle.drawing_laws.specs.Held.{HasSmallCoordinates}
 
 -- The drawing has all that the document asks for, its root at the origin, leaves of their own sizes, and certificates where
 -- levels are; every level comes from a layout, and so do the ports of the root.

@@ -9,7 +9,7 @@ use Rattle.elk_doc.specs.Drawing.{certificate_of}
 use Rattle.elk_doc.specs.Layering.{Least}
 use Rattle.elk_doc.specs.Drawn.{Drawn}
 use Rattle.elk_doc.specs.Fitted.{Fitted}
-use Rattle.drawing_fits.specs.Held.{HasSmallCoordinates}
+use Rattle.drawing_laws.specs.Held.{HasSmallCoordinates}
 use Rattle.elk_json.specs.declared.fault.Rule.TheVariants.{NotJson}
 use Rattle.elk_json.specs.declared.fault.Refusal.{Refusal}
 use Rattle.elk_json.specs.Bytes.{reading}

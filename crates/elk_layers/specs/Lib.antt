@@ -4,3 +4,7 @@ pub mod Sweeps
 pub mod Alignment
 pub mod Lines
 pub mod Examples
+pub mod Occurring
+pub mod Places
+pub mod Straight
+pub mod PlaceExamples

@@ -9,9 +9,11 @@
 #![tactic(auto)]
 
 mod distances;
+mod noting;
 mod rows;
 mod units;
 
 pub use distances::{body_room, room};
+pub use noting::places;
 pub use rows::children_of;
 pub use units::{Layered, Lines, Link, Order, Unit};

@@ -4,3 +4,8 @@ pub mod ReachLemmas
 pub mod RuleLemmas
 pub mod PlanLemmas
 pub mod WholeLemmas
+pub mod ListLemmas
+pub mod EdgeLemmas
+pub mod TurnLemmas
+pub mod NetLemmas
+pub mod CertificateWholeLemmas

@@ -17,7 +17,7 @@ use Rattle.elk_doc.specs.Shapes.{Holds, moved_by, point_rect, right_of, bottom_o
 use Rattle.elk_doc.proofs.SegmentBounds.{EntersRect-spans, MeetsRect-spans}
 use Rattle.elk_doc.proofs.ShapeLaws.{same_point}
 use Rattle.level_rules.specs.Routes.{points_of}
-use Rattle.turned_boxes.specs.Outlines.{shifted}
+use Rattle.turned_drawings.specs.Outlines.{shifted}
 use Rattle.turned_levels.specs.Drawing.{plus}
 use Rattle.joined_drawings.specs.Joined.{moved_section}
 

@@ -17,8 +17,8 @@ use Rattle.part_layers.proofs.PlaceLemmas.{node_in, node_place, place_less, plac
 use Rattle.part_levels.specs.Divided.{child_number, edge_keys, edge_number, members, part_level}
 use Rattle.part_levels.specs.Parts.{AreParts}
 use Rattle.part_levels.proofs.LevelLemmas.{child_in, child_is, edge_in, many_edges, many_children, many_keys, place_back, place_in}
-use Rattle.turned_boxes.specs.Outlines.{shifted}
-use Rattle.turned_boxes.proofs.HullLemmas.{hull_moved, place_moved}
+use Rattle.turned_drawings.specs.Outlines.{shifted}
+use Rattle.turned_drawings.proofs.HullLemmas.{hull_moved, place_moved}
 use Rattle.turned_levels.specs.Drawing.{plus}
 use Rattle.joined_drawings.specs.Joined.{IsJoined, moved_section}
 use Rattle.joined_drawings.proofs.MoveLemmas.{points_moved}

@@ -14,8 +14,8 @@ use Rattle.elk_doc.proofs.ShapeLaws.{same_point}
 use Rattle.elk_doc.specs.Shapes.{Holds, bottom_of, hull, hull_size, point_rect, rect_at, right_of}
 use Rattle.box_pack.specs.declared.packing.Rows.{Rows}
 use Rattle.box_pack.specs.Boxes.{point_at}
-use Rattle.packed_rows.specs.Spaced.{AreSolid, AreSpaced}
-use Rattle.packed_rows.proofs.SpacedLemmas.{rows_are_spaced}
+use Rattle.box_pack.specs.Spaced.{AreSolid, AreSpaced}
+use Rattle.box_pack.proofs.SpacedLemmas.{rows_are_spaced}
 use Rattle.level_draw.specs.Drawing.{IsTight, outlines_in}
 use Rattle.level_extent.specs.Reach.{IsReach, abscissae, corners_of, greatest, heights, least, points_along, points_of, reached}
 use Rattle.level_plan.specs.FromPlan.{Drawn, section_at}
@@ -28,8 +28,8 @@ use Rattle.part_layers.proofs.PlaceLemmas.{place_less}
 use Rattle.part_levels.specs.Divided.{edge_keys}
 use Rattle.part_levels.proofs.LevelLemmas.{many_children, many_edges}
 use Rattle.part_levels.proofs.SplitLemmas.{keys_below}
-use Rattle.turned_boxes.specs.Outlines.{shifted}
-use Rattle.turned_boxes.proofs.ReachLemmas.{greatest_high, greatest_in, least_in, least_low}
+use Rattle.turned_drawings.specs.Outlines.{shifted}
+use Rattle.turned_drawings.proofs.ReachLemmas.{greatest_high, greatest_in, least_in, least_low}
 use Rattle.turned_levels.specs.Drawing.{plus}
 use Rattle.joined_drawings.specs.Joined.{AreDrawn, AreInRows, IsJoined, part_rect}
 use Rattle.joined_drawings.proofs.PartLemmas as parts

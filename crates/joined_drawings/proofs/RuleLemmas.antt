@@ -31,9 +31,9 @@ use Rattle.part_levels.proofs.LevelLemmas.{edge_part}
 use Rattle.part_levels.proofs.PartLemmas.{one_part}
 use Rattle.part_levels.proofs.SameLemmas.{says_the_same}
 use Rattle.part_levels.proofs.SplitLemmas.{keys_below}
-use Rattle.turned_boxes.specs.Outlines.{shifted}
+use Rattle.turned_drawings.specs.Outlines.{shifted}
 use Rattle.turned_levels.specs.Drawing.{plus}
-use Rattle.turned_routes.proofs.MoveLemmas.{enters_back, meets_back, outward_moved, share_back, step_moved, turn_moved}
+use Rattle.turned_drawings.proofs.MoveLemmas.{enters_back, meets_back, outward_moved, share_back, step_moved, turn_moved}
 use Rattle.joined_drawings.specs.Joined.{AreDrawn, IsJoined}
 use Rattle.joined_drawings.proofs.MoveLemmas.{anchor_moved, clear_enters, clear_meets, clear_shares, offset_moved, side_moved}
 use Rattle.joined_drawings.proofs.PartLemmas as parts

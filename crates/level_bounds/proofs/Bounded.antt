@@ -27,7 +27,7 @@ use Rattle.level_stands.proofs.EndLemmas.{child_stands}
 use Rattle.level_stands.proofs.GapLemmas.{columns}
 use Rattle.level_stands.proofs.Lists.{Has, below_has}
 use Rattle.level_stands.proofs.Whole.{stage_stands}
-use Rattle.level_lawful.proofs.Whole.{routes_lawful}
+use Rattle.level_rules.proofs.Whole.{routes_lawful}
 use Rattle.level_draw.specs.declared.drawing.LevelOut.{LevelOut}
 use Rattle.level_draw.specs.Drawing.{IsTight, drawn_in, outlines_in, plan_from}
 use Rattle.level_extent.specs.declared.spanning.Reach.{Reach}

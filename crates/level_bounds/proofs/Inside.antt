@@ -12,8 +12,8 @@ use Rattle.route_slots.specs.Pieces.{Abscissa, Corner, IsAbscissa, corner_at, co
 use Rattle.route_slots.specs.GapFree.{HasPin}
 use Rattle.route_lines.specs.Points.{gap_in, stand}
 use Rattle.route_lines.specs.Tidied.{EachSegment, StartsAt}
-use Rattle.level_stage.specs.Stage.{ChildStands, IsInOutline, Stage, Stands, unit_of_line}
-use Rattle.level_stage.specs.Law.{IsBorderPart, IsLanePart, IsLawful, IsNetPart, IsPart, IsStub, border_part, lane_part, net_part, stub}
+use Rattle.level_plan.specs.Stage.{ChildStands, IsInOutline, Stage, Stands, unit_of_line}
+use Rattle.level_plan.specs.Law.{IsBorderPart, IsLanePart, IsLawful, IsNetPart, IsPart, IsStub, border_part, lane_part, net_part, stub}
 use Rattle.level_bounds.proofs.Sums.{le_le}
 use Rattle.level_bounds.proofs.Framing.{Each, Frame, Holds, between, drops_each}
 

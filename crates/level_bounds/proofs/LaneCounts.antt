@@ -9,7 +9,7 @@ use Rattle.elk_doc.specs.declared.shape.Side.TheVariants.{North, East, South, We
 use Rattle.elk_doc.specs.declared.shape.Dock.{Dock}
 use Rattle.elk_doc.specs.PortsKept.{is_side}
 use Rattle.port_order.specs.declared.spots.Spot.{Spot}
-use Rattle.level_stage.specs.Stage.{dock_lane, loop_lane}
+use Rattle.level_plan.specs.Stage.{dock_lane, loop_lane}
 use Rattle.level_plan.specs.Level.{End, Orders, PlainLevel, PlainPlan, all_ends, child_at, dock_of_spot, edge_at, ends_at_port, enters, implicit_ends, implicit_spot, is_loop, is_port, linked, port_spot, spoke, spot_at_port, spots}
 use Rattle.level_plan.specs.Lanes.{asks_lane, dock_eq, docks_with_lane, has_lane, lane_side, lanes, loop_sides, loops_of, once}
 use Rattle.level_stands.proofs.Lists.{Has, any_has, append_has, filter_has, has_filter, map_has}

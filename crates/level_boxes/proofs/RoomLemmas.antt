@@ -16,8 +16,8 @@ use Rattle.level_ends.specs.Narrow.{IsNearRect}
 use Rattle.box_pack.specs.declared.packing.Rows.{Rows}
 use Rattle.box_pack.specs.Boxes.{AreSizes, IsGreatest, IsSize, point_at, right_of, bottom_of, size_at}
 use Rattle.box_pack.specs.Packed.{AreRows}
-use Rattle.packed_rows.specs.Spaced.{AreSolid, gapped, height_at, width_at}
-use Rattle.packed_rows.proofs.SpacedLemmas.{rows_are_spaced}
+use Rattle.box_pack.specs.Spaced.{AreSolid, gapped, height_at, width_at}
+use Rattle.box_pack.proofs.SpacedLemmas.{rows_are_spaced}
 use Rattle.level_boxes.specs.Outlines.{outline_size, rect_in}
 use Rattle.level_boxes.specs.Placing.{AreRoomy, IsBoxAt, IsNearSize, IsRoomyPlace}
 

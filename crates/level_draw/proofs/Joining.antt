@@ -14,9 +14,9 @@ use Rattle.level_nets.specs.Routed.{AreGapsIn, AreGapsOf, AreLegsOf}
 use Rattle.level_shift.specs.Ranges.{plain_trace}
 use Rattle.level_traces.specs.declared.tracing.Routes.{Routes}
 use Rattle.level_traces.specs.Traced.{ArePlannedRoutes, AreRoutesOf, plain_traces, trace_in}
-use Rattle.level_joins.specs.Nearness.{IsNearEnd, IsNearStep}
-use Rattle.level_joins.proofs.LegsThere.{traces_join}
-use Rattle.level_joins.proofs.NearPoints.{points_near}
+use Rattle.level_rules.specs.Nearness.{IsNearEnd, IsNearStep}
+use Rattle.level_rules.proofs.LegsThere.{traces_join}
+use Rattle.level_rules.proofs.NearPoints.{points_near}
 use Rattle.level_draw.specs.Joined.{AreJoinable}
 use Rattle.level_draw.proofs.Nearness.{anchor_near, gaps_near, nets_held, steps_near}
 

@@ -45,8 +45,8 @@ use Rattle.level_traces.proofs.LoopReading.{loop_steps_are}
 use Rattle.level_traces.proofs.PlaceReading.{anchor_is, box_is}
 use Rattle.level_traces.proofs.RangeLemmas.{box_numbers}
 use Rattle.level_traces.proofs.StepReading.{edge_steps_are}
-use Rattle.level_joins.specs.Joins.{HoldNets}
-use Rattle.level_joins.specs.Nearness.{AreNearGaps, IsNearEnd, IsNearGap, IsNearHeight, IsNearStep}
+use Rattle.level_rules.specs.Joins.{HoldNets}
+use Rattle.level_rules.specs.Nearness.{AreNearGaps, IsNearEnd, IsNearGap, IsNearHeight, IsNearStep}
 
 -- ---- the table
 

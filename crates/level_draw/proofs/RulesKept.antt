@@ -5,7 +5,7 @@ use Rattle.level_plan.specs.FromPlan.{Drawn, IsDrawnFrom}
 use Rattle.level_stands.specs.Ready.{IsReady}
 use Rattle.level_stands.proofs.EndLemmas.{child_stands}
 use Rattle.level_stands.proofs.Whole.{stage_stands}
-use Rattle.level_lawful.proofs.Whole.{routes_lawful}
+use Rattle.level_rules.proofs.Whole.{routes_lawful}
 use Rattle.level_rules.specs.Routes.{RoutesKept}
 use Rattle.level_rules.proofs.Keeping.{routes_kept}
 

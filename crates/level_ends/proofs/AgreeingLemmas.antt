@@ -12,7 +12,7 @@ use Rattle.elk_doc.specs.Shapes.{hull, rect_at}
 use Rattle.port_order.specs.Child.{port_at}
 use Rattle.port_order.proofs.AgreeLemmas.{one_order}
 use Rattle.self_loops.specs.Loops.{sides_of_lanes}
-use Rattle.level_stage.specs.Stage.{Line, dock_lane, loop_lane}
+use Rattle.level_plan.specs.Stage.{Line, dock_lane, loop_lane}
 use Rattle.level_plan.specs.declared.table.EndAt.{EndAt}
 use Rattle.level_plan.specs.declared.table.LoopAt.{LoopAt}
 use Rattle.level_plan.specs.declared.table.ChildAt.{ChildAt}

@@ -5,8 +5,8 @@ use Rattle.std.proofs.lemmas.Bool.{cases_eq, cases_Bool, and_from, and_parts, eq
 use Rattle.std.proofs.lemmas.List.{get_or_append_left, get_or_default, get_or_push, get_or_read, length_push}
 use Rattle.std.proofs.lemmas.List.Elements.{All-nil, All-cons, All-append, All-filter, All-get_or, All-head, All-tail, filter_passes}
 use Rattle.elk_layers.specs.Layered.{Plain, IsSound, AreRows, link_at, is_child, place_of, layer_of}
-use Rattle.unit_places.specs.Places.{ArePlaces}
-use Rattle.unit_places.proofs.RowLemmas.{place_small}
+use Rattle.elk_layers.specs.Places.{ArePlaces}
+use Rattle.elk_layers.proofs.RowLemmas.{place_small}
 use Rattle.elk_layers.specs.declared.units.Link.{Link}
 use Rattle.level_plan.specs.declared.level.LevelEdge.{LevelEdge}
 use Rattle.level_plan.specs.Conditions.{IsLevel, IsSpoke}

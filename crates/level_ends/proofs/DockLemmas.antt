@@ -12,9 +12,9 @@ use Rattle.port_order.specs.Sides.{side_of}
 use Rattle.port_order.specs.Order.{IsOrderOfSide, IsSpreadOn}
 use Rattle.port_order.specs.Places.{HoldsOnce, offset_of, place_in}
 use Rattle.port_order.proofs.PlaceLemmas.{place_is}
-use Rattle.unit_places.specs.Places.{IsOnce, NotesFirst}
-use Rattle.unit_places.proofs.OccursLemmas.{length_below, no_repeat_from}
-use Rattle.unit_places.proofs.PlaceLemmas.{place_below, place_reads}
+use Rattle.elk_layers.specs.Places.{IsOnce, NotesFirst}
+use Rattle.elk_layers.proofs.OccursLemmas.{length_below, no_repeat_from}
+use Rattle.elk_layers.proofs.PlaceLemmas.{place_below, place_reads}
 use Rattle.level_ends.specs.Rows.{AreNumbered}
 use Rattle.level_ends.specs.Sides.{AreFour, ArePlaced, FourOrders, offset_by, order_on}
 

@@ -11,7 +11,7 @@ use Rattle.port_order.specs.Places.{anchor_at}
 use Rattle.level_ends.proofs.PartLemmas.{offset_fits}
 use Rattle.port_order.specs.declared.children.Child.{Child}
 use Rattle.port_order.specs.declared.spots.Spot.{Spot}
-use Rattle.unit_places.proofs.FillLemmas.{push_more}
+use Rattle.elk_layers.proofs.FillLemmas.{push_more}
 use Rattle.level_plan.specs.declared.level.LevelEdge.{LevelEdge}
 use Rattle.level_plan.specs.declared.level.Spoke.{Spoke}
 use Rattle.level_plan.specs.declared.table.ChildAt.{ChildAt}

@@ -7,7 +7,7 @@ use Rattle.std.proofs.lemmas.List.Elements.{All-nil, All-cons, All-head, All-tai
 use Rattle.std.proofs.lemmas.List.Folds.{list_any-append, list_any_none, list_any_at}
 use Rattle.std.proofs.lemmas.List.FromFn.{get_or-range_with_len, length-range_with_len}
 use Rattle.elk_doc.specs.declared.shape.Dock.{Dock}
-use Rattle.level_stage.specs.Stage.{Line}
+use Rattle.level_plan.specs.Stage.{Line}
 use Rattle.level_plan.specs.Lanes.{dock_eq, line_eq, once, place_of_line}
 use Rattle.level_ends.specs.Lanes.{first_same, same_dock}
 use Rattle.level_ends.specs.Outlines.{dock_in}

@@ -13,7 +13,7 @@ use Rattle.port_order.specs.Child.{is_pinned_spot, no_spot, spot_at}
 use Rattle.port_order.specs.Conditions.{AreSpots, IsSpot}
 use Rattle.port_order.specs.Places.{HoldsOnce, place_in}
 use Rattle.port_order.specs.Sides.{side_of}
-use Rattle.unit_places.specs.Places.{IsOnce, NotesFirst}
+use Rattle.elk_layers.specs.Places.{IsOnce, NotesFirst}
 use Rattle.level_plan.specs.Level.{PlainLevel, child_at}
 use Rattle.level_ends.specs.declared.orders.SideOrders.{SideOrders}
 use Rattle.level_ends.specs.Narrow.{IsOffset}

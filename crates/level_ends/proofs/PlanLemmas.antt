@@ -11,7 +11,7 @@ use Rattle.elk_doc.specs.PortsKept.{is_side}
 use Rattle.port_order.specs.declared.spots.Spot.{Spot}
 use Rattle.port_order.specs.Child.{no_spot, spot_at}
 use Rattle.self_loops.specs.Loops.{sides_of_lanes}
-use Rattle.level_stage.specs.Stage.{Line, dock_lane, loop_lane}
+use Rattle.level_plan.specs.Stage.{Line, dock_lane, loop_lane}
 use Rattle.level_plan.specs.Level.{PlainLevel, PlainPlan, Orders, child_at, dock_of, dock_of_spot, edge_at, end_at, is_loop, spots}
 use Rattle.level_plan.specs.Lanes.{asks_lane, dock_eq, docks_with_lane, has_lane, lane_side, lanes, line_eq, loop_sides, loops_of, once, place_of_line}
 use Rattle.level_ends.specs.Ends.{AreEndDocks, loop_on, loops_to}

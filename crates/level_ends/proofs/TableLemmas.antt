@@ -10,7 +10,7 @@ use Rattle.elk_doc.specs.Shapes.{hull, rect_at}
 use Rattle.port_order.specs.Child.{port_at}
 use Rattle.port_order.specs.Order.{IsOrderOfSide}
 use Rattle.port_order.specs.Places.{anchor_at, place_of_port}
-use Rattle.level_stage.specs.Stage.{dock_lane, loop_lane}
+use Rattle.level_plan.specs.Stage.{dock_lane, loop_lane}
 use Rattle.level_plan.specs.declared.table.ChildAt.{ChildAt}
 use Rattle.level_plan.specs.declared.table.EndAt.{EndAt}
 use Rattle.level_plan.specs.declared.table.LoopAt.{LoopAt}

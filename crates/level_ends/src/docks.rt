@@ -8,7 +8,7 @@ ghost use Rattle.port_order.specs.Child as ports;
 ghost use Rattle.port_order.specs.Conditions.{AreSpots, IsSmall, IsSpot};
 ghost use Rattle.port_order.specs.Places as places;
 ghost use Rattle.port_order.specs.Sides as sides;
-ghost use Rattle.unit_places.specs.Places.{IsOnce, NotesFirst};
+ghost use Rattle.elk_layers.specs.Places.{IsOnce, NotesFirst};
 ghost use Rattle.level_ends.specs.Sides as spec;
 ghost use Rattle.level_plan.specs.Conditions.{plain_level, IsLevel};
 ghost use Rattle.level_ends.specs.Narrow.{IsNarrow, IsOffset};

@@ -6,10 +6,9 @@ ghost use Rattle.level_plan.specs.Units.{AreLinked};
 ghost use Rattle.level_ends.specs.Flows as spec;
 ghost use Rattle.level_ends.specs.Flows.{AreMarks, AreFirst, AreFlows, HaveEdges, IsReadable};
 
-use elk_layers::{Layered, Link, Order};
+use elk_layers::{Layered, Link, Order, places};
 use level_plan::{LevelEdge, LevelIn};
 use std::alloc::{AllocError, Global};
-use unit_places::places;
 
 /// An edge as its ends see it: whether it is a self-loop, whether it is turned round, and, where it is no self-loop, the
 /// places in their rows of the unit after its tail and of the unit before its head.

@@ -27,9 +27,9 @@ use Rattle.level_units.specs.Layering.{IsLayerCount}
 use Rattle.level_draw.specs.declared.drawing.LevelOut.{LevelOut}
 use Rattle.level_draw.specs.Drawing.{IsDrawable, IsDrawn, IsMadeFrom, plan_from}
 use Rattle.level_ranks.specs.Laws.{MakeUnits}
-use Rattle.link_bounds.specs.Bounds.{AreFew}
-use Rattle.link_bounds.proofs.LinkLemmas.{links_few}
-use Rattle.link_bounds.proofs.PinLemmas.{pins_low}
+use Rattle.level_layout.specs.Bounds.{AreFew}
+use Rattle.level_layout.proofs.LinkLemmas.{links_few}
+use Rattle.level_layout.proofs.PinLemmas.{pins_low}
 use Rattle.level_layout.specs.Chosen.{ArePlaced, IsReduced}
 use Rattle.level_layout.specs.Phases.{AreNumberedAs, AreRankedUnits, IsStart}
 use Rattle.level_layout.specs.Layout.{IsLaidOut, IsLayout}

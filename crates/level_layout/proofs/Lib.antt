@@ -3,3 +3,9 @@ pub mod LayoutLemmas
 pub mod PlacedLemmas
 pub mod RowsLemmas
 pub mod UnitsLemmas
+pub mod CountLemmas
+pub mod CrossingLemmas
+pub mod LayerLemmas
+pub mod LinkLemmas
+pub mod PinLemmas
+pub mod PinSums

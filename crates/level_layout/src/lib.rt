@@ -2,8 +2,10 @@
 //! into layers, units and links made from these, rows ordered and placed, and the level drawn.
 #![tactic(auto)]
 
+mod bounds;
 mod layout;
 mod lines;
 mod phases;
 
+pub use bounds::{links_are_few, pins_are_low};
 pub use layout::layout_level;

@@ -3,7 +3,7 @@ ghost use Rattle.std.specs.Prelude.{◌^◌, pos, ◌+ℤ◌, ◌<ℤ◌, IfOk};
 ghost use Rattle.elk_layers.specs.Layered.{plain, rows_of, total_height, AreRows, IsSound};
 ghost use Rattle.block_lines.specs.Constraints.{EndsWithinStack};
 ghost use Rattle.ns_place.specs.Heights.{pins_together};
-ghost use Rattle.link_bounds.specs.Bounds.{AreFew};
+ghost use Rattle.level_layout.specs.Bounds.{AreFew};
 ghost use Rattle.level_layout.specs.Chosen.{AreLeastHigh, ArePlaced};
 
 use bk_place::place;

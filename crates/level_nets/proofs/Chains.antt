@@ -6,7 +6,7 @@ use Rattle.std.specs.Prelude.{is_some}
 use Rattle.std.specs.List.{range_with_len}
 use Rattle.elk_layers.specs.Layered.{unit_at, link_at, is_child, layer_of}
 use Rattle.self_loops.specs.Loops.{is_upright}
-use Rattle.level_stage.specs.Stage.{anchor_line, dock_lane, long_lane}
+use Rattle.level_plan.specs.Stage.{anchor_line, dock_lane, long_lane}
 use Rattle.level_plan.specs.Level.{PlainLevel, PlainPlan, Orders, End, spoke, tail_end, head_end, dock_of}
 use Rattle.level_plan.specs.Nets.{unit_of, unit_of_line, is_inverted, line_of_end, tail_line, head_line}
 use Rattle.level_plan.specs.Traces.{links_at, links_from, chain}

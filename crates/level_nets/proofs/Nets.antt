@@ -14,7 +14,7 @@ use Rattle.route_slots.specs.declared.Pin.{Pin}
 use Rattle.route_slots.specs.declared.Net.{Net}
 use Rattle.route_slots.specs.GapFree.{IsNet, IsHeight, AreHeights}
 use Rattle.self_loops.specs.Loops.{is_upright, crosses, passes_left, passes_right}
-use Rattle.level_stage.specs.Stage.{Line, anchor_line, dock_lane, loop_lane, Reaches}
+use Rattle.level_plan.specs.Stage.{Line, anchor_line, dock_lane, loop_lane, Reaches}
 use Rattle.level_plan.specs.Level.{PlainLevel, PlainPlan, Orders, End, end_at, edge_at, spoke, enters, is_loop, dock_of, outline}
 use Rattle.level_plan.specs.Lanes.{dock_eq, has_one_dock, loop_sides, body_top}
 use Rattle.level_plan.specs.Nets.{Name, of_link, of_dock, of_loop, unit_of, unit_of_line, below_top, height_of, inverts, is_inverted, lane_side_of_end, loop_line, a_line, b_line, edge_of, net_of}

@@ -10,7 +10,7 @@ use Rattle.elk_doc.specs.Sound.{IsWithin}
 use Rattle.elk_layers.specs.Layered.{unit_at, IsFromZero}
 use Rattle.elk_layers.specs.Lines.{top_of}
 use Rattle.self_loops.specs.Loops.{is_upright, passes_left, passes_right}
-use Rattle.level_stage.specs.Stage.{Line, anchor_line, dock_lane, loop_lane}
+use Rattle.level_plan.specs.Stage.{Line, anchor_line, dock_lane, loop_lane}
 use Rattle.level_plan.specs.Level.{Orders, End, end_at, spoke, is_loop, dock_of}
 use Rattle.level_plan.specs.Lanes.{has_one_dock}
 use Rattle.level_plan.specs.Nets.{of_dock, of_loop, unit_of, unit_of_line, below_top, lane_side_of_end, loop_line, is_inverted}

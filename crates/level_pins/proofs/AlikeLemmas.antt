@@ -20,7 +20,7 @@ use Rattle.port_order.specs.Order.{IsOrderOfSide}
 use Rattle.port_order.specs.Places.{place_of_port}
 use Rattle.self_loops.specs.Loops.{is_upright, sides_of_lanes}
 use Rattle.elk_layers.specs.Layered.{Plain, unit_at, link_at, layer_of, place_in, place_of, row_at, is_child}
-use Rattle.level_stage.specs.Stage.{Line, anchor_line, dock_lane, loop_lane, long_lane}
+use Rattle.level_plan.specs.Stage.{Line, anchor_line, dock_lane, loop_lane, long_lane}
 use Rattle.level_plan.specs.declared.table.EndAt.{EndAt}
 use Rattle.level_plan.specs.declared.table.LoopAt.{LoopAt}
 use Rattle.level_plan.specs.declared.table.ChildAt.{ChildAt}

@@ -13,7 +13,7 @@ use Rattle.elk_layers.specs.declared.units.Unit.{Unit as LayerUnit}
 use Rattle.elk_layers.specs.declared.units.Link.{Link}
 use Rattle.elk_layers.specs.Layered.{Plain, AreRows, HasBodyWithin, HasUnit, IsSound, IsSoundLink, is_child, layer_of, link_at, row_at, total_height, unit_at}
 use Rattle.self_loops.specs.Loops.{is_upright}
-use Rattle.level_stage.specs.Stage.{anchor_line, dock_lane, long_lane}
+use Rattle.level_plan.specs.Stage.{anchor_line, dock_lane, long_lane}
 use Rattle.level_plan.specs.declared.table.Table.{Table}
 use Rattle.level_plan.specs.Conditions.{IsLevel}
 use Rattle.level_plan.specs.Conditions as level

@@ -9,7 +9,7 @@ use Rattle.port_order.specs.Sides.{side_of}
 use Rattle.port_order.specs.Places.{anchor_at}
 use Rattle.port_order.proofs.KeptLemmas.{dock_inside}
 use Rattle.self_loops.specs.Loops.{is_upright}
-use Rattle.level_stage.specs.Stage.{IsInOutline, Line, anchor_line, dock_lane}
+use Rattle.level_plan.specs.Stage.{IsInOutline, Line, anchor_line, dock_lane}
 use Rattle.level_plan.specs.Conditions.{IsLevel}
 use Rattle.level_plan.specs.Level.{PlainLevel, PlainPlan, Orders, End, end_at, enters, implicit_ends, child_at, spoke, spot_of, spot_at_port, port_spot, implicit_spot, dock_of, dock_of_spot, anchor_of_spot, is_loop, outline}
 use Rattle.level_plan.specs.Lanes.{lane_side, lanes, lanes_room, place_of_line, body_top, unit_height}

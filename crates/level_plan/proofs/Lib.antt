@@ -1,1 +1,6 @@
 pub mod WestRoute
+pub mod Zones
+pub mod NetPieces
+pub mod AtDocks
+pub mod Sharing
+pub mod Clearing

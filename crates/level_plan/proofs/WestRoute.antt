@@ -3,9 +3,9 @@ use Rattle.std.proofs.Common.{inl, inr, refl, true, false, ℕ, ◌≤◌, pos, 
 use Rattle.std.proofs.lemmas.Int.{ints, clamps}
 use Rattle.elk_doc.specs.Segments.{IsBetween}
 use Rattle.route_slots.specs.Pieces.{left_border, slot, right_border, corner}
-use Rattle.level_stage.specs.Stage.{dock_lane}
+use Rattle.level_plan.specs.Stage.{dock_lane}
 use Rattle.level_plan.specs.Level.{dock_of, end_at}
-use Rattle.level_stage.specs.Law.{IsPart, lane_part, border_part, net_part}
+use Rattle.level_plan.specs.Law.{IsPart, lane_part, border_part, net_part}
 use Rattle.level_plan.specs.Examples.{west, west_plan, west_orders, west_stage, WestParts, at}
 
 le : (m n : ℕ) → m ≤ n → pos m ≤ℤ pos n

@@ -8,7 +8,7 @@ use Rattle.self_loops.specs.Loops.{is_upright}
 use Rattle.elk_layers.specs.Layered.{unit_at, link_at, layer_of}
 use Rattle.elk_layers.specs.Lines.{top_of}
 use Rattle.route_lines.specs.Points.{gap_in}
-use Rattle.level_stage.specs.Stage.{Stage, Line, anchor_line, loop_lane}
+use Rattle.level_plan.specs.Stage.{Stage, Line, anchor_line, loop_lane}
 use Rattle.level_plan.specs.Level.{PlainLevel, PlainPlan, Orders, end_at, child_at, dock_of, outline, first_or, is_loop}
 use Rattle.level_plan.specs.Lanes.{line_eq, loop_sides}
 use Rattle.level_plan.specs.Nets.{Name, all_names, names_in, of_link, a_line, b_line, edge_of, unit_of, height_of}

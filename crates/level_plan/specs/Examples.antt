@@ -16,14 +16,14 @@ use Rattle.route_slots.specs.declared.NetRoute.TheVariants.{Straight, One}
 use Rattle.route_lines.specs.declared.Step.TheVariants.{Lane, Leg}
 use Rattle.route_lines.specs.Points.{PlainGap, trace_points, fine_points}
 use Rattle.level_plan.specs.declared.level.LevelEdge.{LevelEdge}
-use Rattle.level_stage.specs.Stage.{Stage, dock_lane}
+use Rattle.level_plan.specs.Stage.{Stage, dock_lane}
 use Rattle.level_plan.specs.Level.{PlainLevel, PlainPlan, Orders, dock_of, end_at}
 use Rattle.level_plan.specs.Lanes.{lanes, body_top, unit_height}
 use Rattle.level_plan.specs.Nets.{nets_in, column_width, gap_left, gap_width}
 use Rattle.level_plan.specs.Traces.{steps_of}
 use Rattle.level_plan.specs.FromPlan.{Drawn}
 use Rattle.level_plan.specs.Drawing.{stage}
-use Rattle.level_stage.specs.Law.{IsPart}
+use Rattle.level_plan.specs.Law.{IsPart}
 use Rattle.route_lines.specs.Tidied.{EachSegment}
 
 abbrev pub spacing : Spacing

@@ -7,7 +7,7 @@ use Rattle.elk_doc.specs.declared.shape.Side.TheVariants.{North, East, South, We
 use Rattle.elk_doc.specs.declared.shape.Dock.{Dock}
 use Rattle.elk_doc.specs.PortsKept.{is_side}
 use Rattle.self_loops.specs.Loops.{sides_of_lanes}
-use Rattle.level_stage.specs.Stage.{Line, anchor_line, dock_lane, loop_lane, long_lane}
+use Rattle.level_plan.specs.Stage.{Line, anchor_line, dock_lane, loop_lane, long_lane}
 use Rattle.level_plan.specs.Level.{PlainLevel, PlainPlan, Orders, end_at, child_at, edge_at, is_loop, spots, dock_of, dock_of_spot, outline}
 
 abbrev pub dock_eq : Dock → Dock → Bool

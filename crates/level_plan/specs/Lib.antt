@@ -9,3 +9,5 @@ pub mod Conditions
 pub mod Table
 pub mod Examples
 pub mod MoreExamples
+pub mod Stage
+pub mod Law

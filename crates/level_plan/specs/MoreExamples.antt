@@ -11,7 +11,7 @@ use Rattle.port_order.specs.declared.children.Child.{Child}
 use Rattle.port_order.specs.declared.children.ChildPort.{ChildPort}
 use Rattle.route_lines.specs.declared.Step.TheVariants.{Lane, Leg}
 use Rattle.route_lines.specs.Points.{trace_points}
-use Rattle.level_stage.specs.Stage.{dock_lane, loop_lane}
+use Rattle.level_plan.specs.Stage.{dock_lane, loop_lane}
 use Rattle.level_plan.specs.declared.level.LevelEdge.{LevelEdge}
 use Rattle.level_plan.specs.Level.{PlainLevel, PlainPlan, Orders, dock_of, end_at, outline, port_place}
 use Rattle.level_plan.specs.Lanes.{lanes, body_top, unit_height}

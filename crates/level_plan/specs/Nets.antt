@@ -11,7 +11,7 @@ use Rattle.elk_layers.specs.Lines.{top_of}
 use Rattle.route_slots.specs.declared.Pin.{Pin}
 use Rattle.route_slots.specs.declared.Net.{Net}
 use Rattle.self_loops.specs.Loops.{passes_left, passes_right, is_upright}
-use Rattle.level_stage.specs.Stage.{Line, anchor_line, dock_lane, loop_lane, long_lane}
+use Rattle.level_plan.specs.Stage.{Line, anchor_line, dock_lane, loop_lane, long_lane}
 use Rattle.level_plan.specs.Level.{PlainLevel, PlainPlan, Orders, End, end_at, edge_at, all_ends, end_eq, spoke, enters, tail_end, head_end, is_loop, dock_of, outline, first_or}
 use Rattle.level_plan.specs.Lanes.{lane_side, loop_lane_height, body_top, has_one_dock}
 

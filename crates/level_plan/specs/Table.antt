@@ -6,7 +6,7 @@ use Rattle.elk_doc.specs.declared.shape.Rect.{Rect}
 use Rattle.elk_doc.specs.declared.shape.Side.TheVariants.{North, East, South}
 use Rattle.elk_doc.specs.declared.shape.Dock.{Dock}
 use Rattle.elk_doc.specs.PortsKept.{is_side}
-use Rattle.level_stage.specs.Stage.{dock_lane, loop_lane}
+use Rattle.level_plan.specs.Stage.{dock_lane, loop_lane}
 use Rattle.level_plan.specs.declared.table.EndAt.{EndAt}
 use Rattle.level_plan.specs.declared.table.LoopAt.{LoopAt}
 use Rattle.level_plan.specs.declared.table.ChildAt.{ChildAt}

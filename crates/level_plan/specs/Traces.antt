@@ -7,7 +7,7 @@ use Rattle.elk_layers.specs.Layered.{link_at, layer_of}
 use Rattle.self_loops.specs.Loops.{is_upright}
 use Rattle.route_lines.specs.declared.Step.{Step}
 use Rattle.route_lines.specs.declared.Step.TheVariants.{Lane, Leg}
-use Rattle.level_stage.specs.Stage.{Line, dock_lane, loop_lane, long_lane}
+use Rattle.level_plan.specs.Stage.{Line, dock_lane, loop_lane, long_lane}
 use Rattle.level_plan.specs.Level.{PlainLevel, PlainPlan, Orders, End, end_at, tail_end, head_end, holds, is_loop, dock_of}
 use Rattle.level_plan.specs.Lanes.{has_one_dock}
 use Rattle.level_plan.specs.Nets.{Name, of_link, of_dock, of_loop, height_of, gap_of, names_in, place_of_name, is_inverted}

@@ -4,8 +4,10 @@
 
 mod laws;
 mod level;
+mod stage;
 mod table;
 
 pub use laws::examples;
 pub use level::{LevelEdge, LevelIn, Spoke};
+pub use stage::{routes_are_square, routes_keep_clear, routes_share_docks};
 pub use table::{ChildAt, EndAt, LoopAt, Table};

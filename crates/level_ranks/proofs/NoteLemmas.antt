@@ -13,7 +13,7 @@ use Rattle.port_order.specs.Sides.{side_of}
 use Rattle.port_order.specs.Order.{IsOrderOfSide}
 use Rattle.port_order.specs.Places.{HoldsOnce, place_in}
 use Rattle.port_order.proofs.PlaceLemmas.{place_is}
-use Rattle.unit_places.specs.Places.{IsOnce, NotesFirst}
+use Rattle.elk_layers.specs.Places.{IsOnce, NotesFirst}
 use Rattle.level_ends.specs.Rows.{AreNumbered}
 use Rattle.level_ends.proofs.DockLemmas.{in_order, order_few, order_once, order_within}
 use Rattle.level_nets.proofs.ListLemmas.{filter_short}

@@ -5,7 +5,7 @@ ghost use Rattle.elk_doc.specs.declared.shape.Side.TheVariants.{East, West};
 ghost use Rattle.port_order.specs.Child as own;
 ghost use Rattle.port_order.specs.Conditions.{IsChild, IsSpot};
 ghost use Rattle.port_order.specs.Order.{IsOrderOfSide};
-ghost use Rattle.unit_places.specs.Places.{IsOnce, NotesFirst};
+ghost use Rattle.elk_layers.specs.Places.{IsOnce, NotesFirst};
 ghost use Rattle.level_ranks.specs.Ports as spec;
 ghost use Rattle.level_ranks.specs.Ports.{AreBefore, AreOrdered, ArePortSpots, AreRanksOf, comes_before, counts, plain_ranks, ranks_port};
 

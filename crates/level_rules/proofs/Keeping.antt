@@ -11,11 +11,11 @@ use Rattle.route_lines.specs.Points.{trace_points}
 use Rattle.route_lines.specs.Tidied.{IsSectionOf, one, many, SomeSegment, RunsSquare, StartsAt, EndsAt, Heading, opposite}
 use Rattle.route_lines.proofs.Dropping.{starts_all, ends_all}
 use Rattle.route_lines.proofs.Headings.{square}
-use Rattle.level_stage.specs.Stage.{Stage, Stands, ChildStands}
-use Rattle.level_stage.specs.Law.{outward, RoutesShare as PathsShare}
-use Rattle.level_stage.proofs.Clearing.{clear_law}
-use Rattle.level_stage.proofs.Sharing.{sharing_law, some_map}
-use Rattle.level_stage.proofs.Zones.{turned_share}
+use Rattle.level_plan.specs.Stage.{Stage, Stands, ChildStands}
+use Rattle.level_plan.specs.Law.{outward, RoutesShare as PathsShare}
+use Rattle.level_plan.proofs.Clearing.{clear_law}
+use Rattle.level_plan.proofs.Sharing.{sharing_law, some_map}
+use Rattle.level_plan.proofs.Zones.{turned_share}
 use Rattle.level_plan.specs.Level.{PlainLevel, PlainPlan, Orders, end_at, dock_of, child_at, edge_at, is_loop}
 use Rattle.level_plan.specs.Lanes.{has_one_dock, dock_eq}
 use Rattle.level_plan.specs.FromPlan.{Drawn, IsDrawnFrom, anchor, point_or, section_at, trace_at}
@@ -25,7 +25,7 @@ use Rattle.level_stands.specs.Apart.{drawn_box, drawn_outline}
 use Rattle.level_stands.proofs.ApartLemmas.{outlines_are_drawn}
 use Rattle.level_stands.proofs.SameLines.{dock_eq-self}
 use Rattle.level_rules.specs.Routes.{points_of, route_point, end_child, HasOneDock, IsOrthogonal, IsClear, RoutesShare, DocksShare, RoutesKept}
-use Rattle.level_lawful.specs.Lawful.{HasLawfulRoutes}
+use Rattle.level_rules.specs.Lawful.{HasLawfulRoutes}
 use Rattle.level_rules.proofs.Paths.{some_at, square_steps, square_turns, square_leaves, square_comes, drops_shorter}
 use Rattle.level_rules.proofs.PointLoops.{one_point, anchor_meets, anchor_enters}
 

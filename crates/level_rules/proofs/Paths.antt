@@ -6,7 +6,7 @@ use Rattle.elk_doc.specs.declared.shape.Side.{Side}
 use Rattle.elk_doc.specs.declared.shape.Side.TheVariants.{North, East, South, West}
 use Rattle.elk_doc.specs.Route.{IsStep, IsTurn, LeavesOutward}
 use Rattle.route_lines.specs.Tidied.{SomeSegment, Heading, up, down, left, right, Goes, opposite, IsRightAngle, Bends, RunsSquare, DropsSome, Drops, equal, middle, later, none, more}
-use Rattle.level_stage.specs.Law.{outward}
+use Rattle.level_plan.specs.Law.{outward}
 use Rattle.level_plan.specs.FromPlan.{point_or}
 
 -- places behind a first point

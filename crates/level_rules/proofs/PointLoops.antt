@@ -8,7 +8,7 @@ use Rattle.elk_doc.specs.declared.shape.Side.{Side}
 use Rattle.elk_doc.specs.declared.shape.Side.TheVariants.{North, East, South, West}
 use Rattle.elk_doc.specs.Segments.{MeetsRect, EntersRect, Share, MeetsSpan, EntersSpan, IsBetween}
 use Rattle.elk_doc.proofs.SegmentBounds.{MeetsRect-spans, spans-MeetsRect, EntersRect-spans}
-use Rattle.level_stage.specs.Stage.{Stage, Stands, ChildStands, EndStands, IsOutward}
+use Rattle.level_plan.specs.Stage.{Stage, Stands, ChildStands, EndStands, IsOutward}
 
 same_point : (p q : Point) → p.x ≡ q.x → p.y ≡ q.y → p ≡ q
 same_point p q x y = ap₂ (λ (a b : ℤ). let r : Point = record { x = a; y = b } in r) x y

@@ -1,1 +1,4 @@
 pub mod Routes
+pub mod Lawful
+pub mod Joins
+pub mod Nearness

@@ -10,7 +10,7 @@ use Rattle.self_loops.specs.Loops.{is_upright}
 use Rattle.route_lines.specs.declared.Step.{Step}
 use Rattle.route_lines.specs.declared.Step.TheVariants.{Lane, Leg}
 use Rattle.elk_layers.specs.Layered.{link_at}
-use Rattle.level_stage.specs.Stage.{Line, dock_lane, loop_lane, long_lane}
+use Rattle.level_plan.specs.Stage.{Line, dock_lane, loop_lane, long_lane}
 use Rattle.level_plan.specs.Level.{PlainLevel, PlainPlan, Orders, End, end_at, tail_end, head_end, holds, is_loop, dock_of}
 use Rattle.level_plan.specs.Lanes.{has_one_dock}
 use Rattle.level_plan.specs.Nets.{Name, of_link, of_dock, of_loop, height_of, is_inverted, pin_at, net_of, nets_in, names_in, a_on_left, b_on_left, a_line, b_line}

@@ -17,7 +17,7 @@ use Rattle.port_order.proofs.KeptLemmas.{ports_stand, dock_inside}
 use Rattle.elk_layers.specs.Layered.{layer_of}
 use Rattle.elk_layers.specs.Lines.{top_of}
 use Rattle.route_lines.specs.Points.{gap_in}
-use Rattle.level_stage.specs.Stage.{ChildStands, EndStands, IsInOutline, IsOutward, offset_along}
+use Rattle.level_plan.specs.Stage.{ChildStands, EndStands, IsInOutline, IsOutward, offset_along}
 use Rattle.level_plan.specs.Level.{PlainLevel, PlainPlan, Orders, End, end_at, implicit_ends, child_at, spoke, spot_of, spot_at_port, port_spot, implicit_spot, dock_of_spot, anchor_of_spot, outline}
 use Rattle.level_plan.specs.Lanes.{lanes, lanes_room, body_top}
 use Rattle.level_plan.specs.Nets.{unit_of, layer_of_child, widest, column_width}

@@ -6,7 +6,7 @@ use Rattle.std.specs.List.{range_with_len}
 use Rattle.std.specs.Int.{int_max}
 use Rattle.elk_doc.specs.Sound.{IsSoundSpacing}
 use Rattle.route_lines.specs.Points.{PlainGap, gap_in}
-use Rattle.level_stage.specs.Stage.{InRow, InGap, IsInner}
+use Rattle.level_plan.specs.Stage.{InRow, InGap, IsInner}
 use Rattle.level_plan.specs.Level.{PlainLevel, PlainPlan, Orders, outline}
 use Rattle.level_plan.specs.Nets.{widest, column_width, inner_width, gap_width, first_slot, gap_left, layer_of_child}
 use Rattle.level_plan.specs.FromPlan.{Drawn, counts, IsDrawnFrom}

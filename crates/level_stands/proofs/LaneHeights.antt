@@ -3,7 +3,7 @@ use Rattle.std.proofs.Common.{◌≡◌, ⊎_elim, ℕ, ◌+◌, ◌<◌, ℤ, p
 use Rattle.std.proofs.lemmas.Int.{ints}
 use Rattle.elk_doc.specs.declared.shape.Side.{Side}
 use Rattle.elk_doc.specs.declared.shape.Side.TheVariants.{North, South}
-use Rattle.level_stage.specs.Stage.{Line}
+use Rattle.level_plan.specs.Stage.{Line}
 use Rattle.level_plan.specs.Level.{PlainLevel, PlainPlan, Orders, outline}
 use Rattle.level_plan.specs.Lanes.{lanes, lanes_room, place_of_line, body_top, unit_height}
 use Rattle.level_plan.specs.Nets.{below_top}

@@ -9,7 +9,7 @@ use Rattle.elk_doc.specs.declared.shape.Dock.{Dock}
 use Rattle.elk_doc.specs.PortsKept.{is_side}
 use Rattle.port_order.specs.declared.spots.Spot.{Spot}
 use Rattle.self_loops.specs.Loops.{is_upright}
-use Rattle.level_stage.specs.Stage.{Line, dock_lane, loop_lane}
+use Rattle.level_plan.specs.Stage.{Line, dock_lane, loop_lane}
 use Rattle.level_plan.specs.Level.{PlainLevel, PlainPlan, Orders, End, end_at, child_at, edge_at, spoke, is_loop, enters, linked, ends_at_port, spots, spot_of, spot_at_port, dock_of, dock_of_spot}
 use Rattle.level_plan.specs.Lanes.{dock_eq, once, asks_lane, has_lane, docks_with_lane, lane_side, loops_of, loop_sides, lanes, loop_lane_height}
 use Rattle.level_plan.specs.Nets.{unit_of, unit_of_line, below_top, inverts}

@@ -10,7 +10,7 @@ use Rattle.port_order.specs.Places.{anchor_at}
 use Rattle.self_loops.specs.Loops.{is_upright}
 use Rattle.elk_layers.specs.Layered.{unit_at, is_child}
 use Rattle.elk_layers.specs.Lines.{top_of}
-use Rattle.level_stage.specs.Stage.{Stage, Line, anchor_line, dock_lane, loop_lane, long_lane, Uses, Reaches, LinesStand, IsLaneAt, LaneClear, unit_of_line as unit_on}
+use Rattle.level_plan.specs.Stage.{Stage, Line, anchor_line, dock_lane, loop_lane, long_lane, Uses, Reaches, LinesStand, IsLaneAt, LaneClear, unit_of_line as unit_on}
 use Rattle.level_plan.specs.Level.{PlainLevel, PlainPlan, Orders, end_at, child_at, edge_at, spoke, spot_of, dock_of, dock_of_spot, anchor_of_spot, outline}
 use Rattle.level_plan.specs.Lanes.{lanes, body_top, lane_side}
 use Rattle.level_plan.specs.Nets.{unit_of, unit_of_line, below_top, box_below}

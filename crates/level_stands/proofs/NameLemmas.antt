@@ -8,7 +8,7 @@ use Rattle.elk_doc.specs.declared.shape.Side.TheVariants.{North, East, South, We
 use Rattle.elk_doc.specs.PortsKept.{is_side}
 use Rattle.elk_layers.specs.Layered.{link_at, is_child}
 use Rattle.self_loops.specs.Loops.{is_upright, passes_left, passes_right}
-use Rattle.level_stage.specs.Stage.{Line, anchor_line, dock_lane, loop_lane, long_lane}
+use Rattle.level_plan.specs.Stage.{Line, anchor_line, dock_lane, loop_lane, long_lane}
 use Rattle.level_plan.specs.Level.{PlainLevel, PlainPlan, Orders, End, end_at, edge_at, spoke, is_loop, enters, holds, tail_end, head_end, ends_of_edges, all_ends, dock_of}
 use Rattle.level_plan.specs.Lanes.{line_eq, has_one_dock, loop_sides, lane_side}
 use Rattle.level_plan.specs.Nets.{Name, of_link, of_dock, of_loop, inverts, is_inverted, line_of_end, tail_line, head_line, if_passed, loop_names, all_names, lane_side_of_end, loop_line, a_line, b_line, edge_of}

@@ -14,7 +14,7 @@ use Rattle.route_slots.specs.declared.Pin.{Pin}
 use Rattle.route_slots.specs.Pieces.{net_at}
 use Rattle.route_slots.specs.GapFree.{HasPin}
 use Rattle.route_lines.specs.Points.{gap_in}
-use Rattle.level_stage.specs.Stage.{Line, anchor_line, dock_lane, loop_lane, long_lane, Reaches, IsPinOf, NetsStand}
+use Rattle.level_plan.specs.Stage.{Line, anchor_line, dock_lane, loop_lane, long_lane, Reaches, IsPinOf, NetsStand}
 use Rattle.level_plan.specs.Level.{PlainLevel, PlainPlan, Orders, End, end_at, edge_at, spoke, is_loop, enters, tail_end, head_end, dock_of}
 use Rattle.level_plan.specs.Lanes.{line_eq, loop_sides}
 use Rattle.level_plan.specs.Nets.{Name, of_link, of_dock, of_loop, unit_of, unit_of_line, gap_beside, gap_of, edge_of, inverts, is_inverted, line_of_end, tail_line, head_line, loop_line, lane_side_of_end, a_line, b_line, a_on_left, b_on_left, net_of, all_names, names_in, nets_in}

@@ -19,7 +19,7 @@ use Rattle.port_order.specs.Child.{port_at}
 use Rattle.port_order.specs.Sides.{side_of, side_else, given_side}
 use Rattle.port_order.specs.Conditions.{IsSmall, IsChildPort}
 use Rattle.port_order.specs.Places.{outer_face, on_side, corner_of, face_of, place_of_port, anchor_at}
-use Rattle.level_stage.specs.Stage.{IsInOutline}
+use Rattle.level_plan.specs.Stage.{IsInOutline}
 use Rattle.level_plan.specs.Level.{PlainLevel, PlainPlan, Orders, child_at, port_place, outline_from, outline}
 use Rattle.level_stands.proofs.Lists.{Has, has_range}
 

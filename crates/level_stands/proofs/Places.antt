@@ -2,7 +2,7 @@
 use Rattle.std.proofs.Common.{◌≡◌, inl, inr, ℕ, zero, suc, ◌+◌, ◌-◌, ◌<◌, ℤ, pos, ◌≤ℤ◌, ◌<ℤ◌, List, length, refl, arith}
 use Rattle.std.proofs.lemmas.Int.{ints}
 use Rattle.std.proofs.lemmas.Bool.{cases_order, ne_eqb}
-use Rattle.level_stage.specs.Stage.{Line}
+use Rattle.level_plan.specs.Stage.{Line}
 use Rattle.level_plan.specs.Lanes.{line_eq, place_of_line}
 use Rattle.level_stands.proofs.Lists.{Has}
 use Rattle.level_stands.proofs.FirstPlaces as places

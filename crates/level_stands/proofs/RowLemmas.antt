@@ -5,7 +5,7 @@ use Rattle.std.proofs.lemmas.Bool.{cases_order}
 use Rattle.std.specs.Prelude.{slice_index, Some}
 use Rattle.elk_layers.specs.Layered.{Plain, unit_at, layer_of, row_at, IsSound, AreRows, HasUnit}
 use Rattle.elk_layers.specs.Lines.{facing, lane_above, lane_below, top_of, AreApart}
-use Rattle.level_stage.specs.Stage.{InColumn, ChildStands}
+use Rattle.level_plan.specs.Stage.{InColumn, ChildStands}
 use Rattle.level_plan.specs.Level.{PlainLevel, PlainPlan, Orders}
 use Rattle.level_plan.specs.Nets.{unit_of}
 use Rattle.level_plan.specs.FromPlan.{Drawn}

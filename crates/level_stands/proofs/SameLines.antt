@@ -7,7 +7,7 @@ use Rattle.elk_doc.specs.declared.shape.Side.{Side}
 use Rattle.elk_doc.specs.declared.shape.Side.TheVariants.{North, East, South, West}
 use Rattle.elk_doc.specs.declared.shape.Dock.{Dock}
 use Rattle.elk_doc.specs.PortsKept.{is_side}
-use Rattle.level_stage.specs.Stage.{Line, anchor_line, dock_lane, loop_lane, long_lane}
+use Rattle.level_plan.specs.Stage.{Line, anchor_line, dock_lane, loop_lane, long_lane}
 use Rattle.level_plan.specs.Lanes.{dock_eq, line_eq}
 
 pub is_side-self : (s : Side) → is_side s s ≡ true

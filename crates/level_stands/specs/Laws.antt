@@ -1,6 +1,6 @@
 -- What stands in the drawing of a level.
 use Rattle.std.specs.Prelude.{◌≡◌, ℕ, ◌<◌, Bool, List, length}
-use Rattle.level_stage.specs.Stage.{InRow, InGap, IsInner, InColumn, ChildStands, EndStands, LinesStand, NetsStand, Stands}
+use Rattle.level_plan.specs.Stage.{InRow, InGap, IsInner, InColumn, ChildStands, EndStands, LinesStand, NetsStand, Stands}
 use Rattle.level_plan.specs.Level.{PlainLevel, PlainPlan, Orders}
 use Rattle.level_plan.specs.FromPlan.{Drawn, IsDrawnFrom}
 use Rattle.level_plan.specs.Drawing.{stage}

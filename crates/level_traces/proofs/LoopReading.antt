@@ -9,7 +9,7 @@ use Rattle.elk_doc.specs.PortsKept.{is_side}
 use Rattle.self_loops.specs.Loops.{sides_of_pair, sides_of_lanes, passes_left, passes_right}
 use Rattle.route_lines.specs.declared.Step.{Step}
 use Rattle.route_lines.specs.declared.Step.TheVariants.{Lane, Leg}
-use Rattle.level_stage.specs.Stage.{loop_lane}
+use Rattle.level_plan.specs.Stage.{loop_lane}
 use Rattle.level_plan.specs.Level.{PlainLevel, PlainPlan, Orders, end_at, is_loop, dock_of}
 use Rattle.level_plan.specs.Lanes.{has_one_dock, loop_sides}
 use Rattle.level_plan.specs.Nets.{of_loop}

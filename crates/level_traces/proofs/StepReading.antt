@@ -8,7 +8,7 @@ use Rattle.elk_layers.specs.Lines.{top_of}
 use Rattle.self_loops.specs.Loops.{is_upright}
 use Rattle.route_lines.specs.declared.Step.{Step}
 use Rattle.route_lines.specs.declared.Step.TheVariants.{Lane, Leg}
-use Rattle.level_stage.specs.Stage.{dock_lane, long_lane}
+use Rattle.level_plan.specs.Stage.{dock_lane, long_lane}
 use Rattle.level_plan.specs.Level.{PlainLevel, PlainPlan, Orders, End, is_loop, enters, tail_end, head_end, dock_of, holds}
 use Rattle.level_plan.specs.Nets.{of_link, of_dock, is_inverted, inverts}
 use Rattle.level_plan.specs.Traces as plan

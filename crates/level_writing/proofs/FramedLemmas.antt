@@ -21,7 +21,7 @@ use Rattle.elk_doc.specs.Sound.{along}
 use Rattle.level_plan.specs.FromPlan.{Drawn}
 use Rattle.turned_levels.specs.Numbered.{IsPortOf}
 use Rattle.turned_levels.specs.Turned.{box_size, turned_size}
-use Rattle.turned_boxes.specs.Framed.{AsksHeight, AsksWidth, IsFramed, start_of}
+use Rattle.turned_drawings.specs.Framed.{AsksHeight, AsksWidth, IsFramed, start_of}
 use Rattle.level_writing.specs.Sizes.{Asks, IsNodeFramed, IsSizeRound, KeepsPinned, end_across, end_down, end_of, padded_height, padded_width, pinned_side, pinned_under, resized}
 use Rattle.level_writing.specs.Canvas.{IsDrawingOf}
 

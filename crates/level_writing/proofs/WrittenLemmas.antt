@@ -15,7 +15,7 @@ use Rattle.turned_levels.specs.Turned.{box_size, child_number, edge_number, port
 use Rattle.turned_levels.specs.Drawing.{IsTurnedChild, IsTurnedSection, plus}
 use Rattle.turned_levels.specs.Kept.{AgreeAt}
 use Rattle.turned_levels.proofs.NumberedLemmas.{numbers_match}
-use Rattle.turned_boxes.specs.Framed.{start_of}
+use Rattle.turned_drawings.specs.Framed.{start_of}
 use Rattle.level_writing.specs.declared.figure.LevelFigure.{LevelFigure}
 use Rattle.level_writing.specs.Back.{size_of}
 use Rattle.level_writing.specs.Changed.{AreChanged, number_at}

@@ -23,7 +23,7 @@ use Rattle.level_plan.specs.FromPlan.{Drawn}
 use Rattle.turned_levels.specs.Kept.{AgreeAt}
 use Rattle.turned_levels.specs.Numbered.{IsPortOf}
 use Rattle.turned_levels.specs.Turned.{box_size, turned_size}
-use Rattle.turned_boxes.specs.Framed.{IsFramed, start_of}
+use Rattle.turned_drawings.specs.Framed.{IsFramed, start_of}
 use Rattle.level_writing.specs.Changed.{number_at}
 use Rattle.level_writing.specs.Canvas.{IsDrawingOf}
 

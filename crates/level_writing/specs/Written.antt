@@ -18,7 +18,7 @@ use Rattle.level_shift.specs.Ranges.{IsFarPoint, IsFarSection}
 use Rattle.turned_levels.specs.Turned.{box_size, port_number, ports_of}
 use Rattle.turned_levels.specs.Drawing.{IsNumberedAs, IsTurnedDrawing, plus}
 use Rattle.turned_levels.specs.Kept.{AgreeAt}
-use Rattle.turned_boxes.specs.Framed.{start_of}
+use Rattle.turned_drawings.specs.Framed.{start_of}
 use Rattle.level_writing.specs.declared.figure.LevelFigure.{LevelFigure}
 use Rattle.level_writing.specs.declared.writing.LevelNumbers.{LevelNumbers}
 use Rattle.level_writing.specs.Canvas.{IsDrawingOf}

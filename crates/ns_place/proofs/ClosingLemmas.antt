@@ -8,9 +8,9 @@ use Rattle.std.proofs.lemmas.List.Elements.{All-from_get_or, Contains-get_or}
 use Rattle.std.proofs.lemmas.List.Sums.{sum_by_more, sum_by-cons}
 use Rattle.std.proofs.lemmas.List.Sorted.{All-permutation, Contains-permutation, IsPermutation-map, sum_by-IsPermutation}
 use borrow.Author.Count.{below_more}
-use Rattle.unit_places.specs.Occurring.{occurs, HasNoRepeat}
-use Rattle.unit_places.proofs.OccursLemmas.{no_repeat_from}
-use Rattle.unit_places.proofs.PlaceLemmas.{place_once}
+use Rattle.elk_layers.specs.Occurring.{occurs, HasNoRepeat}
+use Rattle.elk_layers.proofs.OccursLemmas.{no_repeat_from}
+use Rattle.elk_layers.proofs.PlaceLemmas.{place_once}
 use Rattle.elk_layers.specs.Layered.{place_in}
 use Rattle.ns_place.specs.declared.closing.Standing.{Standing}
 use Rattle.ns_place.specs.Closing.{standing_at, closed_at, StaysApart, IsClosedTo, IsClosedUp, AreNumbered}

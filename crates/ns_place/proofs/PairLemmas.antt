@@ -7,7 +7,7 @@ use Rattle.std.proofs.lemmas.List.{drop_more}
 use Rattle.std.proofs.lemmas.List.Elements.{All-nil, All-cons, All-head, All-tail, All-append, All-filter, All-from_get_or, All-weaker, filter_passes}
 use Rattle.elk_layers.specs.Layered.{Plain, IsSound, AreRows, row_at, place_in, place_of, is_child}
 use Rattle.elk_layers.specs.Lines.{top_of, room, body_room, facing, lane_below, lane_above}
-use Rattle.unit_places.proofs.PlaceLemmas.{place_at}
+use Rattle.elk_layers.proofs.PlaceLemmas.{place_at}
 use Rattle.ns_place.specs.declared.least.PairFlow.{PairFlow}
 use Rattle.ns_place.specs.Pairs.{pair_of, neighbours, row_pairs, all_pairs, distance, IsPair}
 use Rattle.ns_place.specs.Heights.{KeepDistances}

@@ -10,9 +10,9 @@ use Rattle.elk_layers.specs.Layered.{Plain, IsSound, AreRows, unit_at, row_at, l
 use Rattle.elk_layers.specs.Lines.{facing, lane_below, lane_above}
 use Rattle.layering_laws.specs.Layering.{natural}
 use Rattle.layering_laws.proofs.Duality.{over_nodes, over_same, over_sum, over_one}
-use Rattle.unit_places.specs.Occurring.{occurs, HasNoRepeat}
-use Rattle.unit_places.proofs.OccursLemmas.{occurs-append, no_repeat_from}
-use Rattle.unit_places.proofs.PlaceLemmas.{place_below, place_reads}
+use Rattle.elk_layers.specs.Occurring.{occurs, HasNoRepeat}
+use Rattle.elk_layers.proofs.OccursLemmas.{occurs-append, no_repeat_from}
+use Rattle.elk_layers.proofs.PlaceLemmas.{place_below, place_reads}
 use Rattle.ns_place.specs.declared.least.PairFlow.{PairFlow}
 use Rattle.ns_place.specs.Pairs.{pair_of, neighbours, row_pairs, all_pairs, distance, IsPair}
 

@@ -1,7 +1,7 @@
 //! One unit with two links to two units.
 ghost use Rattle.std.specs.Prelude.{◌≡◌, IfOk};
 ghost use Rattle.elk_layers.specs.Layered.{plain, rows_of};
-ghost use Rattle.unit_places.specs.Examples as example;
+ghost use Rattle.elk_layers.specs.PlaceExamples as example;
 
 use elk_layers::{Layered, Link, Order, Unit};
 use std::alloc::{AllocError, Global};

@@ -29,9 +29,9 @@ use Rattle.level_layout.specs.Layout.{IsLaidOut}
 use Rattle.turned_levels.specs.Drawing.{IsTurnedChild, IsTurnedDrawing, plus}
 use Rattle.turned_levels.specs.Turned.{box_size, edge_number, level_of, port_number, ports_of, turned_place, turned_size}
 use Rattle.turned_levels.proofs.NumberedLemmas.{numbers_match}
-use Rattle.turned_docks.specs.Laws.{IsAnchored, IsFromLevel}
-use Rattle.turned_ports.specs.Laws.{AllKeepPorts}
-use Rattle.turned_ports.proofs.SpreadLemmas.{ports_turn_back}
+use Rattle.turned_drawings.specs.DockLaws.{IsAnchored, IsFromLevel}
+use Rattle.turned_drawings.specs.PortLaws.{AllKeepPorts}
+use Rattle.turned_drawings.proofs.SpreadLemmas.{ports_turn_back}
 use Rattle.document_plan.specs.Planned.{root_level}
 use Rattle.root_ports.specs.Rooted.{RootPortsAreKept}
 use Rattle.root_ports.proofs.LoweredLemmas.{lowered, lowered_sound, root_port_at}

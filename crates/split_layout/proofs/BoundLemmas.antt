@@ -12,7 +12,7 @@ use Rattle.elk_doc.specs.declared.shape.Size.{Size}
 use Rattle.elk_doc.specs.Shapes.{Holds}
 use Rattle.elk_doc.specs.Sound.{IsDistance}
 use Rattle.box_pack.specs.Boxes.{EachSize, IsSize, point_at}
-use Rattle.packed_rows.specs.Spaced.{AreSpaced, gapped, height_at, width_at}
+use Rattle.box_pack.specs.Spaced.{AreSpaced, gapped, height_at, width_at}
 use Rattle.joined_drawings.proofs.PartLemmas.{outline_at}
 use Rattle.joined_drawings.proofs.ReachLemmas as reach
 use Rattle.level_bounds.specs.Extents.{IsBounded, outline_heights, outline_widths, room_between}
@@ -29,7 +29,7 @@ use Rattle.part_layers.proofs.RangeLemmas.{few_picked}
 use Rattle.part_levels.specs.Divided.{child_number, edge_keys, members, part_level}
 use Rattle.part_levels.specs.Split.{part_in}
 use Rattle.part_levels.proofs.LevelLemmas.{many_children, many_edges, many_keys}
-use Rattle.turned_boxes.specs.Outlines.{shifted}
+use Rattle.turned_drawings.specs.Outlines.{shifted}
 use Rattle.split_layout.specs.declared.layout.PartsOut.{PartsOut}
 use Rattle.split_layout.specs.Gathered.{extents_of}
 use Rattle.split_layout.specs.Laws.{PartsAreBounded, room_apart}

@@ -9,8 +9,8 @@ use Rattle.elk_doc.specs.Sound.{IsDistance}
 use Rattle.box_pack.specs.declared.packing.Rows.{Rows}
 use Rattle.box_pack.specs.Boxes.{EachSize, IsSize, point_at}
 use Rattle.box_pack.specs.Packed.{AreRows}
-use Rattle.packed_rows.specs.Spaced.{AreSolid, gapped, height_at, width_at}
-use Rattle.packed_rows.proofs.SpacedLemmas.{rows_are_spaced}
+use Rattle.box_pack.specs.Spaced.{AreSolid, gapped, height_at, width_at}
+use Rattle.box_pack.proofs.SpacedLemmas.{rows_are_spaced}
 use Rattle.level_bounds.specs.Extents.{outline_heights, outline_widths}
 use Rattle.level_bounds.proofs.Bounded.{extents_bounded, extents_small}
 use Rattle.level_bounds.proofs.SizeLemmas.{heights_low, widths_low}

@@ -13,10 +13,10 @@ use Rattle.elk_doc.specs.Sound.{IsDistance}
 use Rattle.box_pack.specs.declared.packing.Rows.{Rows}
 use Rattle.box_pack.specs.Packed.{AreRows}
 use Rattle.box_pack.specs.Boxes.{AreSizes, EachSize, IsSize, point_at}
-use Rattle.joined_certificates.specs.Joined as certificates
-use Rattle.joined_certificates.specs.Joined.{AreCertificates, spans_to, turns}
-use Rattle.joined_certificates.proofs.ListLemmas.{filter_alike}
-use Rattle.joined_certificates.proofs.WholeLemmas.{certificates_join}
+use Rattle.joined_drawings.specs.CertificateJoined as certificates
+use Rattle.joined_drawings.specs.CertificateJoined.{AreCertificates, spans_to, turns}
+use Rattle.joined_drawings.proofs.ListLemmas.{filter_alike}
+use Rattle.joined_drawings.proofs.CertificateWholeLemmas.{certificates_join}
 use Rattle.joined_drawings.specs.Joined.{moved_section}
 use Rattle.joined_drawings.proofs.PlanLemmas.{many_over, over_range}
 use Rattle.joined_drawings.proofs.ReachLemmas.{IsReached, LiesIn, at_lower, at_upper, box_held, lower, on_route, reached_has, tight_lies, upper}
@@ -41,7 +41,7 @@ use Rattle.part_levels.specs.Divided.{edge_keys, part_level}
 use Rattle.part_levels.specs.Split.{IsSplit, part_at, part_in}
 use Rattle.part_levels.proofs.LevelLemmas.{many_children, many_edges, many_keys}
 use Rattle.part_levels.proofs.SplitLemmas.{keys_below}
-use Rattle.turned_certificates.proofs.EdgeLemmas.{has_holds}
+use Rattle.turned_drawings.proofs.EdgeLemmas.{has_holds}
 use Rattle.turned_levels.specs.Drawing.{plus}
 use Rattle.split_layout.specs.declared.layout.Joined.{Joined}
 use Rattle.split_layout.specs.Gathered.{AreLayouts, ArePartDrawings, AreSeated, IsInPart, IsSectionInPart, certificate_at, drawing_at, extents_of}

@@ -10,8 +10,8 @@ use Rattle.elk_doc.specs.declared.drawing.Section.{Section}
 use Rattle.elk_doc.specs.declared.shape.Size.{Size}
 use Rattle.elk_doc.specs.Document.{no_size, origin}
 use Rattle.box_pack.specs.Boxes.{size_at}
-use Rattle.joined_certificates.specs.Joined.{spans_to}
-use Rattle.joined_certificates.proofs.ListLemmas.{filter_alike}
+use Rattle.joined_drawings.specs.CertificateJoined.{spans_to}
+use Rattle.joined_drawings.proofs.ListLemmas.{filter_alike}
 use Rattle.level_draw.specs.declared.drawing.LevelOut.{LevelOut}
 use Rattle.level_layout.specs.Layout.{IsLaidOut}
 use Rattle.level_plan.specs.FromPlan.{Drawn, section_at}
@@ -21,7 +21,7 @@ use Rattle.part_layers.proofs.RangeLemmas.{filter_no, filter_yes}
 use Rattle.part_levels.specs.declared.levels.PartLevel.{PartLevel}
 use Rattle.part_levels.specs.declared.levels.PartLevels.{PartLevels}
 use Rattle.part_levels.specs.Split.{part_at}
-use Rattle.turned_certificates.proofs.EdgeLemmas.{has_holds}
+use Rattle.turned_drawings.proofs.EdgeLemmas.{has_holds}
 use Rattle.split_layout.specs.Gathered.{AreFlows, AreLayers, AreLayouts, AreMarked, AreTurned, certificate_at, drawing_at, drawing_of, is_marked, marks_in, no_certificate, no_drawing}
 use Rattle.split_layout.specs.Limits.{area_of, area_to}
 use Rattle.split_layout.specs.Steps.{CanCertify, IsCertificateIn}

@@ -6,14 +6,14 @@ use Rattle.elk_doc.specs.declared.drawing.Certificate.{Certificate}
 use Rattle.elk_doc.specs.declared.shape.Point.{Point}
 use Rattle.elk_doc.specs.declared.drawing.Section.{Section}
 use Rattle.box_pack.specs.Boxes.{point_at, size_at}
-use Rattle.joined_certificates.specs.Joined.{AreCertificates}
-use Rattle.joined_certificates.proofs.EdgeLemmas.{turned_at}
-use Rattle.joined_certificates.proofs.WholeLemmas.{certificates_join}
+use Rattle.joined_drawings.specs.CertificateJoined.{AreCertificates}
+use Rattle.joined_drawings.proofs.EdgeLemmas.{turned_at}
+use Rattle.joined_drawings.proofs.CertificateWholeLemmas.{certificates_join}
 use Rattle.joined_drawings.specs.Joined.{AreDrawn, AreInRows, IsJoined, IsWholeDrawing, moved_section, part_rect}
 use Rattle.joined_drawings.proofs.PartLemmas.{by_child, in_part, ports_at, same_child, there}
 use Rattle.joined_drawings.proofs.ReachLemmas as reach
 use Rattle.joined_drawings.proofs.WholeLemmas.{drawings_join}
-use Rattle.packed_rows.specs.Spaced.{AreSpaced}
+use Rattle.box_pack.specs.Spaced.{AreSpaced}
 use Rattle.level_bounds.specs.Extents.{IsBounded}
 use Rattle.level_bounds.proofs.Bounded.{extents_bounded}
 use Rattle.level_draw.specs.declared.drawing.LevelOut.{LevelOut}

@@ -13,7 +13,7 @@ use Rattle.level_rules.specs.Routes.{route_count, route_point}
 use Rattle.level_stands.specs.Apart.{ChildrenApart, drawn_outline}
 use Rattle.part_levels.specs.Divided.{edge_keys}
 use Rattle.part_levels.specs.Parts.{AreParts}
-use Rattle.turned_certificates.specs.Certified.{IsProofOf}
+use Rattle.turned_drawings.specs.Certified.{IsProofOf}
 use Rattle.split_layout.specs.declared.layout.PartsOut.{PartsOut}
 use Rattle.split_layout.specs.Parts.{IsPartsLayout, whole_drawing}
 

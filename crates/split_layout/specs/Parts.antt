@@ -2,7 +2,7 @@
 use Rattle.std.specs.Prelude.{◌<◌, ℕ, [], ℤ, pos, length, slice_index_or}
 use Rattle.box_pack.specs.Boxes.{point_at}
 use Rattle.box_pack.specs.Packed.{AreRows}
-use Rattle.joined_certificates.specs.Joined as certificates
+use Rattle.joined_drawings.specs.CertificateJoined as certificates
 use Rattle.joined_drawings.specs.Joined as drawings
 use Rattle.level_draw.specs.declared.drawing.LevelOut.{LevelOut}
 use Rattle.level_layout.specs.Layout.{IsLaidOut}

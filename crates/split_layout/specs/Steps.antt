@@ -5,7 +5,7 @@ use Rattle.elk_doc.specs.declared.drawing.Certificate.{Certificate}
 use Rattle.elk_doc.specs.declared.shape.Point.{Point}
 use Rattle.box_pack.specs.declared.packing.Rows.{Rows}
 use Rattle.box_pack.specs.Packed.{AreRows}
-use Rattle.joined_certificates.specs.Joined.{spans_to}
+use Rattle.joined_drawings.specs.CertificateJoined.{spans_to}
 use Rattle.level_draw.specs.declared.drawing.LevelOut.{LevelOut}
 use Rattle.level_plan.specs.Level.{holds}
 use Rattle.part_levels.specs.declared.levels.PartLevels.{PartLevels}

@@ -2,7 +2,7 @@
 ghost use Rattle.std.specs.Prelude.{◌≡◌, ◌<◌, ◌≤◌, ◌^◌, [], ℕ, length, slice_index, slice_index_or, IfOk};
 ghost use Rattle.std.specs.List.{filter, range_with_len};
 ghost use Rattle.part_levels.specs.Split.{part_at};
-ghost use Rattle.joined_certificates.specs.Joined.{spans_to};
+ghost use Rattle.joined_drawings.specs.CertificateJoined.{spans_to};
 ghost use Rattle.split_layout.specs.Gathered.{AreFlows, AreLayers, AreMarked, AreSeated, AreTurned, certificate_at, is_marked, marks_in};
 
 use level_draw::LevelOut;

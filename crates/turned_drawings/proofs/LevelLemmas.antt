@@ -7,13 +7,13 @@ use Rattle.level_stands.specs.PortsKept.{ArePortsPlaced}
 use Rattle.level_rules.specs.Routes.{RoutesKept}
 use Rattle.turned_levels.specs.Turned.{level_of}
 use Rattle.turned_levels.proofs.NumberedLemmas.{levels_are_listed}
-use Rattle.turned_boxes.specs.Outlines.{AllApart}
-use Rattle.turned_boxes.proofs.FrameLemmas.{framed_boxes_fit}
-use Rattle.turned_boxes.proofs.OutlineLemmas.{distances_turn_back}
-use Rattle.turned_certificates.proofs.WholeLemmas.{certificates_turn_back}
-use Rattle.turned_docks.specs.Laws.{IsAnchored}
-use Rattle.turned_routes.proofs.RouteLemmas.{routes_turn_back}
-use Rattle.turned_ports.proofs.SpreadLemmas.{ports_turn_back}
+use Rattle.turned_drawings.specs.Outlines.{AllApart}
+use Rattle.turned_drawings.proofs.FrameLemmas.{framed_boxes_fit}
+use Rattle.turned_drawings.proofs.OutlineLemmas.{distances_turn_back}
+use Rattle.turned_drawings.proofs.WholeLemmas.{certificates_turn_back}
+use Rattle.turned_drawings.specs.DockLaws.{IsAnchored}
+use Rattle.turned_drawings.proofs.RouteLemmas.{routes_turn_back}
+use Rattle.turned_drawings.proofs.SpreadLemmas.{ports_turn_back}
 use Rattle.turned_drawings.specs.Levels.{LevelsAreDrawn}
 
 -- what is drawn from a plan has its ports where the plan places them

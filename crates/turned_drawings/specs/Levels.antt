@@ -13,9 +13,9 @@ use Rattle.level_plan.specs.FromPlan.{Drawn}
 use Rattle.level_stands.specs.Ready.{IsReady}
 use Rattle.level_draw.specs.Drawing.{IsDrawing}
 use Rattle.turned_levels.specs.Turned.{level_of}
-use Rattle.turned_boxes.specs.Framed.{IsFramed}
-use Rattle.turned_certificates.specs.Certified.{IsCertified}
-use Rattle.turned_docks.specs.Laws.{IsFromLevel}
+use Rattle.turned_drawings.specs.Framed.{IsFramed}
+use Rattle.turned_drawings.specs.Certified.{IsCertified}
+use Rattle.turned_drawings.specs.DockLaws.{IsFromLevel}
 
 -- The level of n comes from the drawing v of that level, which comes from a plan: v is turned back and moved by `by`, the
 -- node's box is framed round it, and its certificate is written with the document's numbers. The level is neither split nor one

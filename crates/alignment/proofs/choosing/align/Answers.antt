@@ -2,8 +2,8 @@ use Rattle.std.proofs.Common.{length, ap, sym, arith, ◌∙◌, subst, rules}
 use Rattle.std.proofs.lemmas.List.{length-map, length-replicate}
 use Rattle.elk_layers.specs.Layered.{plain, rows_of}
 use Rattle.alignment.proofs.ChoosingLemmas.{last_start, nothing_noted}
-use Rattle.unit_places.specs.Places.{ArePlaces}
-use Rattle.unit_places.specs.Straight.{AreStraight}
+use Rattle.elk_layers.specs.Places.{ArePlaces}
+use Rattle.elk_layers.specs.Straight.{AreStraight}
 use Rattle.alignment.proofs.StraightLemmas.{aligned_straight}
 use Rattle.alignment.proofs.SpokeLemmas.{spokes_few}
 use Rattle.alignment.proofs.choosing.align.Goals as goal

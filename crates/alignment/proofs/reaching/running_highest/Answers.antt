@@ -1,5 +1,5 @@
 use Rattle.std.proofs.Common.{◌+◌, arith, refl}
-use Rattle.unit_places.proofs.FillLemmas.{push_more}
+use Rattle.elk_layers.proofs.FillLemmas.{push_more}
 use Rattle.alignment.specs.Marks.{IsHighest}
 use Rattle.alignment.proofs.ReachLemmas.{highest_start, highest_more}
 use Rattle.alignment.proofs.reaching.running_highest.Goals as goal

@@ -1,5 +1,5 @@
 use Rattle.std.proofs.Common.{ap, arith, length}
-use Rattle.unit_places.proofs.FillLemmas.{push_more}
+use Rattle.elk_layers.proofs.FillLemmas.{push_more}
 use Rattle.alignment.specs.Spokes.{IsFirst}
 use Rattle.alignment.proofs.SpokeLemmas.{before_next}
 use Rattle.alignment.proofs.spokes.firsts_of.Goals as goal

@@ -1,7 +1,7 @@
 use Rattle.std.proofs.Common.{◌≡◌, ◌∙◌, ap, sym, arith, length}
 use Rattle.std.proofs.lemmas.List.{length-map}
 use Rattle.elk_layers.specs.Layered.{rows_of}
-use Rattle.unit_places.proofs.RowLemmas.{row_read}
+use Rattle.elk_layers.proofs.RowLemmas.{row_read}
 use Rattle.alignment.proofs.VisitLemmas.{rows_next, rows_whole}
 use Rattle.alignment.proofs.visiting.visits.Goals as goal
 

@@ -3,7 +3,7 @@ use Rattle.elk_layers.specs.Layered.{plain, rows_of}
 use Rattle.block_lines.specs.Constraints.{all_bounds, row_bounds}
 use Rattle.block_lines.proofs.PhaseLemmas.{rows_step}
 use Rattle.block_lines.proofs.constraints.bounds_of.Goals as goal
-use Rattle.unit_places.proofs.RowLemmas.{row_read, row_in_range}
+use Rattle.elk_layers.proofs.RowLemmas.{row_read, row_in_range}
 
 pub push_row_bounds-requires-clause-units : goal.push_row_bounds-requires-clause-units
 push_row_bounds-requires-clause-units c =

@@ -1,6 +1,6 @@
 use Rattle.std.proofs.Common.{◌≡◌, ◌<◌, length, get_or, arith, ap, sym, subst, ◌∙◌, IfSome, None}
 use Rattle.elk_layers.specs.Layered.{plain, rows_of}
-use Rattle.unit_places.proofs.RowLemmas.{row_taken}
+use Rattle.elk_layers.proofs.RowLemmas.{row_taken}
 use Rattle.block_lines.specs.Joining.{CanFollow, Joins, AreJoinedUpTo}
 use Rattle.block_lines.proofs.JoiningLemmas.{can_follow, join_more}
 use Rattle.block_lines.proofs.joining.join_row.Goals as goal

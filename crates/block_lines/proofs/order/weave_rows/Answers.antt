@@ -6,7 +6,7 @@ use Rattle.block_lines.specs.Chains.{IsChain}
 use Rattle.block_lines.specs.Blocks.{block_order}
 use Rattle.block_lines.proofs.RowLemmas.{rows_start, rows_more, rows_end, weaves_same}
 use Rattle.block_lines.proofs.order.weave_rows.Goals as goal
-use Rattle.unit_places.proofs.RowLemmas.{row_read, row_in_range}
+use Rattle.elk_layers.proofs.RowLemmas.{row_read, row_in_range}
 
 pub weave_row-requires-clause-units : goal.weave_row-requires-clause-units
 weave_row-requires-clause-units c =

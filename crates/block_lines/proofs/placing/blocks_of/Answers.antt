@@ -1,7 +1,7 @@
 use Rattle.std.proofs.Common.{◌<◌, ◌≤◌, arith, sym, subst}
 use Rattle.std.specs.List.{All}
 use Rattle.elk_layers.specs.Layered.{plain, rows_of}
-use Rattle.unit_places.specs.Occurring.{occurs}
+use Rattle.elk_layers.specs.Occurring.{occurs}
 use Rattle.block_lines.specs.Joining.{AreAllJoined}
 use Rattle.block_lines.proofs.EntryLemmas.{own_heads}
 use Rattle.block_lines.proofs.PosedLemmas.{heads_of, can_weave_rows, woven_from, roots_in_range, names_known, blocks_are, offsets_are, offsets_small, order_short}

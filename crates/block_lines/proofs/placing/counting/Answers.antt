@@ -1,5 +1,5 @@
 use Rattle.std.proofs.Common.{◌≡◌, refl}
-use Rattle.unit_places.proofs.FillLemmas.{push_more}
+use Rattle.elk_layers.proofs.FillLemmas.{push_more}
 use Rattle.block_lines.proofs.placing.counting.Goals as goal
 
 pub loop-number-preserved : goal.loop-number-preserved

@@ -1,6 +1,6 @@
 use Rattle.std.proofs.Common.{◌≡◌, get_or}
 use Rattle.elk_layers.specs.Layered.{place_in}
-use Rattle.unit_places.proofs.FillLemmas.{push_more}
+use Rattle.elk_layers.proofs.FillLemmas.{push_more}
 use Rattle.block_lines.proofs.TopLemmas.{number_of}
 use Rattle.block_lines.proofs.tops.numbered.Goals as goal
 

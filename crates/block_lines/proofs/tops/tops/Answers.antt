@@ -2,7 +2,7 @@ use Rattle.std.proofs.Common.{◌≡◌, ◌+ℤ◌, pos, arith}
 use Rattle.std.proofs.lemmas.Int.{ints}
 use Rattle.separation.specs.Lines.{value_at}
 use Rattle.block_lines.specs.Constraints.{block_at, offset_at}
-use Rattle.unit_places.proofs.FillLemmas.{push_more}
+use Rattle.elk_layers.proofs.FillLemmas.{push_more}
 use Rattle.block_lines.proofs.tops.tops.Goals as goal
 
 pub loop-u-preserved : goal.loop-u-preserved

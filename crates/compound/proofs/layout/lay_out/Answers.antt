@@ -3,7 +3,7 @@ use Rattle.elk_doc.specs.Drawn.{Drawn}
 use Rattle.elk_doc.specs.Fitted.{Fitted}
 use Rattle.level_writing.specs.Canvas.{drawing_of}
 use Rattle.document_plan.specs.Planned.{Planned}
-use Rattle.drawing_fits.specs.Held.{HasSmallCoordinates}
+use Rattle.drawing_laws.specs.Held.{HasSmallCoordinates}
 use Rattle.compound.specs.Work.{given_size}
 use Rattle.compound.proofs.EndLemmas.{laid_out, root_box, well_drawn}
 use Rattle.compound.proofs.StartLemmas.{started}

@@ -3,7 +3,7 @@ use Rattle.elk_doc.specs.declared.shape.Point.{Point}
 use Rattle.elk_doc.specs.declared.shape.Side.TheVariants.{North}
 use Rattle.elk_doc.specs.declared.shape.Dock.{Dock}
 use Rattle.port_order.specs.Places.{place_of_port}
-use Rattle.unit_places.proofs.FillLemmas.{push_more}
+use Rattle.elk_layers.proofs.FillLemmas.{push_more}
 use Rattle.std.proofs.Common.{get_or}
 use Rattle.level_ends.specs.Outlines.{dock_in}
 use Rattle.level_ends.proofs.OutlineLemmas.{dock_offset, dock_read, place_read}

@@ -1,4 +1,4 @@
-use Rattle.unit_places.proofs.RowLemmas.{notes_start, notes_more}
+use Rattle.elk_layers.proofs.RowLemmas.{notes_start, notes_more}
 use Rattle.level_ranks.proofs.ports.note_places.Goals as goal
 
 pub loop-i-init : goal.loop-i-init

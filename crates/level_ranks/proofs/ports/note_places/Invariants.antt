@@ -1,4 +1,4 @@
-use Rattle.unit_places.specs.Places.{NotesFirst}
+use Rattle.elk_layers.specs.Places.{NotesFirst}
 use Rattle.level_ranks.proofs.ports.note_places.Given as goal
 
 abbrev pub invariant-loop-i : goal.invariant-loop-i

@@ -1,6 +1,6 @@
 use Rattle.level_stands.proofs.EndLemmas.{child_stands}
 use Rattle.level_stands.proofs.Whole.{stage_stands}
-use Rattle.level_lawful.proofs.Whole.{routes_lawful}
+use Rattle.level_rules.proofs.Whole.{routes_lawful}
 use Rattle.level_rules.proofs.Keeping.{routes_kept}
 use Rattle.level_rules.proofs.laws.routes_are_kept.Goals as goal
 

@@ -1,6 +1,6 @@
 use Rattle.std.proofs.Common.{◌≡◌, ◌++◌, ap, sym, ◌∙◌, drop, ◌+◌}
 use Rattle.elk_layers.specs.Layered.{plain, rows_of}
-use Rattle.unit_places.proofs.RowLemmas.{row_read, row_in_range}
+use Rattle.elk_layers.proofs.RowLemmas.{row_read, row_in_range}
 use Rattle.ns_place.specs.Pairs.{all_pairs, row_pairs}
 use Rattle.ns_place.proofs.PairLemmas.{rows_step}
 use Rattle.ns_place.proofs.pairs.pairs_of.Goals as goal

@@ -1,7 +1,7 @@
 use Rattle.std.proofs.Common.{◌≤◌, ◌^◌, length, pos, ◌+ℤ◌, ◌<ℤ◌, arith, subst, sym}
 use Rattle.std.proofs.lemmas.Int.{ints}
 use Rattle.elk_layers.specs.Layered.{plain, rows_of, total_height}
-use Rattle.unit_places.proofs.ForkLemmas.{is_sound, are_rows}
+use Rattle.elk_layers.proofs.ForkLemmas.{is_sound, are_rows}
 use Rattle.ns_place.specs.Heights.{pins_together}
 use Rattle.placing_tests.proofs.heights.one_beside_two.Goals as goal
 

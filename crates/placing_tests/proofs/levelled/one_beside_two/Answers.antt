@@ -1,5 +1,5 @@
 use Rattle.elk_layers.specs.Layered.{plain, rows_of}
-use Rattle.unit_places.proofs.ForkLemmas.{is_sound, are_rows}
+use Rattle.elk_layers.proofs.ForkLemmas.{is_sound, are_rows}
 use Rattle.placing_tests.proofs.levelled.one_beside_two.Goals as goal
 
 pub align-requires-clause-sound : goal.align-requires-clause-sound

@@ -1,5 +1,5 @@
 use Rattle.std.proofs.Common.{◌≡◌}
-use Rattle.joined_certificates.specs.Joined.{spans_to}
+use Rattle.joined_drawings.specs.CertificateJoined.{spans_to}
 use Rattle.split_layout.specs.Gathered.{certificate_at}
 use Rattle.split_layout.proofs.certificate.total_span.Given as goal
 

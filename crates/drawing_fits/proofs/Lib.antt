@@ -1,5 +1,0 @@
-pub mod ParentLemmas
-pub mod BoxLemmas
-pub mod PortLemmas
-pub mod SectionLemmas
-pub mod HeldLemmas

@@ -1,4 +1,0 @@
-pub mod Alternating
-pub mod NetsThere
-pub mod LegsThere
-pub mod NearPoints

@@ -1,5 +1,0 @@
-pub mod Zones
-pub mod NetPieces
-pub mod AtDocks
-pub mod Sharing
-pub mod Clearing

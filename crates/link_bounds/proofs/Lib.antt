@@ -1,6 +1,0 @@
-pub mod CountLemmas
-pub mod CrossingLemmas
-pub mod LayerLemmas
-pub mod LinkLemmas
-pub mod PinLemmas
-pub mod PinSums

@@ -1,3 +1,0 @@
-pub mod Outlines
-pub mod Framed
-pub mod Examples

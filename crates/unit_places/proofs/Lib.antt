@@ -1,5 +1,0 @@
-pub mod OccursLemmas
-pub mod PlaceLemmas
-pub mod RowLemmas
-pub mod FillLemmas
-pub mod ForkLemmas

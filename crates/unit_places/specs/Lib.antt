@@ -1,4 +1,0 @@
-pub mod Occurring
-pub mod Places
-pub mod Straight
-pub mod Examples
