@@ -12,7 +12,7 @@ use Rattle.elk_layers.specs.Places.{ArePlaces}
 use Rattle.elk_layers.proofs.RowLemmas.{place_small}
 use Rattle.alignment.specs.declared.reaching.Pin.{Pin}
 use Rattle.alignment.specs.Keys.{key_at}
-use Rattle.alignment.specs.Marks.{pin_of, overtakes, mirrored, is_crossed, IsLow, HoldBoth, AreMarks}
+use Rattle.alignment.specs.Marks.{pin_of, overtakes, mirrored, is_crossed, IsLow, HoldBoth, AreMarkedLinks}
 use Rattle.std.proofs.lemmas.List.{get_or-map, length-map, map-append, take_more}
 
 -- one more element of a list that is mapped
@@ -143,7 +143,7 @@ module _ (l : Plain) (rows : List (List ℕ)) (place : List ℕ) (sound : IsSoun
       (record { edge = 0; tail = 0; head = 0; tail_rank = 0; head_rank = 0; tail_at = pos 0; head_at = pos 0 }) l.links
       (λ k h. ap (λ b. is_inner l (link_at l.links k) && b) (sym (cross_is link (link_at l.links k) s (sound.links_are k h)))))
 
-  pub marks_from : (marked : List Bool) → marked ≡ map (is_crossed l place) l.links → AreMarks l rows marked
+  pub marks_from : (marked : List Bool) → marked ≡ map (is_crossed l place) l.links → AreMarkedLinks l rows marked
   marks_from marked e =
       record {
         as_many = ap length e ∙ length-map l.links (is_crossed l place);

@@ -7,7 +7,7 @@ use Rattle.elk_layers.specs.Layered.{Plain, link_at, layer_of, IsSound, AreRows}
 use Rattle.elk_layers.specs.Alignment.{goes_up, near_end, far_end, far_place, is_beyond, medians_in, first_of}
 use Rattle.elk_layers.specs.Places.{ArePlaces}
 use Rattle.alignment.specs.declared.spokes.Spoke.{Spoke}
-use Rattle.alignment.specs.Marks.{AreMarks}
+use Rattle.alignment.specs.Marks.{AreMarkedLinks}
 use Rattle.alignment.specs.Spokes.{AreSpokes}
 
 -- a far place beyond the last one, if there is one
@@ -45,7 +45,7 @@ pub record CanVisit (l : Plain) (rows : List (List ℕ)) (sweep : Sweep) (place 
   pub sound : IsSound l
   pub are_rows : AreRows l rows
   pub places : ArePlaces l rows place
-  pub marks : AreMarks l rows marked
+  pub marks : AreMarkedLinks l rows marked
   pub spokes_are : AreSpokes l sweep place spokes
 
 -- the list of chosen links and the last places after a visit of a unit with this fan

@@ -56,6 +56,6 @@ is_crossed l place link =
     not (is_inner l link) && list_any (λ other. overtakes other (pin_of l place link) || overtakes (pin_of l place link) other) (inner_pins l place)
 
 -- the list says of each link whether it is marked
-pub record AreMarks (l : Plain) (rows : List (List ℕ)) (marked : List Bool) : Type 0 where
+pub record AreMarkedLinks (l : Plain) (rows : List (List ℕ)) (marked : List Bool) : Type 0 where
   pub as_many : length marked ≡ length l.links
   pub mark_is : (k : ℕ) → k < length l.links → slice_index_or marked k false ≡ is_marked l rows (link_at l.links k)

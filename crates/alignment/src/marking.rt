@@ -6,7 +6,7 @@ ghost use Rattle.elk_layers.specs.Layered.{plain, IsSound, IsSoundLink, AreRows}
 ghost use Rattle.elk_layers.specs.Alignment as spec;
 ghost use Rattle.elk_layers.specs.Places.{ArePlaces};
 ghost use Rattle.alignment.specs.Marks as mark;
-ghost use Rattle.alignment.specs.Marks.{pin_of, IsReach, IsLow, HoldBoth, overtakes, AreMarks};
+ghost use Rattle.alignment.specs.Marks.{pin_of, IsReach, IsLow, HoldBoth, overtakes, AreMarkedLinks};
 
 use crate::ends::key_at;
 use crate::reaching::{Pin, Reach, is_overtaken, mirrored, mirrored_pins, reach_of};
@@ -112,7 +112,7 @@ pub(crate) fn marks(
 ) -> Result<Vec<bool>, AllocError>
     requires sound { IsSound (plain layered.now) }
     requires places { length place.now ≡ length (plain layered.now).units }
-    ensures { IfOk result (λ v. (rows : List (List ℕ)) → AreRows (plain layered.now) rows → ArePlaces (plain layered.now) rows place.now → AreMarks (plain layered.now) rows v.items) }
+    ensures { IfOk result (λ v. (rows : List (List ℕ)) → AreRows (plain layered.now) rows → ArePlaces (plain layered.now) rows place.now → AreMarkedLinks (plain layered.now) rows v.items) }
 {
     let inner = inner_pins(alloc, layered, place)?;
     let turned = mirrored_pins(alloc, inner.as_slice())?;

@@ -5,7 +5,7 @@ use Rattle.std.proofs.lemmas.Bool.{cases_order, cases_lt}
 use Rattle.std.proofs.lemmas.List.{get_or-map, length-map}
 use Rattle.elk_layers.specs.Layered.{Plain, IsSound, AreRows, layer_of, row_at, place_in, place_of, is_child}
 use Rattle.block_lines.specs.Weaving.{IsSublist, woven, CanWeave}
-use Rattle.block_lines.specs.Blocks.{AreNames, IsEntered, names_of, is_before, woven_rows, block_order, IsBlockOrder, GoesForward, AreNumbered, IsWovenTo}
+use Rattle.block_lines.specs.Blocks.{AreNames, IsEntered, names_of, is_before, woven_rows, block_order, IsBlockOrder, GoesForward, AreBlockNumbers, IsWovenTo}
 use Rattle.block_lines.specs.Constraints.{AreBlocks, Rises}
 use Rattle.std.proofs.lemmas.List.Elements.{All-filter, All-from_get_or}
 use Rattle.block_lines.proofs.WeavingLemmas.{woven_names, woven_row, woven_once, woven_occurs, sub_filter, sub_occurs, sub_trans, sub_refl}
@@ -336,7 +336,7 @@ module _ (l : Plain) (rows : List (List ℕ)) (chosen names : List ℕ) (sound :
       omega (arith, some, more)
 
   -- the numbers of the blocks in an order
-  module _ (order blocks : List ℕ) (is : IsBlockOrder l rows names order) (numbered : AreNumbered l names order blocks) where
+  module _ (order blocks : List ℕ) (is : IsBlockOrder l rows names order) (numbered : AreBlockNumbers l names order blocks) where
     root_is : (u : ℕ) → u < length l.units → get_or order (get_or blocks u 0) 0 ≡ name u
     root_is u h = ap (λ b. get_or order b 0) (numbered.number_is u h) ∙ place_reads (name u) order (in_order order is u h)
 

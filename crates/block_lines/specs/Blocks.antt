@@ -53,7 +53,7 @@ pub record IsBlockOrder (l : Plain) (rows : List (List ℕ)) (names order : List
   pub children : (r : ℕ) → r < length rows → GoesForward names order (filter (is_child l) (row_at rows r))
 
 -- each unit's block by its place in the order
-pub record AreNumbered (l : Plain) (names order blocks : List ℕ) : Type 0 where
+pub record AreBlockNumbers (l : Plain) (names order blocks : List ℕ) : Type 0 where
   pub as_many : length blocks ≡ length l.units
   pub number_is : (u : ℕ) → u < length l.units → slice_index blocks u ≡ place_in order (name_at names u)
 

@@ -25,7 +25,7 @@ use Rattle.box_pack.specs.Squareness.{IsSquarest}
 use Rattle.level_plan.specs.declared.level.LevelEdge.{LevelEdge}
 use Rattle.level_plan.specs.declared.level.LevelIn.{LevelIn}
 use Rattle.level_plan.specs.Conditions.{plain_level}
-use Rattle.level_plan.specs.FromPlan.{Drawn, point_or}
+use Rattle.level_plan.specs.FromPlan.{LevelDrawing, point_or}
 use Rattle.level_plan.specs.Level.{PlainLevel, child_at}
 use Rattle.level_stands.specs.Apart.{drawn_outline_from}
 use Rattle.level_boxes.specs.Boxes.{IsBoxesLayout, alone}
@@ -80,7 +80,7 @@ from_corner : (a : ℤ) → a ≡ a +ℤ pos 0
 from_corner a = omega (arith, ints)
 
 -- an outline in a drawing is the one from the corner of its box, moved there
-drawn_from : (l : PlainLevel) (v : Drawn) (i : ℕ) (ks : List ℕ) → drawn_outline_from l v i ks ≡ shifted (point_or v.boxes i) (outline_from (child_at l i) (get_or v.ports i []) ks)
+drawn_from : (l : PlainLevel) (v : LevelDrawing) (i : ℕ) (ks : List ℕ) → drawn_outline_from l v i ks ≡ shifted (point_or v.boxes i) (outline_from (child_at l i) (get_or v.ports i []) ks)
 drawn_from l v i [] = same_rect _ _ (from_corner _) (from_corner _) refl refl
 drawn_from l v i (k ∷ ks) =
     ap (λ (r : Rect). hull r (drawn_port_box l v i k)) (drawn_from l v i ks)
@@ -123,7 +123,7 @@ module _ (d : Document) (p : Placed) (n : ℕ) (o : LevelOptions) (l : LevelIn) 
   abbrev extent : Size
   extent = layout.squarest.rows.extent
 
-  abbrev figure : Drawn
+  abbrev figure : LevelDrawing
   figure = figure_in (figure_of_boxes h.out) [] [] (pos 0) (pos 0)
 
   extent_is : v.extent ≡ turned_size o.direction extent

@@ -23,7 +23,7 @@ use Rattle.elk_doc.proofs.NumberLaws.{count_below-le}
 use Rattle.turning_laws.specs.Turning.{turned_point}
 use Rattle.turning_laws.proofs.TurningLaws.{boxes}
 use Rattle.level_layers.specs.Certificate.{source_of, target_of}
-use Rattle.level_plan.specs.FromPlan.{Drawn, section_at}
+use Rattle.level_plan.specs.FromPlan.{LevelDrawing, section_at}
 use Rattle.level_plan.specs.Level.{PlainLevel}
 use Rattle.level_rules.specs.Routes.{points_of as level_points, route_count, route_point}
 use Rattle.level_stands.specs.Apart.{drawn_outline}
@@ -78,7 +78,7 @@ module _ (d : Document) (p : Placed) (n : ℕ) (o : LevelOptions) (out : PartsOu
   abbrev l : PlainLevel
   l = level_of d p n o
 
-  abbrev v : Drawn
+  abbrev v : LevelDrawing
   v = whole_drawing out
 
   abbrev place : ℕ → ℕ

@@ -26,7 +26,7 @@ use Rattle.port_order.specs.Conditions.{IsSmall}
 use Rattle.box_pack.specs.Boxes.{IsGreatest}
 use Rattle.box_pack.specs.Spaced.{AreSpaced, gapped, height_at, width_at}
 use Rattle.level_plan.specs.Conditions.{IsLevel}
-use Rattle.level_plan.specs.FromPlan.{Drawn, point_or}
+use Rattle.level_plan.specs.FromPlan.{LevelDrawing, point_or}
 use Rattle.level_plan.specs.Level.{PlainLevel, child_at}
 use Rattle.level_stands.specs.Apart.{drawn_outline, drawn_outline_from}
 use Rattle.level_stands.proofs.ApartLemmas.{outlines_are_drawn}
@@ -55,7 +55,7 @@ between a b = record { x = a.x -ℤ b.x; y = a.y -ℤ b.y }
 there : (a b : ℤ) → a ≡ (a -ℤ b) +ℤ b
 there a b = omega (arith, ints)
 
-outline_elsewhere : (l : PlainLevel) (v w : Drawn) (i : ℕ) → v.ports ≡ w.ports → (ks : List ℕ)
+outline_elsewhere : (l : PlainLevel) (v w : LevelDrawing) (i : ℕ) → v.ports ≡ w.ports → (ks : List ℕ)
     → drawn_outline_from l v i ks ≡ shifted (between (point_or v.boxes i) (point_or w.boxes i)) (drawn_outline_from l w i ks)
 outline_elsewhere l v w i same [] = same_rect _ _ (there _ _) (there _ _) refl refl
 outline_elsewhere l v w i same (k ∷ ks) =
@@ -147,10 +147,10 @@ module _ (d : Document) (p : Placed) (n : ℕ) (o : LevelOptions) (s : IsSound d
 
   -- ---- outlines
 
-  abbrev made : Drawn
+  abbrev made : LevelDrawing
   made = drawn_in planned.out planned.laid_out.drawn.left planned.laid_out.drawn.top
 
-  abbrev here : Drawn
+  abbrev here : LevelDrawing
   here = boxed.drawing d p n o s within is boxes planned
 
   made_sum : (i : ℕ) → i < length (children d n) → rect_sum (drawn_outline l made i) ≤ℤ (((child_at l i).size.width +ℤ (child_at l i).size.height) +ℤ pos (2 ^ 24))

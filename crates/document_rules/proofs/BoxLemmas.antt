@@ -15,7 +15,7 @@ use Rattle.elk_doc.specs.Level.{IsChild, children, place_of_child}
 use Rattle.elk_doc.specs.Paths.{stay}
 use Rattle.elk_doc.specs.PortsKept.{KeepsPorts}
 use Rattle.turned_levels.specs.Turned.{turned_size}
-use Rattle.level_plan.specs.FromPlan.{Drawn}
+use Rattle.level_plan.specs.FromPlan.{LevelDrawing}
 use Rattle.turned_drawings.specs.Framed.{AsksHeight, AsksWidth, IsFittedBox, IsFramed, start_of}
 use Rattle.turned_drawings.specs.Levels.{IsWellDrawn}
 use Rattle.level_writing.specs.Sizes.{KeepsPinned}
@@ -41,7 +41,7 @@ module _ (d : Document) (p : Placed) (n : ℕ) (o : LevelOptions) (h : IsDrawnAs
   pinned : KeepsPinned d p n
   pinned k here is = (own.ports k here.port_in here.of_node).along_kept is
 
-  abbrev shown : Drawn
+  abbrev shown : LevelDrawing
   shown = drawing d p n o h.sound h.there h.options h.boxes h.planned
 
   round : IsFramed d p n o shown (start_of o.direction o.padding shown.extent)

@@ -5,7 +5,7 @@ use Rattle.std.specs.List.{range_with_len}
 use Rattle.elk_doc.specs.declared.shape.Rect.{Rect}
 use Rattle.port_order.specs.declared.children.Child.{Child}
 use Rattle.level_plan.specs.Conditions.{sum_of_ints}
-use Rattle.level_plan.specs.FromPlan.{Drawn, IsDrawnFrom}
+use Rattle.level_plan.specs.FromPlan.{LevelDrawing, IsDrawnFrom}
 use Rattle.level_plan.specs.Level.{Orders, PlainLevel, PlainPlan, child_at}
 use Rattle.level_stands.specs.Apart.{drawn_outline}
 use Rattle.level_stands.specs.Ready.{IsReady}
@@ -27,7 +27,7 @@ high c = c.size.height
 abbrev pub AllShort : PlainLevel → Type 0
 AllShort l = (c : ℕ) → c < length l.children → HasShortPorts (child_at l c)
 
-module _ (l : PlainLevel) (p : PlainPlan) (o : Orders) (layers : List ℕ) (d : Drawn) (ready : IsReady l p o layers) (drawn : IsDrawnFrom l p o d) (short : AllShort l) where
+module _ (l : PlainLevel) (p : PlainPlan) (o : Orders) (layers : List ℕ) (d : LevelDrawing) (ready : IsReady l p o layers) (drawn : IsDrawnFrom l p o d) (short : AllShort l) where
   abbrev no_child : Child
   no_child = child_at (record { children = []; edges = []; spacing = l.spacing }) 0
 

@@ -13,7 +13,7 @@ use Rattle.elk_doc.specs.Fits.{FitsCertificate, IsSolid, LeavesKept, child_count
 use Rattle.elk_doc.specs.PortsKept.{KeepsPorts}
 use Rattle.elk_doc.specs.Sound.{IsSound}
 use Rattle.level_plan.specs.Level.{Orders, PlainLevel, PlainPlan}
-use Rattle.level_plan.specs.FromPlan.{Drawn}
+use Rattle.level_plan.specs.FromPlan.{LevelDrawing}
 use Rattle.level_stands.specs.Ready.{IsReady}
 use Rattle.level_layers.specs.Certificate.{IsCertificateOf}
 use Rattle.level_draw.specs.Drawing.{drawn_in, IsDrawing, plan_from}
@@ -51,7 +51,7 @@ module _ (d : Document) (p : Placed) (n : ℕ) (o : LevelOptions) (sound : IsSou
   abbrev orders : Orders
   orders = planned.laid_out.orders
 
-  abbrev drawing : Drawn
+  abbrev drawing : LevelDrawing
   drawing = drawn_in planned.out planned.laid_out.drawn.left planned.laid_out.drawn.top
 
   abbrev move : Point

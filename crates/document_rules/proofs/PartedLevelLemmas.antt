@@ -13,7 +13,7 @@ use Rattle.elk_doc.specs.PortsKept.{KeepsPorts}
 use Rattle.elk_doc.specs.Sound.{IsSoundLevel}
 use Rattle.elk_doc.proofs.NumberLaws.{length-numbers_below}
 use Rattle.level_plan.specs.Conditions.{IsLevel}
-use Rattle.level_plan.specs.FromPlan.{Drawn}
+use Rattle.level_plan.specs.FromPlan.{LevelDrawing}
 use Rattle.level_plan.specs.Level.{PlainLevel, holds}
 use Rattle.joined_drawings.specs.Joined.{KeepsRules, with_gaps}
 use Rattle.split_layout.specs.Laws.{IsPartedDrawing}
@@ -54,7 +54,7 @@ module _ (d : Document) (p : Placed) (n : ℕ) (o : LevelOptions) (h : IsDrawnIn
   abbrev written : Certificate
   written = h.planned.certificate.written
 
-  abbrev v : Drawn
+  abbrev v : LevelDrawing
   v = whole_drawing h.planned.out
 
   abbrev move : Point
@@ -73,7 +73,7 @@ module _ (d : Document) (p : Placed) (n : ℕ) (o : LevelOptions) (h : IsDrawnIn
   rules_kept = drawn.rules
 
   -- the drawing with gaps by which a plan places it
-  abbrev shown : Drawn
+  abbrev shown : LevelDrawing
   shown = with_gaps v rules_kept.gaps
 
   turned : IsTurnedDrawing d p n o.direction shown move

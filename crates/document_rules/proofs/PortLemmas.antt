@@ -17,7 +17,7 @@ use Rattle.elk_doc.specs.Sound.{IsSound}
 use Rattle.elk_doc.specs.Fits.{LeavesKept}
 use Rattle.elk_doc.proofs.ShapeLaws.{same_rect}
 use Rattle.level_plan.specs.Conditions.{plain_level}
-use Rattle.level_plan.specs.FromPlan.{Drawn, IsDrawnFrom}
+use Rattle.level_plan.specs.FromPlan.{LevelDrawing, IsDrawnFrom}
 use Rattle.level_plan.specs.Level.{Orders, PlainLevel, PlainPlan, holds}
 use Rattle.level_plan.specs.declared.level.LevelEdge.{LevelEdge}
 use Rattle.level_stands.specs.PortsKept.{ArePortsPlaced}
@@ -80,7 +80,7 @@ module _ (d : Document) (p : Placed) (n : ℕ) (o : LevelOptions) (sound : IsSou
   abbrev box_corner : ℕ → Point
   box_corner c = corner_of (turned o.direction (box_of p c))
 
-  abbrev pub drawing : Drawn
+  abbrev pub drawing : LevelDrawing
   drawing =
       record {
         gaps = [];

@@ -11,5 +11,5 @@ abbrev pub has_level_edge : List Element → ℕ → List Element → Bool
 has_level_edge es place among = list_any (λ f. is_edge f && option_eq nat_eq (level_of_edge es f.value) (Some place)) among
 
 -- a mark at each place whose level has an edge, and at no other
-abbrev pub AreMarks : List Element → List Bool → Type 0
-AreMarks es marks = (place : ℕ) → place < length es → slice_index_or marks place false ≡ has_level_edge es place es
+abbrev pub AreMarkedElements : List Element → List Bool → Type 0
+AreMarkedElements es marks = (place : ℕ) → place < length es → slice_index_or marks place false ≡ has_level_edge es place es

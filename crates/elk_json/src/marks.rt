@@ -1,7 +1,7 @@
 //! Which levels have edges.
 ghost use Rattle.std.specs.Prelude.{◌≡◌, ℕ, ◌<◌, ◌||◌, length, slice_index_or, false, nat_eq, Some, IfOk};
 ghost use Rattle.std.specs.Option.{option_eq};
-ghost use Rattle.elk_json.specs.Marks.{AreMarks};
+ghost use Rattle.elk_json.specs.Marks.{AreMarkedElements};
 ghost use Rattle.elk_json.specs.Seen.{seen_list};
 
 use crate::elements::Kind;
@@ -28,7 +28,7 @@ pub(crate) fn levels_with_edges(
     list: &Listed<'_, '_>,
 ) -> Result<Vec<bool>, AllocError>
     ensures long { IfOk result (λ marks. length marks.items ≡ length list.now.elements.now) }
-    ensures marked { IfOk result (λ marks. AreMarks (seen_list list.now.elements.now) marks.items) }
+    ensures marked { IfOk result (λ marks. AreMarkedElements (seen_list list.now.elements.now) marks.items) }
 {
     let mut marks = vec![in alloc; false; list.elements.len()]?;
     for element in list.elements {

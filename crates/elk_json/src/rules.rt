@@ -3,7 +3,7 @@ ghost use Rattle.std.specs.Prelude.{◌≡◌, ◌+ℤ◌, int_lt, IfOk, Some, o
 ghost use Rattle.std.specs.Option.{option_or};
 ghost use Rattle.serde_json.specs.View.{view};
 ghost use Rattle.elk_json.specs.Members.{is_port, whole_at as whole_test, has_bad_option as bad_option_test};
-ghost use Rattle.elk_json.specs.Marks.{AreMarks};
+ghost use Rattle.elk_json.specs.Marks.{AreMarkedElements};
 ghost use Rattle.elk_json.specs.Rules.{first_at, has_boxes, is_badly_optioned as badly_test, has_face_inside as face_test, lies_inside as lies_test, is_port_inside as inside_test, is_placed_inside as placed_inside_test, is_side_inside as side_inside_test, if_so, at, option_refusal as option_refusal_of, edge_refusal as edge_refusal_of, value_refusal as value_refusal_of};
 ghost use Rattle.elk_json.specs.Elements.{elements as elements_spec};
 ghost use Rattle.elk_json.specs.Seen.{seen, seen_list};
@@ -46,7 +46,7 @@ fn is_badly_marked(
 ) -> bool
     requires within { place < length elements.now }
     requires long { length marks.now ≡ length elements.now }
-    requires marked { AreMarks (seen_list elements.now) marks.now }
+    requires marked { AreMarkedElements (seen_list elements.now) marks.now }
     ensures { result ≡ badly_test (seen_list elements.now) place (seen element.now) }
 {
     is_badly_optioned(element, marks[place])
@@ -58,7 +58,7 @@ fn first_badly_marked<'e, 'a>(
     marks: &[bool],
 ) -> Option<&'e Element<'a>>
     requires long { length marks.now ≡ length elements.now }
-    requires marked { AreMarks (seen_list elements.now) marks.now }
+    requires marked { AreMarkedElements (seen_list elements.now) marks.now }
     ensures { option_map (λ e. seen e.now) result ≡ first_at (badly_test (seen_list elements.now)) 0 (seen_list elements.now) }
 {
     for (i, element) in elements.iter().enumerate() {

@@ -20,7 +20,7 @@ use Rattle.elk_json.specs.Members.{is_node, is_edge}
 use Rattle.elk_json.specs.Ends.{is_same_id}
 use Rattle.elk_json.specs.Members.{to_id}
 use Rattle.std.specs.Prelude.{filter}
-use Rattle.elk_write.specs.Reading.{sections_in, certificate_in, certificate_of, flow_in, layers_in, parts_in, reversed_in, span_in, is_listable, listable, is_ascending, edge_named, first_number, list_in, counted, large_in, small_in}
+use Rattle.elk_write.specs.Reading.{sections_in, certificate_in, certificate_with, flow_in, layers_in, parts_in, reversed_in, span_in, is_listable, listable, is_ascending, edge_named, first_number, list_in, counted, large_in, small_in}
 use Rattle.elk_write.specs.Placing.{box_in, level_in, box_at, level_at, section_at, given, IsGiven}
 use Rattle.elk_write.specs.ReadBack.{without_place, SameButPlaces}
 
@@ -105,10 +105,10 @@ module _ (doc other : Document) (same : SameButPlaces doc other) where
 
   certificate_same : (n : ℕ) (split : Bool) (d : Data) → certificate_in other n split d ≡ certificate_in doc n split d
   certificate_same n split d =
-      ap (λ f. certificate_of f (layers_in other n d) (parts_in other n split d) (reversed_in other n d) (span_in d)) (flow_same n d)
-      ∙ ap (λ l. certificate_of (flow_in doc n d) l (parts_in other n split d) (reversed_in other n d) (span_in d)) (layers_same n d)
-      ∙ ap (λ p. certificate_of (flow_in doc n d) (layers_in doc n d) p (reversed_in other n d) (span_in d)) (parts_same n split d)
-      ∙ ap (λ r. certificate_of (flow_in doc n d) (layers_in doc n d) (parts_in doc n split d) r (span_in d)) (reversed_same n d)
+      ap (λ f. certificate_with f (layers_in other n d) (parts_in other n split d) (reversed_in other n d) (span_in d)) (flow_same n d)
+      ∙ ap (λ l. certificate_with (flow_in doc n d) l (parts_in other n split d) (reversed_in other n d) (span_in d)) (layers_same n d)
+      ∙ ap (λ p. certificate_with (flow_in doc n d) (layers_in doc n d) p (reversed_in other n d) (span_in d)) (parts_same n split d)
+      ∙ ap (λ r. certificate_with (flow_in doc n d) (layers_in doc n d) (parts_in doc n split d) r (span_in d)) (reversed_same n d)
 
   level_in_same : (n : ℕ) (o : Option LevelOptions) (d : Data) → level_in other n o d ≡ level_in doc n o d
   level_in_same n None d = refl

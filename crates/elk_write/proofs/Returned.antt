@@ -22,7 +22,7 @@ use Rattle.elk_doc.specs.Fits.{IsNear, FitsSection, FitsCertificate, IsAscending
 use Rattle.elk_options.specs.Values.{if_within}
 use Rattle.elk_json.specs.Members.{to_id}
 use Rattle.elk_write.specs.Values.{whole, wholes, point_data, section_id, end_members, with_bends, sections_data, id_data, edge_id, edge_ids, layering_data}
-use Rattle.elk_write.specs.Reading.{integer_in, coordinate_in, length_in, large_in, small_in, point_in, size_in, all_in, list_in, counted, is_text, bends_in, route_in, sole_section_in, sections_in, first_number, edge_named, are_from, is_ascending, is_listable, listable, flow_in, layers_in, reversed_in, parts_in, span_in, certificate_of, certificate_in}
+use Rattle.elk_write.specs.Reading.{integer_in, coordinate_in, length_in, large_in, small_in, point_in, size_in, all_in, list_in, counted, is_text, bends_in, route_in, sole_section_in, sections_in, first_number, edge_named, are_from, is_ascending, is_listable, listable, flow_in, layers_in, reversed_in, parts_in, span_in, certificate_with, certificate_in}
 use Rattle.elk_write.specs.Written.{Has}
 use Rattle.elk_write.specs.ReadBack.{IsHeld}
 use Rattle.elk_write.proofs.Distinct.{has_id, same_bytes}
@@ -238,8 +238,8 @@ module _ (doc : Document) (found : AreFound doc) (n : ℕ) (o : LevelOptions) (c
   pub certificate_back : certificate_in doc n o.split (layering_data doc o.split c) ≡ Some c
   certificate_back =
       let d = layering_data doc o.split c in
-      ap (λ f. certificate_of f (layers_in doc n d) (parts_in doc n o.split d) (reversed_in doc n d) (span_in d)) flow_back
-      ∙ ap (λ l. certificate_of (Some c.flow) l (parts_in doc n o.split d) (reversed_in doc n d) (span_in d)) layers_back
-      ∙ ap (λ p. certificate_of (Some c.flow) (Some c.layers) p (reversed_in doc n d) (span_in d)) (parts_back o.split fits.parts)
-      ∙ ap (λ r. certificate_of (Some c.flow) (Some c.layers) (Some c.parts) r (span_in d)) reversed_back
-      ∙ ap (λ s. certificate_of (Some c.flow) (Some c.layers) (Some c.parts) (Some c.reversed) s) span_back
+      ap (λ f. certificate_with f (layers_in doc n d) (parts_in doc n o.split d) (reversed_in doc n d) (span_in d)) flow_back
+      ∙ ap (λ l. certificate_with (Some c.flow) l (parts_in doc n o.split d) (reversed_in doc n d) (span_in d)) layers_back
+      ∙ ap (λ p. certificate_with (Some c.flow) (Some c.layers) p (reversed_in doc n d) (span_in d)) (parts_back o.split fits.parts)
+      ∙ ap (λ r. certificate_with (Some c.flow) (Some c.layers) (Some c.parts) r (span_in d)) reversed_back
+      ∙ ap (λ s. certificate_with (Some c.flow) (Some c.layers) (Some c.parts) (Some c.reversed) s) span_back

@@ -141,9 +141,9 @@ abbrev pub span_in : Data → Option ℕ
 span_in d = option_and_then large_in (get (codes "span") d)
 
 -- a certificate of its five parts, each of them there
-abbrev pub certificate_of : Option (List ℕ) → Option (List ℕ) → Option (List ℕ) → Option (List ℕ) → Option ℕ → Option Certificate
-certificate_of flow layers parts reversed span =
+abbrev pub certificate_with : Option (List ℕ) → Option (List ℕ) → Option (List ℕ) → Option (List ℕ) → Option ℕ → Option Certificate
+certificate_with flow layers parts reversed span =
     option_and_then (λ f. option_and_then (λ l. option_and_then (λ p. option_and_then (λ r. option_map (λ s. record { layers = l; reversed = r; flow = f; span = s; parts = p }) span) reversed) parts) layers) flow
 
 abbrev pub certificate_in : Document → ℕ → Bool → Data → Option Certificate
-certificate_in doc n split d = certificate_of (flow_in doc n d) (layers_in doc n d) (parts_in doc n split d) (reversed_in doc n d) (span_in d)
+certificate_in doc n split d = certificate_with (flow_in doc n d) (layers_in doc n d) (parts_in doc n split d) (reversed_in doc n d) (span_in d)

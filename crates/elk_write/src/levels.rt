@@ -4,7 +4,7 @@ ghost use Rattle.serde_json.specs.Find.{get};
 ghost use Rattle.serde_json.specs.View.{view, items_view};
 ghost use Rattle.elk_json.specs.Ends.{is_same_id as same_id_test};
 ghost use Rattle.elk_json.specs.Keys.{key_id};
-ghost use Rattle.elk_write.specs.Reading.{all_in, are_listable as listable_test, certificate_in as certificate_spec, certificate_of as certificate_spec_of, counted, edge_named as edge_named_spec, first_number, flow_in as flow_spec, is_ascending as ascending_test, is_listable as one_listable_test, large_in as large_spec, layers_in as layers_spec, list_in, parts_in as parts_spec, reversed_in as reversed_spec, small_in as small_spec};
+ghost use Rattle.elk_write.specs.Reading.{all_in, are_listable as listable_test, certificate_in as certificate_spec, certificate_with as certificate_spec_of, counted, edge_named as edge_named_spec, first_number, flow_in as flow_spec, is_ascending as ascending_test, is_listable as one_listable_test, large_in as large_spec, layers_in as layers_spec, list_in, parts_in as parts_spec, reversed_in as reversed_spec, small_in as small_spec};
 
 use crate::reading::{large_in, small_in};
 use elk_doc::document::{Doc, Id};

@@ -8,7 +8,7 @@ use Rattle.elk_doc.specs.Shapes.{hull, moved_by, rect_at}
 use Rattle.port_order.specs.declared.children.Child.{Child}
 use Rattle.port_order.specs.Child.{port_at}
 use Rattle.level_plan.specs.Conditions.{IsLevel}
-use Rattle.level_plan.specs.FromPlan.{Drawn, point_or, section_at}
+use Rattle.level_plan.specs.FromPlan.{LevelDrawing, point_or, section_at}
 use Rattle.level_plan.specs.Level.{PlainLevel, child_at}
 use Rattle.level_rules.specs.Routes.{points_of, route_count, route_point}
 use Rattle.level_stands.specs.Apart.{drawn_box, drawn_outline, drawn_outline_from, drawn_port}
@@ -23,7 +23,7 @@ use Rattle.turned_levels.specs.Drawing.{plus}
 use Rattle.joined_drawings.specs.Joined.{IsJoined, moved_section}
 use Rattle.joined_drawings.proofs.MoveLemmas.{points_moved}
 
-module _ (l : PlainLevel) (numbers : List ℕ) (at : ℕ → Point) (own : ℕ → Drawn) (v : Drawn) (level : IsLevel l) (numbered : AreParts l numbers) (joined : IsJoined l numbers at own v) where
+module _ (l : PlainLevel) (numbers : List ℕ) (at : ℕ → Point) (own : ℕ → LevelDrawing) (v : LevelDrawing) (level : IsLevel l) (numbered : AreParts l numbers) (joined : IsJoined l numbers at own v) where
   abbrev pub keys : List ℕ
   keys = edge_keys l numbers
 

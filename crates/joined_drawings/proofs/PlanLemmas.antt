@@ -7,7 +7,7 @@ use Rattle.std.proofs.lemmas.List.FromFn.{length-range_with_len, get_or-range_wi
 use Rattle.elk_doc.proofs.ShapeLaws.{same_point}
 use Rattle.elk_layers.specs.declared.units.Unit.{Unit as LayerUnit}
 use Rattle.elk_layers.specs.Layered.{Plain, unit_at}
-use Rattle.level_plan.specs.FromPlan.{Drawn, box_place, point_or}
+use Rattle.level_plan.specs.FromPlan.{LevelDrawing, box_place, point_or}
 use Rattle.level_plan.specs.Level.{Orders, PlainLevel, PlainPlan, first_or, outline}
 use Rattle.elk_layers.specs.Lines.{top_of}
 use Rattle.level_plan.specs.Nets.{box_below, is_number, layer_of_child, unit_of}
@@ -68,7 +68,7 @@ ahead a b = omega (arith, ints)
 no_less : (a : ℤ) → a -ℤ pos 0 ≡ a
 no_less a = omega (arith, ints)
 
-module _ (l : PlainLevel) (listed : List ℕ) (o : Orders) (v : Drawn) where
+module _ (l : PlainLevel) (listed : List ℕ) (o : Orders) (v : LevelDrawing) where
   abbrev count : ℕ
   count = length l.children
 

@@ -18,7 +18,7 @@ use Rattle.box_pack.specs.Spaced.{AreSolid, AreSpaced}
 use Rattle.box_pack.proofs.SpacedLemmas.{rows_are_spaced}
 use Rattle.level_draw.specs.Drawing.{IsTight, outlines_in}
 use Rattle.level_extent.specs.Reach.{IsReach, abscissae, corners_of, greatest, heights, least, points_along, points_of, reached}
-use Rattle.level_plan.specs.FromPlan.{Drawn, section_at}
+use Rattle.level_plan.specs.FromPlan.{LevelDrawing, section_at}
 use Rattle.level_plan.specs.Level.{Orders, PlainLevel, PlainPlan}
 use Rattle.level_rules.specs.Routes.{route_count, route_point}
 use Rattle.level_stands.specs.Apart.{drawn_box, drawn_outline, drawn_outline_from}
@@ -79,18 +79,18 @@ along_has (t ∷ ss) q h =
     (append_has (points_along t) (points_of ss) q h)
 
 -- a point that a drawing reaches: a corner of an outline, or a point of a route
-pub data IsReached (l : PlainLevel) (v : Drawn) (q : Point) : Type 0 where
+pub data IsReached (l : PlainLevel) (v : LevelDrawing) (q : Point) : Type 0 where
   at_upper : (c : ℕ) → c < length l.children → upper (drawn_outline l v c) ≡ q → IsReached l v q
   at_lower : (c : ℕ) → c < length l.children → lower (drawn_outline l v c) ≡ q → IsReached l v q
   on_route : (e i : ℕ) → e < length v.sections → i < route_count v e → route_point v e i ≡ q → IsReached l v q
 
-abbrev pub all : PlainLevel → Drawn → List Point
+abbrev pub all : PlainLevel → LevelDrawing → List Point
 all l v = reached (outlines_in l v) v.sections
 
-outline_there : (l : PlainLevel) (v : Drawn) (c : ℕ) → c < length l.children → Has (outlines_in l v) (drawn_outline l v c)
+outline_there : (l : PlainLevel) (v : LevelDrawing) (c : ℕ) → c < length l.children → Has (outlines_in l v) (drawn_outline l v c)
 outline_there l v c h = has_map (drawn_outline l v) (range_with_len 0 (length l.children)) c (has_range 0 (length l.children) c (omega arith) (omega (arith, h)))
 
-pub reached_has : (l : PlainLevel) (v : Drawn) (q : Point) → IsReached l v q → Has (all l v) q
+pub reached_has : (l : PlainLevel) (v : LevelDrawing) (q : Point) → IsReached l v q → Has (all l v) q
 reached_has l v q (at_upper c h e) =
     has_left (corners_of (outlines_in l v)) (points_of v.sections) q (subst (λ z. Has (corners_of (outlines_in l v)) z) e (has_corner (outlines_in l v) (drawn_outline l v c) (outline_there l v c h)).0)
 reached_has l v q (at_lower c h e) =
@@ -99,7 +99,7 @@ reached_has l v q (on_route e i h k is) =
     has_right (corners_of (outlines_in l v)) (points_of v.sections) q
     (has_along v.sections (section_at v e) q (has_at v.sections e _ h) (subst (λ z. Has (points_along (section_at v e)) z) is (has_at (points_along (section_at v e)) i origin k)))
 
-has_reached : (l : PlainLevel) (v : Drawn) (q : Point) → Has (all l v) q → IsReached l v q
+has_reached : (l : PlainLevel) (v : LevelDrawing) (q : Point) → Has (all l v) q → IsReached l v q
 has_reached l v q h = ⊎_elim by_corner by_point (append_has (corners_of (outlines_in l v)) (points_of v.sections) q h)
   where
     by_corner : Has (corners_of (outlines_in l v)) q → IsReached l v q
@@ -131,7 +131,7 @@ up_to a b c e h = omega (arith, ints, e, h)
 from : (a b c : ℤ) → a ≡ b → c ≤ℤ b → c ≤ℤ a
 from a b c e h = omega (arith, ints, e, h)
 
-pub tight_lies : (l : PlainLevel) (v : Drawn) → IsTight l v → (q : Point) → Has (all l v) q → LiesIn v.extent.width v.extent.height q
+pub tight_lies : (l : PlainLevel) (v : LevelDrawing) → IsTight l v → (q : Point) → Has (all l v) q → LiesIn v.extent.width v.extent.height q
 tight_lies l v tight q h =
     let x = has_map (λ (p : Point). p.x) (all l v) q h in
     let y = has_map (λ (p : Point). p.y) (all l v) q h in
@@ -182,7 +182,7 @@ hull_holds r s t h =
     two {a} {b} {c} h k = omega (arith, ints, h, k)
 
 -- an outline holds its box
-pub box_held : (l : PlainLevel) (v : Drawn) (c : ℕ) (qs : List ℕ) → Holds (drawn_outline_from l v c qs) (drawn_box l v c)
+pub box_held : (l : PlainLevel) (v : LevelDrawing) (c : ℕ) (qs : List ℕ) → Holds (drawn_outline_from l v c qs) (drawn_box l v c)
 box_held l v c [] = record { left = same _; top = same _; right = same _; bottom = same _ }
   where
     same : (z : ℤ) → z ≤ℤ z
@@ -217,7 +217,7 @@ moved_rect_in at w h r first last =
     let d = last.bottom in
     record { left = omega (arith, ints, a); top = omega (arith, ints, c); right = omega (arith, ints, b); bottom = omega (arith, ints, d) }
 
-module _ (l : PlainLevel) (numbers : List ℕ) (count : ℕ) (plans : ℕ → PlainPlan) (orders : ℕ → Orders) (layers : ℕ → List ℕ) (own : ℕ → Drawn) (listed : List ℕ) (gap limit : ℤ) (rows : Rows) (v : Drawn)
+module _ (l : PlainLevel) (numbers : List ℕ) (count : ℕ) (plans : ℕ → PlainPlan) (orders : ℕ → Orders) (layers : ℕ → List ℕ) (own : ℕ → LevelDrawing) (listed : List ℕ) (gap limit : ℤ) (rows : Rows) (v : LevelDrawing)
     (are : AreDrawn l numbers count plans orders layers own listed) (placed : AreInRows count gap limit own rows) (joined : IsJoined l numbers (point_at rows.at) own v) where
   abbrev at : ℕ → Point
   at k = point_at rows.at k

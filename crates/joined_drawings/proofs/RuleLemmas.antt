@@ -18,7 +18,7 @@ use Rattle.port_order.specs.declared.children.Child.{Child}
 use Rattle.port_order.specs.Child.{is_pinned}
 use Rattle.port_order.specs.Order.{ClockwiseFirst, clockwise}
 use Rattle.port_order.specs.Sides.{is_forward}
-use Rattle.level_plan.specs.FromPlan.{Drawn, IsDrawnFrom, anchor, box_place, point_or, section_at}
+use Rattle.level_plan.specs.FromPlan.{LevelDrawing, IsDrawnFrom, anchor, box_place, point_or, section_at}
 use Rattle.level_plan.specs.Level.{Orders, PlainLevel, PlainPlan, anchor_of_spot, child_at, dock_of, end_at, holds, port_place, spoke, spot_of}
 use Rattle.level_rules.specs.Routes.{DocksShare, IsClear, IsOrthogonal, IsRouted, RoutesKept, RoutesShare, end_child, route_count, route_point}
 use Rattle.level_stands.specs.Apart.{drawn_box, drawn_outline, drawn_port}
@@ -39,7 +39,7 @@ use Rattle.joined_drawings.proofs.MoveLemmas.{anchor_moved, clear_enters, clear_
 use Rattle.joined_drawings.proofs.PartLemmas as parts
 
 -- What lies in the places of the parts, which stand clear of one another.
-pub record LiesInParts (l : PlainLevel) (numbers : List ℕ) (count : ℕ) (own : ℕ → Drawn) (v : Drawn) (gap : ℤ) (rect : ℕ → Rect) : Type 0 where
+pub record LiesInParts (l : PlainLevel) (numbers : List ℕ) (count : ℕ) (own : ℕ → LevelDrawing) (v : LevelDrawing) (gap : ℤ) (rect : ℕ → Rect) : Type 0 where
   pub gap_above : pos 1 ≤ℤ gap
   pub clear : (j k : ℕ) → j < count → k < count → j ≢ k → StandsClear gap (rect j) (rect k) ⊎ StandsClear gap (rect k) (rect j)
   pub outlines : (k i : ℕ) → k < count → i < length (members numbers k) → Holds (rect k) (drawn_outline l v (child_number numbers k i))
@@ -47,12 +47,12 @@ pub record LiesInParts (l : PlainLevel) (numbers : List ℕ) (count : ℕ) (own 
   pub points : (k j x : ℕ) → k < count → j < length (members (edge_keys l numbers) k) → x < route_count (own k) j → Holds (rect k) (point_rect (route_point v (edge_number l numbers k j) x))
 
 -- A plan and orders that turn the listed edges round, order sides as the parts do, and place the boxes where they are drawn.
-pub record Places (l : PlainLevel) (numbers : List ℕ) (count : ℕ) (orders : ℕ → Orders) (listed : List ℕ) (v : Drawn) (p : PlainPlan) (o : Orders) : Type 0 where
+pub record Places (l : PlainLevel) (numbers : List ℕ) (count : ℕ) (orders : ℕ → Orders) (listed : List ℕ) (v : LevelDrawing) (p : PlainPlan) (o : Orders) : Type 0 where
   pub turned_are : p.reversed ≡ listed
   pub orders_are : (k i : ℕ) (side : Side) → i < length (members numbers k) → orders k i side ≡ o (child_number numbers k i) side
   pub boxes_are : (c : ℕ) → c < length l.children → box_place l p o v c ≡ point_or v.boxes c
 
-module _ (l : PlainLevel) (numbers : List ℕ) (count : ℕ) (plans : ℕ → PlainPlan) (orders : ℕ → Orders) (layers : ℕ → List ℕ) (own : ℕ → Drawn) (listed : List ℕ) (at : ℕ → Point) (v : Drawn)
+module _ (l : PlainLevel) (numbers : List ℕ) (count : ℕ) (plans : ℕ → PlainPlan) (orders : ℕ → Orders) (layers : ℕ → List ℕ) (own : ℕ → LevelDrawing) (listed : List ℕ) (at : ℕ → Point) (v : LevelDrawing)
     (are : AreDrawn l numbers count plans orders layers own listed) (joined : IsJoined l numbers at own v) (p : PlainPlan) (o : Orders) (places : Places l numbers count orders listed v p o)
     (gap : ℤ) (rect : ℕ → Rect) (lies : LiesInParts l numbers count own v gap rect) where
   abbrev keys : List ℕ

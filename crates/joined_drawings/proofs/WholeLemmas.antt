@@ -7,7 +7,7 @@ use Rattle.elk_doc.specs.Content.{IsAboveBy, IsLeftBy}
 use Rattle.elk_doc.specs.Shapes.{Holds, point_rect}
 use Rattle.box_pack.specs.declared.packing.Rows.{Rows}
 use Rattle.box_pack.specs.Boxes.{point_at}
-use Rattle.level_plan.specs.FromPlan.{Drawn}
+use Rattle.level_plan.specs.FromPlan.{LevelDrawing}
 use Rattle.level_plan.specs.Level.{Orders, PlainLevel, PlainPlan}
 use Rattle.level_rules.specs.Routes.{route_count, route_point}
 use Rattle.level_stands.specs.Apart.{ChildrenApart, drawn_outline}
@@ -21,7 +21,7 @@ use Rattle.joined_drawings.proofs.PlanLemmas.{boxes_are, gaps, made}
 use Rattle.joined_drawings.proofs.ReachLemmas as reach
 use Rattle.joined_drawings.proofs.RuleLemmas.{LiesInParts, Places, ports_kept, ports_placed, routes_kept}
 
-module _ (l : PlainLevel) (numbers : List ℕ) (count : ℕ) (plans : ℕ → PlainPlan) (orders : ℕ → Orders) (layers : ℕ → List ℕ) (own : ℕ → Drawn) (listed : List ℕ) (gap limit : ℤ) (rows : Rows) (v : Drawn)
+module _ (l : PlainLevel) (numbers : List ℕ) (count : ℕ) (plans : ℕ → PlainPlan) (orders : ℕ → Orders) (layers : ℕ → List ℕ) (own : ℕ → LevelDrawing) (listed : List ℕ) (gap limit : ℤ) (rows : Rows) (v : LevelDrawing)
     (are : AreDrawn l numbers count plans orders layers own listed) (placed : AreInRows count gap limit own rows) (joined : IsJoined l numbers (point_at rows.at) own v) where
   abbrev at : ℕ → Point
   at k = point_at rows.at k
@@ -30,7 +30,7 @@ module _ (l : PlainLevel) (numbers : List ℕ) (count : ℕ) (plans : ℕ → Pl
   abbrev whole_orders : Orders
   whole_orders c side = orders (slice_index numbers c) (place_of numbers c) side
 
-  abbrev shown : Drawn
+  abbrev shown : LevelDrawing
   shown = with_gaps v (gaps l listed whole_orders v)
 
   again : IsJoined l numbers (point_at rows.at) own shown

@@ -7,7 +7,7 @@ use Rattle.std.proofs.lemmas.List.Sums.{sum_by-set}
 use borrow.Author.Count.{below_more}
 use Rattle.layering_laws.specs.declared.network.NetEdge.{NetEdge}
 use Rattle.layering_laws.specs.Network.{edge_at, HasEdge, Joined, InOnePart}
-use Rattle.layering_laws.specs.Parts.{AreNames, HaveOneName, AreNumbered, ArePartNumbers, NumbersAll}
+use Rattle.layering_laws.specs.Parts.{AreNames, HaveOneName, AreNumberedTo, ArePartNumbers, NumbersAll}
 use Rattle.layering_laws.specs.Joining.{IsJoined, IsJoinedAt}
 
 module _ (edges : List NetEdge) where
@@ -147,7 +147,7 @@ named_self nodes edges names n h = record {
 }
 
 -- the numbers of the names
-module _ (names numbers : List ℕ) (count v : ℕ) (there : v < length names) (a : (u : ℕ) → u < length names → get_or names u 0 ≤ u) (s : AreNumbered names numbers count v) where
+module _ (names numbers : List ℕ) (count v : ℕ) (there : v < length names) (a : (u : ℕ) → u < length names → get_or names u 0 ≤ u) (s : AreNumberedTo names numbers count v) where
   old_number : (u x : ℕ) → u < v → get_or (set numbers v x) u 0 ≡ get_or numbers u 0
   old_number u x l = get_or-set_other numbers v u x 0 (λ e. omega (arith, l, e))
 
@@ -159,7 +159,7 @@ module _ (names numbers : List ℕ) (count v : ℕ) (there : v < length names) (
       let b = a u (omega (arith, l, there)) in
       old_number u x l ∙ (s.by_name u l ∙ sym (old_number (get_or names u 0) x (omega (arith, b, l))))
 
-  pub number_new : get_or names v 0 ≡ v → AreNumbered names (set numbers v count) (count + 1) (v + 1)
+  pub number_new : get_or names v 0 ≡ v → AreNumberedTo names (set numbers v count) (count + 1) (v + 1)
   number_new own = record {
     as_long = length-set numbers v count ∙ s.as_long;
     no_more = let m = s.no_more in omega (arith, m);
@@ -197,7 +197,7 @@ module _ (names numbers : List ℕ) (count v : ℕ) (there : v < length names) (
     ];
   }
 
-  pub number_old : get_or names v 0 ≢ v → AreNumbered names (set numbers v (get_or numbers (get_or names v 0) 0)) count (v + 1)
+  pub number_old : get_or names v 0 ≢ v → AreNumberedTo names (set numbers v (get_or numbers (get_or names v 0) 0)) count (v + 1)
   number_old other =
       let m = get_or names v 0 in
       let x = get_or numbers m 0 in
@@ -236,7 +236,7 @@ module _ (names numbers : List ℕ) (count v : ℕ) (there : v < length names) (
         all_taken = λ n h. let t = s.all_taken n h in (t.0, (let q = t.1 in omega (arith, q)), old_number t.0 x t.1 ∙ t.2);
       }
 
-pub number_start : (names numbers : List ℕ) → length numbers ≡ length names → AreNumbered names numbers 0 0
+pub number_start : (names numbers : List ℕ) → length numbers ≡ length names → AreNumberedTo names numbers 0 0
 number_start names numbers n = record {
   as_long = n;
   no_more = omega arith;

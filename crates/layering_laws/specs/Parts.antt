@@ -23,7 +23,7 @@ HaveOneName edges names i =
     (k : ℕ) → k < i → slice_index names (edge_at edges k).tail ≡ slice_index names (edge_at edges k).head
 
 -- the first nodes are numbered by the names: a node that is its own name gets the next number
-pub record AreNumbered (names numbers : List ℕ) (count i : ℕ) : Type 0 where
+pub record AreNumberedTo (names numbers : List ℕ) (count i : ℕ) : Type 0 where
   pub as_long : length numbers ≡ length names
   pub no_more : count ≤ i
   pub by_name : (v : ℕ) → v < i → slice_index numbers v ≡ slice_index numbers (slice_index names v)
@@ -34,4 +34,4 @@ pub record AreNumbered (names numbers : List ℕ) (count i : ℕ) : Type 0 where
 
 -- all nodes are numbered
 abbrev pub NumbersAll : List ℕ → List ℕ → Type 0
-NumbersAll names numbers = (count : ℕ) × AreNumbered names numbers count (length names)
+NumbersAll names numbers = (count : ℕ) × AreNumberedTo names numbers count (length names)

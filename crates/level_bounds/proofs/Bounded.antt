@@ -16,7 +16,7 @@ use Rattle.block_lines.specs.Constraints.{EndsWithinStack, greatest_spacing, sta
 use Rattle.level_plan.specs.Conditions.{plain_level, sum_of_ints}
 use Rattle.level_plan.specs.declared.level.LevelIn.{LevelIn}
 use Rattle.level_plan.specs.Drawing.{outline_at, stage}
-use Rattle.level_plan.specs.FromPlan.{Drawn, IsDrawnFrom, section_at}
+use Rattle.level_plan.specs.FromPlan.{LevelDrawing, IsDrawnFrom, section_at}
 use Rattle.level_plan.specs.Level.{Orders, PlainLevel, PlainPlan, child_at, outline}
 use Rattle.level_plan.specs.Nets.{all_names, column_width}
 use Rattle.level_stands.specs.Apart.{drawn_box, drawn_outline, drawn_outline_from, drawn_port}
@@ -73,7 +73,7 @@ from_zero a b w e f h = omega (arith, ints, e, f, h)
 abbrev IsSide : ℤ → Type 0
 IsSide z = IsWithin (pos 0) (pos (2 ^ 48)) z
 
-module _ (l : PlainLevel) (p : PlainPlan) (o : Orders) (layers : List ℕ) (d : Drawn) (ready : IsReady l p o layers) (drawn : IsDrawnFrom l p o d) (few : p.layers ≤ length l.children)
+module _ (l : PlainLevel) (p : PlainPlan) (o : Orders) (layers : List ℕ) (d : LevelDrawing) (ready : IsReady l p o layers) (drawn : IsDrawnFrom l p o d) (few : p.layers ≤ length l.children)
     (within : EndsWithinStack p.layered p.tops) (tight : IsTight l d) where
   abbrev most : ℕ
   most = length (all_names l p o)

@@ -13,7 +13,7 @@ use Rattle.route_lines.specs.Points.{gap_in}
 use Rattle.level_plan.specs.Level.{Orders, PlainLevel, PlainPlan, all_ends, dock_of, end_at, is_loop}
 use Rattle.level_plan.specs.Lanes.{has_one_dock}
 use Rattle.level_plan.specs.Nets.{Name, all_names, gap_of, if_passed, is_inverted, loop_names, names_in, net_of, of_dock, of_link}
-use Rattle.level_plan.specs.FromPlan.{Drawn, IsDrawnFrom}
+use Rattle.level_plan.specs.FromPlan.{LevelDrawing, IsDrawnFrom}
 use Rattle.level_stands.specs.Ready.{IsReady}
 use Rattle.level_nets.proofs.Chains.{one_link}
 use Rattle.level_nets.proofs.Holding.{ends_long, passed_short}
@@ -106,7 +106,7 @@ few_names l p o =
 
 -- ---- gaps
 
-module _ (l : PlainLevel) (p : PlainPlan) (o : Orders) (d : Drawn) (drawn : IsDrawnFrom l p o d) where
+module _ (l : PlainLevel) (p : PlainPlan) (o : Orders) (d : LevelDrawing) (drawn : IsDrawnFrom l p o d) where
   nets_long : (g : ℕ) → g < length d.gaps → length (gap_in d.gaps g).nets ≡ length (names_in l p o g)
   nets_long g h = ap (λ (ns : List Net). length ns) (drawn.gaps g h).nets ∙ length-map (names_in l p o g) (net_of l p o d.top)
 

@@ -9,7 +9,7 @@ use Rattle.elk_doc.specs.Sound.{IsDistance}
 use Rattle.route_lines.specs.Points.{gap_in}
 use Rattle.level_plan.specs.Level.{Orders, PlainLevel, PlainPlan, outline}
 use Rattle.level_plan.specs.Nets.{Name, all_names, column_width, gap_left, gap_of, gap_width, inner_width, layer_of_child, names_in, outer_width, widest}
-use Rattle.level_plan.specs.FromPlan.{Drawn, IsDrawnFrom, counts}
+use Rattle.level_plan.specs.FromPlan.{LevelDrawing, IsDrawnFrom, counts}
 use Rattle.level_stands.specs.Ready.{IsReady}
 use Rattle.level_stands.proofs.Lists.{Has, range_has}
 use Rattle.level_stands.proofs.Widths.{inner_room, outer_room}
@@ -78,7 +78,7 @@ widest_most l p o r (c ∷ cs) h =
     none_more : (b t : ℤ) → b ≤ℤ t → b ≤ℤ (pos 0 +ℤ t)
     none_more b t h = omega (arith, ints, h)
 
-module _ (l : PlainLevel) (p : PlainPlan) (o : Orders) (d : Drawn) (layers : List ℕ) (ready : IsReady l p o layers) (drawn : IsDrawnFrom l p o d) where
+module _ (l : PlainLevel) (p : PlainPlan) (o : Orders) (d : LevelDrawing) (layers : List ℕ) (ready : IsReady l p o layers) (drawn : IsDrawnFrom l p o d) where
   abbrev all : List ℕ
   all = range_with_len 0 (length l.children)
 

@@ -4,17 +4,17 @@ use Rattle.elk_doc.specs.declared.shape.Rect.{Rect}
 use Rattle.elk_doc.specs.Sound.{IsWithin}
 use Rattle.level_plan.specs.declared.level.LevelIn.{LevelIn}
 use Rattle.level_plan.specs.Conditions.{plain_level, sum_of_ints}
-use Rattle.level_plan.specs.FromPlan.{Drawn}
+use Rattle.level_plan.specs.FromPlan.{LevelDrawing}
 use Rattle.level_plan.specs.Level.{PlainLevel}
 use Rattle.level_draw.specs.declared.drawing.LevelOut.{LevelOut}
 use Rattle.level_draw.specs.Drawing.{drawn_in, outlines_in}
 use Rattle.level_layout.specs.Layout.{IsLaidOut}
 
 -- the widths, and the heights, of all outlines together
-abbrev pub outline_widths : PlainLevel → Drawn → ℤ
+abbrev pub outline_widths : PlainLevel → LevelDrawing → ℤ
 outline_widths l d = sum_of_ints (map (λ (r : Rect). r.width) (outlines_in l d))
 
-abbrev pub outline_heights : PlainLevel → Drawn → ℤ
+abbrev pub outline_heights : PlainLevel → LevelDrawing → ℤ
 outline_heights l d = sum_of_ints (map (λ (r : Rect). r.height) (outlines_in l d))
 
 -- the room for all distances, slots and lanes: 2^22 for each child, each edge, each child with each edge, and once more
@@ -22,7 +22,7 @@ abbrev pub room_between : PlainLevel → ℕ
 room_between l = 2 ^ 22 * (length l.children + length l.edges + length l.children * length l.edges + 1)
 
 -- Neither side of a drawing is longer than all outlines in that direction together and the room for what lies between.
-pub record IsBounded (l : PlainLevel) (d : Drawn) : Type 0 where
+pub record IsBounded (l : PlainLevel) (d : LevelDrawing) : Type 0 where
   pub width : d.extent.width ≤ℤ (outline_widths l d +ℤ pos (room_between l))
   pub height : d.extent.height ≤ℤ (outline_heights l d +ℤ pos (room_between l))
 

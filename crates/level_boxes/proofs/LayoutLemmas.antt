@@ -19,7 +19,7 @@ use Rattle.level_shift.specs.Ranges.{IsFarPoint}
 use Rattle.turned_levels.specs.Turned.{turned_size}
 use Rattle.level_boxes.specs.Boxes.{HasRoom, IsBoxesLayout, alone}
 use Rattle.level_boxes.specs.Outlines.{AreOutlines, outline_size}
-use Rattle.level_boxes.specs.Placing.{ArePlaced, AreRoomy, IsBroad}
+use Rattle.level_boxes.specs.Placing.{StandInRows, AreRoomy, IsBroad}
 use Rattle.level_boxes.proofs.OutLemmas.{high_small, wide_small}
 use Rattle.level_boxes.proofs.RoomLemmas.{roomy, sizes_small}
 
@@ -58,7 +58,7 @@ module _ (level own : LevelIn) (way : Direction) (out : LevelOut) (outlines : Li
         roomy (map (outline_size way) outlines) own.spacing.node_node squarest.limit squarest.rows (omega (arith, many, few)) (λ i h. sizes i no_size h) distance best.rows
         outlines many (λ i h. are.near i (inside i h))
 
-    module _ (boxes : List Point) (extent : Size) (placed : ArePlaced way squarest.rows outlines (length outlines) boxes) (turned : extent ≡ turned_size way squarest.rows.extent) where
+    module _ (boxes : List Point) (extent : Size) (placed : StandInRows way squarest.rows outlines (length outlines) boxes) (turned : extent ≡ turned_size way squarest.rows.extent) where
       pub laid_out : IsBoxesLayout level way (record { boxes = boxes; ports = out.ports; extent = extent })
       laid_out =
           let there : (i : ℕ) → i < length level.children → i < length outlines = λ i h. omega (arith, h, same_children, count) in

@@ -13,7 +13,7 @@ use Rattle.box_pack.specs.declared.packing.Rows.{Rows}
 use Rattle.box_pack.specs.Boxes.{point_at}
 use Rattle.level_ends.specs.Narrow.{IsNearRect}
 use Rattle.level_boxes.specs.Outlines.{AreOutlines, child_in, outline_of, ports_in, rect_in}
-use Rattle.level_boxes.specs.Placing.{ArePlaced, IsBoxAt}
+use Rattle.level_boxes.specs.Placing.{StandInRows, IsBoxAt}
 
 -- what holds of each element by its number holds with one more
 pushed : {X : Type 0} (P : ℕ → X → Type 0) (z : X) (old new : List X) (x : X) (i : ℕ) → length old ≡ i → new ≡ old ++ x ∷ [] → ((j : ℕ) → j < i → P j (get_or old j z)) → P i x
@@ -44,7 +44,7 @@ outlines_more children ports i old new r c ps are is value child places near =
 
 -- the next box
 pub boxes_more : (way : Direction) (rows : Rows) (outlines : List Rect) (i : ℕ) (old new : List Point) (q place : Point) (r : Rect)
-    → ArePlaced way rows outlines i old → new ≡ old ++ q ∷ [] → IsBoxAt way rows.extent place r q → place ≡ point_at rows.at i → r ≡ rect_in outlines i → ArePlaced way rows outlines (i + 1) new
+    → StandInRows way rows outlines i old → new ≡ old ++ q ∷ [] → IsBoxAt way rows.extent place r q → place ≡ point_at rows.at i → r ≡ rect_in outlines i → StandInRows way rows outlines (i + 1) new
 boxes_more way rows outlines i old new q place r are is stands at outline =
     record {
       as_many = one_longer old new q i are.as_many is;

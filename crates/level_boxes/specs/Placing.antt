@@ -50,6 +50,6 @@ pub record IsBoxAt (way : Direction) (extent : Size) (place : Point) (r : Rect) 
   pub far : IsFarPoint box
 
 -- the boxes of the first n outlines
-pub record ArePlaced (way : Direction) (rows : Rows) (outlines : List Rect) (n : ℕ) (boxes : List Point) : Type 0 where
+pub record StandInRows (way : Direction) (rows : Rows) (outlines : List Rect) (n : ℕ) (boxes : List Point) : Type 0 where
   pub as_many : length boxes ≡ n
   pub each : (i : ℕ) → i < n → IsBoxAt way rows.extent (point_at rows.at i) (rect_in outlines i) (point_or boxes i)

@@ -4,7 +4,7 @@ ghost use Rattle.elk_doc.specs.Sound.{IsPlaceWithin, IsWithin};
 ghost use Rattle.level_ends.specs.Narrow.{IsNearRect};
 ghost use Rattle.turned_levels.specs.Turned as turned;
 ghost use Rattle.level_boxes.specs.Outlines.{outline_size};
-ghost use Rattle.level_boxes.specs.Placing.{ArePlaced, AreRoomy, IsBroad, IsBoxAt, IsNearSize, IsRoomyPlace};
+ghost use Rattle.level_boxes.specs.Placing.{StandInRows, AreRoomy, IsBroad, IsBoxAt, IsNearSize, IsRoomyPlace};
 
 use box_pack::Rows;
 use elk_doc::document::Direction;
@@ -104,7 +104,7 @@ pub(crate) fn boxes_of(
     outlines: &[Rect],
 ) -> Result<Vec<Point>, AllocError>
     requires { AreRoomy rows.now outlines.now }
-    ensures { IfOk result (λ boxes. ArePlaced way rows.now outlines.now (length outlines.now) boxes.items) }
+    ensures { IfOk result (λ boxes. StandInRows way rows.now outlines.now (length outlines.now) boxes.items) }
 {
     let places = rows.at.as_slice();
     let mut boxes = Vec::with_capacity(alloc, outlines.len())?;

@@ -1,7 +1,7 @@
 -- A drawing from its plan keeps what a good drawing keeps.
 use Rattle.std.proofs.Common.{◌≡◌, ℕ, List, refl, sym, subst}
 use Rattle.level_plan.specs.Level.{PlainLevel, PlainPlan, Orders}
-use Rattle.level_plan.specs.FromPlan.{Drawn, IsDrawnFrom}
+use Rattle.level_plan.specs.FromPlan.{LevelDrawing, IsDrawnFrom}
 use Rattle.level_stands.specs.Ready.{IsReady}
 use Rattle.level_stands.proofs.ApartLemmas.{children_keep_apart}
 use Rattle.level_stands.proofs.PortLemmas.{ports_are_kept}
@@ -12,7 +12,7 @@ use Rattle.level_draw.specs.Parts.{drawn_of}
 use Rattle.level_draw.specs.Sketched.{IsSketch}
 use Rattle.level_draw.proofs.RulesKept.{rules_kept}
 
-is_drawing : (l : PlainLevel) (p : PlainPlan) (layers : List ℕ) (d : Drawn) → IsDrawable l p layers → ((o : Orders) → IsReady l p o layers → IsDrawnFrom l p o d) → IsTight l d → IsDrawing l p layers d
+is_drawing : (l : PlainLevel) (p : PlainPlan) (layers : List ℕ) (d : LevelDrawing) → IsDrawable l p layers → ((o : Orders) → IsReady l p o layers → IsDrawnFrom l p o d) → IsTight l d → IsDrawing l p layers d
 is_drawing l p layers d drawable drawn tight =
     record {
       from_plan = drawn;

@@ -10,7 +10,7 @@ use Rattle.route_lines.specs.Points.{plain_gap}
 use Rattle.level_plan.specs.declared.table.ChildAt.{ChildAt}
 use Rattle.level_plan.specs.Level.{Orders}
 use Rattle.level_plan.specs.Table.{child_in}
-use Rattle.level_plan.specs.FromPlan.{Drawn, IsGap, IsPlaced, IsRoute, IsDrawnFrom}
+use Rattle.level_plan.specs.FromPlan.{LevelDrawing, IsGap, IsPlaced, IsRoute, IsDrawnFrom}
 use Rattle.level_shift.specs.Ranges.{plain_trace}
 use Rattle.level_nets.specs.Parts.{Parts, ArePlanned, plan_of}
 use Rattle.level_nets.specs.Held.{plain_gaps}
@@ -20,7 +20,7 @@ use Rattle.level_draw.specs.Joined.{AreJoined}
 use Rattle.level_draw.specs.Parts.{ports_in}
 
 -- a drawing of these parts, before it is moved
-abbrev pub drawing_of : List Gap → List Trace → List Point → List (List Point) → List Section → Size → Drawn
+abbrev pub drawing_of : List Gap → List Trace → List Point → List (List Point) → List Section → Size → LevelDrawing
 drawing_of gaps traces boxes ports sections extent =
     record {
       gaps = plain_gaps gaps;
@@ -37,7 +37,7 @@ module _ (s : Parts) (rows : List (List ℕ)) (o : Orders) (layers : List ℕ) (
     (many : length gaps ≡ s.layered.layers + 1) (are : AreGapsOf s gaps)
     (routes : ArePlannedRoutes s.level (plan_of s rows) o (plain_gaps gaps) boxes (plain_traces traces))
     (joined : AreJoined gaps traces (length traces) sections) where
-  abbrev d : Drawn
+  abbrev d : LevelDrawing
   d = drawing_of gaps traces boxes (ports_in s.table.children) sections extent
 
   gap_count : length (plain_gaps gaps) ≡ length gaps

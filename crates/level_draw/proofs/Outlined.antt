@@ -10,7 +10,7 @@ use Rattle.level_plan.specs.declared.table.ChildAt.{ChildAt}
 use Rattle.level_plan.specs.declared.table.Table.{Table}
 use Rattle.level_plan.specs.Level.{PlainLevel, PlainPlan, Orders}
 use Rattle.level_plan.specs.Table.{IsTable, child_in}
-use Rattle.level_plan.specs.FromPlan.{Drawn, IsDrawnFrom, point_or}
+use Rattle.level_plan.specs.FromPlan.{LevelDrawing, IsDrawnFrom, point_or}
 use Rattle.level_stands.specs.Apart.{drawn_outline}
 use Rattle.level_stands.proofs.ApartLemmas.{outlines_are_drawn}
 use Rattle.level_extent.specs.Reach.{IsNear}
@@ -19,7 +19,7 @@ use Rattle.level_traces.specs.Reach.{IsBoxPoint}
 use Rattle.level_draw.specs.Drawing.{outlines_in}
 use Rattle.level_draw.specs.Outlines.{AreNearby, AreOutlines, IsNearby, outline_from, rect_in}
 
-module _ (l : PlainLevel) (p : PlainPlan) (o : Orders) (d : Drawn) (t : Table) (outlines : List Rect) (table : IsTable l p o t) (drawn : IsDrawnFrom l p o d) (are : AreOutlines t.children d.boxes (length t.children) outlines) where
+module _ (l : PlainLevel) (p : PlainPlan) (o : Orders) (d : LevelDrawing) (t : Table) (outlines : List Rect) (table : IsTable l p o t) (drawn : IsDrawnFrom l p o d) (are : AreOutlines t.children d.boxes (length t.children) outlines) where
   outline_is : (c : ℕ) → c < length l.children → rect_in outlines c ≡ drawn_outline l d c
   outline_is c h =
       let many = table.child_count in

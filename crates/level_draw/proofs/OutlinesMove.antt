@@ -13,7 +13,7 @@ use Rattle.elk_doc.specs.Shapes.{hull, moved_by, rect_at}
 use Rattle.elk_doc.proofs.ShapeLaws.{same_point, same_rect}
 use Rattle.port_order.specs.Child.{port_at}
 use Rattle.level_plan.specs.Level.{PlainLevel, child_at}
-use Rattle.level_plan.specs.FromPlan.{Drawn}
+use Rattle.level_plan.specs.FromPlan.{LevelDrawing}
 use Rattle.level_stands.specs.Apart.{drawn_box, drawn_port, drawn_outline, drawn_outline_from}
 use Rattle.level_extent.specs.declared.spanning.Reach.{Reach}
 use Rattle.level_extent.specs.Reach.{IsReach, abscissae, corners_of, greatest, heights, least, points_along, points_of, reached}
@@ -41,7 +41,7 @@ swapped a b x = omega (arith, ints)
 port_moves : (x y : ℤ) (r : Rect) (q : Point) (s : Size) → rect_at (moved_by (moved_rect x y r) q) s ≡ moved_rect x y (rect_at (moved_by r q) s)
 port_moves x y r q s = same_rect _ _ (swapped r.x q.x x) (swapped r.y q.y y) refl refl
 
-module _ (l : PlainLevel) (d : Drawn) (x y : ℤ) (c : ℕ) (there : c < length d.boxes) where
+module _ (l : PlainLevel) (d : LevelDrawing) (x y : ℤ) (c : ℕ) (there : c < length d.boxes) where
   box_moves : drawn_box l (moved x y d) c ≡ moved_rect x y (drawn_box l d c)
   box_moves = ap (λ (q : Point). rect_at q (child_at l c).size) (get_or-map (moved_point x y) d.boxes c _ _ there)
 
@@ -57,7 +57,7 @@ module _ (l : PlainLevel) (d : Drawn) (x y : ℤ) (c : ℕ) (there : c < length 
 
 -- ---- all outlines
 
-some_move : (l : PlainLevel) (d : Drawn) (x y : ℤ) (a n : ℕ) → ((c : ℕ) → c < n → a + c < length d.boxes)
+some_move : (l : PlainLevel) (d : LevelDrawing) (x y : ℤ) (a n : ℕ) → ((c : ℕ) → c < n → a + c < length d.boxes)
     → map (drawn_outline l (moved x y d)) (range_with_len a n) ≡ map (moved_rect x y) (map (drawn_outline l d) (range_with_len a n))
 some_move l d x y a zero there = refl
 some_move l d x y a (suc n) there = ap₂ (λ (r : Rect) (rs : List Rect). r ∷ rs) (outline_moves l d x y a first) (some_move l d x y (a + 1) n (λ c h. later c h))
@@ -68,7 +68,7 @@ some_move l d x y a (suc n) there = ap₂ (λ (r : Rect) (rs : List Rect). r ∷
     later : (c : ℕ) → c < n → a + 1 + c < length d.boxes
     later c h = let k = there (suc c) (omega (arith, h)) in omega (arith, k)
 
-pub outlines_move : (l : PlainLevel) (d : Drawn) (x y : ℤ) → length d.boxes ≡ length l.children → outlines_in l (moved x y d) ≡ map (moved_rect x y) (outlines_in l d)
+pub outlines_move : (l : PlainLevel) (d : LevelDrawing) (x y : ℤ) → length d.boxes ≡ length l.children → outlines_in l (moved x y d) ≡ map (moved_rect x y) (outlines_in l d)
 outlines_move l d x y many = some_move l d x y 0 (length l.children) (λ c h. omega (arith, h, many))
 
 corners_move : (x y : ℤ) (rs : List Rect) → corners_of (map (moved_rect x y) rs) ≡ map (moved_point x y) (corners_of rs)

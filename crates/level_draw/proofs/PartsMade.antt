@@ -5,7 +5,7 @@ use Rattle.elk_doc.specs.declared.shape.Rect.{Rect}
 use Rattle.elk_doc.specs.declared.shape.Size.{Size}
 use Rattle.elk_doc.specs.declared.drawing.Section.{Section}
 use Rattle.level_plan.specs.Level.{Orders}
-use Rattle.level_plan.specs.FromPlan.{Drawn, IsDrawnFrom}
+use Rattle.level_plan.specs.FromPlan.{LevelDrawing, IsDrawnFrom}
 use Rattle.level_plan.specs.Table.{IsTable}
 use Rattle.level_plan.specs.Units.{AreOrders}
 use Rattle.level_stands.specs.Ready.{IsReady}
@@ -24,7 +24,7 @@ use Rattle.level_draw.specs.declared.parts.Parts.{Parts}
 use Rattle.level_draw.specs.Drawing.{IsDrawable, outlines_in}
 use Rattle.level_draw.specs.Joined.{AreJoinable, AreJoined}
 use Rattle.level_draw.specs.Outlines.{AreNearby, AreOutlines}
-use Rattle.level_draw.specs.Parts.{AreParts, drawn_of, ports_in}
+use Rattle.level_draw.specs.Parts.{AreLevelParts, drawn_of, ports_in}
 use Rattle.level_draw.proofs.Planned.{table_fits}
 use Rattle.level_draw.proofs.Joining as joining
 use Rattle.level_draw.proofs.FarParts.{far_boxes, far_gaps, far_sections, far_traces}
@@ -51,7 +51,7 @@ module _ (s : nets.Parts) (rows : List (List ℕ)) (layers : List ℕ) (drawable
 
   module _ (near : All IsBoxPoint v.boxes.items) (sections : List Section) (joined : AreJoined r.gaps v.traces.items (length v.traces.items) sections) (outlines : List Rect)
       (outlined : AreOutlines s.table.children v.boxes.items (length s.table.children) outlines) where
-    abbrev d : Size → Drawn
+    abbrev d : Size → LevelDrawing
     d extent = drawing_of r.gaps v.traces.items v.boxes.items (ports_in s.table.children) sections extent
 
     drawn : (o : Orders) (ls : List ℕ) (extent : Size) → IsReady s.level (nets.plan_of s rows) o ls → IsDrawnFrom s.level (nets.plan_of s rows) o (d extent)
@@ -60,7 +60,7 @@ module _ (s : nets.Parts) (rows : List (List ℕ)) (layers : List ℕ) (drawable
         drawn_from s rows o ls plan r.gaps v.traces.items v.boxes.items sections extent many gaps (routes rows o ls plan (legs rows o ls plan)) joined
 
     pub are_parts : (w : Parts) → w.gaps.items ≡ r.gaps → w.traces.items ≡ v.traces.items → w.boxes.items ≡ v.boxes.items → w.ports.items ≡ ports_in s.table.children → w.sections.items ≡ sections → w.outlines.items ≡ outlines
-        → AreParts s.level (nets.plan_of s rows) w
+        → AreLevelParts s.level (nets.plan_of s rows) w
     are_parts w is_gaps is_traces is_boxes is_ports is_sections is_outlines =
         let same : (extent : Size) → d extent ≡ drawn_of w extent (pos 0) (pos 0) = λ extent. rw (is_gaps, is_traces, is_boxes, is_ports, is_sections) refl in
         record {

@@ -1,7 +1,7 @@
 -- What is drawn from a plan keeps the rules for routes.
 use Rattle.std.proofs.Common.{ℕ, List}
 use Rattle.level_plan.specs.Level.{PlainLevel, PlainPlan, Orders}
-use Rattle.level_plan.specs.FromPlan.{Drawn, IsDrawnFrom}
+use Rattle.level_plan.specs.FromPlan.{LevelDrawing, IsDrawnFrom}
 use Rattle.level_stands.specs.Ready.{IsReady}
 use Rattle.level_stands.proofs.EndLemmas.{child_stands}
 use Rattle.level_stands.proofs.Whole.{stage_stands}
@@ -9,7 +9,7 @@ use Rattle.level_rules.proofs.Whole.{routes_lawful}
 use Rattle.level_rules.specs.Routes.{RoutesKept}
 use Rattle.level_rules.proofs.Keeping.{routes_kept}
 
-pub rules_kept : (l : PlainLevel) (p : PlainPlan) (o : Orders) (d : Drawn) (layers : List ℕ) → IsReady l p o layers → IsDrawnFrom l p o d → RoutesKept l p o d
+pub rules_kept : (l : PlainLevel) (p : PlainPlan) (o : Orders) (d : LevelDrawing) (layers : List ℕ) → IsReady l p o layers → IsDrawnFrom l p o d → RoutesKept l p o d
 rules_kept l p o d layers ready drawn =
     let stands = stage_stands l p o d layers ready drawn in
     routes_kept l p o d drawn stands (child_stands l p o layers ready d drawn) (routes_lawful l p o d layers ready drawn stands)

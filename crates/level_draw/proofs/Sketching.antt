@@ -9,7 +9,7 @@ use Rattle.elk_doc.proofs.ShapeLaws.{same_point}
 use Rattle.route_lines.specs.Points.{PlainGap}
 use Rattle.level_plan.specs.Level.{PlainLevel, PlainPlan, Orders, end_at, spoke}
 use Rattle.level_plan.specs.Nets.{unit_of}
-use Rattle.level_plan.specs.FromPlan.{Drawn, PlainTrace, IsDrawnFrom}
+use Rattle.level_plan.specs.FromPlan.{LevelDrawing, PlainTrace, IsDrawnFrom}
 use Rattle.level_stands.specs.Ready.{IsReady}
 use Rattle.level_extent.specs.declared.spanning.Reach.{Reach}
 use Rattle.level_extent.specs.Reach.{IsReach, reached}
@@ -17,12 +17,12 @@ use Rattle.level_shift.specs.Moved.{HasPlaces, moved, moved_point, moved_section
 use Rattle.level_shift.proofs.DrawingMoves.{drawing_moves}
 use Rattle.level_draw.specs.declared.parts.Parts.{Parts}
 use Rattle.level_draw.specs.Drawing.{IsDrawable, IsTight, outlines_in}
-use Rattle.level_draw.specs.Parts.{AreParts, drawn_of}
+use Rattle.level_draw.specs.Parts.{AreLevelParts, drawn_of}
 use Rattle.level_draw.specs.Shifted.{AreShifted}
 use Rattle.level_draw.proofs.OutlinesMove.{moved_rect, outlines_move, reach_taken, reached_moves}
 
 -- a drawing of these lists
-abbrev drawing : List PlainGap → List PlainTrace → List Point → List (List Point) → List Section → Size → ℤ → ℤ → Drawn
+abbrev drawing : List PlainGap → List PlainTrace → List Point → List (List Point) → List Section → Size → ℤ → ℤ → LevelDrawing
 drawing gaps traces boxes ports sections extent left top =
     record { gaps = gaps; traces = traces; boxes = boxes; ports = ports; sections = sections; extent = extent; left = left; top = top }
 
@@ -46,12 +46,12 @@ has_places l p layers drawable =
     end_there e true h = (drawable.ready.level.edges e h).source.child
     end_there e false h = (drawable.ready.level.edges e h).target.child
 
-module _ (l : PlainLevel) (p : PlainPlan) (layers : List ℕ) (drawable : IsDrawable l p layers) (v w : Parts) (r : Reach) (extent : Size) (parts : AreParts l p v) (reach : IsReach (reached v.outlines.items v.sections.items) r) (shifted : AreShifted r.low.x r.low.y v w)
+module _ (l : PlainLevel) (p : PlainPlan) (layers : List ℕ) (drawable : IsDrawable l p layers) (v w : Parts) (r : Reach) (extent : Size) (parts : AreLevelParts l p v) (reach : IsReach (reached v.outlines.items v.sections.items) r) (shifted : AreShifted r.low.x r.low.y v w)
     (width : extent.width ≡ r.high.x -ℤ r.low.x) (height : extent.height ≡ r.high.y -ℤ r.low.y) where
-  abbrev before : Drawn
+  abbrev before : LevelDrawing
   before = drawn_of v extent (pos 0) (pos 0)
 
-  abbrev pub after : Drawn
+  abbrev pub after : LevelDrawing
   after = drawn_of w extent (pos 0 +ℤ r.low.x) (pos 0 +ℤ r.low.y)
 
   same : moved r.low.x r.low.y before ≡ after
@@ -72,7 +72,7 @@ module _ (l : PlainLevel) (p : PlainPlan) (layers : List ℕ) (drawable : IsDraw
 
   pub moved_tight : IsTight l after
   moved_tight =
-      subst (λ (d : Drawn). IsReach (reached (outlines_in l d) d.sections) (record { low = origin; high = record { x = extent.width; y = extent.height } })) same
+      subst (λ (d : LevelDrawing). IsReach (reached (outlines_in l d) d.sections) (record { low = origin; high = record { x = extent.width; y = extent.height } })) same
       (subst (λ (q : Point). IsReach (reached (outlines_in l (moved r.low.x r.low.y before)) (moved r.low.x r.low.y before).sections) (record { low = origin; high = q })) (same_point _ _ (sym width) (sym height))
       (subst (λ (ps : List Point). IsReach ps (record { low = origin; high = record { x = r.high.x -ℤ r.low.x; y = r.high.y -ℤ r.low.y } })) moved_points
       (reach_taken r (reached v.outlines.items v.sections.items) reach)))

@@ -11,7 +11,7 @@ use Rattle.elk_layers.specs.Layered.{unit_at}
 use Rattle.elk_layers.specs.Lines.{top_of}
 use Rattle.level_plan.specs.Conditions.{plain_plan}
 use Rattle.level_plan.specs.Level.{PlainLevel, PlainPlan, Orders}
-use Rattle.level_plan.specs.FromPlan.{Drawn, IsDrawnFrom}
+use Rattle.level_plan.specs.FromPlan.{LevelDrawing, IsDrawnFrom}
 use Rattle.level_stands.specs.Ready.{IsReady}
 use Rattle.level_stands.specs.Apart.{ChildrenApart, drawn_outline}
 use Rattle.level_stands.specs.PortsKept.{KeepsPorts}
@@ -42,7 +42,7 @@ pub record IsMadeFrom (certificate : Certificate) (layered : Layered) (start ord
   pub lines_are : v.plan.lines ≡ lines
 
 -- the drawing of an answer, which was moved so far to the left and so far up
-abbrev pub drawn_in : LevelOut → ℤ → ℤ → Drawn
+abbrev pub drawn_in : LevelOut → ℤ → ℤ → LevelDrawing
 drawn_in v left top =
     record {
       gaps = plain_gaps v.plan.gaps;
@@ -56,18 +56,18 @@ drawn_in v left top =
     }
 
 -- the outlines of all children
-abbrev pub outlines_in : PlainLevel → Drawn → List Rect
+abbrev pub outlines_in : PlainLevel → LevelDrawing → List Rect
 outlines_in l d = map (drawn_outline l d) (range_with_len 0 (length l.children))
 
 -- Outlines and routes begin at 0 and end at the extent: their least coordinates are 0, and their greatest are its width and
 -- its height.
-abbrev pub IsTight : PlainLevel → Drawn → Type 0
+abbrev pub IsTight : PlainLevel → LevelDrawing → Type 0
 IsTight l d =
     IsReach (reached (outlines_in l d) d.sections) (record { low = origin; high = record { x = d.extent.width; y = d.extent.height } })
 
 -- A drawing comes from its plan, and keeps what a good drawing keeps: the distances of children, the constraints of ports,
 -- and the rules for routes.
-pub record IsDrawing (l : PlainLevel) (p : PlainPlan) (layers : List ℕ) (d : Drawn) : Type 0 where
+pub record IsDrawing (l : PlainLevel) (p : PlainPlan) (layers : List ℕ) (d : LevelDrawing) : Type 0 where
   pub from_plan : (o : Orders) → IsReady l p o layers → IsDrawnFrom l p o d
   pub apart : (b c : ℕ) → b < length l.children → c < length l.children → b ≢ c → ChildrenApart l d layers b c
   pub ports : (o : Orders) → IsReady l p o layers → (c : ℕ) → c < length l.children → KeepsPorts l p o d c

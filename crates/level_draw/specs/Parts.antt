@@ -5,7 +5,7 @@ use Rattle.elk_doc.specs.declared.shape.Point.{Point}
 use Rattle.elk_doc.specs.declared.shape.Size.{Size}
 use Rattle.level_plan.specs.declared.table.ChildAt.{ChildAt}
 use Rattle.level_plan.specs.Level.{PlainLevel, PlainPlan, Orders}
-use Rattle.level_plan.specs.FromPlan.{Drawn, IsDrawnFrom}
+use Rattle.level_plan.specs.FromPlan.{LevelDrawing, IsDrawnFrom}
 use Rattle.level_stands.specs.Ready.{IsReady}
 use Rattle.level_extent.specs.Reach.{IsNear}
 use Rattle.level_shift.specs.Ranges.{IsFarGap, IsFarPoint, IsFarSection, IsFarTrace}
@@ -19,7 +19,7 @@ abbrev pub ports_in : List ChildAt → List (List Point)
 ports_in children = map (λ v. v.ports) children
 
 -- the drawing of parts that were moved so far to the left and so far up
-abbrev pub drawn_of : Parts → Size → ℤ → ℤ → Drawn
+abbrev pub drawn_of : Parts → Size → ℤ → ℤ → LevelDrawing
 drawn_of v extent left top =
     record {
       gaps = plain_gaps v.gaps.items;
@@ -41,7 +41,7 @@ pub record AreFar (v : Parts) : Type 0 where
   pub outlines : All IsNear v.outlines.items
 
 -- Parts of a level's drawing that was not moved.
-pub record AreParts (l : PlainLevel) (p : PlainPlan) (v : Parts) : Type 0 where
+pub record AreLevelParts (l : PlainLevel) (p : PlainPlan) (v : Parts) : Type 0 where
   pub drawn : (o : Orders) (layers : List ℕ) (extent : Size) → IsReady l p o layers → IsDrawnFrom l p o (drawn_of v extent (pos 0) (pos 0))
   pub outlines : (extent : Size) → v.outlines.items ≡ outlines_in l (drawn_of v extent (pos 0) (pos 0))
   pub far : AreFar v

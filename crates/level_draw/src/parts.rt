@@ -2,7 +2,7 @@
 ghost use Rattle.std.specs.Prelude.{◌≡◌, ℕ, List, IfOk};
 ghost use Rattle.level_plan.specs.Conditions.{plain_level, plain_plan};
 ghost use Rattle.level_draw.specs.Drawing.{IsDrawable};
-ghost use Rattle.level_draw.specs.Parts.{AreParts, ports_in};
+ghost use Rattle.level_draw.specs.Parts.{AreLevelParts, ports_in};
 
 use crate::outlines::outlines_of;
 use crate::sections::sections_of;
@@ -49,7 +49,7 @@ pub(crate) fn parts_of(
     reversed: &[u32],
 ) -> Result<Parts, AllocError>
     requires { (layers : List ℕ) × IsDrawable (plain_level level.now) (plain_plan layered.now order.now lines.now.top.items reversed.now) layers }
-    ensures { IfOk result (AreParts (plain_level level.now) (plain_plan layered.now order.now lines.now.top.items reversed.now)) }
+    ensures { IfOk result (AreLevelParts (plain_level level.now) (plain_plan layered.now order.now lines.now.top.items reversed.now)) }
 {
     let table = table_of(alloc, level, layered, order, reversed)?;
     let routing = gaps_of(alloc, level, layered, lines, reversed, &table)?;

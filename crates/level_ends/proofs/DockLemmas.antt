@@ -15,11 +15,11 @@ use Rattle.port_order.proofs.PlaceLemmas.{place_is}
 use Rattle.elk_layers.specs.Places.{IsOnce, NotesFirst}
 use Rattle.elk_layers.proofs.OccursLemmas.{length_below, no_repeat_from}
 use Rattle.elk_layers.proofs.PlaceLemmas.{place_below, place_reads}
-use Rattle.level_ends.specs.Rows.{AreNumbered}
-use Rattle.level_ends.specs.Sides.{AreFour, ArePlaced, FourOrders, offset_by, order_on}
+use Rattle.level_ends.specs.Rows.{AreCounted}
+use Rattle.level_ends.specs.Sides.{AreFour, HavePlaces, FourOrders, offset_by, order_on}
 
 -- what an order holds, as the numbers of spots of a row
-pub in_order : (c : Child) (side : Side) (spots : List Spot) (order : List ℕ) (i : ℕ) → AreNumbered spots → IsOrderOfSide c side spots order → i < length order
+pub in_order : (c : Child) (side : Side) (spots : List Spot) (order : List ℕ) (i : ℕ) → AreCounted spots → IsOrderOfSide c side spots order → i < length order
     → (get_or order i 0 < length spots) × IsSpreadOn c side (spot_at spots (get_or order i 0))
 in_order c side spots order i numbered is h =
     let at = is.spread i h in
@@ -29,10 +29,10 @@ in_order c side spots order i numbered is h =
       subst (λ n. IsSpreadOn c side (spot_at spots n)) same at.3,
     )
 
-pub order_within : (c : Child) (side : Side) (spots : List Spot) (order : List ℕ) → AreNumbered spots → IsOrderOfSide c side spots order → All (λ n. n < length spots) order
+pub order_within : (c : Child) (side : Side) (spots : List Spot) (order : List ℕ) → AreCounted spots → IsOrderOfSide c side spots order → All (λ n. n < length spots) order
 order_within c side spots order numbered is = All-from_get_or (λ n. n < length spots) order 0 (λ i h. (in_order c side spots order i numbered is h).0)
 
-pub order_once : (c : Child) (side : Side) (spots : List Spot) (order : List ℕ) → AreNumbered spots → IsOrderOfSide c side spots order → IsOnce order
+pub order_once : (c : Child) (side : Side) (spots : List Spot) (order : List ℕ) → AreCounted spots → IsOrderOfSide c side spots order → IsOnce order
 order_once c side spots order numbered is i j less h e =
     let at = in_order c side spots order j numbered is h in
     let once = is.once (get_or order j 0) at.0 at.1 in
@@ -41,27 +41,27 @@ order_once c side spots order numbered is i j less h e =
     let second = once.alone j h (sym number) in
     omega (arith, less, first, second)
 
-pub order_few : (c : Child) (side : Side) (spots : List Spot) (order : List ℕ) → AreNumbered spots → IsOrderOfSide c side spots order → length order ≤ length spots
+pub order_few : (c : Child) (side : Side) (spots : List Spot) (order : List ℕ) → AreCounted spots → IsOrderOfSide c side spots order → length order ≤ length spots
 order_few c side spots order numbered is =
     length_below (length spots) order (no_repeat_from order (order_once c side spots order numbered is))
     (λ m k. subst (λ n. n < length spots) (place_reads m order k) (in_order c side spots order (row_place order m) numbered is (place_below m order k)).0)
 
 -- a number of this side is noted with its place, and those of other sides are kept
-noted_by : (c : Child) (side : Side) (spots : List Spot) (order : List ℕ) (k : ℕ) (old new : List ℕ) → AreNumbered spots → IsOrderOfSide c side spots order → k < length spots → IsSpreadOn c side (spot_at spots k)
+noted_by : (c : Child) (side : Side) (spots : List Spot) (order : List ℕ) (k : ℕ) (old new : List ℕ) → AreCounted spots → IsOrderOfSide c side spots order → k < length spots → IsSpreadOn c side (spot_at spots k)
     → NotesFirst old order (length order) new → get_or new k 0 ≡ place_in order k
 noted_by c side spots order k old new numbered is h spread notes =
     let once : HoldsOnce order k = subst (HoldsOnce order) (numbered k h) (is.once k h spread) in
     subst (λ n. get_or new n 0 ≡ once.place) once.there (notes.noted once.place once.inside) ∙ sym (place_is order k once)
 
-kept_by : (c : Child) (side other : Side) (spots : List Spot) (order : List ℕ) (k : ℕ) (old new : List ℕ) → AreNumbered spots → IsOrderOfSide c other spots order → side_of c (spot_at spots k) ≡ side → side ≢ other
+kept_by : (c : Child) (side other : Side) (spots : List Spot) (order : List ℕ) (k : ℕ) (old new : List ℕ) → AreCounted spots → IsOrderOfSide c other spots order → side_of c (spot_at spots k) ≡ side → side ≢ other
     → NotesFirst old order (length order) new → get_or new k 0 ≡ get_or old k 0
 kept_by c side other spots order k old new numbered is on_side differ notes =
     notes.kept k (λ i h e.
     let at = (in_order c other spots order i numbered is h).1 in
     differ (sym on_side ∙ subst (λ n. side_of c (spot_at spots n) ≡ other) e at.on_side))
 
-pub all_noted : (c : Child) (spots : List Spot) (v : FourOrders) (p0 p1 p2 p3 p4 : List ℕ) → AreNumbered spots → AreFour c spots v → length p0 ≡ length spots
-    → NotesFirst p0 v.north (length v.north) p1 → NotesFirst p1 v.east (length v.east) p2 → NotesFirst p2 v.south (length v.south) p3 → NotesFirst p3 v.west (length v.west) p4 → ArePlaced c spots v p4
+pub all_noted : (c : Child) (spots : List Spot) (v : FourOrders) (p0 p1 p2 p3 p4 : List ℕ) → AreCounted spots → AreFour c spots v → length p0 ≡ length spots
+    → NotesFirst p0 v.north (length v.north) p1 → NotesFirst p1 v.east (length v.east) p2 → NotesFirst p2 v.south (length v.south) p3 → NotesFirst p3 v.west (length v.west) p4 → HavePlaces c spots v p4
 all_noted c spots v p0 p1 p2 p3 p4 numbered are long a b d e =
     record {
       as_long = e.as_long ∙ d.as_long ∙ b.as_long ∙ a.as_long ∙ long;

@@ -17,8 +17,8 @@ use Rattle.elk_layers.specs.Places.{IsOnce, NotesFirst}
 use Rattle.level_plan.specs.Level.{PlainLevel, child_at}
 use Rattle.level_ends.specs.declared.orders.SideOrders.{SideOrders}
 use Rattle.level_ends.specs.Narrow.{IsOffset}
-use Rattle.level_ends.specs.Rows.{AreNumbered, row_at}
-use Rattle.level_ends.specs.Sides.{AreDocks, AreFour, AreOrdersTo, ArePlaced, FourOrders, dock_by, docks_at, four_at, four_of, order_on}
+use Rattle.level_ends.specs.Rows.{AreCounted, row_at}
+use Rattle.level_ends.specs.Sides.{AreDocks, AreFour, AreOrdersTo, HavePlaces, FourOrders, dock_by, docks_at, four_at, four_of, order_on}
 use Rattle.level_ends.proofs.DockLemmas.{all_noted, order_few, order_once, order_within}
 
 pub offset_fits : (z : ℤ) → IsOffset z → SFits w64 z
@@ -55,7 +55,7 @@ start_computed offset h half eh p q =
     rw (to_z-of_z w64 offset fo, to_z-of_z w64 h fh, to_z-of_z w64 (offset -ℤ h) fs, eh) (rw eh at fs, refl)
 
 -- an order whose numbers are to be noted
-pub note_ready : (c : Child) (side : Side) (spots : List Spot) (v : FourOrders) (order place : List ℕ) → AreNumbered spots → AreFour c spots v → order ≡ order_on v side → length place ≡ length spots → length spots ≤ 2 ^ 16
+pub note_ready : (c : Child) (side : Side) (spots : List Spot) (v : FourOrders) (order place : List ℕ) → AreCounted spots → AreFour c spots v → order ≡ order_on v side → length place ≡ length spots → length spots ≤ 2 ^ 16
     → (All (λ n. n < length place) order) × IsOnce order × (length order ≤ 2 ^ 16)
 note_ready c side spots v order place numbered are e long few =
     let small = order_few c side spots (order_on v side) numbered (are side) in
@@ -68,14 +68,14 @@ note_ready c side spots v order place numbered are e long few =
 notes_moved : (p q order order' : List ℕ) → order ≡ order' → NotesFirst p order (length order) q → NotesFirst p order' (length order') q
 notes_moved p q order order' e notes = subst (λ xs. NotesFirst p xs (length xs) q) e notes
 
-pub sides_noted : (c : Child) (spots : List Spot) (v : FourOrders) (north east south west p0 p1 p2 p3 p4 : List ℕ) → AreNumbered spots → AreFour c spots v → length p0 ≡ length spots
+pub sides_noted : (c : Child) (spots : List Spot) (v : FourOrders) (north east south west p0 p1 p2 p3 p4 : List ℕ) → AreCounted spots → AreFour c spots v → length p0 ≡ length spots
     → north ≡ v.north → east ≡ v.east → south ≡ v.south → west ≡ v.west
-    → NotesFirst p0 north (length north) p1 → NotesFirst p1 east (length east) p2 → NotesFirst p2 south (length south) p3 → NotesFirst p3 west (length west) p4 → ArePlaced c spots v p4
+    → NotesFirst p0 north (length north) p1 → NotesFirst p1 east (length east) p2 → NotesFirst p2 south (length south) p3 → NotesFirst p3 west (length west) p4 → HavePlaces c spots v p4
 sides_noted c spots v north east south west p0 p1 p2 p3 p4 numbered are long en ee es ew a b d e =
     all_noted c spots v p0 p1 p2 p3 p4 numbered are long (notes_moved p0 p1 north v.north en a) (notes_moved p1 p2 east v.east ee b) (notes_moved p2 p3 south v.south es d) (notes_moved p3 p4 west v.west ew e)
 
 -- what is known of a spot whose dock is to be made
-pub spot_ready : (c : Child) (spots : List Spot) (v : FourOrders) (place : List ℕ) (i at : ℕ) (s : Spot) → AreSpots c spots → AreNumbered spots → length spots ≤ 2 ^ 16 → AreFour c spots v → ArePlaced c spots v place → i < length spots → s ≡ spot_at spots i → at ≡ get_or place i at
+pub spot_ready : (c : Child) (spots : List Spot) (v : FourOrders) (place : List ℕ) (i at : ℕ) (s : Spot) → AreSpots c spots → AreCounted spots → length spots ≤ 2 ^ 16 → AreFour c spots v → HavePlaces c spots v place → i < length spots → s ≡ spot_at spots i → at ≡ get_or place i at
     → IsSpot c s × (length (order_on v (side_of c s)) ≤ 2 ^ 16) × (IsFalse (is_pinned_spot c s) → HoldsOnce (order_on v (side_of c s)) s.number) × (IsFalse (is_pinned_spot c s) → at ≡ place_in (order_on v (side_of c s)) s.number)
 spot_ready c spots v place i at s sound numbered few are placed h is read =
     let small = order_few c (side_of c s) spots (order_on v (side_of c s)) numbered (are (side_of c s)) in

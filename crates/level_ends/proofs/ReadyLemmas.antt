@@ -25,7 +25,7 @@ use Rattle.level_ends.specs.Entries.{AreEndEntries, AreEntries, AreLanesOf, AreL
 use Rattle.level_ends.specs.Lanes.{AreReadable, PlainLanes, lanes_at}
 use Rattle.level_ends.specs.Narrow.{IsNearRect, IsNearSpan, IsOffset}
 use Rattle.level_ends.specs.Outlines.{dock_in}
-use Rattle.level_ends.specs.Rows.{AreNumbered, AreSpotsOf, HasNumber, row_at, row_lists}
+use Rattle.level_ends.specs.Rows.{AreCounted, AreSpotsOf, HasNumber, row_at, row_lists}
 use Rattle.level_ends.specs.Sides.{AreDocks, AreOrdersTo, FourOrders, HaveOrders, dock_by, docks_at, four_at, orders_in}
 use Rattle.level_ends.proofs.FirstLemmas.{first_within}
 use Rattle.level_ends.proofs.LaneLemmas.{lanes_few}
@@ -43,7 +43,7 @@ have_orders l p v vs are orders =
       row_count = are.as_many;
       order_count = orders.as_many;
       few = λ c h. subst (λ (row : List Spot). length row ≤ 2 ^ 16) (sym (are.row_is c h)) (are.few c h);
-      numbered = λ c h. subst AreNumbered (sym (are.row_is c h)) (are.numbered c h);
+      numbered = λ c h. subst AreCounted (sym (are.row_is c h)) (are.numbered c h);
       sound = spots_sound l p v are;
       orders = orders.four;
     }

@@ -14,7 +14,7 @@ use Rattle.level_plan.specs.Level.{PlainLevel, PlainPlan, End, all_ends, child_a
 use Rattle.level_ends.specs.declared.flows.Flow.{Flow}
 use Rattle.level_ends.specs.declared.spots.Spots.{Spots}
 use Rattle.level_ends.specs.Flows.{AreFlows}
-use Rattle.level_ends.specs.Rows.{AreNumbered, AreSpotsOf, AreSpotsTo, HasNumber, at_child, at_port, ends_before, ends_to, implicit_spots, number_by, number_of, port_spots_of, row_at, row_lists, row_of}
+use Rattle.level_ends.specs.Rows.{AreCounted, AreSpotsOf, AreSpotsTo, HasNumber, at_child, at_port, ends_before, ends_to, implicit_spots, number_by, number_of, port_spots_of, row_at, row_lists, row_of}
 use Rattle.level_ends.proofs.RowLemmas.{implicit_numbered, port_spots_long, port_there, row_long}
 use Rattle.level_ends.proofs.EndLemmas.{Differ, differ_filter, ends_differ, ends_split, place_there}
 use Rattle.level_ends.proofs.AddLemmas.{ends_to_long, row_few}
@@ -51,7 +51,7 @@ row_implicit_there l p c k ns low high =
     ∙ implicit_there l p (length (child_at l c).ports) (k - length (child_at l c).ports) (filter (at_child l c) ns) no_end (omega (arith, low, high, long))
     ∙ ap (λ x. spot l p None x (get_or (filter (at_child l c) ns) (k - length (child_at l c).ports) no_end ∷ [])) e
 
-row_numbered : (l : PlainLevel) (p : PlainPlan) (c : ℕ) (ns : List End) → AreNumbered (row_of l p c ns)
+row_numbered : (l : PlainLevel) (p : PlainPlan) (c : ℕ) (ns : List End) → AreCounted (row_of l p c ns)
 row_numbered l p c ns k h = elim (cases_lt k (length (child_at l c).ports)) [
   | inl less ↦ ap (λ (s : Spot). s.number) (port_there l p c k ns less)
   | inr more ↦ ap (λ (s : Spot). s.number) (row_implicit_there l p c k ns more h)
@@ -178,7 +178,7 @@ spots_whole l p flows count v level are all s =
       as_many = rows.as_many;
       row_is = row;
       few = λ c h. let short = row_few l p c (all_ends l) level few in let same = ap length (spots_row l p c) in omega (arith, short, same);
-      numbered = λ c h. subst AreNumbered (sym (spots_row l p c)) (row_numbered l p c (all_ends l));
+      numbered = λ c h. subst AreCounted (sym (spots_row l p c)) (row_numbered l p c (all_ends l));
       sound = λ c h. spots_are l p c;
       two_each = s.numbers.as_long ∙ ap (λ x. 2 * x) all;
       sources = λ e h. subst (HasNumber l p (end_at e true)) (sym (s.numbers.source e (omega (arith, h, all)))) (has_number l p e true h (spoke_at l e true level h));

@@ -121,8 +121,8 @@ abbrev pub number_of : PlainLevel → ℕ → Bool → ℕ
 number_of l e at_source = number_by l (spoke l (end_at e at_source)) (ends_before e at_source)
 
 -- a spot's number is its place in its row
-abbrev pub AreNumbered : List Spot → Type 0
-AreNumbered row = (k : ℕ) → k < length row → (spot_at row k).number ≡ k
+abbrev pub AreCounted : List Spot → Type 0
+AreCounted row = (k : ℕ) → k < length row → (spot_at row k).number ≡ k
 
 -- the number of an end's spot
 pub record HasNumber (l : PlainLevel) (p : PlainPlan) (n : End) (number : ℕ) : Type 0 where
@@ -146,7 +146,7 @@ pub record AreSpotsOf (l : PlainLevel) (p : PlainPlan) (spots : Spots) : Type 0 
   pub as_many : length (row_lists spots.rows) ≡ length l.children
   pub row_is : (c : ℕ) → c < length l.children → row_at (row_lists spots.rows) c ≡ level.spots l p c
   pub few : (c : ℕ) → c < length l.children → length (level.spots l p c) ≤ 2 ^ 16
-  pub numbered : (c : ℕ) → c < length l.children → AreNumbered (level.spots l p c)
+  pub numbered : (c : ℕ) → c < length l.children → AreCounted (level.spots l p c)
   pub sound : (c : ℕ) → c < length l.children → AreSpots (child_at l c) (level.spots l p c)
   pub two_each : length spots.numbers.items ≡ 2 * length l.edges
   pub sources : (e : ℕ) → e < length l.edges → HasNumber l p (end_at e true) (slice_index spots.numbers.items (2 * e))

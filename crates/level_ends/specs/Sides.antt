@@ -17,7 +17,7 @@ use Rattle.level_plan.specs.Level.{PlainLevel, Orders, child_at}
 use Rattle.level_ends.specs.declared.orders.SideOrders.{SideOrders}
 use Rattle.level_ends.specs.declared.docks.Docks.{Docks}
 use Rattle.level_ends.specs.Narrow.{IsOffset}
-use Rattle.level_ends.specs.Rows.{AreNumbered, row_at}
+use Rattle.level_ends.specs.Rows.{AreCounted, row_at}
 
 -- the orders of a child's four sides
 pub record FourOrders : Type 0 where
@@ -44,7 +44,7 @@ abbrev pub AreFour : Child → List Spot → FourOrders → Type 0
 AreFour c spots v = (side : Side) → IsOrderOfSide c side spots (order_on v side)
 
 -- by number, the places of spread spots in the orders of their sides
-pub record ArePlaced (c : Child) (spots : List Spot) (v : FourOrders) (place : List ℕ) : Type 0 where
+pub record HavePlaces (c : Child) (spots : List Spot) (v : FourOrders) (place : List ℕ) : Type 0 where
   pub as_long : length place ≡ length spots
   pub place_is : (k : ℕ) → k < length spots → IsFalse (is_pinned_spot c (spot_at spots k)) → slice_index place k ≡ places.place_in (order_on v (side_of c (spot_at spots k))) k
 
@@ -72,7 +72,7 @@ pub record HaveOrders (l : PlainLevel) (rows : List (List Spot)) (vs : List Four
   pub row_count : length rows ≡ length l.children
   pub order_count : length vs ≡ length l.children
   pub few : (c : ℕ) → c < length l.children → length (row_at rows c) ≤ 2 ^ 16
-  pub numbered : (c : ℕ) → c < length l.children → AreNumbered (row_at rows c)
+  pub numbered : (c : ℕ) → c < length l.children → AreCounted (row_at rows c)
   pub sound : (c : ℕ) → c < length l.children → AreSpots (child_at l c) (row_at rows c)
   pub orders : (c : ℕ) → c < length l.children → AreFour (child_at l c) (row_at rows c) (four_at vs c)
 

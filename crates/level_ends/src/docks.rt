@@ -12,8 +12,8 @@ ghost use Rattle.elk_layers.specs.Places.{IsOnce, NotesFirst};
 ghost use Rattle.level_ends.specs.Sides as spec;
 ghost use Rattle.level_plan.specs.Conditions.{plain_level, IsLevel};
 ghost use Rattle.level_ends.specs.Narrow.{IsNarrow, IsOffset};
-ghost use Rattle.level_ends.specs.Rows.{AreNumbered, row_lists};
-ghost use Rattle.level_ends.specs.Sides.{AreDocks, AreFour, ArePlaced, HaveOrders, dock_by, dock_lists, docks_at, four_of, order_on};
+ghost use Rattle.level_ends.specs.Rows.{AreCounted, row_lists};
+ghost use Rattle.level_ends.specs.Sides.{AreDocks, AreFour, HavePlaces, HaveOrders, dock_by, dock_lists, docks_at, four_of, order_on};
 
 use crate::orders::SideOrders;
 use crate::spots::Rows;
@@ -43,9 +43,9 @@ fn side_places(
     orders: &SideOrders,
 ) -> Result<Vec<u32>, AllocError>
     requires orders { AreFour child.now spots.now (four_of orders.now) }
-    requires numbers { AreNumbered spots.now }
+    requires numbers { AreCounted spots.now }
     requires few { length spots.now ≤ 2 ^ 16 }
-    ensures { IfOk result (λ place. ArePlaced child.now spots.now (four_of orders.now) place.items) }
+    ensures { IfOk result (λ place. HavePlaces child.now spots.now (four_of orders.now) place.items) }
 {
     let mut place: Vec<u32> = vec![in alloc; 0; spots.len()]?;
     note_sides(place.as_mut_slice(), child, spots, orders);
@@ -55,10 +55,10 @@ fn side_places(
 // Notes the places of the spread spots of all four sides.
 fn note_sides(place: &mut [u32], child: &Child, spots: &[Spot], orders: &SideOrders)
     requires orders { AreFour child.now spots.now (four_of orders.now) }
-    requires numbers { AreNumbered spots.now }
+    requires numbers { AreCounted spots.now }
     requires few { length spots.now ≤ 2 ^ 16 }
     requires as_long { length place.old ≡ length spots.now }
-    ensures { ArePlaced child.now spots.now (four_of orders.now) place.new }
+    ensures { HavePlaces child.now spots.now (four_of orders.now) place.new }
 {
     note_places(place, orders.on(Side::North));
     note_places(place, orders.on(Side::East));
@@ -200,7 +200,7 @@ pub(crate) fn docks_of_child(
 ) -> Result<Vec<Dock>, AllocError>
     requires child { IsNarrow child.now }
     requires spots { AreSpots child.now spots.now }
-    requires numbers { AreNumbered spots.now }
+    requires numbers { AreCounted spots.now }
     requires few { length spots.now ≤ 2 ^ 16 }
     requires orders { AreFour child.now spots.now (four_of orders.now) }
     ensures docks { IfOk result (λ docks. docks.items ≡ map (dock_by child.now node (four_of orders.now)) spots.now) }

@@ -9,7 +9,7 @@ use Rattle.graph_arena.specs.declared.keys.EdgeKey.{EdgeKey}
 use Rattle.level_plan.specs.declared.level.LevelEdge.{LevelEdge}
 use Rattle.level_plan.specs.Level.{PlainLevel, edge_at}
 use Rattle.level_layers.specs.Certificate.{source_of, target_of}
-use Rattle.level_layers.specs.Marks.{AreEdges, AreMarks, AreNodes, is_marked, key_of, node_of}
+use Rattle.level_layers.specs.Marks.{AreEdges, AreMarkedEdges, AreNodes, is_marked, key_of, node_of}
 
 -- an edge of a slice, as one of its level
 pub edge_read : (l : PlainLevel) (es : List LevelEdge) (e : ℕ) (d : LevelEdge) → es ≡ l.edges → e < length es → (get_or es e d ≡ edge_at l e) × (e < length l.edges)
@@ -100,11 +100,11 @@ edges_more l nodes old new n keys more key are adds pushed =
       ];
     }
 
-pub no_marks : (l : PlainLevel) (nodes : List NodeKey) (keys : List EdgeKey) (g : Graph) → AreMarks l nodes keys g 0 []
+pub no_marks : (l : PlainLevel) (nodes : List NodeKey) (keys : List EdgeKey) (g : Graph) → AreMarkedEdges l nodes keys g 0 []
 no_marks l nodes keys g = record { as_many = refl; marked = λ e x h. absurd (omega (arith, h)) }
 
-pub marks_more : (l : PlainLevel) (nodes : List NodeKey) (keys : List EdgeKey) (g : Graph) (n : ℕ) (marks more : List Bool) (b : Bool) → AreMarks l nodes keys g n marks
-    → ((x : Ends) → ends_at g (key_of keys n) ≡ Some x → b ≡ not (x.tail == node_of nodes (source_of l n))) → more ≡ marks ++ b ∷ [] → AreMarks l nodes keys g (n + 1) more
+pub marks_more : (l : PlainLevel) (nodes : List NodeKey) (keys : List EdgeKey) (g : Graph) (n : ℕ) (marks more : List Bool) (b : Bool) → AreMarkedEdges l nodes keys g n marks
+    → ((x : Ends) → ends_at g (key_of keys n) ≡ Some x → b ≡ not (x.tail == node_of nodes (source_of l n))) → more ≡ marks ++ b ∷ [] → AreMarkedEdges l nodes keys g (n + 1) more
 marks_more l nodes keys g n marks more b are is pushed =
     let many = are.as_many in
     record {

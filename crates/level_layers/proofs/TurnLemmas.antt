@@ -11,7 +11,7 @@ use Rattle.elk_doc.specs.Paths.{Reaches, stay, go}
 use Rattle.level_plan.specs.Level.{PlainLevel, holds, is_loop}
 use Rattle.level_plan.specs.Conditions.{IsLevel}
 use Rattle.level_layers.specs.Certificate.{AreReversed, ClosesCycle, UnlistedStep, source_of, target_of}
-use Rattle.level_layers.specs.Marks.{AreMarks, IsGraphOf, is_marked, key_of, listed, node_of}
+use Rattle.level_layers.specs.Marks.{AreMarkedEdges, IsGraphOf, is_marked, key_of, listed, node_of}
 use Rattle.level_layers.proofs.ListLemmas.{filter_rises, holds_above, holds_at}
 
 some_same : (a b : ℕ) → Some a ≡ Some b → a ≡ b
@@ -30,7 +30,7 @@ loop_no : (l : PlainLevel) (e : ℕ) → source_of l e ≢ target_of l e → IsF
 loop_no l e other = ne_eqb (source_of l e) (target_of l e) other
 
 -- a listed edge is marked, and no other
-pub marked_yes : (l : PlainLevel) (nodes : List NodeKey) (keys : List EdgeKey) (old new : Graph) (turned : List ℕ) (marks : List Bool) → IsGraphOf l nodes keys old → IsReversed old turned → TurnsRound old new turned → AreMarks l nodes keys new (length l.edges) marks
+pub marked_yes : (l : PlainLevel) (nodes : List NodeKey) (keys : List EdgeKey) (old new : Graph) (turned : List ℕ) (marks : List Bool) → IsGraphOf l nodes keys old → IsReversed old turned → TurnsRound old new turned → AreMarkedEdges l nodes keys new (length l.edges) marks
     → (e : ℕ) → e < length l.edges → 0 < occurs (key_of keys e) turned → is_marked marks e ≡ true
 marked_yes l nodes keys old new turned marks graph reversed round marked e inside h =
     let is = graph.edges_are.ends e inside in
@@ -43,7 +43,7 @@ marked_yes l nodes keys old new turned marks graph reversed round marked e insid
     marked.marked e (record { tail = node_of nodes (target_of l e); head = node_of nodes (source_of l e) }) inside now
     ∙ ap not (ne_eqb (node_of nodes (target_of l e)) (node_of nodes (source_of l e)) other)
 
-pub marked_no : (l : PlainLevel) (nodes : List NodeKey) (keys : List EdgeKey) (old new : Graph) (turned : List ℕ) (marks : List Bool) → IsGraphOf l nodes keys old → TurnsRound old new turned → AreMarks l nodes keys new (length l.edges) marks
+pub marked_no : (l : PlainLevel) (nodes : List NodeKey) (keys : List EdgeKey) (old new : Graph) (turned : List ℕ) (marks : List Bool) → IsGraphOf l nodes keys old → TurnsRound old new turned → AreMarkedEdges l nodes keys new (length l.edges) marks
     → (e : ℕ) → e < length l.edges → occurs (key_of keys e) turned ≡ 0 → is_marked marks e ≡ false
 marked_no l nodes keys old new turned marks graph round marked e inside h =
     let now = round.others (key_of keys e) h ∙ graph.edges_are.ends e inside in
@@ -118,7 +118,7 @@ ahead l nodes keys g turned marks level graph many on a b (go _ m _ step rest) =
 -- ---- the marked edges of the level
 
 closing : (l : PlainLevel) (nodes : List NodeKey) (keys : List EdgeKey) (old new : Graph) (turned : List ℕ) (marks : List Bool) → IsLevel l → IsGraphOf l nodes keys old → IsReversed old turned → TurnsRound old new turned
-    → AreMarks l nodes keys new (length l.edges) marks → (e : ℕ) → IsTrue (holds (listed marks) e) → ClosesCycle l (listed marks) e
+    → AreMarkedEdges l nodes keys new (length l.edges) marks → (e : ℕ) → IsTrue (holds (listed marks) e) → ClosesCycle l (listed marks) e
 closing l nodes keys old new turned marks level graph reversed round marked e held =
     let in_marks = listed_in marks e held in
     let many = marked.as_many in
@@ -140,7 +140,7 @@ closing l nodes keys old new turned marks level graph reversed round marked e he
     ]
 
 pub are_reversed : (l : PlainLevel) (nodes : List NodeKey) (keys : List EdgeKey) (old new : Graph) (turned : List ℕ) (marks : List Bool) → IsLevel l → IsGraphOf l nodes keys old → IsReversed old turned → TurnsRound old new turned
-    → AreMarks l nodes keys new (length l.edges) marks → AreReversed l (listed marks)
+    → AreMarkedEdges l nodes keys new (length l.edges) marks → AreReversed l (listed marks)
 are_reversed l nodes keys old new turned marks level graph reversed round marked =
     let on = marked_yes l nodes keys old new turned marks graph reversed round marked in
     record {
@@ -153,10 +153,10 @@ are_reversed l nodes keys old new turned marks level graph reversed round marked
 
 -- the same, where nodes and keys are read from equal lists
 pub are_reversed_in : (l : PlainLevel) (nodes nodes' : List NodeKey) (keys keys' : List EdgeKey) (old new : Graph) (turned : List ℕ) (marks : List Bool) → IsLevel l → IsGraphOf l nodes keys old → IsReversed old turned → TurnsRound old new turned
-    → nodes' ≡ nodes → keys' ≡ keys → AreMarks l nodes' keys' new (length l.edges) marks → AreReversed l (listed marks)
+    → nodes' ≡ nodes → keys' ≡ keys → AreMarkedEdges l nodes' keys' new (length l.edges) marks → AreReversed l (listed marks)
 are_reversed_in l nodes nodes' keys keys' old new turned marks level graph reversed round same_nodes same_keys marked =
     are_reversed l nodes keys old new turned marks level graph reversed round
-    (subst (λ (ns : List NodeKey). AreMarks l ns keys new (length l.edges) marks) same_nodes (subst (λ (ks : List EdgeKey). AreMarks l nodes' ks new (length l.edges) marks) same_keys marked))
+    (subst (λ (ns : List NodeKey). AreMarkedEdges l ns keys new (length l.edges) marks) same_nodes (subst (λ (ks : List EdgeKey). AreMarkedEdges l nodes' ks new (length l.edges) marks) same_keys marked))
 
 -- each edge of the level is one of the graph after some were turned
 pub still_edges : (l : PlainLevel) (nodes : List NodeKey) (keys : List EdgeKey) (old new : Graph) (turned : List ℕ) → IsGraphOf l nodes keys old → TurnsRound old new turned → (e : ℕ) → e < length l.edges → IsEdge new (key_of keys e)

@@ -41,6 +41,6 @@ pub record IsGraphOf (l : PlainLevel) (nodes : List NodeKey) (keys : List EdgeKe
   pub edges_are : AreEdges l nodes g (length l.edges) keys
 
 -- the first n edges are marked where they leave another node than that of their source
-pub record AreMarks (l : PlainLevel) (nodes : List NodeKey) (keys : List EdgeKey) (g : Graph) (n : ℕ) (marks : List Bool) : Type 0 where
+pub record AreMarkedEdges (l : PlainLevel) (nodes : List NodeKey) (keys : List EdgeKey) (g : Graph) (n : ℕ) (marks : List Bool) : Type 0 where
   pub as_many : length marks ≡ n
   pub marked : (e : ℕ) (x : Ends) → e < n → ends_at g (key_of keys e) ≡ Some x → is_marked marks e ≡ not (x.tail == node_of nodes (source_of l e))

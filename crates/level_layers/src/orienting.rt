@@ -3,7 +3,7 @@ ghost use Rattle.std.specs.Prelude.{◌≡◌, ◌<◌, ◌≤◌, ◌==◌, ℕ
 ghost use Rattle.graph_arena.specs.Graph.{Ends, ends_at, lists_at, IsEdge, IsNode};
 ghost use Rattle.level_plan.specs.Conditions.{plain_level, IsLevel};
 ghost use Rattle.level_layers.specs.Certificate.{AreReversed};
-ghost use Rattle.level_layers.specs.Marks.{AreEdges, AreMarks, AreNodes, IsGraphOf, key_of, listed, node_of};
+ghost use Rattle.level_layers.specs.Marks.{AreEdges, AreMarkedEdges, AreNodes, IsGraphOf, key_of, listed, node_of};
 
 use cycle_break::orient;
 use graph_arena::{Arena, EdgeKey, NodeKey};
@@ -65,7 +65,7 @@ fn marks_of(
     requires nodes { length nodes.now ≡ length level.now.children }
     requires keys { length keys.now ≡ length level.now.edges }
     requires live { (e : ℕ) → e < length keys.now → IsEdge arena.now (key_of keys.now e) }
-    ensures { IfOk result (λ marks. AreMarks (plain_level level.now) nodes.now keys.now arena.now (length level.now.edges) marks.items) }
+    ensures { IfOk result (λ marks. AreMarkedEdges (plain_level level.now) nodes.now keys.now arena.now (length level.now.edges) marks.items) }
 {
     let mut marks = Vec::with_capacity(alloc, keys.len())?;
     for (e, edge) in level.edges.as_slice().iter().enumerate() {

@@ -30,7 +30,7 @@ use Rattle.level_ranks.specs.Laws.{MakeUnits}
 use Rattle.level_layout.specs.Bounds.{AreFew}
 use Rattle.level_layout.proofs.LinkLemmas.{links_few}
 use Rattle.level_layout.proofs.PinLemmas.{pins_low}
-use Rattle.level_layout.specs.Chosen.{ArePlaced, IsReduced}
+use Rattle.level_layout.specs.Chosen.{AreChosenLines, IsReduced}
 use Rattle.level_layout.specs.Phases.{AreNumberedAs, AreRankedUnits, IsStart}
 use Rattle.level_layout.specs.Layout.{IsLaidOut, IsLayout}
 use Rattle.level_layout.proofs.KeptRows.{filter_equal, reduced_for}
@@ -69,7 +69,7 @@ pub record ArePinned (l : PlainLevel) (u v : Layered) (order : Order) (rs : List
   pub kept : AreKept (plain u) (plain v)
 
 pub drawable : (l : PlainLevel) (c : Certificate) (u v : Layered) (order : Order) (lines : Lines) (placing : Placing) (fixed : Option Sweep) → MakeUnits → IsLevel l → AreRankedUnits l c u
-    → ArePinned l u v order c.reversed → ArePlaced (plain v) (rows_of order) placing fixed lines.top.items → IsDrawable l (plan_from c v order lines) c.layers
+    → ArePinned l u v order c.reversed → AreChosenLines (plain v) (rows_of order) placing fixed lines.top.items → IsDrawable l (plan_from c v order lines) c.layers
 drawable l c u v order lines placing fixed made level ranked pinned placed =
     record {
       orders = pinned.fitted.0;
@@ -131,7 +131,7 @@ as_answered level c v start order lines w from is =
 
 pub laid_out : (level : LevelIn) (c : Certificate) (u v : Layered) (start order : Order) (lines : Lines) (w : LevelOut) → MakeUnits → IsLevel (plain_level level) → IsCertificateOf (plain_level level) c
     → AreRankedUnits (plain_level level) c u → IsStart (plain u) (rows_of start) → IsReduced (plain u) (rows_of start) (rows_of order) → ArePinned (plain_level level) u v order c.reversed
-    → ArePlaced (plain v) (rows_of order) level.placing level.fixed lines.top.items → IsMadeFrom c v start order lines w → IsDrawn (plain_level level) (plan_from c v order lines) c.layers w → IsLaidOut level w
+    → AreChosenLines (plain v) (rows_of order) level.placing level.fixed lines.top.items → IsMadeFrom c v start order lines w → IsDrawn (plain_level level) (plan_from c v order lines) c.layers w → IsLaidOut level w
 laid_out level c u v start order lines w made sound is ranked started reduced pinned placed from drawn =
     let can = drawable (plain_level level) c u v order lines level.placing level.fixed made sound ranked pinned placed in
     as_answered level c v start order lines w from

@@ -12,7 +12,7 @@ use Rattle.level_plan.specs.Level.{PlainLevel, holds}
 use Rattle.level_layers.specs.Certificate.{IsCertificateOf, net_edge, network}
 use Rattle.level_layers.proofs.NetLemmas.{ends_below, is_plain, link_at}
 use Rattle.level_units.specs.Layering.{AreLayersOf, Layering, head_child, layer_in, layering, tail_child}
-use Rattle.level_units.specs.Numbered.{AreNumbered, before, gaps_of, lanes_of}
+use Rattle.level_units.specs.Numbered.{AreNumberedUnits, before, gaps_of, lanes_of}
 use Rattle.level_units.proofs.RunLemmas.{head_below, head_in}
 use Rattle.level_pins.specs.Alike.{AreAlike}
 use Rattle.level_layout.specs.Bounds.{AreFew, LinksAreFew}
@@ -83,7 +83,7 @@ module _ (l : PlainLevel) (c : Certificate) (level : IsLevel l) (is : IsCertific
       steps_below j x (inl none) h = absurd (omega (arith, none, h))
       steps_below j x (inr t) h = step_there j t.0 t.1 (let e = t.2 in omega (arith, e, h))
 
-  few : (blank v : Plain) → AreNumbered s blank → AreAlike blank v → AreFew v
+  few : (blank v : Plain) → AreNumberedUnits s blank → AreAlike blank v → AreFew v
   few blank v n alike =
       let gaps = few_gaps_all in
       let lanes = sum_grows (lanes_of s) (gaps_of s) (length l.edges) (λ e h. omega arith) in

@@ -9,7 +9,7 @@ use Rattle.elk_layers.specs.Layered.{IsSound, Plain, link_at, total_height, unit
 use Rattle.block_lines.proofs.SumLemmas.{sum_to}
 use Rattle.level_plan.specs.Level.{holds}
 use Rattle.level_units.specs.Layering.{Layering, head_child, layer_in, layering, tail_child}
-use Rattle.level_units.specs.Numbered.{AreNumbered, first_lane, first_link, gaps_of, lanes_of, run_of, stop_of}
+use Rattle.level_units.specs.Numbered.{AreNumberedUnits, first_lane, first_link, gaps_of, lanes_of, run_of, stop_of}
 use Rattle.level_units.proofs.RunLemmas.{Stop, at_head, at_lane, at_tail, stop_last, stop_where}
 use Rattle.level_units.proofs.SumLemmas.{before_below}
 use Rattle.level_pins.specs.Alike.{AreAlike}
@@ -17,7 +17,7 @@ use Rattle.ns_place.specs.Heights.{pins_together}
 use Rattle.level_layout.specs.Bounds.{PinsAreLow}
 use Rattle.level_layout.proofs.PinSums.{groups_small, one_counts, pins_added, pins_of, sum_of_both, two_within}
 
-module _ (s : Layering) (b v : Plain) (n : AreNumbered s b) (alike : AreAlike b v) (sound : IsSound v) where
+module _ (s : Layering) (b v : Plain) (n : AreNumberedUnits s b) (alike : AreAlike b v) (sound : IsSound v) where
   abbrev height : ℕ → ℤ
   height u = (unit_at v.units u).height
 

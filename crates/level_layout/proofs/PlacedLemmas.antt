@@ -8,7 +8,7 @@ use Rattle.elk_layers.specs.Layered.{Plain}
 use Rattle.elk_layers.specs.Lines.{AreApart}
 use Rattle.block_lines.specs.Constraints.{EndsWithinStack}
 use Rattle.bk_place.specs.Placement.{AreLinesOf}
-use Rattle.level_layout.specs.Chosen.{AreLeastHigh, ArePlaced}
+use Rattle.level_layout.specs.Chosen.{AreLeastHigh, AreChosenLines}
 
 lines_apart : (l : Plain) (rows : List (List ℕ)) (fixed : Option Sweep) (tops : List ℤ) → AreLinesOf l rows fixed tops → AreApart l rows tops
 lines_apart l rows None tops h = h.are_least.are_lines.apart
@@ -18,11 +18,11 @@ one_placing : (placing : Placing) → placing ≡ BrandesKoepf → placing ≡ N
 one_placing placing a b = let same : BrandesKoepf ≡ NetworkSimplex = sym a ∙ b in absurd cc
 
 pub by_alignment : (l : Plain) (rows : List (List ℕ)) (placing : Placing) (fixed : Option Sweep) (tops : List ℤ) → placing ≡ BrandesKoepf → AreLinesOf l rows fixed tops → EndsWithinStack l tops
-    → ArePlaced l rows placing fixed tops
+    → AreChosenLines l rows placing fixed tops
 by_alignment l rows placing fixed tops is lines ends =
     record { apart = lines_apart l rows fixed tops lines; within = ends; aligned = λ _. lines; least_high = λ other. absurd (one_placing placing is other) }
 
 pub by_height : (l : Plain) (rows : List (List ℕ)) (placing : Placing) (fixed : Option Sweep) (tops : List ℤ) → placing ≡ NetworkSimplex → AreLeastHigh l rows tops → EndsWithinStack l tops
-    → ArePlaced l rows placing fixed tops
+    → AreChosenLines l rows placing fixed tops
 by_height l rows placing fixed tops is lines ends =
     record { apart = lines.is.apart; within = ends; aligned = λ other. absurd (one_placing placing other is); least_high = λ _. lines }

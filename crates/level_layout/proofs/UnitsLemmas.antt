@@ -9,7 +9,7 @@ use Rattle.elk_layers.specs.declared.units.Unit.{Unit as LayerUnit}
 use Rattle.elk_layers.specs.Layered.{Plain, IsSound, plain, unit_at}
 use Rattle.level_plan.specs.Level.{PlainLevel}
 use Rattle.level_units.specs.Layering.{IsLayerCount, layering, plan_with}
-use Rattle.level_units.specs.Numbered.{AreNumbered}
+use Rattle.level_units.specs.Numbered.{AreNumberedUnits}
 use Rattle.level_pins.specs.Alike.{AreFlat}
 use Rattle.level_pins.proofs.AlikeLemmas.{no_heights}
 use Rattle.level_ranks.specs.Ranked.{AreRanked, AreReranked}
@@ -25,7 +25,7 @@ flat v sound u none =
     (cases_lt u (length v.units))
 
 units_with : (l : PlainLevel) (c : Certificate) (b v : Layered) → ((rows : List (List ℕ)) (tops : List ℤ) → AreLinked l (plan_with b rows tops c.reversed) c.layers)
-    → AreNumbered (layering l c.reversed c.layers) (plain b) → b.layers ≤ 2048 → IsLayerCount c.layers b.layers
+    → AreNumberedUnits (layering l c.reversed c.layers) (plain b) → b.layers ≤ 2048 → IsLayerCount c.layers b.layers
     → b.node_node ≡ l.spacing.node_node → b.edge_node ≡ l.spacing.edge_node → b.edge_edge ≡ l.spacing.edge_edge
     → AreRanked l (plain v) c.reversed → AreReranked (plain b) (plain v) → IsSound (plain v) → AreRankedUnits l c v
 units_with l c b v linked numbered few count nn en ee ranked kept sound =
@@ -43,13 +43,13 @@ units_with l c b v linked numbered few count nn en ee ranked kept sound =
 
 -- the same by the lists of a certificate
 pub units_ranked : (l : PlainLevel) (c : Certificate) (b v : Layered) (rs ls : List ℕ) → rs ≡ c.reversed → ls ≡ c.layers
-    → ((rows : List (List ℕ)) (tops : List ℤ) → AreLinked l (plan_with b rows tops rs) ls) → AreNumbered (layering l rs ls) (plain b) → b.layers ≤ 2048 → IsLayerCount ls b.layers
+    → ((rows : List (List ℕ)) (tops : List ℤ) → AreLinked l (plan_with b rows tops rs) ls) → AreNumberedUnits (layering l rs ls) (plain b) → b.layers ≤ 2048 → IsLayerCount ls b.layers
     → b.node_node ≡ l.spacing.node_node → b.edge_node ≡ l.spacing.edge_node → b.edge_edge ≡ l.spacing.edge_edge
     → AreRanked l (plain v) rs → AreReranked (plain b) (plain v) → IsSound (plain v) → AreRankedUnits l c v
 units_ranked l c b v rs ls er el linked numbered few count nn en ee ranked kept sound =
     units_with l c b v
     (λ rows tops. subst (λ xs. AreLinked l (plan_with b rows tops xs) c.layers) er (subst (λ ys. AreLinked l (plan_with b rows tops rs) ys) el (linked rows tops)))
-    (subst (λ xs. AreNumbered (layering l xs c.layers) (plain b)) er (subst (λ ys. AreNumbered (layering l rs ys) (plain b)) el numbered))
+    (subst (λ xs. AreNumberedUnits (layering l xs c.layers) (plain b)) er (subst (λ ys. AreNumberedUnits (layering l rs ys) (plain b)) el numbered))
     few (subst (λ ys. IsLayerCount ys b.layers) el count) nn en ee (subst (λ xs. AreRanked l (plain v) xs) er ranked) kept sound
 
 -- rows that start in the order of numbers do so for units with ranks

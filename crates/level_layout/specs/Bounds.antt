@@ -6,7 +6,7 @@ use Rattle.level_plan.specs.Conditions.{IsLevel}
 use Rattle.level_plan.specs.Level.{PlainLevel}
 use Rattle.level_layers.specs.Certificate.{IsCertificateOf}
 use Rattle.level_units.specs.Layering.{layering}
-use Rattle.level_units.specs.Numbered.{AreNumbered}
+use Rattle.level_units.specs.Numbered.{AreNumberedUnits}
 use Rattle.level_pins.specs.Alike.{AreAlike}
 use Rattle.ns_place.specs.Heights.{pins_together}
 
@@ -19,11 +19,11 @@ pub record AreFew (v : Plain) : Type 0 where
 abbrev pub LinksAreFew : Type 0
 LinksAreFew =
     (l : PlainLevel) (c : Certificate) (blank v : Plain)
-    → IsLevel l → IsCertificateOf l c → AreNumbered (layering l c.reversed c.layers) blank → AreAlike blank v → AreFew v
+    → IsLevel l → IsCertificateOf l c → AreNumberedUnits (layering l c.reversed c.layers) blank → AreAlike blank v → AreFew v
 
 -- Whatever the layers of the level, the heights of all units and the pins of all links are together below 2^60.
 abbrev pub PinsAreLow : Type 0
 PinsAreLow =
     (l : PlainLevel) (reversed layers : List ℕ) (blank v : Plain)
-    → IsLevel l → AreNumbered (layering l reversed layers) blank → AreAlike blank v → IsSound v → total_height v.units ≤ℤ pos (3 * 2 ^ 47)
+    → IsLevel l → AreNumberedUnits (layering l reversed layers) blank → AreAlike blank v → IsSound v → total_height v.units ≤ℤ pos (3 * 2 ^ 47)
     → (total_height v.units +ℤ pins_together v.links) <ℤ pos (2 ^ 60)

@@ -35,7 +35,7 @@ pub record AreLeastHigh (l : Plain) (rows : List (List ℕ)) (tops : List ℤ) :
 -- Lines that keep the distances, and no unit of which ends lower than all units stacked with the greatest of the distances. By
 -- alignment they are those of the fixed sweep, or of the first of the four that needs the least height; by network simplex their
 -- links are least high together.
-pub record ArePlaced (l : Plain) (rows : List (List ℕ)) (placing : Placing) (fixed : Option Sweep) (tops : List ℤ) : Type 0 where
+pub record AreChosenLines (l : Plain) (rows : List (List ℕ)) (placing : Placing) (fixed : Option Sweep) (tops : List ℤ) : Type 0 where
   pub apart : AreApart l rows tops
   pub within : EndsWithinStack l tops
   pub aligned : placing ≡ BrandesKoepf → AreLinesOf l rows fixed tops

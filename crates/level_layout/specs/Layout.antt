@@ -12,7 +12,7 @@ use Rattle.level_stands.specs.Ready.{IsReady}
 use Rattle.level_units.specs.Layering.{IsLayerCount}
 use Rattle.level_draw.specs.declared.drawing.LevelOut.{LevelOut}
 use Rattle.level_draw.specs.Drawing.{IsDrawn, plan_from}
-use Rattle.level_layout.specs.Chosen.{ArePlaced, IsReduced}
+use Rattle.level_layout.specs.Chosen.{AreChosenLines, IsReduced}
 use Rattle.level_layout.specs.Phases.{AreNumberedAs, IsStart}
 
 -- Units and links come from the level and the layers of its certificate, numbered by child and edge, with one layer more than
@@ -24,7 +24,7 @@ pub record IsLayout (level : LevelIn) (c : Certificate) (layered : Layered) (sta
   pub layers : IsLayerCount c.layers layered.layers
   pub started : IsStart (plain layered) (rows_of start)
   pub reduced : IsReduced (plain layered) (rows_of start) (rows_of order)
-  pub placed : ArePlaced (plain layered) (rows_of order) level.placing level.fixed lines.top.items
+  pub placed : AreChosenLines (plain layered) (rows_of order) level.placing level.fixed lines.top.items
   pub orders : Orders
   pub ready : IsReady (plain_level level) (plan_from c layered order lines) orders c.layers
   pub drawn : IsDrawn (plain_level level) (plan_from c layered order lines) c.layers v

@@ -6,7 +6,7 @@ use Rattle.elk_layers.specs.Layered.{Plain, plain, IsSound}
 use Rattle.level_plan.specs.Level.{PlainLevel}
 use Rattle.level_plan.specs.Units.{AreLinked}
 use Rattle.level_units.specs.Layering.{IsLayerCount, layering, plan_with}
-use Rattle.level_units.specs.Numbered.{AreNumbered}
+use Rattle.level_units.specs.Numbered.{AreNumberedUnits}
 use Rattle.level_units.specs.Started.{AreAscending}
 use Rattle.level_pins.specs.Alike.{AreAlike, LanesStay}
 use Rattle.level_ranks.specs.Ranked.{AreRanked}
@@ -14,7 +14,7 @@ use Rattle.level_ranks.specs.Ranked.{AreRanked}
 -- Units and links whose numbers, layers and ends are those of a level's children and edges, from the tail of each edge on. The
 -- units of lanes have no height, and no lanes above or below.
 abbrev pub AreNumberedAs : PlainLevel → Certificate → Plain → Type 0
-AreNumberedAs l c v = (blank : Plain) × AreNumbered (layering l c.reversed c.layers) blank × AreAlike blank v × LanesStay blank v
+AreNumberedAs l c v = (blank : Plain) × AreNumberedUnits (layering l c.reversed c.layers) blank × AreAlike blank v × LanesStay blank v
 
 -- The units and links of a level with the ranks of pins, still without heights and pins.
 pub record AreRankedUnits (l : PlainLevel) (c : Certificate) (v : Layered) : Type 0 where

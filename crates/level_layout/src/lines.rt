@@ -4,7 +4,7 @@ ghost use Rattle.elk_layers.specs.Layered.{plain, rows_of, total_height, AreRows
 ghost use Rattle.block_lines.specs.Constraints.{EndsWithinStack};
 ghost use Rattle.ns_place.specs.Heights.{pins_together};
 ghost use Rattle.level_layout.specs.Bounds.{AreFew};
-ghost use Rattle.level_layout.specs.Chosen.{AreLeastHigh, ArePlaced};
+ghost use Rattle.level_layout.specs.Chosen.{AreLeastHigh, AreChosenLines};
 
 use bk_place::place;
 use elk_doc::document::Placing;
@@ -38,7 +38,7 @@ pub(crate) fn lines_for(
     requires rows { AreRows (plain layered.now) (rows_of order.now) }
     requires few { AreFew (plain layered.now) }
     requires low { (total_height (plain layered.now).units +ℤ pins_together (plain layered.now).links) <ℤ pos (2 ^ 60) }
-    ensures { IfOk result (λ v. ArePlaced (plain layered.now) (rows_of order.now) level.now.placing level.now.fixed v.top.items) }
+    ensures { IfOk result (λ v. AreChosenLines (plain layered.now) (rows_of order.now) level.now.placing level.now.fixed v.top.items) }
 {
     match level.placing {
         Placing::BrandesKoepf => place(alloc, layered, order, level.fixed),

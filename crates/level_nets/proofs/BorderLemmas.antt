@@ -17,7 +17,7 @@ use Rattle.level_nets.specs.Parts.{Parts, plan_of}
 use Rattle.level_nets.specs.Read.{widest_of, width_of, left_of, columns_of}
 use Rattle.level_nets.specs.Reach.{AreNetsIn, AreColumnsIn}
 use Rattle.level_nets.specs.Held.{plain_gaps}
-use Rattle.level_nets.specs.Placed.{AreWidest, AreWidths, IsPlaced, ArePlaced, counts_of}
+use Rattle.level_nets.specs.Placed.{AreWidest, AreWidths, IsPlaced, HaveBorders, counts_of}
 use Rattle.level_nets.proofs.Slots.{few_slots}
 
 -- so many steps
@@ -105,7 +105,7 @@ pub count_few : (s : Parts) (i : ℕ) (left : ℤ) (gap : PlainGap) → IsPlaced
 count_few s i left gap placed nets = let slots = few_slots gap.nets gap.count gap.routes placed.free in let few = nets.few in omega (arith, slots, few)
 
 pub left_range : (s : Parts) (i : ℕ) (old now : List PlainGap) → IsSoundSpacing s.level.spacing → s.layered.layers ≤ 2048 → AreColumnsIn s → length old ≡ s.layered.layers + 1
-    → ((g : ℕ) → g < length old → AreNetsIn (gap_in old g).nets) → i ≤ length old → ArePlaced s i old now → IsFromZero (left_of s (counts_of now) i) (pos (2 ^ 50))
+    → ((g : ℕ) → g < length old → AreNetsIn (gap_in old g).nets) → i ≤ length old → HaveBorders s i old now → IsFromZero (left_of s (counts_of now) i) (pos (2 ^ 50))
 left_range s i old now sound layers columns long nets within placed =
     let few : (h : ℕ) → h < i → counts_of now h ≤ 2 ^ 15 =
     λ h less. count_few s h (left_of s (counts_of now) h) (gap_in now h) (placed.each h less)
@@ -119,8 +119,8 @@ left_range s i old now sound layers columns long nets within placed =
     (low, omega (arith, ints, high, top, small))
 
 -- one gap more
-pub placed_more : (s : Parts) (i : ℕ) (old now new : List PlainGap) (gap : PlainGap) (left : ℤ) → i < length old → ArePlaced s i old now → left ≡ left_of s (counts_of now) i
-    → IsPlaced s i left gap → gap.nets ≡ (gap_in now i).nets → new ≡ set now i gap → ArePlaced s (i + 1) old new
+pub placed_more : (s : Parts) (i : ℕ) (old now new : List PlainGap) (gap : PlainGap) (left : ℤ) → i < length old → HaveBorders s i old now → left ≡ left_of s (counts_of now) i
+    → IsPlaced s i left gap → gap.nets ≡ (gap_in now i).nets → new ≡ set now i gap → HaveBorders s (i + 1) old new
 placed_more s i old now new gap left less placed border here nets e =
     let long : length new ≡ length now = ap length e ∙ length-set now i gap in
     let inside : i < length now = let many = placed.as_many in omega (arith, less, many) in
@@ -147,7 +147,7 @@ placed_more s i old now new gap left less placed border here nets e =
           (cases_eq g i);
     }
 
-pub left_more : (s : Parts) (i : ℕ) (old new : List PlainGap) → ArePlaced s (i + 1) old new → (gap_in new i).right +ℤ width_of s i ≡ left_of s (counts_of new) (i + 1)
+pub left_more : (s : Parts) (i : ℕ) (old new : List PlainGap) → HaveBorders s (i + 1) old new → (gap_in new i).right +ℤ width_of s i ≡ left_of s (counts_of new) (i + 1)
 unfolding left_of
 left_more s i old new placed =
     let here = placed.each i (omega arith) in
@@ -171,7 +171,7 @@ pub max_same : (a b c d : ℤ) → a ≡ c → b ≡ d → int_max a b ≡ int_m
 max_same a b c d e f = ap (λ z. int_max z b) e ∙ ap (int_max c) f
 
 -- before the first gap
-pub placed_none : (s : Parts) (gaps : List PlainGap) → ArePlaced s 0 gaps gaps
+pub placed_none : (s : Parts) (gaps : List PlainGap) → HaveBorders s 0 gaps gaps
 placed_none s gaps = record { as_many = refl; nets = λ g h. refl; each = λ g h. absurd (omega (arith, h)) }
 
 pub left_none : (s : Parts) (count : ℕ → ℕ) → pos 0 ≡ left_of s count 0
@@ -182,8 +182,8 @@ left_none s count = refl
 pub gap_read : (gaps : List Gap) (i : ℕ) (d : Gap) → i < length gaps → plain_gap (get_or gaps i d) ≡ gap_in (plain_gaps gaps) i
 gap_read gaps i d h = sym (get_or-map plain_gap gaps i d _ h)
 
-pub step_placed : (s : Parts) (i : ℕ) (old : List PlainGap) (gaps : List Gap) (g d : Gap) (left : ℤ) → i < length old → i < length gaps → ArePlaced s i old (plain_gaps gaps)
-    → left ≡ left_of s (counts_of (plain_gaps gaps)) i → IsPlaced s i left (plain_gap g) → (plain_gap g).nets ≡ (plain_gap (get_or gaps i d)).nets → ArePlaced s (i + 1) old (plain_gaps (set gaps i g))
+pub step_placed : (s : Parts) (i : ℕ) (old : List PlainGap) (gaps : List Gap) (g d : Gap) (left : ℤ) → i < length old → i < length gaps → HaveBorders s i old (plain_gaps gaps)
+    → left ≡ left_of s (counts_of (plain_gaps gaps)) i → IsPlaced s i left (plain_gap g) → (plain_gap g).nets ≡ (plain_gap (get_or gaps i d)).nets → HaveBorders s (i + 1) old (plain_gaps (set gaps i g))
 step_placed s i old gaps g d left less inside placed border here nets =
     placed_more s i old (plain_gaps gaps) (plain_gaps (set gaps i g)) (plain_gap g) left less placed border here
     (nets ∙ ap (λ (q : PlainGap). q.nets) (gap_read gaps i d inside)) (map-set plain_gap gaps i g)
@@ -257,18 +257,18 @@ pub record AreAsked (s : Parts) (olds : List Gap) : Type 0 where
   pub long : length olds ≡ s.layered.layers + 1
   pub nets : (g : ℕ) → g < length olds → AreNetsIn (gap_in (plain_gaps olds) g).nets
 
-pub border_range : (s : Parts) (i : ℕ) (olds gaps : List Gap) → AreAsked s olds → i ≤ length olds → ArePlaced s i (plain_gaps olds) (plain_gaps gaps) → IsFromZero (left_of s (counts_of (plain_gaps gaps)) i) (pos (2 ^ 50))
+pub border_range : (s : Parts) (i : ℕ) (olds gaps : List Gap) → AreAsked s olds → i ≤ length olds → HaveBorders s i (plain_gaps olds) (plain_gaps gaps) → IsFromZero (left_of s (counts_of (plain_gaps gaps)) i) (pos (2 ^ 50))
 border_range s i olds gaps asked within placed =
     let many = length-map olds plain_gap in
     left_range s i (plain_gaps olds) (plain_gaps gaps) asked.sound asked.layers asked.columns (many ∙ asked.long) (λ g less. asked.nets g (omega (arith, less, many))) (omega (arith, within, many)) placed
 
 -- one gap more: it is placed, and the next border is known
 pub record Stepped (s : Parts) (i : ℕ) (olds gaps : List Gap) (g d : Gap) (width : ℤ) : Type 0 where
-  pub placed : ArePlaced s (i + 1) (plain_gaps olds) (plain_gaps (set gaps i g))
+  pub placed : HaveBorders s (i + 1) (plain_gaps olds) (plain_gaps (set gaps i g))
   pub fits : FitsSigned w64 (to_z w64 (of_z w64 (get_or (set gaps i g) i d).right) +ℤ to_z w64 (of_z w64 width))
   pub left : to_z w64 (of_z w64 (to_z w64 (of_z w64 (get_or (set gaps i g) i d).right) +ℤ to_z w64 (of_z w64 width))) ≡ left_of s (counts_of (plain_gaps (set gaps i g))) (i + 1)
 
-pub stepped : (s : Parts) (i : ℕ) (olds gaps : List Gap) (g d e : Gap) (left width : ℤ) → AreAsked s olds → i < length olds → length gaps ≡ length olds → ArePlaced s i (plain_gaps olds) (plain_gaps gaps)
+pub stepped : (s : Parts) (i : ℕ) (olds gaps : List Gap) (g d e : Gap) (left width : ℤ) → AreAsked s olds → i < length olds → length gaps ≡ length olds → HaveBorders s i (plain_gaps olds) (plain_gaps gaps)
     → left ≡ left_of s (counts_of (plain_gaps gaps)) i → IsPlaced s i left (plain_gap g) → (plain_gap g).nets ≡ (plain_gap (get_or gaps i e)).nets → width ≡ width_of s i → Stepped s i olds gaps g d width
 stepped s i olds gaps g d e left width asked less long placed border here nets same =
     let inside : i < length gaps = omega (arith, less, long) in

@@ -16,7 +16,7 @@ use Rattle.level_nets.specs.Parts.{Parts, IsGiven}
 use Rattle.level_nets.specs.Read.{HoldNets, names_of, end_number, left_of, in_gap, passes_west, passes_east, is_turned_back}
 use Rattle.level_nets.specs.Held.{plain_gaps, legs_at, before_dock}
 use Rattle.level_nets.specs.Reach.{AreNetsIn, AreColumnsIn}
-use Rattle.level_nets.specs.Placed.{ArePlaced, counts_of}
+use Rattle.level_nets.specs.Placed.{HaveBorders, counts_of}
 use Rattle.level_nets.specs.Routed.{AreEmpty, AreMarks, ArePlaces, AreRouted, AreGapsOf, AreLegsOf, AreGapsIn}
 use Rattle.level_nets.proofs.Names.{turned_is, west_is, east_is}
 use Rattle.level_nets.proofs.Gaps.{gap_of_plan, place_is, are_nets}
@@ -62,7 +62,7 @@ nets_in_range s gaps given held g h =
     (are_nets s given.plan.rows given.plan.orders given.plan.layers given.plan.planned given.bottoms g)
 
 -- placed gaps are routed
-pub are_routed : (s : Parts) (old new : List Gap) → HoldNets s (names_of s) (plain_gaps old) → ArePlaced s (length new) (plain_gaps old) (plain_gaps new) → AreRouted s (plain_gaps new)
+pub are_routed : (s : Parts) (old new : List Gap) → HoldNets s (names_of s) (plain_gaps old) → HaveBorders s (length new) (plain_gaps old) (plain_gaps new) → AreRouted s (plain_gaps new)
 are_routed s old new held placed =
     let many = length-map new plain_gap in
     let long = placed.as_many in
@@ -125,7 +125,7 @@ routed_range s gaps given columns routed g h =
     let inside : g < length (plain_gaps gaps) = omega (arith, h, many) in
     let sound = given.plan.planned.ready.level.spacing in
     let nets : (k : ℕ) → k < length (plain_gaps gaps) → AreNetsIn (gap_in (plain_gaps gaps) k).nets = λ k less. nets_in_range s gaps given routed.held k (omega (arith, less, many)) in
-    let all : ArePlaced s g (plain_gaps gaps) (plain_gaps gaps) = record { as_many = refl; nets = λ k less. refl; each = λ k less. routed.placed k (omega (arith, less, inside)) } in
+    let all : HaveBorders s g (plain_gaps gaps) (plain_gaps gaps) = record { as_many = refl; nets = λ k less. refl; each = λ k less. routed.placed k (omega (arith, less, inside)) } in
     let left = left_range s g (plain_gaps gaps) (plain_gaps gaps) sound given.few_layers columns routed.held.as_many nets (omega (arith, inside)) all in
     let placed = routed.placed g inside in
     record {

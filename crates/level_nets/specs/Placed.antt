@@ -29,7 +29,7 @@ pub record IsPlaced (s : Parts) (number : ℕ) (left : ℤ) (g : PlainGap) : Typ
   pub free : GapFree g.nets g.count g.routes
 
 -- the first n gaps are placed
-pub record ArePlaced (s : Parts) (n : ℕ) (old new : List PlainGap) : Type 0 where
+pub record HaveBorders (s : Parts) (n : ℕ) (old new : List PlainGap) : Type 0 where
   pub as_many : length new ≡ length old
   pub nets : (g : ℕ) → g < length old → (gap_in new g).nets ≡ (gap_in old g).nets
   pub each : (g : ℕ) → g < n → IsPlaced s g (left_of s (counts_of new) g) (gap_in new g)

@@ -8,7 +8,7 @@ use Rattle.route_lines.specs.Points.{PlainGap, gap_in}
 use Rattle.level_plan.specs.Level.{PlainLevel, PlainPlan, Orders, end_at, is_loop, dock_of, holds}
 use Rattle.level_plan.specs.Lanes.{has_one_dock}
 use Rattle.level_plan.specs.Nets.{Name, of_link, of_dock, of_loop, gap_of, names_in, place_of_name, is_inverted}
-use Rattle.level_plan.specs.FromPlan.{Drawn, IsGap}
+use Rattle.level_plan.specs.FromPlan.{LevelDrawing, IsGap}
 use Rattle.level_nets.specs.declared.routing.Places.{Places}
 use Rattle.level_nets.specs.declared.routing.Routing.{Routing}
 use Rattle.level_nets.specs.Parts.{Parts, ArePlanned, plan_of}
@@ -37,7 +37,7 @@ pub record AreRouted (s : Parts) (gaps : List PlainGap) : Type 0 where
   pub placed : (g : ℕ) → g < length gaps → IsPlaced s g (left_of s (counts_of gaps) g) (gap_in gaps g)
 
 -- a drawing that has these gaps and nothing else, and was moved so far to the left and so far up
-abbrev pub drawn_with : List PlainGap → ℤ → ℤ → Drawn
+abbrev pub drawn_with : List PlainGap → ℤ → ℤ → LevelDrawing
 drawn_with gaps left top =
     record {
       gaps = gaps;

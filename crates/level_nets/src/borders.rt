@@ -8,7 +8,7 @@ ghost use Rattle.level_plan.specs.Conditions.{plain_level};
 ghost use Rattle.level_plan.specs.Nets as nets;
 ghost use Rattle.level_nets.specs.Parts.{plan_of};
 ghost use Rattle.level_nets.specs.Held.{plain_gaps};
-ghost use Rattle.level_nets.specs.Placed.{ArePlaced, AreWidest, AreWidths, IsPlaced};
+ghost use Rattle.level_nets.specs.Placed.{HaveBorders, AreWidest, AreWidths, IsPlaced};
 ghost use Rattle.level_nets.specs.Reach.{AreColumnsIn, AreNetsIn, IsSheet, parts_in};
 
 use crate::sheet::{Sheet, child_at, unit_at};
@@ -167,7 +167,7 @@ pub(crate) fn place_gaps(
     requires columns { AreColumnsIn (parts_in sheet.now) }
     requires long { length gaps.old ≡ sheet.now.layered.now.layers + 1 }
     requires nets { (g : ℕ) → g < length gaps.old → AreNetsIn (gap_in (plain_gaps gaps.old) g).nets }
-    ensures { OnOk result (ArePlaced (parts_in sheet.now) (length gaps.new) (plain_gaps gaps.old) (plain_gaps gaps.new)) }
+    ensures { OnOk result (HaveBorders (parts_in sheet.now) (length gaps.new) (plain_gaps gaps.old) (plain_gaps gaps.new)) }
 {
     let mut left = 0;
     'gaps: for number in 0..gaps.len() as u32 {

@@ -12,7 +12,7 @@ use Rattle.level_plan.specs.Stage.{Stage, Line, anchor_line, loop_lane}
 use Rattle.level_plan.specs.Level.{PlainLevel, PlainPlan, Orders, end_at, child_at, dock_of, outline, first_or, is_loop}
 use Rattle.level_plan.specs.Lanes.{line_eq, loop_sides}
 use Rattle.level_plan.specs.Nets.{Name, all_names, names_in, of_link, a_line, b_line, edge_of, unit_of, height_of}
-use Rattle.level_plan.specs.FromPlan.{Drawn, anchor, box_place}
+use Rattle.level_plan.specs.FromPlan.{LevelDrawing, anchor, box_place}
 
 -- the edge of a lane of a long edge: that of the link that enters it
 abbrev pub lane_edge : PlainPlan → ℕ → ℕ
@@ -33,7 +33,7 @@ is_in_use l p o e m =
 abbrev pub name_at : List Name → ℕ → Name
 name_at names k = slice_index_or names k (of_link 0)
 
-abbrev pub outline_at : PlainLevel → PlainPlan → Orders → Drawn → ℕ → Rect
+abbrev pub outline_at : PlainLevel → PlainPlan → Orders → LevelDrawing → ℕ → Rect
 outline_at l p o d c =
     record {
       x = (box_place l p o d c).x +ℤ (outline l p o c).x;
@@ -42,7 +42,7 @@ outline_at l p o d c =
       height = (outline l p o c).height;
     }
 
-abbrev pub stage : PlainLevel → PlainPlan → Orders → Drawn → Stage
+abbrev pub stage : PlainLevel → PlainPlan → Orders → LevelDrawing → Stage
 stage l p o d =
     record {
       layers = p.layers;

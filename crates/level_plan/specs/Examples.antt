@@ -21,7 +21,7 @@ use Rattle.level_plan.specs.Level.{PlainLevel, PlainPlan, Orders, dock_of, end_a
 use Rattle.level_plan.specs.Lanes.{lanes, body_top, unit_height}
 use Rattle.level_plan.specs.Nets.{nets_in, column_width, gap_left, gap_width}
 use Rattle.level_plan.specs.Traces.{steps_of}
-use Rattle.level_plan.specs.FromPlan.{Drawn}
+use Rattle.level_plan.specs.FromPlan.{LevelDrawing}
 use Rattle.level_plan.specs.Drawing.{stage}
 use Rattle.level_plan.specs.Law.{IsPart}
 use Rattle.route_lines.specs.Tidied.{EachSegment}
@@ -132,7 +132,7 @@ pub record WestPort : Type 0 where
       ≡ at 10 40 ∷ at 10 40 ∷ at 0 40 ∷ at 0 15 ∷ at 10 15 ∷ at 50 15 ∷ at 70 15 ∷ at 70 15 ∷ []
 
 -- the drawing of that level, as far as pieces of routes read it
-abbrev pub west_drawn : Drawn
+abbrev pub west_drawn : LevelDrawing
 west_drawn =
     record {
       gaps = west_gaps;

@@ -19,7 +19,7 @@ pub record PlainTrace : Type 0 where
   pub end : Point
 
 -- what is drawn, and how far the level was moved to begin at 0
-pub record Drawn : Type 0 where
+pub record LevelDrawing : Type 0 where
   pub gaps : List PlainGap
   pub traces : List PlainTrace
   pub boxes : List Point
@@ -33,7 +33,7 @@ abbrev pub counts : List PlainGap → ℕ → ℕ
 counts gaps g = (gap_in gaps g).count
 
 -- a gap: its borders and slots by the widths left of it, its nets, and their free routes
-pub record IsGap (l : PlainLevel) (p : PlainPlan) (o : Orders) (d : Drawn) (g : ℕ) : Type 0 where
+pub record IsGap (l : PlainLevel) (p : PlainPlan) (o : Orders) (d : LevelDrawing) (g : ℕ) : Type 0 where
   pub left : (gap_in d.gaps g).left ≡ gap_left l p o (counts d.gaps) g -ℤ d.left
   pub first : (gap_in d.gaps g).first ≡ (gap_in d.gaps g).left +ℤ first_slot l g
   pub step : (gap_in d.gaps g).step ≡ l.spacing.edge_edge_layers
@@ -42,26 +42,26 @@ pub record IsGap (l : PlainLevel) (p : PlainPlan) (o : Orders) (d : Drawn) (g : 
   pub free : GapFree (gap_in d.gaps g).nets (gap_in d.gaps g).count (gap_in d.gaps g).routes
 
 -- the place of a child's box: its outline flush at the left of its column, its top by its unit
-abbrev pub box_place : PlainLevel → PlainPlan → Orders → Drawn → ℕ → Point
+abbrev pub box_place : PlainLevel → PlainPlan → Orders → LevelDrawing → ℕ → Point
 box_place l p o d c =
     record { x = (gap_in d.gaps (layer_of_child p c)).right -ℤ (outline l p o c).x; y = box_top l p o c -ℤ d.top }
 
 -- the anchor of an end
-abbrev pub anchor : PlainLevel → PlainPlan → Orders → Drawn → End → Point
+abbrev pub anchor : PlainLevel → PlainPlan → Orders → LevelDrawing → End → Point
 anchor l p o d n =
     moved_by (point_rect (box_place l p o d (spoke l n).child)) (anchor_of_spot l o (spoke l n).child (spot_of l p n))
 
 abbrev pub point_or : List Point → ℕ → Point
 point_or ps i = slice_index_or ps i (record { x = pos 0; y = pos 0 })
 
-abbrev pub trace_at : Drawn → ℕ → PlainTrace
+abbrev pub trace_at : LevelDrawing → ℕ → PlainTrace
 trace_at d e = slice_index_or d.traces e (record { start = record { x = pos 0; y = pos 0 }; steps = []; end = record { x = pos 0; y = pos 0 } })
 
-abbrev pub section_at : Drawn → ℕ → Section
+abbrev pub section_at : LevelDrawing → ℕ → Section
 section_at d e = slice_index_or d.sections e (record { start = record { x = pos 0; y = pos 0 }; bends = []; end = record { x = pos 0; y = pos 0 } })
 
 -- a trace from the source's anchor to the target's, and a section with its tidied points
-pub record IsRoute (l : PlainLevel) (p : PlainPlan) (o : Orders) (d : Drawn) (e : ℕ) : Type 0 where
+pub record IsRoute (l : PlainLevel) (p : PlainPlan) (o : Orders) (d : LevelDrawing) (e : ℕ) : Type 0 where
   pub start : (trace_at d e).start ≡ anchor l p o d (end_at e true)
   pub steps : (trace_at d e).steps ≡ steps_of l p o d.top e
   pub end : (trace_at d e).end ≡ anchor l p o d (end_at e false)
@@ -70,12 +70,12 @@ pub record IsRoute (l : PlainLevel) (p : PlainPlan) (o : Orders) (d : Drawn) (e 
   pub section : IsSectionOf points (section_at d e)
 
 -- a child's box and its ports within it
-pub record IsPlaced (l : PlainLevel) (p : PlainPlan) (o : Orders) (d : Drawn) (c : ℕ) : Type 0 where
+pub record IsPlaced (l : PlainLevel) (p : PlainPlan) (o : Orders) (d : LevelDrawing) (c : ℕ) : Type 0 where
   pub box : point_or d.boxes c ≡ box_place l p o d c
   pub as_many : length (slice_index_or d.ports c []) ≡ length (child_at l c).ports
   pub ports : (k : ℕ) → k < length (child_at l c).ports → point_or (slice_index_or d.ports c []) k ≡ port_place l p o c k
 
-pub record IsDrawnFrom (l : PlainLevel) (p : PlainPlan) (o : Orders) (d : Drawn) : Type 0 where
+pub record IsDrawnFrom (l : PlainLevel) (p : PlainPlan) (o : Orders) (d : LevelDrawing) : Type 0 where
   pub gap_count : length d.gaps ≡ p.layers + 1
   pub gaps : (g : ℕ) → g < length d.gaps → IsGap l p o d g
   pub box_count : length d.boxes ≡ length l.children

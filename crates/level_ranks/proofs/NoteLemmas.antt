@@ -14,7 +14,7 @@ use Rattle.port_order.specs.Order.{IsOrderOfSide}
 use Rattle.port_order.specs.Places.{HoldsOnce, place_in}
 use Rattle.port_order.proofs.PlaceLemmas.{place_is}
 use Rattle.elk_layers.specs.Places.{IsOnce, NotesFirst}
-use Rattle.level_ends.specs.Rows.{AreNumbered}
+use Rattle.level_ends.specs.Rows.{AreCounted}
 use Rattle.level_ends.proofs.DockLemmas.{in_order, order_few, order_once, order_within}
 use Rattle.level_nets.proofs.ListLemmas.{filter_short}
 use Rattle.level_ranks.specs.declared.ports.PortAt.{PortAt}
@@ -45,7 +45,7 @@ noted_few old order new bound short few notes k =
     (held_or order k)
 
 module _ (c : Child) (spots : List Spot) (are : ArePortSpots c spots) where
-  pub numbered : AreNumbered spots
+  pub numbered : AreCounted spots
   numbered k h = let many = are.as_many in are.ports.number_is k (omega (arith, h, many))
 
   pub within : (side : Side) (order old : List ℕ) → IsOrderOfSide c side spots order → length old ≡ length spots → All (λ n. n < length old) order

@@ -5,7 +5,7 @@ use Rattle.std.proofs.lemmas.List.{get_or-map, get_or-set_other, get_or-set_same
 use Rattle.elk_doc.specs.Level.{is_number}
 use Rattle.elk_doc.specs.Numbers.{numbers_below, count_below}
 use Rattle.elk_doc.proofs.NumberLaws.{numbers_below-more, numbers_below-same, length-numbers_below, count_below-suc, count_below-suc_same}
-use Rattle.level_reading.specs.Grouping.{AreGrouped, ArePlaced, key_at, is_in, row_at, rows_in}
+use Rattle.level_reading.specs.Grouping.{AreGrouped, ArePlacesIn, key_at, is_in, row_at, rows_in}
 
 -- one element more of a list that is gone through
 pub map_next : {X Y : Type 0} (f : X → Y) (xs : List X) (done : List Y) (i : ℕ) (d : X) (y : Y) → done ≡ map f (take i xs) → i < length xs → y ≡ f (get_or xs i d) → done ++ y ∷ [] ≡ map f (take (i + 1) xs)
@@ -95,12 +95,12 @@ group_few keys n k rows there hold =
     let few = count_few (is_in keys k) n in
     omega (arith, long, many, few)
 
-pub none_placed : (keys : List (Option ℕ)) (places : List ℕ) → places ≡ [] → ArePlaced keys 0 places
+pub none_placed : (keys : List (Option ℕ)) (places : List ℕ) → places ≡ [] → ArePlacesIn keys 0 places
 none_placed keys places e = record { as_many = ap length e; each = λ i k h. absurd (omega (arith, h)) }
 
 pub placed_more : (keys : List (Option ℕ)) (n place : ℕ) (rows : List (List ℕ)) (places new : List ℕ) → ((k : ℕ) → key_at keys n ≡ Some k → k < length rows) → AreGrouped keys n rows
     → ((k : ℕ) → key_at keys n ≡ Some k → place ≡ length (row_at rows k)) → new ≡ places ++ place ∷ []
-    → ArePlaced keys n places → ArePlaced keys (n + 1) new
+    → ArePlacesIn keys n places → ArePlacesIn keys (n + 1) new
 placed_more keys n place rows places new there hold is pushed are =
     let many = are.as_many in
     record {

@@ -24,7 +24,7 @@ abbrev pub AreGrouped : List (Option ℕ) → ℕ → List (List ℕ) → Type 0
 AreGrouped keys n rows = (k : ℕ) → k < length rows → row_at rows k ≡ numbers_below (is_in keys k) n
 
 -- each number below n that has a group has its place there
-pub record ArePlaced (keys : List (Option ℕ)) (n : ℕ) (places : List ℕ) : Type 0 where
+pub record ArePlacesIn (keys : List (Option ℕ)) (n : ℕ) (places : List ℕ) : Type 0 where
   pub as_many : length places ≡ n
   pub each : (i k : ℕ) → i < n → key_at keys i ≡ Some k → slice_index places i ≡ count_below (is_in keys k) i
 
@@ -32,4 +32,4 @@ pub record ArePlaced (keys : List (Option ℕ)) (n : ℕ) (places : List ℕ) : 
 pub record IsGrouping (keys : List (Option ℕ)) (count : ℕ) (g : Groups) : Type 0 where
   pub as_many : length g.rows.items ≡ count
   pub rows : AreGrouped keys (length keys) (rows_in g.rows.items)
-  pub placed : ArePlaced keys (length keys) g.places.items
+  pub placed : ArePlacesIn keys (length keys) g.places.items

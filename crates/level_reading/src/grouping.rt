@@ -1,6 +1,6 @@
 //! Numbers in groups by their keys, in one pass.
 ghost use Rattle.std.specs.Prelude.{◌≡◌, ℕ, ◌<◌, ◌≤◌, ◌^◌, ◌+◌, ◌++◌, ◌∷◌, [], List, Option, None, Some, length, slice_index, slice_index_or, slice_set, IfOk, OnOk};
-ghost use Rattle.level_reading.specs.Grouping.{AreGrouped, ArePlaced, IsGrouping, key_at, row_at, rows_in};
+ghost use Rattle.level_reading.specs.Grouping.{AreGrouped, ArePlacesIn, IsGrouping, key_at, row_at, rows_in};
 
 use std::alloc::{AllocError, Global};
 
@@ -76,7 +76,7 @@ fn fill(alloc: Global, keys: &[Option<u32>], rows: &mut [Vec<u32>]) -> Result<Ve
     requires there { (i k : ℕ) → i < length keys.now → key_at keys.now i ≡ Some k → k < length rows.old }
     requires few { length keys.now ≤ 2 ^ 13 }
     requires empty { AreGrouped keys.now 0 (rows_in rows.old) }
-    ensures placed { IfOk result (λ places. ArePlaced keys.now (length keys.now) places.items) }
+    ensures placed { IfOk result (λ places. ArePlacesIn keys.now (length keys.now) places.items) }
     ensures grouped { OnOk result (AreGrouped keys.now (length keys.now) (rows_in rows.new)) }
 {
     let mut places = Vec::with_capacity(alloc, keys.len())?;

@@ -15,7 +15,7 @@ use Rattle.level_plan.specs.Level.{PlainLevel, PlainPlan, Orders, spoke, tail_en
 use Rattle.level_plan.specs.Nets.{of_link, unit_of, line_of_end, tail_line, head_line, gap_of, names_in, place_of_name}
 use Rattle.level_plan.specs.Traces.{lane_step, leg_step, links_at, links_from, chain, chain_steps, turned_step, turned_steps}
 use Rattle.level_plan.specs.Units.{IsLaneUnit, HasChain}
-use Rattle.level_plan.specs.FromPlan.{Drawn, IsDrawnFrom}
+use Rattle.level_plan.specs.FromPlan.{LevelDrawing, IsDrawnFrom}
 use Rattle.level_plan.specs.Drawing.{stage, is_in_use}
 use Rattle.level_stands.specs.Ready.{IsReady}
 use Rattle.level_stands.proofs.Lists.{Has, filter_has, append_has, range_has}
@@ -112,11 +112,11 @@ turned_two a b xs ts =
 abbrev pub StartsWithLeg : List Step → Type 0
 StartsWithLeg xs = (g : ℕ) × (n : ℕ) × (t : Bool) × (rest : List Step) × (xs ≡ Leg g n t ∷ rest)
 
-pub chain_first : (l : PlainLevel) (p : PlainPlan) (o : Orders) (d : Drawn) (k : ℕ) (ks : List ℕ) (ts : List Step) → StartsWithLeg (chain_steps l p o d.top (k ∷ ks) ++ ts)
+pub chain_first : (l : PlainLevel) (p : PlainPlan) (o : Orders) (d : LevelDrawing) (k : ℕ) (ks : List ℕ) (ts : List Step) → StartsWithLeg (chain_steps l p o d.top (k ∷ ks) ++ ts)
 chain_first l p o d k [] ts = (_, _, _, _, refl)
 chain_first l p o d k (j ∷ ks) ts = (_, _, _, _, refl)
 
-pub turned_first : (l : PlainLevel) (p : PlainPlan) (o : Orders) (d : Drawn) (k : ℕ) (ks : List ℕ) (ts : List Step) → StartsWithLeg (turned_steps (chain_steps l p o d.top (k ∷ ks)) ++ ts)
+pub turned_first : (l : PlainLevel) (p : PlainPlan) (o : Orders) (d : LevelDrawing) (k : ℕ) (ks : List ℕ) (ts : List Step) → StartsWithLeg (turned_steps (chain_steps l p o d.top (k ∷ ks)) ++ ts)
 turned_first l p o d k [] ts = (_, _, _, _, refl)
 turned_first l p o d k (j ∷ ks) ts =
     subst StartsWithLeg (sym (turned_two (leg_step l p o (of_link k) true) (lane_step l p o d.top (long_lane (link_at p.layered.links k).head)) (chain_steps l p o d.top (j ∷ ks)) ts))
@@ -125,18 +125,18 @@ turned_first l p o d k (j ∷ ks) ts =
 -- ---- the lines of a link
 
 -- the line of a link's tail, and of its head
-pub record IsTailLine (l : PlainLevel) (p : PlainPlan) (o : Orders) (d : Drawn) (k : ℕ) (m : Line) : Type 0 where
+pub record IsTailLine (l : PlainLevel) (p : PlainPlan) (o : Orders) (d : LevelDrawing) (k : ℕ) (m : Line) : Type 0 where
   pub line : tail_line l p o k ≡ m
   pub unit : unit_of_line (stage l p o d) m ≡ (link_at p.layered.links k).tail
   pub reaches : Reaches East m
 
-pub record IsHeadLine (l : PlainLevel) (p : PlainPlan) (o : Orders) (d : Drawn) (k : ℕ) (m : Line) : Type 0 where
+pub record IsHeadLine (l : PlainLevel) (p : PlainPlan) (o : Orders) (d : LevelDrawing) (k : ℕ) (m : Line) : Type 0 where
   pub line : head_line l p o k ≡ m
   pub unit : unit_of_line (stage l p o d) m ≡ (link_at p.layered.links k).head
   pub reaches : Reaches West m
 
 -- at a lane of a long edge
-tail_at_lane : (l : PlainLevel) (p : PlainPlan) (o : Orders) (d : Drawn) (k j : ℕ) → Leads p k j → IsTailLine l p o d j (long_lane (link_at p.layered.links k).head)
+tail_at_lane : (l : PlainLevel) (p : PlainPlan) (o : Orders) (d : LevelDrawing) (k j : ℕ) → Leads p k j → IsTailLine l p o d j (long_lane (link_at p.layered.links k).head)
 tail_at_lane l p o d k j w =
     let none : is_child p.layered (link_at p.layered.links j).tail ≡ false = ap (is_child p.layered) (sym w.0) ∙ ap is_some w.1.no_child in
     record {
@@ -145,7 +145,7 @@ tail_at_lane l p o d k j w =
       reaches = tt;
     }
 
-head_at_lane : (l : PlainLevel) (p : PlainPlan) (o : Orders) (d : Drawn) (k j : ℕ) → Leads p k j → IsHeadLine l p o d k (long_lane (link_at p.layered.links k).head)
+head_at_lane : (l : PlainLevel) (p : PlainPlan) (o : Orders) (d : LevelDrawing) (k j : ℕ) → Leads p k j → IsHeadLine l p o d k (long_lane (link_at p.layered.links k).head)
 head_at_lane l p o d k j w =
     let none : is_child p.layered (link_at p.layered.links k).head ≡ false = ap is_some w.1.no_child in
     record {
@@ -154,7 +154,7 @@ head_at_lane l p o d k j w =
       reaches = tt;
     }
 
-module _ (l : PlainLevel) (p : PlainPlan) (o : Orders) (d : Drawn) (layers : List ℕ) (ready : IsReady l p o layers) (drawn : IsDrawnFrom l p o d) (st : Stands (stage l p o d)) (e : ℕ) where
+module _ (l : PlainLevel) (p : PlainPlan) (o : Orders) (d : LevelDrawing) (layers : List ℕ) (ready : IsReady l p o layers) (drawn : IsDrawnFrom l p o d) (st : Stands (stage l p o d)) (e : ℕ) where
   -- both lines of a link are in use
   pub tail_in_use : (k : ℕ) (m : Line) → IsLinkOf p e k → IsTailLine l p o d k m → InUse (stage l p o d) e m
   tail_in_use k m own tail = subst (λ z. is_in_use l p o e z ≡ true) tail.line (subst (λ f. is_in_use l p o f (tail_line l p o k) ≡ true) own.1 (a_in_use l p o (of_link k) (link_named l p o k own.0)))

@@ -19,7 +19,7 @@ use Rattle.level_plan.specs.Nets.{Name, of_link, of_dock, inverts, is_inverted, 
 use Rattle.level_plan.specs.Nets as nets
 use Rattle.level_plan.specs.Traces.{leaving, entering, chain, chain_steps, oriented_steps, turned_steps, loop_steps, steps_of}
 use Rattle.level_plan.specs.Lanes.{has_one_dock}
-use Rattle.level_plan.specs.FromPlan.{Drawn, IsDrawnFrom}
+use Rattle.level_plan.specs.FromPlan.{LevelDrawing, IsDrawnFrom}
 use Rattle.level_plan.specs.Drawing.{stage}
 use Rattle.level_stands.specs.Ready.{IsReady}
 use Rattle.level_rules.proofs.Doors.{side_at, gap_beside, Joins, Arrives, Departs, leg, leg_back, lane}
@@ -67,23 +67,23 @@ not_not true = refl
 not_not false = refl
 
 -- steps of ends, the other way
-turned_leaving : (l : PlainLevel) (p : PlainPlan) (o : Orders) (d : Drawn) (n : End) (inverted upright : Bool) → turned_steps (leaving l p o d.top n inverted upright) ≡ entering l p o d.top n inverted upright
+turned_leaving : (l : PlainLevel) (p : PlainPlan) (o : Orders) (d : LevelDrawing) (n : End) (inverted upright : Bool) → turned_steps (leaving l p o d.top n inverted upright) ≡ entering l p o d.top n inverted upright
 turned_leaving l p o d n true upright = refl
 turned_leaving l p o d n false true = refl
 turned_leaving l p o d n false false = refl
 
-turned_entering : (l : PlainLevel) (p : PlainPlan) (o : Orders) (d : Drawn) (n : End) (inverted upright : Bool) → turned_steps (entering l p o d.top n inverted upright) ≡ leaving l p o d.top n inverted upright
+turned_entering : (l : PlainLevel) (p : PlainPlan) (o : Orders) (d : LevelDrawing) (n : End) (inverted upright : Bool) → turned_steps (entering l p o d.top n inverted upright) ≡ leaving l p o d.top n inverted upright
 turned_entering l p o d n true upright = refl
 turned_entering l p o d n false true = refl
 turned_entering l p o d n false false = refl
 
-abbrev leaving_end : PlainLevel → PlainPlan → Orders → Drawn → End → List Step
+abbrev leaving_end : PlainLevel → PlainPlan → Orders → LevelDrawing → End → List Step
 leaving_end l p o d n = leaving l p o d.top n (is_inverted l p o n) (is_upright (dock_of l p o n).side)
 
-abbrev entering_end : PlainLevel → PlainPlan → Orders → Drawn → End → List Step
+abbrev entering_end : PlainLevel → PlainPlan → Orders → LevelDrawing → End → List Step
 entering_end l p o d n = entering l p o d.top n (is_inverted l p o n) (is_upright (dock_of l p o n).side)
 
-module _ (l : PlainLevel) (p : PlainPlan) (o : Orders) (d : Drawn) (layers : List ℕ) (ready : IsReady l p o layers) (drawn : IsDrawnFrom l p o d) (st : Stands (stage l p o d)) (e : ℕ) (h : e < length l.edges) (loop : is_loop l e ≡ false) where
+module _ (l : PlainLevel) (p : PlainPlan) (o : Orders) (d : LevelDrawing) (layers : List ℕ) (ready : IsReady l p o layers) (drawn : IsDrawnFrom l p o d) (st : Stands (stage l p o d)) (e : ℕ) (h : e < length l.edges) (loop : is_loop l e ≡ false) where
   abbrev here : Bool → Dock
   here t = dock_of l p o (end_at e t)
 

@@ -18,7 +18,7 @@ use Rattle.level_plan.proofs.Sharing.{sharing_law, some_map}
 use Rattle.level_plan.proofs.Zones.{turned_share}
 use Rattle.level_plan.specs.Level.{PlainLevel, PlainPlan, Orders, end_at, dock_of, child_at, edge_at, is_loop}
 use Rattle.level_plan.specs.Lanes.{has_one_dock, dock_eq}
-use Rattle.level_plan.specs.FromPlan.{Drawn, IsDrawnFrom, anchor, point_or, section_at, trace_at}
+use Rattle.level_plan.specs.FromPlan.{LevelDrawing, IsDrawnFrom, anchor, point_or, section_at, trace_at}
 use Rattle.level_plan.specs.Drawing.{stage}
 use Rattle.level_plan.specs.Traces.{steps_of}
 use Rattle.level_stands.specs.Apart.{drawn_box, drawn_outline}
@@ -74,7 +74,7 @@ both_ends : (P : Bool → Type 0) → P true → P false → (t : Bool) → P t
 both_ends P x y true = x
 both_ends P x y false = y
 
-module _ (l : PlainLevel) (p : PlainPlan) (o : Orders) (d : Drawn) (drawn : IsDrawnFrom l p o d) (st : Stands (stage l p o d)) (children : (c : ℕ) → c < length l.children → ChildStands (stage l p o d) c) (lawful : HasLawfulRoutes l p o d) where
+module _ (l : PlainLevel) (p : PlainPlan) (o : Orders) (d : LevelDrawing) (drawn : IsDrawnFrom l p o d) (st : Stands (stage l p o d)) (children : (c : ℕ) → c < length l.children → ChildStands (stage l p o d) c) (lawful : HasLawfulRoutes l p o d) where
   abbrev s : Stage
   s = stage l p o d
 

@@ -14,7 +14,7 @@ use Rattle.level_plan.specs.Level.{PlainLevel, PlainPlan, Orders, end_at, edge_a
 use Rattle.level_plan.specs.Lanes.{dock_eq, has_one_dock, loop_sides}
 use Rattle.level_plan.specs.Nets.{of_loop, lane_side_of_end, loop_line, unit_of, gap_of, names_in, place_of_name}
 use Rattle.level_plan.specs.Traces.{lane_step, leg_step, loop_steps}
-use Rattle.level_plan.specs.FromPlan.{Drawn, IsDrawnFrom}
+use Rattle.level_plan.specs.FromPlan.{LevelDrawing, IsDrawnFrom}
 use Rattle.level_plan.specs.Drawing.{stage}
 use Rattle.level_stands.specs.Ready.{IsReady}
 use Rattle.level_stands.proofs.Lists.{Has}
@@ -25,7 +25,7 @@ use Rattle.level_rules.proofs.NetNames.{passes, loop_named, joins}
 use Rattle.level_rules.proofs.Edges.{not_not}
 use Rattle.level_rules.proofs.RouteEnds.{plain_end, upright_loop, loop_node}
 
-module _ (l : PlainLevel) (p : PlainPlan) (o : Orders) (d : Drawn) (layers : List ℕ) (ready : IsReady l p o layers) (drawn : IsDrawnFrom l p o d) (st : Stands (stage l p o d)) (e : ℕ) (h : e < length l.edges) (loop : is_loop l e ≡ true) (two : has_one_dock l p o e ≡ false) where
+module _ (l : PlainLevel) (p : PlainPlan) (o : Orders) (d : LevelDrawing) (layers : List ℕ) (ready : IsReady l p o layers) (drawn : IsDrawnFrom l p o d) (st : Stands (stage l p o d)) (e : ℕ) (h : e < length l.edges) (loop : is_loop l e ≡ true) (two : has_one_dock l p o e ≡ false) where
   abbrev here : Bool → Dock
   here t = dock_of l p o (end_at e t)
 

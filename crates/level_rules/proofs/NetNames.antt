@@ -14,7 +14,7 @@ use Rattle.level_plan.specs.Stage.{Line, loop_lane, unit_of_line, InUse, Reaches
 use Rattle.level_plan.specs.Level.{PlainLevel, PlainPlan, Orders, End, end_at, is_loop, end_eq, ends_of_edges, all_ends, dock_of}
 use Rattle.level_plan.specs.Lanes.{line_eq, has_one_dock, loop_sides}
 use Rattle.level_plan.specs.Nets.{Name, of_link, of_dock, of_loop, name_eq, is_inverted, if_passed, loop_names, all_names, gap_of, edge_of, a_line, b_line, a_on_left, b_on_left, net_of, names_in, place_of_name}
-use Rattle.level_plan.specs.FromPlan.{Drawn, IsDrawnFrom}
+use Rattle.level_plan.specs.FromPlan.{LevelDrawing, IsDrawnFrom}
 use Rattle.level_plan.specs.Drawing.{stage, name_at, is_anchor_line, is_in_use}
 use Rattle.level_stands.proofs.Lists.{Has, has_filter, has_map, has_left, has_right, has_range, has_any}
 use Rattle.level_stands.proofs.FirstPlaces as places
@@ -137,7 +137,7 @@ module _ (l : PlainLevel) (p : PlainPlan) (o : Orders) where
 
   -- ---- a net in the drawing
 
-  module _ (d : Drawn) (drawn : IsDrawnFrom l p o d) (st : Stands (stage l p o d)) where
+  module _ (d : LevelDrawing) (drawn : IsDrawnFrom l p o d) (st : Stands (stage l p o d)) where
     abbrev number : Name → ℕ
     number n = place_of_name (names_in l p o (gap_of l p o n)) n
 

@@ -15,7 +15,7 @@ use Rattle.level_plan.specs.Law.{IsNorthOrSouth}
 use Rattle.level_plan.specs.Level.{PlainLevel, PlainPlan, Orders, end_at, edge_at, is_loop, dock_of, outline}
 use Rattle.level_plan.specs.Lanes.{line_eq, lanes, lanes_room, lane_side, lane_height, loop_lane_height, place_of_line, body_top, loop_sides}
 use Rattle.level_plan.specs.Nets.{a_line, b_line, all_names, edge_of, unit_of, unit_of_line, box_below, below_top}
-use Rattle.level_plan.specs.FromPlan.{Drawn}
+use Rattle.level_plan.specs.FromPlan.{LevelDrawing}
 use Rattle.level_plan.specs.Drawing.{stage, is_anchor_line, is_in_use}
 use Rattle.level_stands.specs.Ready.{IsReady}
 use Rattle.level_stands.proofs.Lists.{Has, has_any}
@@ -46,7 +46,7 @@ not_upright : (b : Bool) (side : Side) → side ≡ side_at b → is_upright sid
 not_upright true side e = ap is_upright e
 not_upright false side e = ap is_upright e
 
-module _ (l : PlainLevel) (p : PlainPlan) (o : Orders) (d : Drawn) where
+module _ (l : PlainLevel) (p : PlainPlan) (o : Orders) (d : LevelDrawing) where
   -- an anchor on the east or west side is in use
   anchor_in_use : (e : ℕ) (t : Bool) → e < length l.edges → is_upright (dock_of l p o (end_at e t)).side ≡ false → is_in_use l p o e (anchor_line (dock_of l p o (end_at e t))) ≡ true
   anchor_in_use e t h level =

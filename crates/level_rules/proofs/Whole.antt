@@ -10,7 +10,7 @@ use Rattle.level_plan.specs.Law.{IsLawful}
 use Rattle.level_plan.specs.Level.{PlainLevel, PlainPlan, Orders, end_at, is_loop, holds, dock_of}
 use Rattle.level_plan.specs.Lanes.{has_one_dock}
 use Rattle.level_plan.specs.Traces.{loop_steps, oriented_steps, turned_steps, steps_of}
-use Rattle.level_plan.specs.FromPlan.{Drawn, IsDrawnFrom, IsRoute, anchor, trace_at}
+use Rattle.level_plan.specs.FromPlan.{LevelDrawing, IsDrawnFrom, IsRoute, anchor, trace_at}
 use Rattle.level_plan.specs.Drawing.{stage}
 use Rattle.level_stands.specs.Ready.{IsReady}
 use Rattle.level_stands.proofs.SameLines.{dock_eq-same}
@@ -22,14 +22,14 @@ use Rattle.level_rules.proofs.Loops.{loop_way}
 use Rattle.level_rules.proofs.LawPointLoops.{point_lawful}
 
 -- the points of a route are those of its edge's steps, tidied
-route_tidied : (l : PlainLevel) (p : PlainPlan) (o : Orders) (d : Drawn) (e : ℕ) (r : IsRoute l p o d e)
+route_tidied : (l : PlainLevel) (p : PlainPlan) (o : Orders) (d : LevelDrawing) (e : ℕ) (r : IsRoute l p o d e)
     → IsTidied (trace_points d.gaps (anchor l p o d (end_at e true)) (steps_of l p o d.top e) (anchor l p o d (end_at e false))) r.points
 route_tidied l p o d e r =
     subst (λ z. IsTidied (trace_points d.gaps (anchor l p o d (end_at e true)) (steps_of l p o d.top e) z) r.points) r.end
     (subst (λ xs. IsTidied (trace_points d.gaps (anchor l p o d (end_at e true)) xs (trace_at d e).end) r.points) r.steps
     (subst (λ a. IsTidied (trace_points d.gaps a (trace_at d e).steps (trace_at d e).end) r.points) r.start r.tidied))
 
-lawful_loop : (l : PlainLevel) (p : PlainPlan) (o : Orders) (d : Drawn) (layers : List ℕ) (ready : IsReady l p o layers) (drawn : IsDrawnFrom l p o d) (st : Stands (stage l p o d)) (e : ℕ) (h : e < length l.edges) (loop : is_loop l e ≡ true)
+lawful_loop : (l : PlainLevel) (p : PlainPlan) (o : Orders) (d : LevelDrawing) (layers : List ℕ) (ready : IsReady l p o layers) (drawn : IsDrawnFrom l p o d) (st : Stands (stage l p o d)) (e : ℕ) (h : e < length l.edges) (loop : is_loop l e ≡ true)
     → (points : List Point) → IsTidied (trace_points d.gaps (anchor l p o d (end_at e true)) (steps_of l p o d.top e) (anchor l p o d (end_at e false))) points → IsLawful (stage l p o d) e points
 lawful_loop l p o d layers ready drawn st e h loop points t =
     let two_docks : List Step = loop_steps l p o d.top e (dock_of l p o (end_at e true)).side (dock_of l p o (end_at e false)).side in

@@ -10,7 +10,7 @@ use Rattle.route_lines.specs.Points.{PlainGap, gap_in, trace_points}
 use Rattle.route_lines.specs.Tidied.{IsTidied, IsSectionOf}
 use Rattle.level_plan.specs.Level.{PlainLevel, PlainPlan, Orders, End, end_at, spoke, spot_of, anchor_of_spot, outline}
 use Rattle.level_plan.specs.Nets.{gap_left, gap_width, first_slot, column_width, layer_of_child, box_top}
-use Rattle.level_plan.specs.FromPlan.{Drawn, counts, IsGap, IsRoute, IsPlaced, IsDrawnFrom, box_place, anchor, trace_at, section_at}
+use Rattle.level_plan.specs.FromPlan.{LevelDrawing, counts, IsGap, IsRoute, IsPlaced, IsDrawnFrom, box_place, anchor, trace_at, section_at}
 use Rattle.level_shift.specs.Moved.{moved, moved_point, moved_net, moved_step, moved_gap, moved_trace, moved_section, HasPlaces}
 use Rattle.level_shift.proofs.GapMoves.{gap_moves}
 use Rattle.elk_doc.proofs.ShapeLaws.{same_point}
@@ -23,8 +23,8 @@ left_same l p o c c' same zero = refl
 left_same l p o c c' same (suc g) =
     ap₂ (λ (a : ℤ) (n : ℕ). a +ℤ gap_width l p g n +ℤ column_width l p o g) (left_same l p o c c' same g) (same g)
 
-module _ (l : PlainLevel) (p : PlainPlan) (o : Orders) (d : Drawn) (x y : ℤ) (has : HasPlaces l p) (drawn : IsDrawnFrom l p o d) where
-  abbrev d' : Drawn
+module _ (l : PlainLevel) (p : PlainPlan) (o : Orders) (d : LevelDrawing) (x y : ℤ) (has : HasPlaces l p) (drawn : IsDrawnFrom l p o d) where
+  abbrev d' : LevelDrawing
   d' = moved x y d
 
   many_gaps : length d'.gaps ≡ length d.gaps

@@ -11,7 +11,7 @@ use Rattle.route_lines.specs.declared.Step.TheVariants.{Lane, Leg}
 use Rattle.route_lines.specs.Points.{PlainGap}
 use Rattle.level_plan.specs.Level.{PlainLevel, PlainPlan, Orders, end_at, spoke}
 use Rattle.level_plan.specs.Nets.{layer_of_child}
-use Rattle.level_plan.specs.FromPlan.{Drawn, PlainTrace, IsDrawnFrom}
+use Rattle.level_plan.specs.FromPlan.{LevelDrawing, PlainTrace, IsDrawnFrom}
 
 abbrev pub moved_point : ℤ → ℤ → Point → Point
 moved_point x y p = record { x = p.x -ℤ x; y = p.y -ℤ y }
@@ -52,7 +52,7 @@ moved_section x y s =
     record { start = moved_point x y s.start; bends = map (moved_point x y) s.bends; end = moved_point x y s.end }
 
 -- The drawing: its ports are places within their children, so they stay.
-abbrev pub moved : ℤ → ℤ → Drawn → Drawn
+abbrev pub moved : ℤ → ℤ → LevelDrawing → LevelDrawing
 moved x y d =
     record {
       gaps = map (moved_gap x y) d.gaps;
@@ -73,4 +73,4 @@ pub record HasPlaces (l : PlainLevel) (p : PlainPlan) : Type 0 where
 -- what is drawn from a plan and moved is drawn from it
 abbrev pub DrawingsMove : Type 0
 DrawingsMove =
-    (l : PlainLevel) (p : PlainPlan) (o : Orders) (d : Drawn) (x y : ℤ) → HasPlaces l p → IsDrawnFrom l p o d → IsDrawnFrom l p o (moved x y d)
+    (l : PlainLevel) (p : PlainPlan) (o : Orders) (d : LevelDrawing) (x y : ℤ) → HasPlaces l p → IsDrawnFrom l p o d → IsDrawnFrom l p o (moved x y d)

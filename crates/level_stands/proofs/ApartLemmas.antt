@@ -16,7 +16,7 @@ use Rattle.elk_layers.specs.Lines.{top_of}
 use Rattle.port_order.specs.Child.{port_at}
 use Rattle.level_plan.specs.Level.{PlainLevel, PlainPlan, Orders, child_at, port_place, outline_from}
 use Rattle.level_plan.specs.Nets.{unit_of, layer_of_child, column_width}
-use Rattle.level_plan.specs.FromPlan.{Drawn, box_place, IsPlaced, IsDrawnFrom}
+use Rattle.level_plan.specs.FromPlan.{LevelDrawing, box_place, IsPlaced, IsDrawnFrom}
 use Rattle.level_plan.specs.Drawing.{outline_at}
 use Rattle.level_stands.specs.Ready.{IsReady}
 use Rattle.level_stands.specs.Apart.{drawn_box, drawn_port, drawn_outline_from, OutlinesAreDrawn, ChildrenApart, ChildrenKeepApart}
@@ -53,7 +53,7 @@ at_corner b s = same_rect _ _ (nothing b.x) (nothing b.y) refl refl
     nothing : (z : ℤ) → z ≡ z +ℤ pos 0
     nothing z = omega (arith, ints)
 
-module _ (l : PlainLevel) (p : PlainPlan) (o : Orders) (d : Drawn) (c : ℕ) (placed : IsPlaced l p o d c) where
+module _ (l : PlainLevel) (p : PlainPlan) (o : Orders) (d : LevelDrawing) (c : ℕ) (placed : IsPlaced l p o d c) where
   outline_moved : (ks : List ℕ) → ((k : ℕ) → Has ks k → k < length (child_at l c).ports) → drawn_outline_from l d c ks ≡ moved (box_place l p o d c) (outline_from l p o c ks)
   outline_moved [] known = ap (λ b. rect_at b (child_at l c).size) placed.box ∙ at_corner (box_place l p o d c) (child_at l c).size
   outline_moved (k ∷ ks) known =
@@ -112,7 +112,7 @@ module _ (l : PlainLevel) (p : PlainPlan) (o : Orders) (layers : List ℕ) (read
       has_filter (is_child p.layered) (row_at p.rows (layer_of_child p c)) u
       (subst (Has (row_at p.rows (layer_of_child p c))) at.unit_is (has_at (row_at p.rows (layer_of_child p c)) at.place 0 at.within)) (child_is l p o layers ready c h)
 
-  module _ (d : Drawn) (drawn : IsDrawnFrom l p o d) where
+  module _ (d : LevelDrawing) (drawn : IsDrawnFrom l p o d) where
     outline_above : (b c : ℕ) → b < length l.children → c < length l.children → (body (unit_of p b) +ℤ depth (unit_of p b)) <ℤ body (unit_of p c) → IsAboveBy l.spacing.node_node (outline_at l p o d b) (outline_at l p o d c)
     outline_above b c hb hc less =
         let rb = ready.units.rooms b hb in

@@ -21,7 +21,7 @@ use Rattle.level_plan.specs.Stage.{ChildStands, EndStands, IsInOutline, IsOutwar
 use Rattle.level_plan.specs.Level.{PlainLevel, PlainPlan, Orders, End, end_at, implicit_ends, child_at, spoke, spot_of, spot_at_port, port_spot, implicit_spot, dock_of_spot, anchor_of_spot, outline}
 use Rattle.level_plan.specs.Lanes.{lanes, lanes_room, body_top}
 use Rattle.level_plan.specs.Nets.{unit_of, layer_of_child, widest, column_width}
-use Rattle.level_plan.specs.FromPlan.{Drawn, box_place, IsDrawnFrom}
+use Rattle.level_plan.specs.FromPlan.{LevelDrawing, box_place, IsDrawnFrom}
 use Rattle.level_plan.specs.Drawing.{stage}
 use Rattle.level_stands.specs.Ready.{IsReady}
 use Rattle.level_stands.proofs.Lists.{Has, has_range}
@@ -119,7 +119,7 @@ module _ (l : PlainLevel) (p : PlainPlan) (o : Orders) (layers : List ℕ) (read
       step (Some k) port less = port_anchor_in (spoke l (end_at e t)).child k (child_there e t h) less
       step None port less = implicit_anchor_in (spoke l (end_at e t)).child (end_at e t) (child_there e t h) (at_child l e t h port)
 
-  module _ (d : Drawn) (drawn : IsDrawnFrom l p o d) where
+  module _ (d : LevelDrawing) (drawn : IsDrawnFrom l p o d) where
     pub child_stands : (c : ℕ) → c < length l.children → ChildStands (stage l p o d) c
     child_stands c h =
         let room = ready.units.rooms c h in

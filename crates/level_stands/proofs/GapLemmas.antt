@@ -9,7 +9,7 @@ use Rattle.route_lines.specs.Points.{PlainGap, gap_in}
 use Rattle.level_plan.specs.Stage.{InRow, InGap, IsInner}
 use Rattle.level_plan.specs.Level.{PlainLevel, PlainPlan, Orders, outline}
 use Rattle.level_plan.specs.Nets.{widest, column_width, inner_width, gap_width, first_slot, gap_left, layer_of_child}
-use Rattle.level_plan.specs.FromPlan.{Drawn, counts, IsDrawnFrom}
+use Rattle.level_plan.specs.FromPlan.{LevelDrawing, counts, IsDrawnFrom}
 use Rattle.level_plan.specs.Drawing.{stage}
 use Rattle.level_stands.specs.Laws.{HasColumns}
 use Rattle.level_stands.proofs.Widths.{outer_room, inner_room, within_outer, outer_from_zero, within_inner, inner_above, inner_more}
@@ -113,7 +113,7 @@ wide_gap layers g s from width gap h hs step first right =
       wide_inner = λ l b. left_less _ _ _ right (h.wide_inner l b);
     }
 
-module _ (l : PlainLevel) (p : PlainPlan) (o : Orders) (d : Drawn) (sound : IsSoundSpacing l.spacing) (drawn : IsDrawnFrom l p o d) where
+module _ (l : PlainLevel) (p : PlainPlan) (o : Orders) (d : LevelDrawing) (sound : IsSoundSpacing l.spacing) (drawn : IsDrawnFrom l p o d) where
   there : (g : ℕ) → g < p.layers + 1 → g < length d.gaps
   there g h = let many = drawn.gap_count in omega (arith, h, many)
 

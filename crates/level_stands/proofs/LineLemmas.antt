@@ -14,7 +14,7 @@ use Rattle.level_plan.specs.Stage.{Stage, Line, anchor_line, dock_lane, loop_lan
 use Rattle.level_plan.specs.Level.{PlainLevel, PlainPlan, Orders, end_at, child_at, edge_at, spoke, spot_of, dock_of, dock_of_spot, anchor_of_spot, outline}
 use Rattle.level_plan.specs.Lanes.{lanes, body_top, lane_side}
 use Rattle.level_plan.specs.Nets.{unit_of, unit_of_line, below_top, box_below}
-use Rattle.level_plan.specs.FromPlan.{Drawn}
+use Rattle.level_plan.specs.FromPlan.{LevelDrawing}
 use Rattle.level_plan.specs.Drawing.{stage}
 use Rattle.level_stands.specs.Ready.{IsReady}
 use Rattle.level_stands.proofs.SameLines.{same_dock}
@@ -44,7 +44,7 @@ above_bottom_edge : (t a u z : ℤ) → a ≤ℤ u → ((t +ℤ a) -ℤ z) ≤�
 above_bottom_edge t a u z h = omega (arith, ints, h)
 
 -- the height of a line of the stage, by the unit that the plan gives it
-pub on_unit : (l : PlainLevel) (p : PlainPlan) (o : Orders) (d : Drawn) (m : Line) → unit_on (stage l p o d) m ≡ unit_of_line l p m
+pub on_unit : (l : PlainLevel) (p : PlainPlan) (o : Orders) (d : LevelDrawing) (m : Line) → unit_on (stage l p o d) m ≡ unit_of_line l p m
 on_unit l p o d (anchor_line k) = refl
 on_unit l p o d (dock_lane k) = refl
 on_unit l p o d (loop_lane e side) = refl
@@ -171,7 +171,7 @@ module _ (l : PlainLevel) (p : PlainPlan) (o : Orders) (layers : List ℕ) (read
   lines_differ e f (long_lane u) (loop_lane j t) side h g r q unit height = absurd (no_child_unit u (edge_at l j).source.child h.3 g.2.there unit)
   lines_differ e f (long_lane u) (long_lane v) side h g r q unit height = ap long_lane unit
 
-  module _ (d : Drawn) where
+  module _ (d : LevelDrawing) where
     abbrev s : Stage
     s = stage l p o d
 

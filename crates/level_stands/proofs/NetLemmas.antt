@@ -18,7 +18,7 @@ use Rattle.level_plan.specs.Stage.{Line, anchor_line, dock_lane, loop_lane, long
 use Rattle.level_plan.specs.Level.{PlainLevel, PlainPlan, Orders, End, end_at, edge_at, spoke, is_loop, enters, tail_end, head_end, dock_of}
 use Rattle.level_plan.specs.Lanes.{line_eq, loop_sides}
 use Rattle.level_plan.specs.Nets.{Name, of_link, of_dock, of_loop, unit_of, unit_of_line, gap_beside, gap_of, edge_of, inverts, is_inverted, line_of_end, tail_line, head_line, loop_line, lane_side_of_end, a_line, b_line, a_on_left, b_on_left, net_of, all_names, names_in, nets_in}
-use Rattle.level_plan.specs.FromPlan.{Drawn, IsDrawnFrom}
+use Rattle.level_plan.specs.FromPlan.{LevelDrawing, IsDrawnFrom}
 use Rattle.level_plan.specs.Drawing.{stage, is_in_use, is_anchor_line, name_at}
 use Rattle.level_stands.specs.Ready.{IsReady}
 use Rattle.level_stands.proofs.Lists.{Has, filter_has, has_any, has_at}
@@ -154,7 +154,7 @@ module _ (l : PlainLevel) (p : PlainPlan) (o : Orders) (layers : List ℕ) (read
       (has_any (λ k. eqb (edge_of p k) e && (line_eq (a_line l p o k) m || line_eq (b_line l p o k) m)) (all_names l p o) n h
       (and_from (eqb e e) (line_eq (a_line l p o n) m || line_eq (b_line l p o n) m) (eq-eqb e e refl) one)))
 
-  module _ (d : Drawn) (drawn : IsDrawnFrom l p o d) where
+  module _ (d : LevelDrawing) (drawn : IsDrawnFrom l p o d) where
     pin_of : (n : Name) (g : ℕ) (on_left : Bool) (m : Line) (z : Pin) → Has (all_names l p o) n → gap_of l p o n ≡ g → (line_eq (a_line l p o n) m || line_eq (b_line l p o n) m) ≡ true
         → Leads l p (gap_of l p o n) on_left m → record { on_left = on_left; height = (stage l p o d).height m } ≡ z → IsPinOf (stage l p o d) (edge_of p n) g z
     pin_of n g on_left m z h gap one leads is =

@@ -27,7 +27,7 @@ use Rattle.port_order.proofs.KeptLemmas.{ports_stand, dock_inside, order_kept}
 use Rattle.port_order.proofs.PlaceLemmas.{offsets_rise}
 use Rattle.port_order.proofs.OrderLemmas.{test_from_spread}
 use Rattle.level_plan.specs.Level.{PlainLevel, PlainPlan, Orders, End, end_at, child_at, spoke, implicit_ends, place_of_end, port_spot, implicit_spot, spots, spot_of, spot_at_port, dock_of, dock_of_spot, anchor_of_spot}
-use Rattle.level_plan.specs.FromPlan.{Drawn, point_or, box_place, anchor}
+use Rattle.level_plan.specs.FromPlan.{LevelDrawing, point_or, box_place, anchor}
 use Rattle.level_plan.specs.Units.{AreOrders}
 use Rattle.level_plan.specs.Conditions.{IsLevel}
 use Rattle.level_stands.specs.Apart.{drawn_box, drawn_port}
@@ -69,7 +69,7 @@ none_pinned rule leaf asked e = rw e refl
 end_is : (l : PlainLevel) (p : PlainPlan) (e c : ℕ) (t : Bool) → (spoke l (end_at e t)).child ≡ c → (spoke l (end_at e t)).port ≡ None → spot_of l p (end_at e t) ≡ implicit_spot l p c (end_at e t)
 end_is l p e c t node port = ap (spot_at_port l p (spoke l (end_at e t)).child (end_at e t)) port ∙ ap (λ z. implicit_spot l p z (end_at e t)) node
 
-module _ (l : PlainLevel) (p : PlainPlan) (o : Orders) (d : Drawn) (level : IsLevel l) (orders : AreOrders l p o) (placed : ArePortsPlaced l p o d) (c : ℕ) (there : c < length l.children) where
+module _ (l : PlainLevel) (p : PlainPlan) (o : Orders) (d : LevelDrawing) (level : IsLevel l) (orders : AreOrders l p o) (placed : ArePortsPlaced l p o d) (c : ℕ) (there : c < length l.children) where
   abbrev child : Child
   child = child_at l c
 
@@ -242,7 +242,7 @@ module _ (l : PlainLevel) (p : PlainPlan) (o : Orders) (d : Drawn) (level : IsLe
       roomy : (m n : ℕ) (z : ℤ) → m ≤ n → pos n <ℤ z → pos m <ℤ z
       roomy m n z h k = omega (arith, ints, h, k)
 
-module _ (l : PlainLevel) (p : PlainPlan) (o : Orders) (d : Drawn) (level : IsLevel l) (orders : AreOrders l p o) (placed : ArePortsPlaced l p o d) where
+module _ (l : PlainLevel) (p : PlainPlan) (o : Orders) (d : LevelDrawing) (level : IsLevel l) (orders : AreOrders l p o) (placed : ArePortsPlaced l p o d) where
   keeps_end : (e : ℕ) (t : Bool) → e < length l.edges → (spoke l (end_at e t)).port ≡ None → KeepsEnd l p o d (end_at e t)
   keeps_end e t h port =
       let n = end_at e t in

@@ -8,7 +8,7 @@ use Rattle.elk_layers.specs.Lines.{facing, lane_above, lane_below, top_of, AreAp
 use Rattle.level_plan.specs.Stage.{InColumn, ChildStands}
 use Rattle.level_plan.specs.Level.{PlainLevel, PlainPlan, Orders}
 use Rattle.level_plan.specs.Nets.{unit_of}
-use Rattle.level_plan.specs.FromPlan.{Drawn}
+use Rattle.level_plan.specs.FromPlan.{LevelDrawing}
 use Rattle.level_plan.specs.Drawing.{stage}
 use Rattle.level_stands.specs.Ready.{IsReady}
 use Rattle.level_stands.specs.Laws.{HasUnits}
@@ -51,7 +51,7 @@ module _ (l : Plain) (rows : List (List ℕ)) (tops : List ℤ) (sound : IsSound
   above i j h k =
       ends_above (λ i. top_of tops (unit i)) height (length (row_at rows r)) one_above (λ i less. sound.heights (unit i) (are.in_range r there i less)) (j - (i + 1)) i j (omega (arith, h)) k
 
-module _ (l : PlainLevel) (p : PlainPlan) (o : Orders) (d : Drawn) (layers : List ℕ) (ready : IsReady l p o layers) where
+module _ (l : PlainLevel) (p : PlainPlan) (o : Orders) (d : LevelDrawing) (layers : List ℕ) (ready : IsReady l p o layers) where
   pub row_there : (u : ℕ) → u < length p.layered.units → layer_of p.layered u < length p.rows
   row_there u h = let less = ready.sound.layers_are u h in let many = ready.rows.as_many in omega (arith, less, many)
 

@@ -15,7 +15,7 @@ use Rattle.port_order.specs.Sides.{side_of, is_forward}
 use Rattle.port_order.specs.Order.{ClockwiseFirst, clockwise}
 use Rattle.port_order.specs.Ranks.{is_spread_on}
 use Rattle.level_plan.specs.Level.{PlainLevel, PlainPlan, Orders, End, end_at, child_at, spoke, port_spot, spots, dock_of, port_place}
-use Rattle.level_plan.specs.FromPlan.{Drawn, point_or, box_place, anchor, IsDrawnFrom}
+use Rattle.level_plan.specs.FromPlan.{LevelDrawing, point_or, box_place, anchor, IsDrawnFrom}
 use Rattle.level_plan.specs.Units.{AreOrders}
 use Rattle.level_plan.specs.Conditions.{IsLevel}
 use Rattle.level_stands.specs.Apart.{drawn_box, drawn_port}
@@ -37,13 +37,13 @@ pub record KeepsPort (c : Child) (side : Side) (k : ℕ) (place : Point) : Type 
   pub on_side : IsFalse (is_pinned c k) → IsWithin (pos 0) (size_along side c.size) (port_offset c side k place)
 
 -- an end without a port: its anchor lies on its side of the box
-pub record KeepsEnd (l : PlainLevel) (p : PlainPlan) (o : Orders) (d : Drawn) (n : End) : Type 0 where
+pub record KeepsEnd (l : PlainLevel) (p : PlainPlan) (o : Orders) (d : LevelDrawing) (n : End) : Type 0 where
   pub on_line : IsOnSide (dock_of l p o n).side (drawn_box l d (spoke l n).child) (anchor l p o d n)
   pub on_side : IsWithin (pos 0) (size_along (dock_of l p o n).side (child_at l (spoke l n).child).size) (offset_on (dock_of l p o n).side (drawn_box l d (spoke l n).child) (anchor l p o d n))
 
 -- Under a fixed order a port that comes before another of its side, as clockwise runs in the document, does not stand further
 -- clockwise.
-abbrev pub KeepsOrder : PlainLevel → PlainPlan → Drawn → ℕ → Type 0
+abbrev pub KeepsOrder : PlainLevel → PlainPlan → LevelDrawing → ℕ → Type 0
 KeepsOrder l p d c =
     (j k : ℕ) → (child_at l c).rule ≡ FixedOrder → j < length (child_at l c).ports → k < length (child_at l c).ports → port_side l p c j ≡ port_side l p c k
     → ClockwiseFirst (child_at l c) (port_side l p c k) j j k k
@@ -56,7 +56,7 @@ IsSpreadAt l p o c side (a_port k) = (k < length (child_at l c).ports) × IsFals
 IsSpreadAt l p o c side (an_end e t) = (e < length l.edges) × ((spoke l (end_at e t)).child ≡ c) × ((spoke l (end_at e t)).port ≡ None) × ((dock_of l p o (end_at e t)).side ≡ side)
 
 -- how far its anchor stands along that side
-abbrev pub drawn_offset : PlainLevel → PlainPlan → Orders → Drawn → ℕ → Side → Place → ℤ
+abbrev pub drawn_offset : PlainLevel → PlainPlan → Orders → LevelDrawing → ℕ → Side → Place → ℤ
 drawn_offset l p o d c side (a_port k) = port_offset (child_at l c) side k (drawn_port d c k)
 drawn_offset l p o d c side (an_end e t) = offset_on side (drawn_box l d c) (anchor l p o d (end_at e t))
 
@@ -65,24 +65,24 @@ abbrev pub spread_count : PlainLevel → PlainPlan → ℕ → Side → ℕ
 spread_count l p c side = length (filter (is_spread_on (child_at l c) side) (spots l p c))
 
 -- where a side is longer than the number of its spread spots, these have different offsets
-abbrev pub SpreadsApart : PlainLevel → PlainPlan → Orders → Drawn → ℕ → Type 0
+abbrev pub SpreadsApart : PlainLevel → PlainPlan → Orders → LevelDrawing → ℕ → Type 0
 SpreadsApart l p o d c =
     (side : Side) (x y : Place) → pos (spread_count l p c side) <ℤ size_along side (child_at l c).size → IsSpreadAt l p o c side x → IsSpreadAt l p o c side y → x ≢ y
     → drawn_offset l p o d c side x ≢ drawn_offset l p o d c side y
 
 -- the ports of a child, and the ends at it, are kept
-pub record KeepsPorts (l : PlainLevel) (p : PlainPlan) (o : Orders) (d : Drawn) (c : ℕ) : Type 0 where
+pub record KeepsPorts (l : PlainLevel) (p : PlainPlan) (o : Orders) (d : LevelDrawing) (c : ℕ) : Type 0 where
   pub ports : (k : ℕ) → k < length (child_at l c).ports → KeepsPort (child_at l c) (port_side l p c k) k (drawn_port d c k)
   pub ends : (e : ℕ) (t : Bool) → e < length l.edges → (spoke l (end_at e t)).child ≡ c → (spoke l (end_at e t)).port ≡ None → KeepsEnd l p o d (end_at e t)
   pub order : KeepsOrder l p d c
   pub spread : SpreadsApart l p o d c
 
 -- Each port stands where its child's order places it, and each child of an edge where the plan does.
-pub record ArePortsPlaced (l : PlainLevel) (p : PlainPlan) (o : Orders) (d : Drawn) : Type 0 where
+pub record ArePortsPlaced (l : PlainLevel) (p : PlainPlan) (o : Orders) (d : LevelDrawing) : Type 0 where
   pub ports : (c k : ℕ) → c < length l.children → k < length (child_at l c).ports → drawn_port d c k ≡ port_place l p o c k
   pub boxes : (e : ℕ) (t : Bool) → e < length l.edges → point_or d.boxes (spoke l (end_at e t)).child ≡ box_place l p o d (spoke l (end_at e t)).child
 
 -- so it is in each level whose ports are placed by the orders of their sides, and so in each drawing from a plan
 pub record PortsAreKept : Type 0 where
-  pub placed : (l : PlainLevel) (p : PlainPlan) (o : Orders) (d : Drawn) → IsLevel l → AreOrders l p o → ArePortsPlaced l p o d → (c : ℕ) → c < length l.children → KeepsPorts l p o d c
-  pub drawn : (l : PlainLevel) (p : PlainPlan) (o : Orders) (d : Drawn) → IsLevel l → AreOrders l p o → IsDrawnFrom l p o d → (c : ℕ) → c < length l.children → KeepsPorts l p o d c
+  pub placed : (l : PlainLevel) (p : PlainPlan) (o : Orders) (d : LevelDrawing) → IsLevel l → AreOrders l p o → ArePortsPlaced l p o d → (c : ℕ) → c < length l.children → KeepsPorts l p o d c
+  pub drawn : (l : PlainLevel) (p : PlainPlan) (o : Orders) (d : LevelDrawing) → IsLevel l → AreOrders l p o → IsDrawnFrom l p o d → (c : ℕ) → c < length l.children → KeepsPorts l p o d c

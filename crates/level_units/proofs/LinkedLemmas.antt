@@ -12,7 +12,7 @@ use Rattle.level_plan.specs.Nets.{is_number, unit_of, layer_of_child}
 use Rattle.level_plan.specs.Traces.{links_at, links_from, chain}
 use Rattle.level_plan.specs.Units.{IsUnitOf, IsLaneUnit, HasChain, IsLinkOf, AreLinked, chain_at}
 use Rattle.level_units.specs.Layering.{Layering, AreLayersOf, tail_child, head_child, layer_in}
-use Rattle.level_units.specs.Numbered.{AreNumbered, before, link_on, gaps_of, lanes_of, first_lane, first_link, run_of, stop_of}
+use Rattle.level_units.specs.Numbered.{AreNumberedUnits, before, link_on, gaps_of, lanes_of, first_lane, first_link, run_of, stop_of}
 use Rattle.level_units.specs.Grown.{AreGrown}
 use Rattle.level_units.proofs.SumLemmas.{Place, placed_once, placed_rest, before_below}
 use Rattle.level_units.proofs.FilterLemmas.{filter_none, filter_one}
@@ -23,7 +23,7 @@ module _ (s : Layering) (level : IsLevel s.level) (are : AreLayersOf s.level s.r
   abbrev p : PlainPlan
   p = record { layers = q.layers; layered = q; rows = rows; tops = tops; reversed = s.reversed }
 
-  abbrev n : AreNumbered s q
+  abbrev n : AreNumberedUnits s q
   n = num s level are q made
 
   abbrev tail : ℕ → ℕ

@@ -3,7 +3,7 @@ use Rattle.std.proofs.Common.{◌≡◌, ℕ, ◌+◌, List, [], pos, length, ap
 use Rattle.elk_layers.specs.declared.units.Link.{Link}
 use Rattle.elk_layers.specs.Layered.{Plain, unit_at, link_at}
 use Rattle.level_units.specs.Layering.{Layering, layer_in}
-use Rattle.level_units.specs.Numbered.{AreNumbered, child_unit, lane_unit, lane_on, link_on, gaps_of, lanes_of, first_lane, first_link, run_of}
+use Rattle.level_units.specs.Numbered.{AreNumberedUnits, child_unit, lane_unit, lane_on, link_on, gaps_of, lanes_of, first_lane, first_link, run_of}
 use Rattle.level_units.specs.Grown.{AreGrown, child_units, units_to}
 use Rattle.level_units.proofs.GrownLemmas.{grown_length, grown_new, all_length, all_kept, all_new}
 
@@ -20,7 +20,7 @@ lanes_begin s e many =
     let children = children_long s.layers (length s.layers) in
     omega (arith, long, children, many)
 
-pub numbered : (s : Layering) (p : Plain) → length s.layers ≡ length s.level.children → AreGrown s p → AreNumbered s p
+pub numbered : (s : Layering) (p : Plain) → length s.layers ≡ length s.level.children → AreGrown s p → AreNumberedUnits s p
 numbered s p many made =
     let children = children_long s.layers (length s.layers) in
     record {

@@ -9,7 +9,7 @@ use Rattle.level_plan.specs.Conditions.{IsLevel}
 use Rattle.level_plan.specs.Level.{holds}
 use Rattle.elk_doc.specs.Sound.{IsDistance}
 use Rattle.level_units.specs.Layering.{Layering, AreLayersOf, tail_child, head_child, layer_in}
-use Rattle.level_units.specs.Numbered.{AreNumbered, child_unit, lane_on, link_on, gaps_of, lanes_of, first_lane, run_of, stop_of}
+use Rattle.level_units.specs.Numbered.{AreNumberedUnits, child_unit, lane_on, link_on, gaps_of, lanes_of, first_lane, run_of, stop_of}
 use Rattle.level_units.specs.Grown.{AreGrown, child_units}
 use Rattle.level_units.proofs.SumLemmas.{Place, placed, before_below}
 use Rattle.level_units.proofs.CountLemmas.{in_layer, all_count}
@@ -32,7 +32,7 @@ spaced : (z d : ℤ) → z ≡ d → IsDistance d → IsSpacing z
 spaced z d e is = subst IsSpacing (sym e) (record { low = is.above; high = is.below })
 
 module _ (s : Layering) (level : IsLevel s.level) (are : AreLayersOf s.level s.reversed s.layers) (q : Plain) (made : AreGrown s q) where
-  pub num : AreNumbered s q
+  pub num : AreNumberedUnits s q
   num = numbered s q are.as_many made
 
   pub which : (u : ℕ) → u < length q.units → Which s u

@@ -68,7 +68,7 @@ link_on run i =
     record { edge = run.edge; tail = stop_of run i; head = stop_of run (i + 1); tail_rank = 0; head_rank = 0; tail_at = pos 0; head_at = pos 0 }
 
 -- Units and links are numbered so.
-pub record AreNumbered (s : Layering) (p : Plain) : Type 0 where
+pub record AreNumberedUnits (s : Layering) (p : Plain) : Type 0 where
   pub as_many_units : length p.units ≡ first_lane s (length s.level.edges)
   pub as_many_links : length p.links ≡ first_link s (length s.level.edges)
   pub children : (c : ℕ) → c < length s.level.children → unit_at p.units c ≡ child_unit (layer_in s.layers c) c

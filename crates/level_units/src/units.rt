@@ -5,7 +5,7 @@ ghost use Rattle.level_plan.specs.Conditions.{IsLevel, plain_level};
 ghost use Rattle.level_plan.specs.Units.{AreLinked};
 ghost use Rattle.level_units.specs.Grown.{AreGrown, IsShort, child_units, grown};
 ghost use Rattle.level_units.specs.Layering.{layering, AreLayersOf, IsLayerCount, layer_in, plan_with};
-ghost use Rattle.level_units.specs.Numbered.{AreNumbered, flat_unit, lane_on, link_on};
+ghost use Rattle.level_units.specs.Numbered.{AreNumberedUnits, flat_unit, lane_on, link_on};
 
 use crate::runs::{Run, lanes, run_of, stop};
 use elk_layers::{Layered, Link, Unit};
@@ -153,7 +153,7 @@ pub fn units_of(
     requires layering { AreLayersOf (plain_level level.now) reversed.now layers.now }
     ensures linked { IfOk result (λ v. (rows : List (List ℕ)) (tops : List ℤ) → AreLinked (plain_level level.now) (plan_with v rows tops reversed.now) layers.now) }
     ensures sound { IfOk result (λ v. IsSound (plain v)) }
-    ensures numbered { IfOk result (λ v. AreNumbered (layering (plain_level level.now) reversed.now layers.now) (plain v)) }
+    ensures numbered { IfOk result (λ v. AreNumberedUnits (layering (plain_level level.now) reversed.now layers.now) (plain v)) }
     ensures layers { IfOk result (λ v. IsLayerCount layers.now v.layers) }
     ensures few_layers { IfOk result (λ v. v.layers ≤ 2048) }
     ensures node_node { IfOk result (λ v. v.node_node ≡ level.now.spacing.node_node) }

@@ -18,7 +18,7 @@ use Rattle.elk_doc.specs.Fits.{IsSolid}
 use Rattle.elk_doc.specs.PortsKept.{is_pinned, pins}
 use Rattle.elk_doc.specs.Sides.{given_side, is_entered, is_leaf, is_left, side_by_place, side_from, side_of_port, side_or}
 use Rattle.elk_doc.specs.Sound.{along}
-use Rattle.level_plan.specs.FromPlan.{Drawn}
+use Rattle.level_plan.specs.FromPlan.{LevelDrawing}
 use Rattle.turned_levels.specs.Numbered.{IsPortOf}
 use Rattle.turned_levels.specs.Turned.{box_size, turned_size}
 use Rattle.turned_drawings.specs.Framed.{AsksHeight, AsksWidth, IsFramed, start_of}
@@ -209,7 +209,7 @@ module _ (d : Document) (p : Placed) (n : ℕ) (o : LevelOptions) (compound : (n
             asks;
       }
 
-  pub framed : (v : Drawn) → length v.sections ≡ length (edges_of d n) → ((c : ℕ) → IsChild d n c → IsSolid (box_of p c))
+  pub framed : (v : LevelDrawing) → length v.sections ≡ length (edges_of d n) → ((c : ℕ) → IsChild d n c → IsSolid (box_of p c))
       → IsSizeRound d n o v.extent (box_size p n) → IsFramed d p n o v (start_of o.direction o.padding v.extent)
   framed v count solid size =
       record {

@@ -20,7 +20,7 @@ use Rattle.elk_doc.specs.Sound.{IsSound}
 use Rattle.port_order.specs.Child as laid
 use Rattle.level_plan.specs.Level.{PlainLevel, child_at}
 use Rattle.route_lines.specs.Points.{PlainGap}
-use Rattle.level_plan.specs.FromPlan.{Drawn, PlainTrace, point_or}
+use Rattle.level_plan.specs.FromPlan.{LevelDrawing, PlainTrace, point_or}
 use Rattle.level_shift.specs.Ranges.{IsFar, IsFarPoint, IsFarSection}
 use Rattle.level_extent.specs.Reach.{points_along, points_of}
 use Rattle.level_stands.specs.Apart.{drawn_box, drawn_outline, drawn_outline_from, drawn_port}
@@ -71,11 +71,11 @@ second_lies w h r s t =
       bottom = high_second (int_min r.y s.y) (bottom_of r) (bottom_of s) h t.bottom;
     }
 
-box_from : (l : PlainLevel) (v : Drawn) (i : ℕ) (w h : ℤ) (ks : List ℕ) → Lies w h (drawn_outline_from l v i ks) → Lies w h (drawn_box l v i)
+box_from : (l : PlainLevel) (v : LevelDrawing) (i : ℕ) (w h : ℤ) (ks : List ℕ) → Lies w h (drawn_outline_from l v i ks) → Lies w h (drawn_box l v i)
 box_from l v i w h [] t = t
 box_from l v i w h (k ∷ ks) t = box_from l v i w h ks (first_lies w h (drawn_outline_from l v i ks) (drawn_port_box l v i k) t)
 
-port_from : (l : PlainLevel) (v : Drawn) (i j : ℕ) (w h : ℤ) (ks : List ℕ) → Has ks j → Lies w h (drawn_outline_from l v i ks) → Lies w h (drawn_port_box l v i j)
+port_from : (l : PlainLevel) (v : LevelDrawing) (i j : ℕ) (w h : ℤ) (ks : List ℕ) → Has ks j → Lies w h (drawn_outline_from l v i ks) → Lies w h (drawn_port_box l v i j)
 port_from l v i j w h [] here t = absurd here
 port_from l v i j w h (k ∷ ks) here t =
     ⊎_elim
@@ -118,7 +118,7 @@ module _ (d : Document) (p : Placed) (n : ℕ) (o : LevelOptions) (v : LevelFigu
   abbrev l : PlainLevel
   l = level_of d p n o
 
-  abbrev w : Drawn
+  abbrev w : LevelDrawing
   w = figure_in v gaps traces left top
 
   child_count : length l.children ≡ length (children d n)

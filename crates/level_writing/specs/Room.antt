@@ -9,7 +9,7 @@ use Rattle.elk_doc.specs.Drawing.{box_of}
 use Rattle.elk_doc.specs.Sound.{IsSound}
 use Rattle.route_lines.specs.Points.{PlainGap}
 use Rattle.level_plan.specs.Level.{PlainLevel, child_at}
-use Rattle.level_plan.specs.FromPlan.{Drawn, PlainTrace}
+use Rattle.level_plan.specs.FromPlan.{LevelDrawing, PlainTrace}
 use Rattle.level_draw.specs.Drawing.{IsTight}
 use Rattle.turned_levels.specs.Turned.{level_of}
 use Rattle.level_writing.specs.declared.figure.LevelFigure.{LevelFigure}
@@ -18,7 +18,7 @@ use Rattle.level_writing.specs.Ranges.{IsLongBox, IsLongSize}
 use Rattle.level_writing.specs.Written.{IsWritable}
 
 -- a drawing has a place for each child and each port of the level, and a section for each edge
-pub record HasPlaces (l : PlainLevel) (v : Drawn) : Type 0 where
+pub record HasPlaces (l : PlainLevel) (v : LevelDrawing) : Type 0 where
   pub box_count : length v.boxes ≡ length l.children
   pub port_lists : length v.ports ≡ length l.children
   pub port_counts : (c : ℕ) → c < length l.children → length (slice_index_or v.ports c []) ≡ length (child_at l c).ports

@@ -19,7 +19,7 @@ use Rattle.elk_doc.specs.PortsKept.{is_pinned}
 use Rattle.elk_doc.specs.Shapes.{rect_at}
 use Rattle.elk_doc.specs.Sides.{side_of_port}
 use Rattle.elk_doc.specs.Sound.{along}
-use Rattle.level_plan.specs.FromPlan.{Drawn}
+use Rattle.level_plan.specs.FromPlan.{LevelDrawing}
 use Rattle.turned_levels.specs.Kept.{AgreeAt}
 use Rattle.turned_levels.specs.Numbered.{IsPortOf}
 use Rattle.turned_levels.specs.Turned.{box_size, turned_size}
@@ -114,7 +114,7 @@ KeepsPinned d p n =
 -- A node of that size is framed round the drawing of its level in each drawing that keeps its pinned ports.
 abbrev pub SizesFrame : Type 0
 SizesFrame =
-    (d : Document) (p : Placed) (n : ℕ) (o : LevelOptions) (v : Drawn)
+    (d : Document) (p : Placed) (n : ℕ) (o : LevelOptions) (v : LevelDrawing)
     → (node_at d n).level ≡ Some o → length v.sections ≡ length (edges_of d n)
     → ((c : ℕ) → IsChild d n c → IsSolid (box_of p c))
     → KeepsPinned d p n → IsSizeRound d n o v.extent (box_size p n)

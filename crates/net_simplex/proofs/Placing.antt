@@ -5,7 +5,7 @@ use Rattle.std.proofs.lemmas.List.{get_or-set_same, get_or-set_other, length-set
 use Rattle.layering_laws.specs.declared.network.NetEdge.{NetEdge}
 use Rattle.layering_laws.specs.Network.{EndsBelow}
 use Rattle.net_simplex.specs.Rooted.{above, holding, IsRooted, all_held}
-use Rattle.net_simplex.specs.Walks.{part, between, hung_size, IsWalk, AreSizes, ArePlacedTo, ArePlaced, TakesPlace}
+use Rattle.net_simplex.specs.Walks.{part, between, hung_size, IsWalk, AreSizes, ArePlacedTo, AreWalkPlaces, TakesPlace}
 use Rattle.net_simplex.proofs.Hanging.{ne_eqb, root_place, is_root, not_root, same_place, above_there, above_earlier}
 use Rattle.net_simplex.proofs.Planting.{holding_more, holding_none, holding_room, holding_all}
 use Rattle.net_simplex.proofs.Walking.{clash, same_test, is_between, between_is, before_it, behind_it, earlier}
@@ -344,7 +344,7 @@ module _ (nodes : ℕ) (edges : List NetEdge) (tree : List Bool) (order old pare
         subst (λ z. ArePlacedTo nodes order old (above edges parent) size (suc i) count z next2) (sym t1.place_is)
         (subst (λ z. ArePlacedTo nodes order old (above edges parent) size (suc i) count place' z) (sym t1.next_is) placed_next)
 
-  pub placed_end : (i : ℕ) (place next : List ℕ) → nodes ≤ i → ArePlacedTo nodes order old (above edges parent) size i (nodes - i) place next → ArePlaced nodes (above edges parent) size place
+  pub placed_end : (i : ℕ) (place next : List ℕ) → nodes ≤ i → ArePlacedTo nodes order old (above edges parent) size i (nodes - i) place next → AreWalkPlaces nodes (above edges parent) size place
   placed_end i place next all s =
       let in_time : (v : ℕ) → v < nodes → was v < i = λ v l. let a = (r.placed v l refl).0 in omega (arith, a, all) in
       record {
@@ -403,7 +403,7 @@ each_taken place nodes there apart q l = elim (cases_Bool (stands place nodes q)
       absurd (omega (arith, a, b))
 ]
 
-module _ (nodes : ℕ) (edges : List NetEdge) (tree : List Bool) (order old parent : List ℕ) (r : IsRooted nodes edges tree order old parent) (ends : EndsBelow nodes edges) (size : List ℕ) (sizes : AreSizes nodes order (above edges parent) size) (place : List ℕ) (p : ArePlaced nodes (above edges parent) size place) where
+module _ (nodes : ℕ) (edges : List NetEdge) (tree : List Bool) (order old parent : List ℕ) (r : IsRooted nodes edges tree order old parent) (ends : EndsBelow nodes edges) (size : List ℕ) (sizes : AreSizes nodes order (above edges parent) size) (place : List ℕ) (p : AreWalkPlaces nodes (above edges parent) size place) where
   pub all_there : (v : ℕ) → v < nodes → get_or place v 0 < nodes
   all_there v l = let a = p.fits v l in let b = some_wide nodes edges tree order old parent r ends size sizes v l in omega (arith, a, b)
 

@@ -65,7 +65,7 @@ pub record ArePlacedTo (nodes : ℕ) (order old : List ℕ) (up : ℕ → ℕ) (
   pub fits : (v : ℕ) → v < nodes → slice_index old v < i → slice_index place v + slice_index size v ≤ nodes
 
 -- each node has its place in the walk
-pub record ArePlaced (nodes : ℕ) (up : ℕ → ℕ) (size place : List ℕ) : Type 0 where
+pub record AreWalkPlaces (nodes : ℕ) (up : ℕ → ℕ) (size place : List ℕ) : Type 0 where
   pub place_each : length place ≡ nodes
   pub root : slice_index place 0 ≡ 0
   pub fits : (v : ℕ) → v < nodes → slice_index place v + slice_index size v ≤ nodes

@@ -4,7 +4,7 @@
 ghost use Rattle.std.specs.Prelude.{◌≡◌, ◌≢◌, ◌+◌, ◌<◌, ◌≤◌, ◌^◌, ℕ, length, set, slice_index};
 ghost use Rattle.layering_laws.specs.Network.{EndsBelow};
 ghost use Rattle.net_simplex.specs.Rooted.{above, IsRooted};
-ghost use Rattle.net_simplex.specs.Walks.{IsWalk, AreSizes, ArePlaced, TakesPlace};
+ghost use Rattle.net_simplex.specs.Walks.{IsWalk, AreSizes, AreWalkPlaces, TakesPlace};
 
 use crate::rooted::upper;
 use layering_laws::NetEdge;
@@ -86,7 +86,7 @@ fn place_all(
     requires rooted { IsRooted (length order.now) edges.now tree.now order.now place.old parent.now }
     requires sizes { AreSizes (length order.now) order.now (above edges.now parent.now) size.now }
     requires next { length next.old ≡ length order.now }
-    ensures { ArePlaced (length order.now) (above edges.now parent.now) size.now place.new }
+    ensures { AreWalkPlaces (length order.now) (above edges.now parent.now) size.now place.new }
 {
     let _marks = tree.len();
     place[0] = 0;

@@ -13,7 +13,7 @@ use Rattle.elk_layers.proofs.OccursLemmas.{no_repeat_from}
 use Rattle.elk_layers.proofs.PlaceLemmas.{place_once}
 use Rattle.elk_layers.specs.Layered.{place_in}
 use Rattle.ns_place.specs.declared.closing.Standing.{Standing}
-use Rattle.ns_place.specs.Closing.{standing_at, closed_at, StaysApart, IsClosedTo, IsClosedUp, AreNumbered}
+use Rattle.ns_place.specs.Closing.{standing_at, closed_at, StaysApart, IsClosedTo, IsClosedUp, StandByNumber}
 
 abbrev pub UnitsDiffer : List Standing → Type 0
 UnitsDiffer all = (i j : ℕ) → i < j → j < length all → (standing_at all i).unit ≢ (standing_at all j).unit
@@ -107,7 +107,7 @@ occurs_is n (x ∷ xs) = let h = occurs_is n xs in let c = sum_by-cons (λ m. co
 unit_read : (all : List Standing) (i : ℕ) → i < length all → get_or (map (λ (s : Standing). s.unit) all) i 0 ≡ (standing_at all i).unit
 unit_read all i h = get_or-map (λ (s : Standing). s.unit) all i (record { top = 0; span = 0; unit = 0 }) 0 h
 
-module _ (first all : List Standing) (moved : IsPermutation first all) (numbered : AreNumbered first) where
+module _ (first all : List Standing) (moved : IsPermutation first all) (numbered : StandByNumber first) where
   once_first : HasNoRepeat (map (λ (s : Standing). s.unit) first)
   once_first = no_repeat_from (map (λ (s : Standing). s.unit) first)
       (λ i j l h e.
@@ -173,7 +173,7 @@ module _ (first all : List Standing) (moved : IsPermutation first all) (numbered
             omega (arith, r, far, whole, same, span, at);
       }
 
-pub units_in_range : (first all : List Standing) → IsPermutation first all → AreNumbered first → All (λ (s : Standing). s.unit < length first) all
+pub units_in_range : (first all : List Standing) → IsPermutation first all → StandByNumber first → All (λ (s : Standing). s.unit < length first) all
 units_in_range first all moved numbered =
     All-permutation (λ (s : Standing). s.unit < length first) first all moved
     (All-from_get_or (λ (s : Standing). s.unit < length first) first (record { top = 0; span = 0; unit = 0 }) (λ u h. let e = numbered u h in omega (arith, e, h)))

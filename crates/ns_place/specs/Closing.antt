@@ -33,8 +33,8 @@ pub record IsClosedTo (all : List Standing) (i last shift reach : ℕ) (closed :
   pub reach_small : reach ≤ sum_by (λ (s : Standing). s.span) (take i all)
 
 -- the places are the numbers of the units
-abbrev pub AreNumbered : List Standing → Type 0
-AreNumbered all = (u : ℕ) → u < length all → (standing_at all u).unit ≡ u
+abbrev pub StandByNumber : List Standing → Type 0
+StandByNumber all = (u : ℕ) → u < length all → (standing_at all u).unit ≡ u
 
 -- a unit with its layer as top, and its height and a spacing as span
 pub record StandsFor (units : List LayerUnit) (layers : List ℤ) (spacing : ℤ) (u : ℕ) (s : Standing) : Type 0 where

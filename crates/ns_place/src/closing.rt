@@ -5,7 +5,7 @@ ghost use Rattle.std.specs.List.{All, sum_by};
 ghost use Rattle.std.specs.List.Sorted.{IsNonDecreasingBy};
 ghost use Rattle.elk_layers.specs.Layered.{unit_at};
 ghost use Rattle.layering_laws.specs.Layering.{layer_of};
-ghost use Rattle.ns_place.specs.Closing.{standing_at, IsClosedTo, IsClosedUp, AreStandings, AreNumbered};
+ghost use Rattle.ns_place.specs.Closing.{standing_at, IsClosedTo, IsClosedUp, AreStandings, StandByNumber};
 ghost use Rattle.ns_place.specs.declared.closing.Standing.{Standing};
 
 use elk_layers::Unit;
@@ -80,7 +80,7 @@ fn close_all(standings: &[Standing], closed: &mut [u64])
 
 /// The tops of the units with all gaps closed that no span reaches over.
 pub(crate) fn close_up(alloc: Global, mut standings: Vec<Standing>) -> Result<Vec<u64>, AllocError>
-    requires numbered { AreNumbered standings.items }
+    requires numbered { StandByNumber standings.items }
     requires small { sum_by (λ (s : Standing). s.span) standings.items < 2 ^ 63 }
     ensures { IfOk result (λ v. IsClosedUp standings.items v.items) }
 {

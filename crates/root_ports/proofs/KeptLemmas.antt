@@ -19,7 +19,7 @@ use Rattle.elk_doc.specs.Shapes.{rect_at, turned}
 use Rattle.elk_doc.specs.Sound.{IsSound}
 use Rattle.level_plan.specs.declared.level.LevelIn.{LevelIn}
 use Rattle.level_plan.specs.Conditions.{plain_level}
-use Rattle.level_plan.specs.FromPlan.{Drawn, IsDrawnFrom, point_or}
+use Rattle.level_plan.specs.FromPlan.{LevelDrawing, IsDrawnFrom, point_or}
 use Rattle.level_plan.specs.Level.{Orders, PlainLevel, PlainPlan, holds}
 use Rattle.level_stands.specs.Apart.{drawn_port}
 use Rattle.level_stands.specs.Ready.{IsReady}
@@ -60,7 +60,7 @@ some_or_none : (level : Option LevelOptions) → IsSome level → IsNone level �
 some_or_none None h k = absurd (search rules)
 some_or_none (Some o) h k = absurd (search rules)
 
-module _ (d : Document) (p : Placed) (o : LevelOptions) (plan : PlainPlan) (orders : Orders) (v : Drawn)
+module _ (d : Document) (p : Placed) (o : LevelOptions) (plan : PlainPlan) (orders : Orders) (v : LevelDrawing)
     (sound : IsSound d) (level : (node_at d 0).level ≡ Some o)
     (drawn : IsDrawnFrom (root_level d p o) plan orders v)
     (kept : AllKeepPorts (root_level d p o) plan orders v)

@@ -11,7 +11,7 @@ use Rattle.route_slots.specs.declared.heights.Heights.{Heights}
 use Rattle.route_slots.specs.Pieces.{net_at}
 use Rattle.route_slots.specs.GapFree.{HasPin, IsLevelNet}
 use Rattle.route_slots.specs.Conflicts.{Conflict, AreInConflict, LiesOnCycle}
-use Rattle.route_slots.specs.Numbers.{AreNumbered, AreSides, HasNoSides, IsLinkOf, idle, across, AreLinks}
+use Rattle.route_slots.specs.Numbers.{AreHeightNumbers, AreSides, HasNoSides, IsLinkOf, idle, across, AreLinks}
 use Rattle.route_slots.specs.Depths.{depth_by, AreDepths}
 use Rattle.route_slots.proofs.Sides.{sides_differ, level_by}
 
@@ -43,7 +43,7 @@ deep_some : (ds : List ℕ) (o : Option ℕ) → IsSome o → 0 < depth_by ds o
 deep_some ds None h = absurd (let bad : false ≡ true = h in cc)
 deep_some ds (Some x) h = omega arith
 
-module _ (nets : List Net) (heights : Heights) (links : List Link) (numbered : AreNumbered nets (length nets) heights) (are : AreLinks heights.numbers nets links (length nets)) where
+module _ (nets : List Net) (heights : Heights) (links : List Link) (numbered : AreHeightNumbers nets (length nets) heights) (are : AreLinks heights.numbers nets links (length nets)) where
   abbrev number : ℤ → Option ℕ
   number h = get int_cmp heights.numbers h
 

@@ -9,7 +9,7 @@ use Rattle.route_slots.specs.Pieces.{net_at}
 use Rattle.route_slots.specs.GapFree.{HasPin, IsLevelNet}
 use Rattle.route_slots.specs.Depths.{depth_of, is_split, AreDepths, AreHeld}
 use Rattle.route_slots.specs.Conflicts.{AreInConflict, LiesOnCycle, HasNoConflict}
-use Rattle.route_slots.specs.Marks.{mark_at, LevelAt, AreMarked, AreMarks, AreFlat}
+use Rattle.route_slots.specs.Marks.{mark_at, LevelAt, AreMarked, AreNetMarks, AreFlat}
 
 left_depth : (m : ℤ → ℕ) (p : Pin) → p.on_left ≡ true → depth_of m p ≡ 0
 left_depth m p e = ap (λ z. if z then 0 else m p.height) e
@@ -102,7 +102,7 @@ module _ (nets : List Net) (bs : List Bool) (m : ℤ → ℕ) (ms : List Mark) (
           let e : depth_of m (net k).b ≡ depth_of m q = ap (depth_of m) z.0 in omega arith)
           l
 
-  pub are_marks : AreMarks nets ms
+  pub are_marks : AreNetMarks nets ms
   are_marks =
       record {
         len = marked.len;

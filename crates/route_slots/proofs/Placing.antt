@@ -15,7 +15,7 @@ use Rattle.route_slots.specs.GapFree.{IsLevelNet, IsAtHeight, StandsIn, IsNearPi
 use Rattle.route_slots.specs.Standing.{StandsAt, IsUpright, AreApart}
 use Rattle.route_slots.specs.Slotting.{piece_at, IsReal, AreSlots, AreAtOneLevel, MeetInEach}
 use Rattle.route_slots.specs.Density.{Contains, MeetAt, IsDensity}
-use Rattle.route_slots.specs.Marks.{mark_at, LevelAt, AreMarks, other_end, piece_a, piece_b, height_of, ArePieces, route_by, ArePlaced, AreFlat}
+use Rattle.route_slots.specs.Marks.{mark_at, LevelAt, AreNetMarks, other_end, piece_a, piece_b, height_of, ArePieces, route_by, HaveSlots, AreFlat}
 use Rattle.route_slots.specs.declared.middles.Height.{Height}
 use Rattle.route_slots.specs.Middles.{AreMiddles}
 use Rattle.route_slots.proofs.Free.{AreKept, free}
@@ -132,7 +132,7 @@ all_proper nets ms hs ps pieces i h =
     at.2
 
 module _ (nets : List Net) (ms : List Mark) (hs : List Height) (ps : List Piece) (ss : List ℕ) (count : ℕ) (routes : List NetRoute)
-    (marks : AreMarks nets ms) (pieces : ArePieces nets ms hs ps) (slots : AreSlots ps ss count) (middles : AreMiddles nets hs) (placed : ArePlaced nets ms hs ss routes) where
+    (marks : AreNetMarks nets ms) (pieces : ArePieces nets ms hs ps) (slots : AreSlots ps ss count) (middles : AreMiddles nets hs) (placed : HaveSlots nets ms hs ss routes) where
   abbrev net : ℕ → Net
   net k = net_at nets k
 

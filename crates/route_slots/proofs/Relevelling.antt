@@ -5,7 +5,7 @@ use Rattle.route_slots.specs.declared.Net.{Net}
 use Rattle.route_slots.specs.declared.NetRoute.{NetRoute}
 use Rattle.route_slots.specs.declared.marks.Mark.{Mark}
 use Rattle.route_slots.specs.Pieces.{net_at}
-use Rattle.route_slots.specs.Marks.{mark_at, LevelAt, AreMarks}
+use Rattle.route_slots.specs.Marks.{mark_at, LevelAt, AreNetMarks}
 use Rattle.route_slots.specs.Choosing.{AreRelevelled, KeepsOrder, KeepOrder, AreInOrder, AreGood}
 
 by_pins : (p q p' q' : Pin) (x y x' y' : ℕ) → p ≡ p' → x ≡ x' → q ≡ q' → y ≡ y' → KeepsOrder p x q y → KeepsOrder p' x' q' y'
@@ -25,11 +25,11 @@ in_order n m o k p q x y keep u v =
     v)
     u
 
-module _ (nets : List Net) (old new : List Mark) (marks : AreMarks nets old) (same : AreRelevelled old new) where
+module _ (nets : List Net) (old new : List Mark) (marks : AreNetMarks nets old) (same : AreRelevelled old new) where
   inside : (k : ℕ) → k < length nets → k < length old
   inside k l = subst (λ z. k < z) (sym marks.len) l
 
-  pub other_marks : ((j k : ℕ) → j < length nets → k < length nets → AreInOrder (net_at nets j) (mark_at new j) (net_at nets k) (mark_at new k)) → AreMarks nets new
+  pub other_marks : ((j k : ℕ) → j < length nets → k < length nets → AreInOrder (net_at nets j) (mark_at new j) (net_at nets k) (mark_at new k)) → AreNetMarks nets new
   other_marks keep =
       record {
         len = same.len ∙ marks.len;

@@ -23,7 +23,7 @@ LevelAt n m p l = ((n.a ≡ p) × (m.at_a ≡ l)) ⊎ ((n.b ≡ p) × (m.at_b �
 
 -- Level nets are straight, a net that is not split has one level, and where a net has a pin on the left at the height of
 -- another's on the right, the former's piece has the lower level.
-pub record AreMarks (nets : List Net) (ms : List Mark) : Type 0 where
+pub record AreNetMarks (nets : List Net) (ms : List Mark) : Type 0 where
   pub len : length ms ≡ length nets
   pub straight : (k : ℕ) → k < length nets → ((mark_at ms k).straight ≡ true → IsLevelNet (net_at nets k)) × (IsLevelNet (net_at nets k) → (mark_at ms k).straight ≡ true)
   pub whole : (k : ℕ) → k < length nets → (mark_at ms k).split ≡ false → (mark_at ms k).at_a ≡ (mark_at ms k).at_b
@@ -62,7 +62,7 @@ pub record ArePieces (nets : List Net) (ms : List Mark) (hs : List Height) (ps :
 abbrev pub route_by : Mark → ℕ → ℤ → ℕ → NetRoute
 route_by m s h t = if m.straight then Straight else (if m.split then Two s h t else One s)
 
-pub record ArePlaced (nets : List Net) (ms : List Mark) (hs : List Height) (ss : List ℕ) (routes : List NetRoute) : Type 0 where
+pub record HaveSlots (nets : List Net) (ms : List Mark) (hs : List Height) (ss : List ℕ) (routes : List NetRoute) : Type 0 where
   pub as_many : length routes ≡ length nets
   pub routes_are : (k : ℕ) → k < length nets → route_at routes k ≡ route_by (mark_at ms k) (slice_index ss (k + k)) (height_of hs k) (slice_index ss (k + k + 1))
 

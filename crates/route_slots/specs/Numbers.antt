@@ -25,7 +25,7 @@ pub record AreNumbers (heights : Heights) : Type 0 where
   pub alone : (g h : ℤ) (x : ℕ) → get int_cmp heights.numbers g ≡ Some x → get int_cmp heights.numbers h ≡ Some x → g ≡ h
 
 -- the heights of these nets' pins on the left have numbers, and no others
-pub record AreNumbered (nets : List Net) (n : ℕ) (heights : Heights) : Type 0 where
+pub record AreHeightNumbers (nets : List Net) (n : ℕ) (heights : Heights) : Type 0 where
   pub numbers : AreNumbers heights
   pub least : 2 ≤ heights.bound
   pub few : heights.bound ≤ 2 + (n + n)

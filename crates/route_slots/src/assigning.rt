@@ -7,7 +7,7 @@ ghost use Rattle.route_slots.specs.Density.{IsDensity};
 ghost use Rattle.route_slots.specs.Choosing.{AreGood};
 ghost use Rattle.route_slots.specs.Exchanges.{NoBetterExchange};
 ghost use Rattle.route_slots.specs.Middles.{AreMiddles};
-ghost use Rattle.route_slots.specs.Marks.{AreMarks, AreFlat, SplitsByMarks, ArePieces, ArePlaced, piece_a, piece_b, other_end, route_by};
+ghost use Rattle.route_slots.specs.Marks.{AreNetMarks, AreFlat, SplitsByMarks, ArePieces, HaveSlots, piece_a, piece_b, other_end, route_by};
 
 use crate::choosing::choose;
 use crate::depths::depths_of;
@@ -108,7 +108,7 @@ fn routes_of(
     requires places { length slots.now ≡ length nets.now + length nets.now }
     requires middles { length middles.now ≡ length nets.now }
     requires few { length nets.now ≤ 2 ^ 24 }
-    ensures { IfOk result (λ routes. ArePlaced nets.now marks.now middles.now slots.now routes.items) }
+    ensures { IfOk result (λ routes. HaveSlots nets.now marks.now middles.now slots.now routes.items) }
 {
     let mut routes = Vec::new(alloc);
     'nets: for number in 0..nets.len() as u32 {
@@ -131,7 +131,7 @@ pub fn place(
     middles: &[Height],
 ) -> Result<Slots, AllocError>
     requires few { length nets.now ≤ 2 ^ 24 }
-    requires marks { AreMarks nets.now marks.now }
+    requires marks { AreNetMarks nets.now marks.now }
     requires middles { AreMiddles nets.now middles.now }
     ensures good { IfOk result (λ slots. AreGood nets.now marks.now slots.count slots.routes.items) }
     ensures density { IfOk result (λ slots. AreFlat nets.now marks.now → IsDensity nets.now slots.count) }

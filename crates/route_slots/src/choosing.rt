@@ -3,7 +3,7 @@ ghost use Rattle.std.specs.Prelude.{◌≡◌, ◌<◌, ◌≤◌, ◌+◌, ◌^
 ghost use Rattle.route_slots.specs.Pieces.{net_at};
 ghost use Rattle.route_slots.specs.Crossings.{crossings};
 ghost use Rattle.route_slots.specs.Middles.{AreMiddles};
-ghost use Rattle.route_slots.specs.Marks.{mark_at, AreMarks, AreFlat};
+ghost use Rattle.route_slots.specs.Marks.{mark_at, AreNetMarks, AreFlat};
 ghost use Rattle.route_slots.specs.Choosing.{IsRelevelled, AreRelevelled, KeepsOrder, AreInOrder, AreGood};
 
 use crate::assigning::place;
@@ -210,7 +210,7 @@ pub fn choose(
     slots: Slots,
 ) -> Result<Slots, AllocError>
     requires few { length nets.now ≤ 2 ^ 24 }
-    requires marks { AreMarks nets.now marks.now }
+    requires marks { AreNetMarks nets.now marks.now }
     requires middles { AreMiddles nets.now middles.now }
     requires good { AreGood nets.now marks.now slots.count slots.routes.items }
     ensures good { IfOk result (λ chosen. AreGood nets.now marks.now chosen.count chosen.routes.items) }

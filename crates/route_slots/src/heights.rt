@@ -3,7 +3,7 @@ ghost use Rattle.std.specs.Prelude.{◌≡◌, ◌+◌, ◌<◌, ◌≤◌, ◌^
 ghost use Rattle.std.specs.Ordering.{int_cmp};
 ghost use Rattle.std.specs.BTreeMap.{get};
 ghost use Rattle.route_slots.specs.GapFree.{HasPin, IsLevelNet};
-ghost use Rattle.route_slots.specs.Numbers.{AreNumbers, AreNumbered, HasLeftAt};
+ghost use Rattle.route_slots.specs.Numbers.{AreNumbers, AreHeightNumbers, HasLeftAt};
 
 use crate::marks::is_level;
 use crate::{Net, Pin};
@@ -59,7 +59,7 @@ fn insert_net(heights: &mut Heights, net: Net) -> Result<(), AllocError>
 /// The heights of all pins on the left of nets that are not straight.
 pub fn heights_of(alloc: Global, nets: &[Net]) -> Result<Heights, AllocError>
     requires { length nets.now ≤ 2 ^ 24 }
-    ensures { IfOk result (λ heights. AreNumbered nets.now (length nets.now) heights) }
+    ensures { IfOk result (λ heights. AreHeightNumbers nets.now (length nets.now) heights) }
 {
     let mut heights = Heights {
         numbers: BTreeMap::new(alloc),

@@ -2,7 +2,7 @@
 ghost use Rattle.std.specs.Prelude.{◌≡◌, ◌↔◌, length, IsTrue, IfOk};
 ghost use Rattle.route_slots.specs.GapFree.{IsLevelNet};
 ghost use Rattle.route_slots.specs.Depths.{depth, depth_of, AreDepths, AreSized};
-ghost use Rattle.route_slots.specs.Marks.{IsMarkOf, AreMarked, AreMarks};
+ghost use Rattle.route_slots.specs.Marks.{IsMarkOf, AreMarked, AreNetMarks};
 
 use crate::depths::Depths;
 use crate::{Net, Pin};
@@ -66,7 +66,7 @@ fn mark_of(net: Net, depth_a: u32, depth_b: u32, split: bool) -> Mark
 pub fn marks_of(alloc: Global, nets: &[Net], depths: &Depths) -> Result<Vec<Mark>, AllocError>
     requires depths { AreDepths nets.now depths.now.splits.items (depth depths.now) }
     requires sized { AreSized depths.now }
-    ensures marks { IfOk result (λ marks. AreMarks nets.now marks.items) }
+    ensures marks { IfOk result (λ marks. AreNetMarks nets.now marks.items) }
     ensures marked { IfOk result (λ marks. AreMarked nets.now depths.now.splits.items (depth depths.now) marks.items (length nets.now)) }
 {
     let mut marks = Vec::new(alloc);

@@ -21,7 +21,7 @@ use Rattle.level_draw.specs.declared.drawing.LevelOut.{LevelOut}
 use Rattle.level_pins.proofs.TotalLemmas.{first}
 use Rattle.level_plan.specs.declared.level.LevelIn.{LevelIn}
 use Rattle.level_plan.specs.Conditions.{plain_level, sum_of_ints}
-use Rattle.level_plan.specs.FromPlan.{Drawn}
+use Rattle.level_plan.specs.FromPlan.{LevelDrawing}
 use Rattle.level_plan.specs.Level.{PlainLevel}
 use Rattle.level_stands.specs.Apart.{drawn_box, drawn_outline}
 use Rattle.level_stands.proofs.Lists.{Has, below_has}
@@ -81,7 +81,7 @@ module _ (level : LevelIn) (component : ℤ) (v : PartsOut) (apart : IsDistance 
   abbrev count : ℕ
   count = length v.outs
 
-  abbrev own : ℕ → Drawn
+  abbrev own : ℕ → LevelDrawing
   own k = whole.own level component v laid k
 
   abbrev keys : List ℕ

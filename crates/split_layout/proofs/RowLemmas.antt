@@ -20,7 +20,7 @@ use Rattle.level_draw.specs.Drawing.{drawn_in, plan_from}
 use Rattle.level_layout.specs.Layout.{IsLaidOut}
 use Rattle.level_plan.specs.declared.level.LevelIn.{LevelIn}
 use Rattle.level_plan.specs.Conditions.{plain_level, sum_of_ints}
-use Rattle.level_plan.specs.FromPlan.{Drawn, IsDrawnFrom}
+use Rattle.level_plan.specs.FromPlan.{LevelDrawing, IsDrawnFrom}
 use Rattle.level_plan.specs.Level.{PlainLevel, PlainPlan, outline}
 use Rattle.level_plan.specs.Drawing.{outline_at}
 use Rattle.level_stands.specs.Apart.{drawn_outline}
@@ -41,7 +41,7 @@ module _ (level : LevelIn) (v : LevelOut) (laid : IsLaidOut level v) where
   abbrev p : PlainPlan
   p = plan_from v.certificate v.plan.layered v.plan.order v.plan.lines
 
-  abbrev d : Drawn
+  abbrev d : LevelDrawing
   d = drawn_in v laid.drawn.left laid.drawn.top
 
   drawn : IsDrawnFrom l p laid.orders d

@@ -28,7 +28,7 @@ use Rattle.level_layers.proofs.FlowLemmas.{span_low}
 use Rattle.level_layout.specs.Layout.{IsLaidOut}
 use Rattle.level_plan.specs.declared.level.LevelIn.{LevelIn}
 use Rattle.level_plan.specs.Conditions.{IsLevel, plain_level}
-use Rattle.level_plan.specs.FromPlan.{Drawn, IsDrawnFrom, point_or, section_at}
+use Rattle.level_plan.specs.FromPlan.{LevelDrawing, IsDrawnFrom, point_or, section_at}
 use Rattle.level_plan.specs.Level.{PlainLevel, child_at, holds}
 use Rattle.level_rules.specs.Routes.{points_of, route_count, route_point}
 use Rattle.level_stands.specs.Apart.{drawn_outline}
@@ -72,7 +72,7 @@ module _ (level : LevelIn) (v : LevelOut) (laid : IsLaidOut level v) where
   abbrev l : PlainLevel
   l = plain_level level
 
-  abbrev d : Drawn
+  abbrev d : LevelDrawing
   d = drawn_in v laid.drawn.left laid.drawn.top
 
   pub drawn : IsDrawnFrom l (plan_from v.certificate v.plan.layered v.plan.order v.plan.lines) laid.orders d
@@ -185,13 +185,13 @@ module _ (level : LevelIn) (split : PartLevels) (outs : List LevelOut) (sound : 
   -- ---- how much each part has
 
   boxes_many : (k : ℕ) → k < count → length (drawing_at outs k).boxes ≡ length (part k).children
-  boxes_many k h = ap (λ (d : Drawn). length d.boxes) (drawing_is outs k h) ∙ (drawn (part_in level numbers k) (out_at outs k h) (laid_at k h)).box_count
+  boxes_many k h = ap (λ (d : LevelDrawing). length d.boxes) (drawing_is outs k h) ∙ (drawn (part_in level numbers k) (out_at outs k h) (laid_at k h)).box_count
 
   ports_many : (k : ℕ) → k < count → length (drawing_at outs k).ports ≡ length (part k).children
-  ports_many k h = ap (λ (d : Drawn). length d.ports) (drawing_is outs k h) ∙ (drawn (part_in level numbers k) (out_at outs k h) (laid_at k h)).port_lists
+  ports_many k h = ap (λ (d : LevelDrawing). length d.ports) (drawing_is outs k h) ∙ (drawn (part_in level numbers k) (out_at outs k h) (laid_at k h)).port_lists
 
   sections_many : (k : ℕ) → k < count → length (drawing_at outs k).sections ≡ length (part k).edges
-  sections_many k h = ap (λ (d : Drawn). length d.sections) (drawing_is outs k h) ∙ (drawn (part_in level numbers k) (out_at outs k h) (laid_at k h)).section_count
+  sections_many k h = ap (λ (d : LevelDrawing). length d.sections) (drawing_is outs k h) ∙ (drawn (part_in level numbers k) (out_at outs k h) (laid_at k h)).section_count
 
   certificate_of : (k : ℕ) → k < count → IsCertificateOf (part k) (certificate_at outs k)
   certificate_of k h = subst (IsCertificateOf (part k)) (sym (certificate_is outs k h)) (laid_at k h).certificate
@@ -246,12 +246,12 @@ module _ (level : LevelIn) (split : PartLevels) (outs : List LevelOut) (sound : 
         places = λ k h. part_place (extents_of outs) component limit rows (omega (arith, many, few)) each_size apart packed k (omega (arith, h, many));
         boxes = λ k i h less.
             let same = drawing_is outs k h in
-            let inside = subst (λ (d : Drawn). i < length d.boxes) same less in
-            subst (λ (d : Drawn). IsInPart (point_or d.boxes i)) (sym same) (box_in (part_in level numbers k) (out_at outs k h) (laid_at k h) i inside);
+            let inside = subst (λ (d : LevelDrawing). i < length d.boxes) same less in
+            subst (λ (d : LevelDrawing). IsInPart (point_or d.boxes i)) (sym same) (box_in (part_in level numbers k) (out_at outs k h) (laid_at k h) i inside);
         sections = λ k i h less.
             let same = drawing_is outs k h in
-            let inside = subst (λ (d : Drawn). i < length d.sections) same less in
-            subst (λ (d : Drawn). IsSectionInPart (section_at d i)) (sym same) (section_in_part (part_in level numbers k) (out_at outs k h) (laid_at k h) i inside);
+            let inside = subst (λ (d : LevelDrawing). i < length d.sections) same less in
+            subst (λ (d : LevelDrawing). IsSectionInPart (section_at d i)) (sym same) (section_in_part (part_in level numbers k) (out_at outs k h) (laid_at k h) i inside);
       }
 
   -- ---- certificates

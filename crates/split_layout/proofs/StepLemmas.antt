@@ -14,7 +14,7 @@ use Rattle.joined_drawings.specs.CertificateJoined.{spans_to}
 use Rattle.joined_drawings.proofs.ListLemmas.{filter_alike}
 use Rattle.level_draw.specs.declared.drawing.LevelOut.{LevelOut}
 use Rattle.level_layout.specs.Layout.{IsLaidOut}
-use Rattle.level_plan.specs.FromPlan.{Drawn, section_at}
+use Rattle.level_plan.specs.FromPlan.{LevelDrawing, section_at}
 use Rattle.level_plan.specs.Level.{holds}
 use Rattle.level_stands.proofs.Lists.{Has, any_has, at_has, below_has, has_at}
 use Rattle.part_layers.proofs.RangeLemmas.{filter_no, filter_yes}
@@ -70,7 +70,7 @@ blank = record { start = origin; bends = []; end = origin }
 pub section_read : (outs : List LevelOut) (k i : ℕ) (z : LevelOut) (sections : List Section) (s : Section) → k < length outs → sections ≡ (get_or outs k z).sections → i < length (drawing_at outs k).sections → s ≡ get_or sections i s
     → section_at (drawing_at outs k) i ≡ s
 section_read outs k i z sections s h are there is =
-    let same : (drawing_at outs k).sections ≡ sections = ap (λ (d : Drawn). d.sections) (sym (drawing_read outs k z h)) ∙ sym are in
+    let same : (drawing_at outs k).sections ≡ sections = ap (λ (d : LevelDrawing). d.sections) (sym (drawing_read outs k z h)) ∙ sym are in
     ap (λ (ss : List Section). get_or ss i blank) same ∙ get_or_default sections i blank s (subst (λ (ss : List Section). i < length ss) same there) ∙ sym is
 
 -- ---- spans

@@ -22,7 +22,7 @@ use Rattle.level_layers.specs.Certificate.{IsCertificateOf}
 use Rattle.level_layout.specs.Layout.{IsLaidOut}
 use Rattle.level_plan.specs.declared.level.LevelIn.{LevelIn}
 use Rattle.level_plan.specs.Conditions.{plain_level}
-use Rattle.level_plan.specs.FromPlan.{Drawn, point_or}
+use Rattle.level_plan.specs.FromPlan.{LevelDrawing, point_or}
 use Rattle.level_plan.specs.Level.{Orders, PlainLevel, PlainPlan, child_at, holds}
 use Rattle.port_order.specs.declared.children.Child.{Child}
 use Rattle.level_stands.specs.Ready.{IsReady}
@@ -71,7 +71,7 @@ module _ (level : LevelIn) (component : ℤ) (v : PartsOut) (laid : IsPartsLayou
   orders_by k (inl h) = (laid_at k h).orders
   orders_by k (inr m) = no_orders
 
-  pub own_by : (k : ℕ) → Known k → Drawn
+  pub own_by : (k : ℕ) → Known k → LevelDrawing
   own_by k (inl h) = drawn_in (out k h) (laid_at k h).drawn.left (laid_at k h).drawn.top
   own_by k (inr m) = no_drawing
 
@@ -81,7 +81,7 @@ module _ (level : LevelIn) (component : ℤ) (v : PartsOut) (laid : IsPartsLayou
   abbrev pub orders : ℕ → Orders
   orders k = orders_by k (cases_lt k count)
 
-  abbrev pub own : ℕ → Drawn
+  abbrev pub own : ℕ → LevelDrawing
   own k = own_by k (cases_lt k count)
 
   abbrev pub layers : ℕ → List ℕ
@@ -134,17 +134,17 @@ module _ (level : LevelIn) (component : ℤ) (v : PartsOut) (laid : IsPartsLayou
   -- a drawing is the same however far it was moved
   same_boxes : (k : ℕ) (t : Known k) → k < count → (drawing_at v.outs k).boxes ≡ (own_by k t).boxes
   unfolding own_by
-  same_boxes k (inl h) less = ap (λ (d : Drawn). d.boxes) (drawing_is v.outs k h)
+  same_boxes k (inl h) less = ap (λ (d : LevelDrawing). d.boxes) (drawing_is v.outs k h)
   same_boxes k (inr m) less = absurd (omega (arith, m, less))
 
   same_ports : (k : ℕ) (t : Known k) → k < count → (drawing_at v.outs k).ports ≡ (own_by k t).ports
   unfolding own_by
-  same_ports k (inl h) less = ap (λ (d : Drawn). d.ports) (drawing_is v.outs k h)
+  same_ports k (inl h) less = ap (λ (d : LevelDrawing). d.ports) (drawing_is v.outs k h)
   same_ports k (inr m) less = absurd (omega (arith, m, less))
 
   same_sections : (k : ℕ) (t : Known k) → k < count → (drawing_at v.outs k).sections ≡ (own_by k t).sections
   unfolding own_by
-  same_sections k (inl h) less = ap (λ (d : Drawn). d.sections) (drawing_is v.outs k h)
+  same_sections k (inl h) less = ap (λ (d : LevelDrawing). d.sections) (drawing_is v.outs k h)
   same_sections k (inr m) less = absurd (omega (arith, m, less))
 
   pub same_extent : (k : ℕ) (t : Known k) → k < count → size_at (extents_of v.outs) k ≡ (own_by k t).extent

@@ -13,23 +13,23 @@ use Rattle.joined_drawings.specs.Joined.{moved_section}
 use Rattle.level_draw.specs.declared.drawing.LevelOut.{LevelOut}
 use Rattle.level_draw.specs.Drawing.{drawn_in}
 use Rattle.level_layout.specs.Layout.{IsLaidOut}
-use Rattle.level_plan.specs.FromPlan.{Drawn, point_or, section_at}
+use Rattle.level_plan.specs.FromPlan.{LevelDrawing, point_or, section_at}
 use Rattle.level_plan.specs.Level.{holds}
 use Rattle.part_levels.specs.declared.levels.PartLevel.{PartLevel}
 use Rattle.part_levels.specs.Split.{part_at}
 use Rattle.turned_levels.specs.Drawing.{plus}
 
 -- the drawing, the certificate and the extent of part k
-abbrev pub no_drawing : Drawn
+abbrev pub no_drawing : LevelDrawing
 no_drawing = record { gaps = []; traces = []; boxes = []; ports = []; sections = []; extent = no_size; left = pos 0; top = pos 0 }
 
 abbrev pub no_certificate : Certificate
 no_certificate = record { layers = []; reversed = []; flow = []; span = 0; parts = [] }
 
-abbrev pub drawing_of : LevelOut → Drawn
+abbrev pub drawing_of : LevelOut → LevelDrawing
 drawing_of v = drawn_in v (pos 0) (pos 0)
 
-abbrev pub drawing_at : List LevelOut → ℕ → Drawn
+abbrev pub drawing_at : List LevelOut → ℕ → LevelDrawing
 drawing_at outs k = slice_index_or (map drawing_of outs) k no_drawing
 
 abbrev pub certificate_at : List LevelOut → ℕ → Certificate

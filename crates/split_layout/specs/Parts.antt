@@ -8,7 +8,7 @@ use Rattle.level_draw.specs.declared.drawing.LevelOut.{LevelOut}
 use Rattle.level_layout.specs.Layout.{IsLaidOut}
 use Rattle.level_plan.specs.declared.level.LevelIn.{LevelIn}
 use Rattle.level_plan.specs.Conditions.{IsLevel, plain_level}
-use Rattle.level_plan.specs.FromPlan.{Drawn}
+use Rattle.level_plan.specs.FromPlan.{LevelDrawing}
 use Rattle.part_layers.specs.Dividing.{AreCounted}
 use Rattle.part_levels.specs.Parts.{AreParts}
 use Rattle.part_levels.specs.Split.{part_in}
@@ -17,7 +17,7 @@ use Rattle.split_layout.specs.Gathered.{certificate_at, drawing_at, extents_of}
 use Rattle.split_layout.specs.Limits.{IsRowLimit}
 
 -- the drawing of the whole
-abbrev pub whole_drawing : PartsOut → Drawn
+abbrev pub whole_drawing : PartsOut → LevelDrawing
 whole_drawing v =
     record { gaps = []; traces = []; boxes = v.boxes; ports = v.ports; sections = v.sections; extent = v.extent; left = pos 0; top = pos 0 }
 

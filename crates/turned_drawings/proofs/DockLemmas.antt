@@ -32,7 +32,7 @@ use Rattle.port_order.specs.Sides.{side_else}
 use Rattle.port_order.specs.Places.{given_face, on_side, corner_of, face_of, anchor_at}
 use Rattle.level_plan.specs.declared.level.Spoke.{Spoke}
 use Rattle.level_plan.specs.Level.{PlainLevel, PlainPlan, Orders, end_at, spoke, child_at, port_spot, spot_of, spot_at_port, anchor_of_spot, dock_of, dock_of_spot}
-use Rattle.level_plan.specs.FromPlan.{Drawn, point_or, box_place, anchor}
+use Rattle.level_plan.specs.FromPlan.{LevelDrawing, point_or, box_place, anchor}
 use Rattle.level_stands.specs.Apart.{drawn_port}
 use Rattle.level_stands.proofs.SameLines.{same_dock}
 use Rattle.level_stands.specs.PortsKept.{port_side}
@@ -103,7 +103,7 @@ half_same Left None false true z = refl
 half_same Down None false true z = refl
 half_same Up None false true z = refl
 
-module _ (d : Document) (p : Placed) (n : ℕ) (o : LevelOptions) (plan : PlainPlan) (v : Drawn) (by : Point) (from : IsFromLevel d p n o plan v by) where
+module _ (d : Document) (p : Placed) (n : ℕ) (o : LevelOptions) (plan : PlainPlan) (v : LevelDrawing) (by : Point) (from : IsFromLevel d p n o plan v by) where
   abbrev l : PlainLevel
   l = level_of d p n o
 
@@ -128,7 +128,7 @@ module _ (d : Document) (p : Placed) (n : ℕ) (o : LevelOptions) (plan : PlainP
   pub box_turned : (i : ℕ) → i < length (children d n) → turned way (box_of p (child_number d n i)) ≡ rect_at (plus by (point_or v.boxes i)) (turned_size way (box_size p (child_number d n i)))
   box_turned i h = (from.drawn.children i h).box
 
-module _ (d : Document) (p : Placed) (n : ℕ) (o : LevelOptions) (plan : PlainPlan) (v : Drawn) (by : Point) (from : IsFromLevel d p n o plan v by) (orders : Orders) (anchored : IsAnchored (level_of d p n o) plan orders v) where
+module _ (d : Document) (p : Placed) (n : ℕ) (o : LevelOptions) (plan : PlainPlan) (v : LevelDrawing) (by : Point) (from : IsFromLevel d p n o plan v by) (orders : Orders) (anchored : IsAnchored (level_of d p n o) plan orders v) where
   abbrev lv : PlainLevel
   lv = level_of d p n o
 

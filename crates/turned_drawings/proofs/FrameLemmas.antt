@@ -21,7 +21,7 @@ use Rattle.elk_doc.specs.Inside.{Inside, IsWithinPadding}
 use Rattle.elk_doc.specs.Sound.{IsSound}
 use Rattle.elk_doc.proofs.ShapeLaws.{same_rect}
 use Rattle.level_extent.specs.Reach.{IsReach, reached}
-use Rattle.level_plan.specs.FromPlan.{Drawn}
+use Rattle.level_plan.specs.FromPlan.{LevelDrawing}
 use Rattle.level_stands.specs.Apart.{drawn_outline}
 use Rattle.turned_levels.specs.Turned.{child_number, edge_number, turned_size, level_of}
 use Rattle.turned_levels.specs.Drawing.{IsTurnedDrawing}
@@ -125,7 +125,7 @@ empty : {X : Type 0} (xs : List X) → length xs ≡ 0 → xs ≡ []
 empty [] h = refl
 empty (x ∷ xs) h = absurd (omega (arith, h))
 
-module _ (d : Document) (p : Placed) (n : ℕ) (o : LevelOptions) (v : Drawn) (by : Point) (sound : IsSound d)
+module _ (d : Document) (p : Placed) (n : ℕ) (o : LevelOptions) (v : LevelDrawing) (by : Point) (sound : IsSound d)
     (t : IsTurnedDrawing d p n o.direction v by) (fills : FillsExtent (level_of d p n o) v) (f : IsFramed d p n o v by) where
   abbrev content : Size
   content = turned_size o.direction v.extent
@@ -285,6 +285,6 @@ module _ (d : Document) (p : Placed) (n : ℕ) (o : LevelOptions) (v : Drawn) (b
   fitted_box : IsFittedBox d p n o
   fitted_box = record { inside = inside_box; left = left_least; top = top_least; width = width_greatest; height = height_greatest }
 
-pub framed_boxes_fit : (d : Document) (p : Placed) (n : ℕ) (o : LevelOptions) (v : Drawn) (by : Point)
+pub framed_boxes_fit : (d : Document) (p : Placed) (n : ℕ) (o : LevelOptions) (v : LevelDrawing) (by : Point)
     → IsSound d → IsTurnedDrawing d p n o.direction v by → FillsExtent (level_of d p n o) v → IsFramed d p n o v by → IsFittedBox d p n o
 framed_boxes_fit d p n o v by s t fills f = fitted_box d p n o v by s t fills f

@@ -28,7 +28,7 @@ use Rattle.port_order.specs.Sides.{is_forward}
 use Rattle.port_order.specs.Order.{ClockwiseFirst, clockwise, given_at}
 use Rattle.level_plan.specs.declared.level.Spoke.{Spoke}
 use Rattle.level_plan.specs.Level.{PlainLevel, PlainPlan, Orders, end_at, spoke, child_at, dock_of}
-use Rattle.level_plan.specs.FromPlan.{Drawn, point_or, anchor}
+use Rattle.level_plan.specs.FromPlan.{LevelDrawing, point_or, anchor}
 use Rattle.level_stands.specs.Apart.{drawn_box, drawn_port}
 use Rattle.level_stands.specs.PortsKept.{port_side, port_offset, KeepsPorts as ChildKeepsPorts}
 use Rattle.turned_levels.specs.Turned.{level_of, level_child, level_port, child_number, edge_number, port_number, ports_of, is_port_of, spoke_of, turned_size, turned_place, turned_given, half_along, box_size}
@@ -49,7 +49,7 @@ no_level : (level : Option LevelOptions) → not (is_some level) ≡ is_none lev
 no_level None = refl
 no_level (Some o) = refl
 
-module _ (d : Document) (p : Placed) (n : ℕ) (o : LevelOptions) (plan : PlainPlan) (v : Drawn) (by : Point) (from : IsFromLevel d p n o plan v by)
+module _ (d : Document) (p : Placed) (n : ℕ) (o : LevelOptions) (plan : PlainPlan) (v : LevelDrawing) (by : Point) (from : IsFromLevel d p n o plan v by)
     (orders : Orders) (anchored : IsAnchored (level_of d p n o) plan orders v) (i : ℕ) (there : i < length (children d n)) (kept : ChildKeepsPorts (level_of d p n o) plan orders v i) where
   abbrev l : PlainLevel
   l = level_of d p n o

@@ -2,7 +2,7 @@
 use Rattle.std.proofs.Common.{ℕ, ◌<◌, Bool, true, false, length, arith}
 use Rattle.level_plan.specs.Level.{Orders, PlainLevel, PlainPlan, end_at, spoke}
 use Rattle.level_plan.specs.Conditions.{IsLevel}
-use Rattle.level_plan.specs.FromPlan.{Drawn, IsDrawnFrom}
+use Rattle.level_plan.specs.FromPlan.{LevelDrawing, IsDrawnFrom}
 use Rattle.level_stands.specs.PortsKept.{ArePortsPlaced}
 use Rattle.level_rules.specs.Routes.{RoutesKept}
 use Rattle.turned_levels.specs.Turned.{level_of}
@@ -17,7 +17,7 @@ use Rattle.turned_drawings.proofs.SpreadLemmas.{ports_turn_back}
 use Rattle.turned_drawings.specs.Levels.{LevelsAreDrawn}
 
 -- what is drawn from a plan has its ports where the plan places them
-pub ports_placed : (l : PlainLevel) (plan : PlainPlan) (orders : Orders) (v : Drawn) → IsLevel l → IsDrawnFrom l plan orders v → ArePortsPlaced l plan orders v
+pub ports_placed : (l : PlainLevel) (plan : PlainPlan) (orders : Orders) (v : LevelDrawing) → IsLevel l → IsDrawnFrom l plan orders v → ArePortsPlaced l plan orders v
 ports_placed l plan orders v level drawn =
     record {
       ports = λ c k there h. (drawn.children c there).ports k h;
@@ -28,7 +28,7 @@ ports_placed l plan orders v level drawn =
     end_there e true h = (level.edges e h).source.child
     end_there e false h = (level.edges e h).target.child
 
-pub anchored : (l : PlainLevel) (plan : PlainPlan) (orders : Orders) (v : Drawn) → ArePortsPlaced l plan orders v → RoutesKept l plan orders v → IsAnchored l plan orders v
+pub anchored : (l : PlainLevel) (plan : PlainPlan) (orders : Orders) (v : LevelDrawing) → ArePortsPlaced l plan orders v → RoutesKept l plan orders v → IsAnchored l plan orders v
 anchored l plan orders v placed routes =
     record { placed = placed; from_source = λ i h. (routes.routes i h).from_source; to_target = λ i h. (routes.routes i h).to_target }
 

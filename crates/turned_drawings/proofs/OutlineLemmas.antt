@@ -19,7 +19,7 @@ use Rattle.elk_doc.specs.Content.{IsLeftBy, IsAboveBy}
 use Rattle.elk_doc.proofs.NumberLaws.{numbers_below-more, numbers_below-same}
 use Rattle.port_order.specs.Child as laid
 use Rattle.level_plan.specs.Level.{PlainLevel, child_at}
-use Rattle.level_plan.specs.FromPlan.{Drawn, point_or}
+use Rattle.level_plan.specs.FromPlan.{LevelDrawing, point_or}
 use Rattle.level_stands.specs.Apart.{drawn_box, drawn_port, drawn_outline, drawn_outline_from}
 use Rattle.turned_levels.specs.Turned.{child_number, is_port_of, ports_of, port_number, turned_size, turned_place, box_size, level_of}
 use Rattle.turned_levels.specs.Drawing.{IsTurnedDrawing}
@@ -38,15 +38,15 @@ outline_listed d p c (suc m) =
     (cases_Bool (is_port_of d c m))
 
 -- a port's box in a drawing of a level
-abbrev pub drawn_port_box : PlainLevel → Drawn → ℕ → ℕ → Rect
+abbrev pub drawn_port_box : PlainLevel → LevelDrawing → ℕ → ℕ → Rect
 drawn_port_box l v i j = rect_at (moved_by (drawn_box l v i) (drawn_port v i j)) (laid.port_at (child_at l i) j).size
 
-pub drawn_listed : (l : PlainLevel) (v : Drawn) (i : ℕ) (ks : List ℕ) → drawn_outline_from l v i ks ≡ hulls (drawn_box l v i) (drawn_port_box l v i) ks
+pub drawn_listed : (l : PlainLevel) (v : LevelDrawing) (i : ℕ) (ks : List ℕ) → drawn_outline_from l v i ks ≡ hulls (drawn_box l v i) (drawn_port_box l v i) ks
 unfolding hulls
 drawn_listed l v i [] = refl
 drawn_listed l v i (k ∷ ks) = ap (λ z. hull z (drawn_port_box l v i k)) (drawn_listed l v i ks)
 
-module _ (d : Document) (p : Placed) (n : ℕ) (o : LevelOptions) (v : Drawn) (by : Point) (t : IsTurnedDrawing d p n o.direction v by) where
+module _ (d : Document) (p : Placed) (n : ℕ) (o : LevelOptions) (v : LevelDrawing) (by : Point) (t : IsTurnedDrawing d p n o.direction v by) where
   abbrev level : PlainLevel
   level = level_of d p n o
 
@@ -79,7 +79,7 @@ module _ (d : Document) (p : Placed) (n : ℕ) (o : LevelOptions) (v : Drawn) (b
       ∙ ap (shifted by) (sym (drawn_listed level v i (range_with_len 0 (length (ports_of d c)))))
       ∙ ap (λ m. shifted by (drawn_outline_from level v i (range_with_len 0 m))) (sym count)
 
-pub outlines_turn_back : (d : Document) (p : Placed) (n : ℕ) (o : LevelOptions) (v : Drawn) (by : Point) → IsTurnedDrawing d p n o.direction v by
+pub outlines_turn_back : (d : Document) (p : Placed) (n : ℕ) (o : LevelOptions) (v : LevelDrawing) (by : Point) → IsTurnedDrawing d p n o.direction v by
     → (i : ℕ) → i < length (children d n) → framed d p o (child_number d n i) ≡ shifted by (drawn_outline (level_of d p n o) v i)
 outlines_turn_back d p n o v by t = outline_back d p n o v by t
 
@@ -92,13 +92,13 @@ above_moved : (by : Point) (gap : ℤ) (r s : Rect) → IsAboveBy gap r s → Is
 above_moved by gap r s h = omega (arith, ints, h)
 
 -- the outline of a child that stands at its place
-outline_at_place : (d : Document) (p : Placed) (n : ℕ) (o : LevelOptions) (v : Drawn) (by : Point) → IsTurnedDrawing d p n o.direction v by
+outline_at_place : (d : Document) (p : Placed) (n : ℕ) (o : LevelOptions) (v : LevelDrawing) (by : Point) → IsTurnedDrawing d p n o.direction v by
     → (a : ℕ) → IsChild d n a → framed d p o a ≡ shifted by (drawn_outline (level_of d p n o) v (place_of_child d n a))
 outline_at_place d p n o v by t a h =
     let m = (numbers_match d n).children in
     ap (framed d p o) (sym (m.found a h)) ∙ outlines_turn_back d p n o v by t (place_of_child d n a) (m.place_in a h)
 
-layers_back : (d : Document) (p : Placed) (n : ℕ) (o : LevelOptions) (v : Drawn) (by : Point) (c : Certificate) → IsTurnedDrawing d p n o.direction v by
+layers_back : (d : Document) (p : Placed) (n : ℕ) (o : LevelOptions) (v : LevelDrawing) (by : Point) (c : Certificate) → IsTurnedDrawing d p n o.direction v by
     → AllApart d p n o v c → (a b : ℕ) → IsChild d n a → IsChild d n b → a ≢ b → LayersApart d p n o c a b
 layers_back d p n o v by c t apart a b ha hb differ =
     let m = (numbers_match d n).children in
@@ -122,7 +122,7 @@ clash : {X : Type 0} (b : Bool) → IsTrue b → IsFalse b → X
 clash true t f = absurd (search rules)
 clash false t f = absurd (search rules)
 
-pub distances_turn_back : (d : Document) (p : Placed) (n : ℕ) (o : LevelOptions) (v : Drawn) (by : Point) (c : Certificate)
+pub distances_turn_back : (d : Document) (p : Placed) (n : ℕ) (o : LevelOptions) (v : LevelDrawing) (by : Point) (c : Certificate)
     → IsTurnedDrawing d p n o.direction v by → AllApart d p n o v c → IsFalse o.split → IsFalse o.boxes → Apart d p n o c
 distances_turn_back d p n o v by c t apart whole layered =
     record {

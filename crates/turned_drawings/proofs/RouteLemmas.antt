@@ -22,7 +22,7 @@ use Rattle.turning_laws.specs.Frames.{point_back, point_in, IsOrthogonalIn, Clea
 use Rattle.turning_laws.proofs.FrameLaws.{backs, drawn_routes}
 use Rattle.port_order.specs.declared.children.Child.{Child}
 use Rattle.level_plan.specs.Level.{PlainLevel, PlainPlan, Orders, end_at, spoke, dock_of}
-use Rattle.level_plan.specs.FromPlan.{Drawn, point_or, section_at}
+use Rattle.level_plan.specs.FromPlan.{LevelDrawing, point_or, section_at}
 use Rattle.level_stands.specs.Apart.{drawn_box, drawn_outline}
 use Rattle.level_stands.specs.PortsKept.{ArePortsPlaced}
 use Rattle.level_rules.specs.Routes.{RoutesKept, route_count, route_point, IsOrthogonal as IsLevelOrthogonal, RoutesShare as LevelRoutesShare}
@@ -60,7 +60,7 @@ none_turned f (p ∷ ps) e = absurd cc
 point_injective : (way : Direction) (p q : Point) → turned_point way p ≡ turned_point way q → p ≡ q
 point_injective way p q e = sym (backs.point way p).0 ∙ ap (point_back way) e ∙ (backs.point way q).0
 
-module _ (d : Document) (p : Placed) (n : ℕ) (o : LevelOptions) (plan : PlainPlan) (orders : Orders) (v : Drawn) (by : Point) (from : IsFromLevel d p n o plan v by)
+module _ (d : Document) (p : Placed) (n : ℕ) (o : LevelOptions) (plan : PlainPlan) (orders : Orders) (v : LevelDrawing) (by : Point) (from : IsFromLevel d p n o plan v by)
     (placed : ArePortsPlaced (level_of d p n o) plan orders v) (kept : RoutesKept (level_of d p n o) plan orders v) where
   abbrev l : PlainLevel
   l = level_of d p n o

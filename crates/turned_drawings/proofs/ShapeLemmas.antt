@@ -23,7 +23,7 @@ use Rattle.level_extent.specs.Reach.{points_along, points_of as all_points}
 use Rattle.turning_laws.specs.Turning.{turned_point}
 use Rattle.turning_laws.proofs.TurningLaws.{boxes}
 use Rattle.level_plan.specs.Level.{PlainLevel, child_at}
-use Rattle.level_plan.specs.FromPlan.{Drawn, section_at}
+use Rattle.level_plan.specs.FromPlan.{LevelDrawing, section_at}
 use Rattle.level_stands.specs.Apart.{drawn_box, drawn_outline}
 use Rattle.level_stands.proofs.Lists.{Has, has_map, map_has, has_left, has_right, append_has, has_at, at_has, has_range, below_has}
 use Rattle.turned_levels.specs.Turned.{child_number, edge_number, box_size, turned_size, level_of}
@@ -99,10 +99,10 @@ turned_solid Down s w h = (h, w)
 turned_solid Up s w h = (h, w)
 
 -- the outlines of a level's drawing
-abbrev pub outlines_in : PlainLevel → Drawn → List Rect
+abbrev pub outlines_in : PlainLevel → LevelDrawing → List Rect
 outlines_in l v = map (drawn_outline l v) (range_with_len 0 (length l.children))
 
-module _ (d : Document) (p : Placed) (n : ℕ) (o : LevelOptions) (v : Drawn) (by : Point) (t : IsTurnedDrawing d p n o.direction v by)
+module _ (d : Document) (p : Placed) (n : ℕ) (o : LevelOptions) (v : LevelDrawing) (by : Point) (t : IsTurnedDrawing d p n o.direction v by)
     (sections : length v.sections ≡ length (edges_of d n)) where
   -- a shape of the level's drawing
   abbrev pub Shape : Rect → Type 0

@@ -29,7 +29,7 @@ use Rattle.port_order.specs.Sides.{side_of_place, given_side, side_else, side_of
 use Rattle.port_order.proofs.TurnedLemmas.{directions_turn}
 use Rattle.level_plan.specs.declared.level.Spoke.{Spoke}
 use Rattle.level_plan.specs.Level.{PlainLevel, PlainPlan, Orders, End, end_at, spoke, child_at, holds, is_loop, enters, is_port, all_ends, ends_at_port, linked, port_spot, spot_at_port}
-use Rattle.level_plan.specs.FromPlan.{Drawn}
+use Rattle.level_plan.specs.FromPlan.{LevelDrawing}
 use Rattle.level_stands.specs.PortsKept.{port_side}
 use Rattle.level_stands.proofs.Lists.{Has, has_filter, filter_has, has_map, map_has, below_has, any_has, has_any}
 use Rattle.level_stands.proofs.NameLemmas.{ends_edge}
@@ -132,7 +132,7 @@ given_turned way FixedPos None None size box place s kept =
 same_size : (r s : Size) → r.width ≡ s.width → r.height ≡ s.height → r ≡ s
 same_size r s w h = ap₂ (λ a b. let z : Size = record { width = a; height = b } in z) w h
 
-module _ (d : Document) (p : Placed) (n : ℕ) (o : LevelOptions) (plan : PlainPlan) (v : Drawn) (by : Point) (from : IsFromLevel d p n o plan v by) where
+module _ (d : Document) (p : Placed) (n : ℕ) (o : LevelOptions) (plan : PlainPlan) (v : LevelDrawing) (by : Point) (from : IsFromLevel d p n o plan v by) where
   abbrev l : PlainLevel
   l = level_of d p n o
 

@@ -30,7 +30,7 @@ use Rattle.port_order.specs.Sides.{side_of}
 use Rattle.port_order.specs.Ranks.{is_spread_on}
 use Rattle.level_plan.specs.declared.level.Spoke.{Spoke}
 use Rattle.level_plan.specs.Level.{PlainLevel, PlainPlan, Orders, End, end_at, spoke, child_at, all_ends, implicit_ends, port_spot, implicit_spot, spot_at_port}
-use Rattle.level_plan.specs.FromPlan.{Drawn}
+use Rattle.level_plan.specs.FromPlan.{LevelDrawing}
 use Rattle.level_stands.specs.PortsKept.{port_side, IsSpreadAt, drawn_offset, spread_count, KeepsPorts as ChildKeepsPorts}
 use Rattle.level_stands.proofs.Lists.{Has, has_left, has_right, has_map, filter_has, below_has}
 use Rattle.level_stands.proofs.FirstPlaces.{distinct_filter}
@@ -65,7 +65,7 @@ none_is : (o : Option ℕ) → is_none o ≡ true → o ≡ None
 none_is None h = refl
 none_is (Some k) h = absurd (false≢true h)
 
-module _ (d : Document) (p : Placed) (n : ℕ) (o : LevelOptions) (plan : PlainPlan) (v : Drawn) (by : Point) (from : IsFromLevel d p n o plan v by)
+module _ (d : Document) (p : Placed) (n : ℕ) (o : LevelOptions) (plan : PlainPlan) (v : LevelDrawing) (by : Point) (from : IsFromLevel d p n o plan v by)
     (orders : Orders) (anchored : IsAnchored (level_of d p n o) plan orders v) (i : ℕ) (there : i < length (children d n)) (kept : ChildKeepsPorts (level_of d p n o) plan orders v i) where
   abbrev l : PlainLevel
   l = level_of d p n o

@@ -9,7 +9,7 @@ use Rattle.elk_doc.specs.declared.drawing.Placed.{Placed}
 use Rattle.elk_doc.specs.Document.{Document}
 use Rattle.elk_doc.specs.Examples.{point, rect, size, root, leaf, edge, options, two_layers}
 use Rattle.level_plan.specs.Level.{PlainLevel}
-use Rattle.level_plan.specs.FromPlan.{Drawn}
+use Rattle.level_plan.specs.FromPlan.{LevelDrawing}
 use Rattle.turned_levels.specs.Turned.{level_of}
 use Rattle.turned_levels.specs.Drawing.{IsTurnedDrawing}
 use Rattle.turned_drawings.specs.Outlines.{AllApart}
@@ -38,7 +38,7 @@ abbrev pub upward_level : PlainLevel
 upward_level = level_of upward upward_drawn 0 (options Up)
 
 -- in the frame the edge runs to the right, from a port on the east side
-abbrev pub upward_framed : Drawn
+abbrev pub upward_framed : LevelDrawing
 upward_framed =
     record {
       gaps = [];

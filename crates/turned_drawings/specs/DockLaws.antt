@@ -15,14 +15,14 @@ use Rattle.elk_doc.specs.Sound.{IsSound}
 use Rattle.turning_laws.specs.Turning.{turned_side, turned_point}
 use Rattle.turning_laws.specs.Frames.{turned_dock}
 use Rattle.level_plan.specs.Level.{PlainLevel, PlainPlan, Orders, end_at, holds, dock_of}
-use Rattle.level_plan.specs.FromPlan.{Drawn, section_at, anchor}
+use Rattle.level_plan.specs.FromPlan.{LevelDrawing, section_at, anchor}
 use Rattle.level_stands.specs.PortsKept.{ArePortsPlaced, port_side}
 use Rattle.turned_levels.specs.Turned.{level_of, child_number, edge_number, port_number, ports_of}
 use Rattle.turned_levels.specs.Drawing.{IsTurnedDrawing, plus}
 
 -- A document's drawing at the level of n, which has these options, comes from a drawing of that level: leaves keep their
 -- sizes, and the edges of the level that the certificate lists are those that the plan turns round.
-pub record IsFromLevel (d : Document) (p : Placed) (n : ℕ) (o : LevelOptions) (plan : PlainPlan) (v : Drawn) (by : Point) : Type 0 where
+pub record IsFromLevel (d : Document) (p : Placed) (n : ℕ) (o : LevelOptions) (plan : PlainPlan) (v : LevelDrawing) (by : Point) : Type 0 where
   pub sound : IsSound d
   pub options : (node_at d n).level ≡ Some o
   pub leaves : LeavesKept d p
@@ -33,7 +33,7 @@ pub record IsFromLevel (d : Document) (p : Placed) (n : ℕ) (o : LevelOptions) 
   pub reversed_in : (i : ℕ) → IsTrue (holds plan.reversed i) → i < length (edges_of d n)
 
 -- Ports and children stand where the plan places them, and sections lead from anchor to anchor.
-pub record IsAnchored (l : PlainLevel) (plan : PlainPlan) (orders : Orders) (v : Drawn) : Type 0 where
+pub record IsAnchored (l : PlainLevel) (plan : PlainPlan) (orders : Orders) (v : LevelDrawing) : Type 0 where
   pub placed : ArePortsPlaced l plan orders v
   pub from_source : (i : ℕ) → i < length l.edges → (section_at v i).start ≡ anchor l plan orders v (end_at i true)
   pub to_target : (i : ℕ) → i < length l.edges → (section_at v i).end ≡ anchor l plan orders v (end_at i false)
@@ -50,11 +50,11 @@ EndSideTurns d p n o plan orders i t =
 
 -- the sides of ports and ends, and which edges are turned round
 pub record SidesTurnBack : Type 0 where
-  pub listed : (d : Document) (p : Placed) (n : ℕ) (o : LevelOptions) (plan : PlainPlan) (v : Drawn) (by : Point) → IsFromLevel d p n o plan v by
+  pub listed : (d : Document) (p : Placed) (n : ℕ) (o : LevelOptions) (plan : PlainPlan) (v : LevelDrawing) (by : Point) → IsFromLevel d p n o plan v by
       → (i : ℕ) → i < length (edges_of d n) → is_listed d p (edge_number d n i) ≡ holds plan.reversed i
-  pub port : (d : Document) (p : Placed) (n : ℕ) (o : LevelOptions) (plan : PlainPlan) (v : Drawn) (by : Point) → IsFromLevel d p n o plan v by
+  pub port : (d : Document) (p : Placed) (n : ℕ) (o : LevelOptions) (plan : PlainPlan) (v : LevelDrawing) (by : Point) → IsFromLevel d p n o plan v by
       → (i j : ℕ) → i < length (children d n) → j < length (ports_of d (child_number d n i)) → PortSideTurns d p n o plan i j
-  pub end : (d : Document) (p : Placed) (n : ℕ) (o : LevelOptions) (plan : PlainPlan) (v : Drawn) (by : Point) → IsFromLevel d p n o plan v by
+  pub end : (d : Document) (p : Placed) (n : ℕ) (o : LevelOptions) (plan : PlainPlan) (v : LevelDrawing) (by : Point) → IsFromLevel d p n o plan v by
       → (orders : Orders) (i : ℕ) (t : Bool) → i < length (edges_of d n) → EndSideTurns d p n o plan orders i t
 
 -- a dock of the level, at the document's number of its child
@@ -62,7 +62,7 @@ abbrev pub numbered_dock : Document → ℕ → Dock → Dock
 numbered_dock d n k = record { node = child_number d n k.node; side = k.side; offset = k.offset }
 
 -- the anchor of an end in the document is the level's, moved, in the frame
-abbrev pub AnchorTurns : Document → Placed → ℕ → LevelOptions → PlainPlan → Orders → Drawn → Point → ℕ → Bool → Type 0
+abbrev pub AnchorTurns : Document → Placed → ℕ → LevelOptions → PlainPlan → Orders → LevelDrawing → Point → ℕ → Bool → Type 0
 AnchorTurns d p n o plan orders v by i t =
     turned_point o.direction (document_anchor d p (edge_number d n i) t) ≡ plus by (anchor (level_of d p n o) plan orders v (end_at i t))
 
@@ -78,12 +78,12 @@ DocksAgree d p n o plan orders i s j t =
 
 -- anchors and docks
 pub record DocksTurnBack : Type 0 where
-  pub anchor : (d : Document) (p : Placed) (n : ℕ) (o : LevelOptions) (plan : PlainPlan) (orders : Orders) (v : Drawn) (by : Point)
+  pub anchor : (d : Document) (p : Placed) (n : ℕ) (o : LevelOptions) (plan : PlainPlan) (orders : Orders) (v : LevelDrawing) (by : Point)
       → IsFromLevel d p n o plan v by → IsAnchored (level_of d p n o) plan orders v
       → (i : ℕ) (t : Bool) → i < length (edges_of d n) → AnchorTurns d p n o plan orders v by i t
-  pub dock : (d : Document) (p : Placed) (n : ℕ) (o : LevelOptions) (plan : PlainPlan) (orders : Orders) (v : Drawn) (by : Point)
+  pub dock : (d : Document) (p : Placed) (n : ℕ) (o : LevelOptions) (plan : PlainPlan) (orders : Orders) (v : LevelDrawing) (by : Point)
       → IsFromLevel d p n o plan v by → IsAnchored (level_of d p n o) plan orders v
       → (i : ℕ) (t : Bool) → i < length (edges_of d n) → DockTurns d p n o plan orders i t
-  pub same : (d : Document) (p : Placed) (n : ℕ) (o : LevelOptions) (plan : PlainPlan) (orders : Orders) (v : Drawn) (by : Point)
+  pub same : (d : Document) (p : Placed) (n : ℕ) (o : LevelOptions) (plan : PlainPlan) (orders : Orders) (v : LevelDrawing) (by : Point)
       → IsFromLevel d p n o plan v by → IsAnchored (level_of d p n o) plan orders v
       → (i j : ℕ) (s t : Bool) → i < length (edges_of d n) → j < length (edges_of d n) → DocksAgree d p n o plan orders i s j t

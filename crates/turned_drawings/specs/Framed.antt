@@ -18,14 +18,14 @@ use Rattle.elk_doc.specs.Fits.{IsSolid}
 use Rattle.elk_doc.specs.Fitted.{HasNoChild, IsGreatestOf, IsLeastOf, IsPinnedOn, NeedsHeight, NeedsWidth}
 use Rattle.elk_doc.specs.Sound.{IsSound}
 use Rattle.level_plan.specs.Level.{PlainLevel}
-use Rattle.level_plan.specs.FromPlan.{Drawn}
+use Rattle.level_plan.specs.FromPlan.{LevelDrawing}
 use Rattle.level_stands.specs.Apart.{drawn_outline}
 use Rattle.level_extent.specs.Reach.{IsReach, reached}
 use Rattle.turned_levels.specs.Turned.{level_of, turned_size}
 use Rattle.turned_levels.specs.Drawing.{IsTurnedDrawing}
 
 -- the outlines and routes of a level's drawing reach from 0 to its extent
-abbrev pub FillsExtent : PlainLevel → Drawn → Type 0
+abbrev pub FillsExtent : PlainLevel → LevelDrawing → Type 0
 FillsExtent l v =
     IsReach (reached (map (drawn_outline l v) (range_with_len 0 (length l.children))) v.sections) (record { low = origin; high = record { x = v.extent.width; y = v.extent.height } })
 
@@ -49,7 +49,7 @@ AsksHeight d p n o content h =
 -- The box of n is framed round a drawing of its level: the drawing has a section for each edge, is moved to begin at the
 -- padding, and the box has the greatest of the widths and heights that are needed. The boxes of the children have no negative
 -- sizes.
-pub record IsFramed (d : Document) (p : Placed) (n : ℕ) (o : LevelOptions) (v : Drawn) (by : Point) : Type 0 where
+pub record IsFramed (d : Document) (p : Placed) (n : ℕ) (o : LevelOptions) (v : LevelDrawing) (by : Point) : Type 0 where
   pub section_count : length v.sections ≡ length (edges_of d n)
   pub move : by ≡ start_of o.direction o.padding v.extent
   pub width : IsGreatestOf (AsksWidth d p n o (turned_size o.direction v.extent)) (box_of p n).width
@@ -66,5 +66,5 @@ pub record IsFittedBox (d : Document) (p : Placed) (n : ℕ) (o : LevelOptions) 
 
 abbrev pub FramedBoxesFit : Type 0
 FramedBoxesFit =
-    (d : Document) (p : Placed) (n : ℕ) (o : LevelOptions) (v : Drawn) (by : Point)
+    (d : Document) (p : Placed) (n : ℕ) (o : LevelOptions) (v : LevelDrawing) (by : Point)
     → IsSound d → IsTurnedDrawing d p n o.direction v by → FillsExtent (level_of d p n o) v → IsFramed d p n o v by → IsFittedBox d p n o

@@ -8,7 +8,7 @@ use Rattle.elk_doc.specs.declared.drawing.Placed.{Placed}
 use Rattle.elk_doc.specs.Document.{Document}
 use Rattle.elk_doc.specs.Level.{children}
 use Rattle.elk_doc.specs.Apart.{Apart, framed}
-use Rattle.level_plan.specs.FromPlan.{Drawn}
+use Rattle.level_plan.specs.FromPlan.{LevelDrawing}
 use Rattle.level_stands.specs.Apart.{ChildrenApart, drawn_outline}
 use Rattle.turned_levels.specs.Turned.{child_number, level_of}
 use Rattle.turned_levels.specs.Drawing.{IsTurnedDrawing}
@@ -20,16 +20,16 @@ shifted by r = record { x = by.x +ℤ r.x; y = by.y +ℤ r.y; width = r.width; h
 -- The outline of a child, in the frame, is that of the level's drawing, moved.
 abbrev pub OutlinesTurnBack : Type 0
 OutlinesTurnBack =
-    (d : Document) (p : Placed) (n : ℕ) (o : LevelOptions) (v : Drawn) (by : Point) → IsTurnedDrawing d p n o.direction v by
+    (d : Document) (p : Placed) (n : ℕ) (o : LevelOptions) (v : LevelDrawing) (by : Point) → IsTurnedDrawing d p n o.direction v by
     → (i : ℕ) → i < length (children d n) → framed d p o (child_number d n i) ≡ shifted by (drawn_outline (level_of d p n o) v i)
 
 -- the children of a level's drawing keep their distances
-abbrev pub AllApart : Document → Placed → ℕ → LevelOptions → Drawn → Certificate → Type 0
+abbrev pub AllApart : Document → Placed → ℕ → LevelOptions → LevelDrawing → Certificate → Type 0
 AllApart d p n o v c =
     (i j : ℕ) → i < length (children d n) → j < length (children d n) → i ≢ j → ChildrenApart (level_of d p n o) v c.layers i j
 
 -- Children of a level that is neither split nor one of boxes keep their distances where its drawing does.
 abbrev pub DistancesTurnBack : Type 0
 DistancesTurnBack =
-    (d : Document) (p : Placed) (n : ℕ) (o : LevelOptions) (v : Drawn) (by : Point) (c : Certificate)
+    (d : Document) (p : Placed) (n : ℕ) (o : LevelOptions) (v : LevelDrawing) (by : Point) (c : Certificate)
     → IsTurnedDrawing d p n o.direction v by → AllApart d p n o v c → IsFalse o.split → IsFalse o.boxes → Apart d p n o c

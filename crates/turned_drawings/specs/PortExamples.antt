@@ -7,7 +7,7 @@ use Rattle.elk_doc.specs.Places.{dock_of as document_dock}
 use Rattle.elk_layers.specs.declared.units.Unit.{Unit as LayerUnit}
 use Rattle.route_lines.specs.Points.{PlainGap}
 use Rattle.level_plan.specs.Level.{PlainPlan, Orders, end_at, dock_of}
-use Rattle.level_plan.specs.FromPlan.{Drawn}
+use Rattle.level_plan.specs.FromPlan.{LevelDrawing}
 use Rattle.turned_drawings.specs.BoxExamples.{upward, upward_drawn, upward_level, upward_framed, upward_move}
 use Rattle.turned_drawings.specs.DockLaws.{IsFromLevel, IsAnchored}
 
@@ -42,7 +42,7 @@ abbrev pub bare_gap : ℤ → ℤ → PlainGap
 bare_gap left right = record { left = left; first = left; step = pos 10; right = right; nets = []; count = 0; routes = [] }
 
 -- the drawing with the borders of its gaps
-abbrev pub upward_gapped : Drawn
+abbrev pub upward_gapped : LevelDrawing
 upward_gapped =
     record {
       gaps = bare_gap (pos 0) (pos 0) ∷ bare_gap (pos 25) (pos 45) ∷ bare_gap (pos 65) (pos 65) ∷ [];

@@ -9,7 +9,7 @@ use Rattle.elk_doc.specs.Route.{Route}
 use Rattle.elk_doc.specs.Clear.{Clear}
 use Rattle.elk_doc.specs.Sharing.{Sharing}
 use Rattle.level_plan.specs.Level.{PlainPlan, Orders}
-use Rattle.level_plan.specs.FromPlan.{Drawn}
+use Rattle.level_plan.specs.FromPlan.{LevelDrawing}
 use Rattle.level_stands.specs.PortsKept.{ArePortsPlaced}
 use Rattle.level_rules.specs.Routes.{RoutesKept}
 use Rattle.turned_levels.specs.Turned.{level_of}
@@ -23,5 +23,5 @@ pub record RoutesDrawn (d : Document) (p : Placed) (n : ℕ) : Type 0 where
 
 abbrev pub RoutesTurnBack : Type 0
 RoutesTurnBack =
-    (d : Document) (p : Placed) (n : ℕ) (o : LevelOptions) (plan : PlainPlan) (orders : Orders) (v : Drawn) (by : Point)
+    (d : Document) (p : Placed) (n : ℕ) (o : LevelOptions) (plan : PlainPlan) (orders : Orders) (v : LevelDrawing) (by : Point)
     → IsFromLevel d p n o plan v by → ArePortsPlaced (level_of d p n o) plan orders v → RoutesKept (level_of d p n o) plan orders v → RoutesDrawn d p n

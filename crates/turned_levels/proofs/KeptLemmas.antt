@@ -12,7 +12,7 @@ use Rattle.elk_doc.specs.Level.{children, IsChild}
 use Rattle.elk_doc.specs.Shapes.{turned, rect_at}
 use Rattle.port_order.specs.declared.children.Child.{Child}
 use Rattle.level_plan.specs.Level.{PlainLevel}
-use Rattle.level_plan.specs.FromPlan.{Drawn, point_or, section_at}
+use Rattle.level_plan.specs.FromPlan.{LevelDrawing, point_or, section_at}
 use Rattle.turned_levels.specs.Turned.{child_number, edge_number, port_number, ports_of, turned_size, turned_place, box_size, level_port, level_child, level_of}
 use Rattle.turned_levels.specs.Drawing.{IsTurnedChild, IsTurnedDrawing, IsTurnedSection, plus}
 use Rattle.turned_levels.specs.Kept.{AgreeAt}
@@ -40,7 +40,7 @@ levels_read_sizes d p q n o same =
     ap f (map_same (level_child d p o.direction) (level_child d q o.direction) (children d n)
     (λ i h. ap (sized d o.direction (child_number d n i)) (same (child_number d n i) ((numbers_match d n).children.meant i h))))
 
-child_kept : (d : Document) (p q : Placed) (n : ℕ) (way : Direction) (v : Drawn) (by : Point) → AgreeAt d p q n
+child_kept : (d : Document) (p q : Placed) (n : ℕ) (way : Direction) (v : LevelDrawing) (by : Point) → AgreeAt d p q n
     → (i c : ℕ) → IsChild d n c → IsTurnedChild d p way v by i c → IsTurnedChild d q way v by i c
 child_kept d p q n way v by a i c h t =
     let same = a.boxes c h in
@@ -53,7 +53,7 @@ child_kept d p q n way v by a i c h t =
           ap₂ (λ s z. turned_place way s (port_at d m).size z) (sym size) (sym (a.ports c m h ((numbers_match d c).ports.meant j k))) ∙ t.ports j k;
     }
 
-pub drawings_read_levels : (d : Document) (p q : Placed) (n : ℕ) (way : Direction) (v : Drawn) (by : Point)
+pub drawings_read_levels : (d : Document) (p q : Placed) (n : ℕ) (way : Direction) (v : LevelDrawing) (by : Point)
     → AgreeAt d p q n → IsTurnedDrawing d p n way v by → IsTurnedDrawing d q n way v by
 drawings_read_levels d p q n way v by a t =
     record {

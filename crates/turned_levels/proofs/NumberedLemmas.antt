@@ -15,7 +15,7 @@ use Rattle.elk_doc.proofs.NumberLaws.{is_true, numbers_below-more, numbers_below
 use Rattle.elk_doc.proofs.SoundLaws.{node_of_end-in}
 use Rattle.level_plan.specs.Level as plan
 use Rattle.turned_levels.specs.Turned.{child_number, edge_number, ports_of, is_port_of, place_of_port, box_size, level_port, level_child, level_edge, level_of, spoke_of}
-use Rattle.turned_levels.specs.Numbered.{AreNumbered, IsPortOf, NumbersMatch, IsListed, EndsMatch}
+use Rattle.turned_levels.specs.Numbered.{AreNumbersOf, IsPortOf, NumbersMatch, IsListed, EndsMatch}
 
 -- a number of the list is below the bound, passes, and stands at the count of those before it
 pub record Stands (p : ℕ → Bool) (m i x : ℕ) : Type 0 where
@@ -51,7 +51,7 @@ true_is false h = absurd cc
 numbered : (p : ℕ → Bool) (m : ℕ) (Meant : ℕ → Type 0) (place : ℕ → ℕ)
     → ((x : ℕ) → x < m → p x ≡ true → Meant x × (place x ≡ count_below p x))
     → ((x : ℕ) → Meant x → (x < m) × (p x ≡ true))
-    → AreNumbered Meant place (numbers_below p m)
+    → AreNumbersOf Meant place (numbers_below p m)
 numbered p m Meant place to from =
     record {
       meant = λ i h. let s = stands p m i h in (to _ s.below s.passes).0;

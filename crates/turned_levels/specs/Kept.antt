@@ -7,7 +7,7 @@ use Rattle.elk_doc.specs.declared.drawing.Placed.{Placed}
 use Rattle.elk_doc.specs.Document.{Document}
 use Rattle.elk_doc.specs.Level.{IsChild, IsEdge}
 use Rattle.elk_doc.specs.Drawing.{box_of, port_place, section_of}
-use Rattle.level_plan.specs.FromPlan.{Drawn}
+use Rattle.level_plan.specs.FromPlan.{LevelDrawing}
 use Rattle.turned_levels.specs.Turned.{box_size, level_of}
 use Rattle.turned_levels.specs.Drawing.{IsTurnedDrawing}
 use Rattle.turned_levels.specs.Numbered.{IsPortOf}
@@ -27,5 +27,5 @@ pub record AgreeAt (d : Document) (p q : Placed) (n : ℕ) : Type 0 where
 -- A drawing that comes from that of a level still does when it changes elsewhere.
 abbrev pub DrawingsReadLevels : Type 0
 DrawingsReadLevels =
-    (d : Document) (p q : Placed) (n : ℕ) (way : Direction) (v : Drawn) (by : Point)
+    (d : Document) (p q : Placed) (n : ℕ) (way : Direction) (v : LevelDrawing) (by : Point)
     → AgreeAt d p q n → IsTurnedDrawing d p n way v by → IsTurnedDrawing d q n way v by

@@ -11,7 +11,7 @@ use Rattle.level_plan.specs.Level as plan
 use Rattle.turned_levels.specs.Turned.{child_number, edge_number, ports_of, port_number, place_of_port, box_size, level_port, level_child, level_edge, level_of, spoke_of}
 
 -- A list of numbers with a place for each: the numbers are those that are meant, each once, and each stands at its place.
-pub record AreNumbered (Meant : ℕ → Type 0) (place : ℕ → ℕ) (numbers : List ℕ) : Type 0 where
+pub record AreNumbersOf (Meant : ℕ → Type 0) (place : ℕ → ℕ) (numbers : List ℕ) : Type 0 where
   pub meant : (i : ℕ) → i < length numbers → Meant (slice_index_or numbers i 0)
   pub place_at : (i : ℕ) → i < length numbers → place (slice_index_or numbers i 0) ≡ i
   pub place_in : (m : ℕ) → Meant m → place m < length numbers
@@ -24,9 +24,9 @@ pub record IsPortOf (d : Document) (n k : ℕ) : Type 0 where
 
 -- children, edges and ports stand at their places
 pub record NumbersMatch (d : Document) (n : ℕ) : Type 0 where
-  pub children : AreNumbered (IsChild d n) (place_of_child d n) (children d n)
-  pub edges : AreNumbered (IsEdge d n) (place_of_edge d n) (edges_of d n)
-  pub ports : AreNumbered (IsPortOf d n) (place_of_port d) (ports_of d n)
+  pub children : AreNumbersOf (IsChild d n) (place_of_child d n) (children d n)
+  pub edges : AreNumbersOf (IsEdge d n) (place_of_edge d n) (edges_of d n)
+  pub ports : AreNumbersOf (IsPortOf d n) (place_of_port d) (ports_of d n)
 
 abbrev pub NumbersAlwaysMatch : Type 0
 NumbersAlwaysMatch = (d : Document) (n : ℕ) → NumbersMatch d n

@@ -1,7 +1,7 @@
 use Rattle.std.proofs.Common.{◌≡◌, ℕ, ◌<◌, List, length, get_or, Bool, true, false, ◌&&◌, ◌||◌, refl, ap, sym, ◌∙◌, arith}
 use Rattle.elk_json.specs.declared.elements.Element.{Element}
 use Rattle.elk_json.specs.Members.{has_bad_option}
-use Rattle.elk_json.specs.Marks.{AreMarks, has_level_edge}
+use Rattle.elk_json.specs.Marks.{AreMarkedElements, has_level_edge}
 use Rattle.elk_json.specs.Rules.{has_boxes, is_badly_optioned, has_boxes_and_edges}
 use Rattle.elk_json.specs.Seen.{seen, seen_list}
 use Rattle.elk_json.proofs.Collected.{length_seen}
@@ -12,7 +12,7 @@ and_again true b c = refl
 and_again false b c = refl
 
 -- the test by a mark is the test
-badly_is : (es : List Element) (marks : List Bool) (i : ℕ) (e : Element) (b : Bool) → AreMarks (seen_list es) marks → i < length es
+badly_is : (es : List Element) (marks : List Bool) (i : ℕ) (e : Element) (b : Bool) → AreMarkedElements (seen_list es) marks → i < length es
     → b ≡ (has_bad_option (seen e) || has_boxes (seen e) && get_or marks i false) → is_badly_optioned (seen_list es) i (seen e) ≡ b
 unfolding is_badly_optioned has_boxes_and_edges
 badly_is es marks i e b marked h is =

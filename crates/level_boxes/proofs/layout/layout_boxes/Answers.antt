@@ -6,7 +6,7 @@ use Rattle.port_order.specs.declared.children.Child.{Child}
 use Rattle.box_pack.specs.Boxes.{AreSizes}
 use Rattle.box_pack.specs.Squareness.{IsSquarest}
 use Rattle.level_boxes.specs.Outlines.{AreOutlines, ArePorted, outline_size}
-use Rattle.level_boxes.specs.Placing.{ArePlaced, AreRoomy}
+use Rattle.level_boxes.specs.Placing.{StandInRows, AreRoomy}
 use Rattle.level_boxes.proofs.LayoutLemmas.{distance, has_room, laid_out, rows_roomy, sizes}
 use Rattle.level_boxes.proofs.OutLemmas.{ported}
 use Rattle.level_boxes.proofs.RoomLemmas.{distance_fits}
@@ -56,9 +56,9 @@ returns-clause-boxes c =
     subst (λ (rs : List Rect). IsSquarest (map (outline_size c.args.way) rs) c.alone-level.result.spacing.node_node c.in_ok-squarest.squarest) c.as_slice-3.ensures.value
     (rw (to_z-of_z w64 gap fits) at c.in_ok-squarest.ensures)
     in
-    let placed : ArePlaced c.args.way c.in_ok-squarest.squarest.rows outlines (length outlines) c.from_vec.result =
-    subst (ArePlaced c.args.way c.in_ok-squarest.squarest.rows outlines (length outlines)) (sym c.from_vec.ensures)
-    (subst (λ (rs : List Rect). ArePlaced c.args.way c.in_ok-squarest.squarest.rows rs (length rs) c.in_ok-boxes.boxes.items) c.as_slice-4.ensures.value c.in_ok-boxes.ensures)
+    let placed : StandInRows c.args.way c.in_ok-squarest.squarest.rows outlines (length outlines) c.from_vec.result =
+    subst (StandInRows c.args.way c.in_ok-squarest.squarest.rows outlines (length outlines)) (sym c.from_vec.ensures)
+    (subst (λ (rs : List Rect). StandInRows c.args.way c.in_ok-squarest.squarest.rows rs (length rs) c.in_ok-boxes.boxes.items) c.as_slice-4.ensures.value c.in_ok-boxes.ensures)
     in
     laid_out c.args.level c.alone-level.result c.args.way c.in_ok-out.out outlines c.requires c.alone-level.ensures c.in_ok-out.ensures are c.in_ok-squarest.squarest best c.from_vec.result c.turned_size.result placed c.turned_size.ensures
 
@@ -75,8 +75,8 @@ returns-clause-room c =
     subst (λ (rs : List Rect). IsSquarest (map (outline_size c.args.way) rs) c.alone-level.result.spacing.node_node c.in_ok-squarest.squarest) c.as_slice-3.ensures.value
     (rw (to_z-of_z w64 gap fits) at c.in_ok-squarest.ensures)
     in
-    let placed : ArePlaced c.args.way c.in_ok-squarest.squarest.rows outlines (length outlines) c.from_vec.result =
-    subst (ArePlaced c.args.way c.in_ok-squarest.squarest.rows outlines (length outlines)) (sym c.from_vec.ensures)
-    (subst (λ (rs : List Rect). ArePlaced c.args.way c.in_ok-squarest.squarest.rows rs (length rs) c.in_ok-boxes.boxes.items) c.as_slice-4.ensures.value c.in_ok-boxes.ensures)
+    let placed : StandInRows c.args.way c.in_ok-squarest.squarest.rows outlines (length outlines) c.from_vec.result =
+    subst (StandInRows c.args.way c.in_ok-squarest.squarest.rows outlines (length outlines)) (sym c.from_vec.ensures)
+    (subst (λ (rs : List Rect). StandInRows c.args.way c.in_ok-squarest.squarest.rows rs (length rs) c.in_ok-boxes.boxes.items) c.as_slice-4.ensures.value c.in_ok-boxes.ensures)
     in
     has_room c.args.level c.alone-level.result c.args.way c.in_ok-out.out outlines c.requires c.alone-level.ensures c.in_ok-out.ensures are c.in_ok-squarest.squarest best c.from_vec.result c.turned_size.result placed c.turned_size.ensures

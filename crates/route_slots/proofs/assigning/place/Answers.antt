@@ -1,7 +1,7 @@
 use Rattle.std.proofs.Common.{◌<◌, ◌≤ℤ◌, ◌∙◌, ℕ, List, sym, ap, subst, length, arith}
 use Rattle.route_slots.specs.declared.slotting.Piece.{Piece}
 use Rattle.route_slots.specs.Slotting.{piece_at, AreSlots}
-use Rattle.route_slots.specs.Marks.{ArePlaced}
+use Rattle.route_slots.specs.Marks.{HaveSlots}
 use Rattle.route_slots.proofs.Placing.{gap_free, all_proper, split_by_mark, apart, is_density}
 use Rattle.route_slots.proofs.Fewer.{few_slots}
 use Rattle.route_slots.proofs.assigning.place.Goals as goal
@@ -31,7 +31,7 @@ returns-clause-good c =
     let count = c.in_ok-standing.standing.count in
     let rs = c.in_ok-routes.routes.items in
     let slots = subst (λ z. AreSlots z ss count) c.as_slice.ensures.value c.in_ok-standing.ensures in
-    let placed = subst (λ z. ArePlaced nets ms hs z rs) c.as_slice-2.ensures.value c.in_ok-routes.ensures in
+    let placed = subst (λ z. HaveSlots nets ms hs z rs) c.as_slice-2.ensures.value c.in_ok-routes.ensures in
     let len = c.in_ok-pieces.ensures.len in
     let few = few_slots ps ss count slots in
     record {
@@ -53,4 +53,4 @@ returns-clause-density c =
     is_density nets ms hs ps ss count rs c.requires.marks c.in_ok-pieces.ensures
     (subst (λ z. AreSlots z ss count) c.as_slice.ensures.value c.in_ok-standing.ensures)
     c.requires.middles
-    (subst (λ z. ArePlaced nets ms hs z rs) c.as_slice-2.ensures.value c.in_ok-routes.ensures)
+    (subst (λ z. HaveSlots nets ms hs z rs) c.as_slice-2.ensures.value c.in_ok-routes.ensures)
