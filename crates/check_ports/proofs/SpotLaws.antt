@@ -137,6 +137,13 @@ apart_differ d p m roomy x y lx ly at room = (
       differ s (room.0 wide) sx sy (sym fx.offset ∙ same ∙ fy.offset),
 )
 
+-- two spots that are apart however much room there is
+pub differ_if_apart : (d : Document) (p : Placed) (m : ℕ) (x y : Spot) → KeepApart true (spot_of d p x) (spot_of d p y) → SpotsDiffer d p m x y
+differ_if_apart d p m x y apart s wide sx sy same =
+    let fx = spread_facts d p m s x sx in
+    let fy = spread_facts d p m s y sy in
+    apart refl fx.spread fy.spread (fx.node ∙ sym fy.node) (fx.side ∙ sym fy.side) (fx.offset ∙ same ∙ sym fy.offset)
+
 -- facts of four values move along equations of each
 pub subst4 : {A B C D : Type 0} (P : A → B → C → D → Type 0) (a a2 : A) (b b2 : B) (c c2 : C) (d d2 : D) → a ≡ a2 → b ≡ b2 → c ≡ c2 → d ≡ d2 → P a b c d → P a2 b2 c2 d2
 subst4 P a a2 b b2 c c2 d d2 ea eb ec ed h =
@@ -150,3 +157,15 @@ not_true false e = refl
 pub not_false : (b : Bool) → b ≡ false → not b ≡ true
 not_false true e = absurd cc
 not_false false e = refl
+
+-- the one other end of an edge
+pub the_other : (P : Bool → Type 0) (s t : Bool) → P (not s) → t ≢ s → P t
+the_other P true true h n = absurd (n refl)
+the_other P true false h n = h
+the_other P false true h n = h
+the_other P false false h n = absurd (n refl)
+
+-- both ends of an edge
+pub both_ends : (P : Bool → Type 0) → P true → P false → (t : Bool) → P t
+both_ends P one other true = one
+both_ends P one other false = other

@@ -56,6 +56,12 @@ pub record EndKept (d : Document) (p : Placed) (m e : ℕ) (at_source : Bool) : 
   pub lower : (f : ℕ) (t : Bool) → f < e → SpotsDiffer d p m (an_end f t) (an_end e at_source)
   pub other : (t : Bool) → t ≢ at_source → SpotsDiffer d p m (an_end e t) (an_end e at_source)
 
+-- an end at the node m has another offset than each port of m, each end of an edge of lower number, and the edge's other end
+pub record EndApart (d : Document) (p : Placed) (m e : ℕ) (at_source : Bool) : Type 0 where
+  pub ports : (k : ℕ) → k < length d.ports → node_of_port d k ≡ m → SpotsDiffer d p m (a_port k) (an_end e at_source)
+  pub lower : (f : ℕ) (t : Bool) → f < e → SpotsDiffer d p m (an_end f t) (an_end e at_source)
+  pub other : (t : Bool) → t ≢ at_source → SpotsDiffer d p m (an_end e t) (an_end e at_source)
+
 -- what an end at the node m owes to each port, to all of them, to each edge, and to the edges of lower numbers
 abbrev pub PortClear : Document → Placed → ℕ → ℕ → Bool → ℕ → Type 0
 PortClear d p m e at_source k = node_of_port d k ≡ m → SpotsDiffer d p m (a_port k) (an_end e at_source)

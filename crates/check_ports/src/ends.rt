@@ -6,7 +6,7 @@ ghost use Rattle.elk_doc.specs.PortsKept.{KeepsEnd, an_end};
 ghost use Rattle.elk_doc.specs.Sides.{end_of, side_of_end};
 ghost use Rattle.drawing_faults.specs.Faults.{IsFirst};
 ghost use Rattle.drawing_faults.specs.Shapes.{AreDocks, AreSides};
-ghost use Rattle.check_ports.specs.FirstPorts.{EdgeClear, EdgesClear, EndHolds, EndKept, EndsHold, PortClear, PortsClear, SpotsDiffer};
+ghost use Rattle.check_ports.specs.FirstPorts.{EdgeClear, EdgesClear, EndApart, EndHolds, EndKept, EndsHold, PortClear, PortsClear, SpotsDiffer};
 ghost use Rattle.check_ports.specs.Spots.{IsRoomy};
 
 use crate::sides::is_on_side;
@@ -201,6 +201,158 @@ fn edges_clear(
     true
 }
 
+// Whether an end keeps apart from an end at a node, however much room there is.
+fn end_differs(
+    doc: &Doc,
+    placed: &Placed,
+    sources: &[Dock],
+    targets: &[Dock],
+    _node: u32,
+    edge: u32,
+    at_source: bool,
+    other: u32,
+    other_source: bool,
+) -> bool
+    requires edge_in { edge < length doc.now.edges }
+    requires other_in { other < length doc.now.edges }
+    requires at_node { end_of doc.now edge at_source ≡ AtNode _node }
+    requires sources { AreDocks doc.now placed.now true sources.now }
+    requires targets { AreDocks doc.now placed.now false targets.now }
+    ensures { IsTrue result → SpotsDiffer doc.now placed.now _node (an_end other other_source) (an_end edge at_source) }
+{
+    let first = end_spot(doc, placed, sources, targets, other, other_source);
+    let second = end_spot(doc, placed, sources, targets, edge, at_source);
+    are_apart(true, first, second)
+}
+
+// Whether the ends of all edges of lower numbers, and the edge's other end, keep apart from an end at a node, however much
+// room there is.
+fn ends_differ(
+    doc: &Doc,
+    placed: &Placed,
+    sources: &[Dock],
+    targets: &[Dock],
+    node: u32,
+    edge: u32,
+    at_source: bool,
+) -> bool
+    requires edge_in { edge < length doc.now.edges }
+    requires at_node { end_of doc.now edge at_source ≡ AtNode node }
+    requires sources { AreDocks doc.now placed.now true sources.now }
+    requires targets { AreDocks doc.now placed.now false targets.now }
+    ensures { IsTrue result → EdgesClear doc.now placed.now node edge at_source }
+{
+    for other in 0..edge {
+        if !end_differs(
+            doc, placed, sources, targets, node, edge, at_source, other, true,
+        ) {
+            return false;
+        }
+        if !end_differs(
+            doc, placed, sources, targets, node, edge, at_source, other, false,
+        ) {
+            return false;
+        }
+    }
+    true
+}
+
+// Whether a port, if it is one of a node, keeps apart from an end at this node, however much room there is.
+fn port_differs(
+    doc: &Doc,
+    placed: &Placed,
+    sides: &[Side],
+    sources: &[Dock],
+    targets: &[Dock],
+    node: u32,
+    edge: u32,
+    at_source: bool,
+    port: u32,
+) -> bool
+    requires edge_in { edge < length doc.now.edges }
+    requires port_in { port < length doc.now.ports }
+    requires at_node { end_of doc.now edge at_source ≡ AtNode node }
+    requires fits { Fits doc.now placed.now }
+    requires sides { AreSides doc.now placed.now sides.now }
+    requires sources { AreDocks doc.now placed.now true sources.now }
+    requires targets { AreDocks doc.now placed.now false targets.now }
+    ensures { IsTrue result → PortClear doc.now placed.now node edge at_source port }
+{
+    if doc.port(port).node != node {
+        return true;
+    }
+    let first = port_spot(doc, placed, sides, port);
+    let second = end_spot(doc, placed, sources, targets, edge, at_source);
+    are_apart(true, first, second)
+}
+
+// Whether all ports of a node keep apart from an end at it, however much room there is.
+fn ports_differ(
+    doc: &Doc,
+    placed: &Placed,
+    sides: &[Side],
+    sources: &[Dock],
+    targets: &[Dock],
+    node: u32,
+    edge: u32,
+    at_source: bool,
+) -> bool
+    requires edge_in { edge < length doc.now.edges }
+    requires at_node { end_of doc.now edge at_source ≡ AtNode node }
+    requires fits { Fits doc.now placed.now }
+    requires sides { AreSides doc.now placed.now sides.now }
+    requires sources { AreDocks doc.now placed.now true sources.now }
+    requires targets { AreDocks doc.now placed.now false targets.now }
+    ensures { IsTrue result → PortsClear doc.now placed.now node edge at_source }
+{
+    for port in 0..doc.ports().len() {
+        if !port_differs(
+            doc,
+            placed,
+            sides,
+            sources,
+            targets,
+            node,
+            edge,
+            at_source,
+            port as u32,
+        ) {
+            return false;
+        }
+    }
+    true
+}
+
+// Whether an end at a node keeps apart from ports, lower edges and the edge's other end, however much room there is.
+fn is_apart(
+    doc: &Doc,
+    placed: &Placed,
+    sides: &[Side],
+    sources: &[Dock],
+    targets: &[Dock],
+    node: u32,
+    edge: u32,
+    at_source: bool,
+) -> bool
+    requires edge_in { edge < length doc.now.edges }
+    requires at_node { end_of doc.now edge at_source ≡ AtNode node }
+    requires fits { Fits doc.now placed.now }
+    requires sides { AreSides doc.now placed.now sides.now }
+    requires sources { AreDocks doc.now placed.now true sources.now }
+    requires targets { AreDocks doc.now placed.now false targets.now }
+    ensures { IsTrue result → EndApart doc.now placed.now node edge at_source }
+{
+    if !ports_differ(doc, placed, sides, sources, targets, node, edge, at_source) {
+        return false;
+    }
+    if !ends_differ(doc, placed, sources, targets, node, edge, at_source) {
+        return false;
+    }
+    end_differs(
+        doc, placed, sources, targets, node, edge, at_source, edge, !at_source,
+    )
+}
+
 // Whether an end at a node obeys the constraints of the node, alone and with ports, lower edges and the edge's other end.
 fn end_kept(
     doc: &Doc,
@@ -221,11 +373,14 @@ fn end_kept(
     requires targets { AreDocks doc.now placed.now false targets.now }
     ensures { IsTrue result ↔ EndKept doc.now placed.now node edge at_source }
 {
-    let spot = end_spot(doc, placed, sources, targets, edge, at_source);
-    let roomy = is_roomy(doc, placed, sides, sources, targets, node, spot.side);
     if !keeps_end(doc, placed, sources, targets, node, edge, at_source) {
         return false;
     }
+    if is_apart(doc, placed, sides, sources, targets, node, edge, at_source) {
+        return true;
+    }
+    let spot = end_spot(doc, placed, sources, targets, edge, at_source);
+    let roomy = is_roomy(doc, placed, sides, sources, targets, node, spot.side);
     if !ports_clear(
         doc, placed, sides, sources, targets, roomy, node, edge, at_source,
     ) {

@@ -1,2 +1,3 @@
 pub mod BoundsLaws
+pub mod EndLaws
 pub mod ParallelLaws

@@ -111,7 +111,7 @@ fn is_far(
 }
 
 // Whether a node, if it is a child, is clear of a route, by the bounds of the route first.
-fn child_clear(
+pub(crate) fn child_clear(
     doc: &Doc,
     placed: &Placed,
     outlines: &[Rect],

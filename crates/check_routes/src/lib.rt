@@ -2,14 +2,18 @@
 //! piece only where edges share a dock. Each test answers the first fault.
 #![tactic(auto)]
 
+mod blocks;
 mod bounds;
 mod clear;
 mod partners;
 mod route;
 mod sharing;
+mod stretches;
 
+pub use blocks::clear_fault_by_ends;
 pub use bounds::{RouteBounds, route_bounds};
 pub use clear::clear_fault;
 pub use partners::sharing_fault_by_bounds;
 pub use route::route_fault;
 pub use sharing::sharing_fault;
+pub use stretches::{OutlineEnds, outline_ends};

@@ -2,14 +2,8 @@ use Rattle.std.proofs.Common.{◌≢◌, Bool, true, false, not, refl, rules}
 use Rattle.std.proofs.lemmas.Bool.{both_ways}
 use Rattle.elk_doc.specs.PortsKept.{an_end}
 use Rattle.check_ports.specs.FirstPorts.{SpotsDiffer}
+use Rattle.check_ports.proofs.SpotLaws.{the_other}
 use Rattle.check_ports.proofs.ends.end_kept.Goals as goal
-
--- the one other end
-the_other : (P : Bool → Type 0) (s t : Bool) → P (not s) → t ≢ s → P t
-the_other P true true h n = absurd (n refl)
-the_other P true false h n = h
-the_other P false true h n = h
-the_other P false false h n = absurd (n refl)
 
 not_itself : (s : Bool) → not s ≢ s
 not_itself true e = cc
@@ -18,6 +12,13 @@ not_itself false e = cc
 pub returns-then-not-keeps_end : goal.returns-then-not-keeps_end
 returns-then-not-keeps_end c =
     (λ t. absurd (search rules), λ h. absurd (both_ways c.keeps_end.result c.if-not-keeps_end.true (c.keeps_end.ensures.1 h.alone)))
+
+pub returns-then-is_apart : goal.returns-then-is_apart
+returns-then-is_apart c =
+    let apart = c.is_apart.ensures c.if-is_apart.true in (
+      λ t. record { alone = c.keeps_end.ensures.0 c.if-not-keeps_end.false; ports = apart.ports; lower = apart.lower; other = apart.other },
+      λ h. refl,
+    )
 
 pub returns-then-not-ports_clear : goal.returns-then-not-ports_clear
 returns-then-not-ports_clear c =

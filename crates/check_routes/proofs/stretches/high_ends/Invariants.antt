@@ -1,0 +1,5 @@
+use Rattle.check_routes.specs.Ends.{AreHighEnds}
+use Rattle.check_routes.proofs.stretches.high_ends.Given as goal
+
+abbrev pub invariant-loop-node : goal.invariant-loop-node
+invariant-loop-node l = AreHighEnds l.doc l.placed l.down l.node l.ends.items

@@ -1,0 +1,190 @@
+//! Routes that keep out of boxes, by many outlines at a time first.
+ghost use Rattle.std.specs.Prelude.{ℕ, ◌<◌, ◌≤◌, ◌+◌, IsTrue, MatchOption, length};
+ghost use Rattle.elk_doc.specs.Drawing.{section_of};
+ghost use Rattle.elk_doc.specs.Fits.{Fits};
+ghost use Rattle.elk_doc.specs.Level.{IsEdge};
+ghost use Rattle.elk_doc.specs.Route.{Route};
+ghost use Rattle.drawing_faults.specs.Shapes.{AreOutlines};
+ghost use Rattle.check_routes.specs.Bounds.{HoldsRoute};
+ghost use Rattle.check_routes.specs.Ends.{AreEnds, EndsClear};
+ghost use Rattle.check_routes.specs.FirstRoutes.{ChildClear, ClearHolds, FirstClear};
+ghost use Rattle.check_routes.specs.Stretches.{AreParallel};
+
+use crate::bounds::{RouteBounds, bounds_of};
+use crate::clear::{child_clear, clear_fault};
+use crate::stretches::{OutlineEnds, are_off};
+use drawing_faults::{Fault, is_edge_of, node_of};
+use elk_doc::document::Doc;
+use elk_doc::drawing::Placed;
+use elk_doc::shape::Rect;
+
+// How many outlines are looked at together.
+const BLOCK: usize = 64;
+
+// Whether the children with numbers from `from` and below `to` are clear of a route, by the bounds of the route first.
+fn some_clear(
+    doc: &Doc,
+    placed: &Placed,
+    outlines: &[Rect],
+    bounds: RouteBounds,
+    node: u32,
+    edge: u32,
+    from: usize,
+    to: usize,
+) -> bool
+    requires edge_in { edge < length doc.now.edges }
+    requires inside { to ≤ length doc.now.nodes }
+    requires fits { Fits doc.now placed.now }
+    requires outlines { AreOutlines doc.now placed.now outlines.now }
+    requires parallel { AreParallel (section_of placed.now edge) }
+    requires bounds { HoldsRoute bounds (section_of placed.now edge) }
+    ensures { IsTrue result → (a : ℕ) → from ≤ a → a < to → ChildClear doc.now placed.now node edge a }
+{
+    let _nodes = doc.nodes();
+    for child in from..to {
+        if !child_clear(doc, placed, outlines, bounds, node, edge, child as u32) {
+            return false;
+        }
+    }
+    true
+}
+
+// Whether the nodes with numbers from `from` and below `to` are clear of a route: all at once if their outlines lie off
+// its bounds and none is an end node, and else one by one.
+fn block_clear(
+    doc: &Doc,
+    placed: &Placed,
+    outlines: &[Rect],
+    ends: &OutlineEnds,
+    bounds: RouteBounds,
+    node: u32,
+    edge: u32,
+    from: usize,
+    to: usize,
+) -> bool
+    requires edge_in { edge < length doc.now.edges }
+    requires ordered { from ≤ to }
+    requires inside { to ≤ length doc.now.nodes }
+    requires fits { Fits doc.now placed.now }
+    requires outlines { AreOutlines doc.now placed.now outlines.now }
+    requires ends { AreEnds doc.now placed.now ends.now }
+    requires parallel { AreParallel (section_of placed.now edge) }
+    requires bounds { HoldsRoute bounds (section_of placed.now edge) }
+    requires own { EndsClear doc.now placed.now node edge }
+    ensures { IsTrue result → (a : ℕ) → from ≤ a → a < to → ChildClear doc.now placed.now node edge a }
+{
+    if are_off(doc, placed, ends, bounds, from, to) {
+        return true;
+    }
+    some_clear(doc, placed, outlines, bounds, node, edge, from, to)
+}
+
+// Where the block that begins at `from` ends.
+fn block_end(from: usize, count: usize) -> usize
+    requires { from ≤ count }
+    ensures ordered { from ≤ result }
+    ensures inside { result ≤ count }
+    ensures whole { (a : ℕ) → a < from + 64 → a < count → a < result }
+{
+    if count - from < BLOCK {
+        count
+    } else {
+        from + BLOCK
+    }
+}
+
+// Whether all children of a node are clear of a route.
+fn all_clear(
+    doc: &Doc,
+    placed: &Placed,
+    outlines: &[Rect],
+    ends: &OutlineEnds,
+    node: u32,
+    edge: u32,
+) -> bool
+    requires edge_in { edge < length doc.now.edges }
+    requires fits { Fits doc.now placed.now }
+    requires outlines { AreOutlines doc.now placed.now outlines.now }
+    requires ends { AreEnds doc.now placed.now ends.now }
+    requires route { Route doc.now placed.now edge }
+    ensures { IsTrue result → (a : ℕ) → ChildClear doc.now placed.now node edge a }
+{
+    let bounds = bounds_of(placed.section(edge));
+    let source = node_of(doc, doc.edge(edge).source);
+    if !child_clear(doc, placed, outlines, bounds, node, edge, source) {
+        return false;
+    }
+    let target = node_of(doc, doc.edge(edge).target);
+    if !child_clear(doc, placed, outlines, bounds, node, edge, target) {
+        return false;
+    }
+    let count = doc.nodes().len();
+    for block in 0..count / BLOCK + 1 {
+        let from = block * BLOCK;
+        let to = block_end(from, count);
+        if !block_clear(doc, placed, outlines, ends, bounds, node, edge, from, to) {
+            return false;
+        }
+    }
+    true
+}
+
+// Whether all children of a node are clear of the route of an edge, if that belongs to the level.
+fn edge_clear(
+    doc: &Doc,
+    placed: &Placed,
+    outlines: &[Rect],
+    ends: &OutlineEnds,
+    node: u32,
+    edge: u32,
+) -> bool
+    requires edge_in { edge < length doc.now.edges }
+    requires fits { Fits doc.now placed.now }
+    requires outlines { AreOutlines doc.now placed.now outlines.now }
+    requires ends { AreEnds doc.now placed.now ends.now }
+    requires routes { (e : ℕ) → IsEdge doc.now node e → Route doc.now placed.now e }
+    ensures { IsTrue result → (a : ℕ) → ClearHolds doc.now placed.now node edge a }
+{
+    if !is_edge_of(doc, node, edge) {
+        return true;
+    }
+    all_clear(doc, placed, outlines, ends, node, edge)
+}
+
+// Whether all routes of the level are clear of all children.
+fn are_clear(doc: &Doc, placed: &Placed, outlines: &[Rect], ends: &OutlineEnds, node: u32) -> bool
+    requires fits { Fits doc.now placed.now }
+    requires outlines { AreOutlines doc.now placed.now outlines.now }
+    requires ends { AreEnds doc.now placed.now ends.now }
+    requires routes { (e : ℕ) → IsEdge doc.now node e → Route doc.now placed.now e }
+    ensures { IsTrue result → (e a : ℕ) → ClearHolds doc.now placed.now node e a }
+{
+    for edge in 0..doc.edges().len() {
+        if !edge_clear(doc, placed, outlines, ends, node, edge as u32) {
+            return false;
+        }
+    }
+    true
+}
+
+/// The fault that `clear_fault` answers, sooner where there is none. The ends are those of the outlines of all nodes.
+pub fn clear_fault_by_ends(
+    doc: &Doc,
+    placed: &Placed,
+    outlines: &[Rect],
+    ends: &OutlineEnds,
+    node: u32,
+) -> Option<Fault>
+    requires fits { Fits doc.now placed.now }
+    requires outlines { AreOutlines doc.now placed.now outlines.now }
+    requires ends { AreEnds doc.now placed.now ends.now }
+    requires routes { (e : ℕ) → IsEdge doc.now node e → Route doc.now placed.now e }
+    ensures { MatchOption result
+        ((e a : ℕ) → ClearHolds doc.now placed.now node e a)
+        (FirstClear doc.now placed.now node) }
+{
+    if are_clear(doc, placed, outlines, ends, node) {
+        return None;
+    }
+    clear_fault(doc, placed, outlines, node)
+}
