@@ -13,9 +13,10 @@ ghost use Rattle.check_routes.specs.Stretches.{AreParallel};
 use crate::bounds::{RouteBounds, bounds_of};
 use crate::clear::{child_clear, clear_fault};
 use crate::stretches::{OutlineEnds, are_off};
-use drawing_faults::{Fault, is_edge_of, node_of};
+use drawing_faults::{Fault, is_edge_of};
 use elk_doc::document::Doc;
 use elk_doc::drawing::Placed;
+use elk_doc::level::node_of;
 use elk_doc::shape::Rect;
 
 // How many outlines are looked at together.
