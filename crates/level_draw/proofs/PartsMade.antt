@@ -1,5 +1,5 @@
 -- What is made for a level are the parts of its drawing.
-use Rattle.std.proofs.Common.{◌≡◌, ℕ, ◌+◌, List, [], length, pos, refl, sym, subst, ap, ◌∙◌}
+use Rattle.std.proofs.Common.{◌≡◌, ℕ, ◌+◌, ◌≤◌, List, [], length, pos, refl, sym, subst, ap, ◌∙◌}
 use Rattle.std.specs.List.{All}
 use Rattle.elk_doc.specs.declared.shape.Rect.{Rect}
 use Rattle.elk_doc.specs.declared.shape.Size.{Size}
@@ -25,7 +25,7 @@ use Rattle.level_draw.specs.Drawing.{IsDrawable, outlines_in}
 use Rattle.level_draw.specs.Joined.{AreJoinable, AreJoined}
 use Rattle.level_draw.specs.Outlines.{AreNearby, AreOutlines}
 use Rattle.level_draw.specs.Parts.{AreLevelParts, drawn_of, ports_in}
-use Rattle.level_draw.proofs.Planned.{table_fits}
+use Rattle.level_draw.proofs.Planned.{few_layers, table_fits}
 use Rattle.level_draw.proofs.Joining as joining
 use Rattle.level_draw.proofs.FarParts.{far_boxes, far_gaps, far_sections, far_traces}
 use Rattle.level_draw.proofs.Assembled.{drawing_of, drawn_from}
@@ -40,8 +40,11 @@ module _ (s : nets.Parts) (rows : List (List ℕ)) (layers : List ℕ) (drawable
   planned : nets.ArePlanned s rows drawable.orders layers
   planned = planned_by drawable.orders layers drawable.ready
 
+  few : s.layered.layers ≤ 2048
+  few = few_layers s.level (nets.plan_of s rows) layers drawable
+
   pub traces_joinable : AreJoinable r.gaps v.traces.items
-  traces_joinable = joining.joinable s rows drawable.orders layers planned drawable.bottoms drawable.few_layers numbers r many gaps legs within v routes
+  traces_joinable = joining.joinable s rows drawable.orders layers planned drawable.bottoms few numbers r many gaps legs within v routes
 
   box_count : length v.boxes.items ≡ length s.table.children
   box_count = (routes rows drawable.orders layers planned (legs rows drawable.orders layers planned)).box_count ∙ sym planned.table.child_count
@@ -70,8 +73,8 @@ module _ (s : nets.Parts) (rows : List (List ℕ)) (layers : List ℕ) (drawable
               ∙ outlines_are s.level (nets.plan_of s rows) drawable.orders (d extent) s.table outlines planned.table (drawn drawable.orders layers extent drawable.ready) outlined
               ∙ ap (outlines_in s.level) (same extent);
           far = record {
-            gaps = subst (λ gs. All IsFarGap (plain_gaps gs)) (sym is_gaps) (far_gaps s rows drawable.orders layers planned drawable.bottoms drawable.few_layers numbers r many gaps legs within);
-            traces = subst (λ ts. All IsFarTrace (plain_traces ts)) (sym is_traces) (far_traces s rows drawable.orders layers planned drawable.bottoms drawable.few_layers numbers r many gaps legs within v routes);
+            gaps = subst (λ gs. All IsFarGap (plain_gaps gs)) (sym is_gaps) (far_gaps s rows drawable.orders layers planned drawable.bottoms few numbers r many gaps legs within);
+            traces = subst (λ ts. All IsFarTrace (plain_traces ts)) (sym is_traces) (far_traces s rows drawable.orders layers planned drawable.bottoms few numbers r many gaps legs within v routes);
             boxes = subst (All IsFarPoint) (sym is_boxes) (far_boxes v.boxes.items near);
             sections = subst (All IsFarSection) (sym is_sections) (far_sections r.gaps v.traces.items sections traces_joinable joined);
             outlines = subst (All IsNear) (sym is_outlines) (outlines_near s.table v.boxes.items outlines box_count numbers near outlined);

@@ -1,5 +1,5 @@
 -- A table that is made before places are known belongs to the plan.
-use Rattle.std.proofs.Common.{ℕ, List, [], inl, inr, ℤ}
+use Rattle.std.proofs.Common.{ℕ, ◌≤◌, List, [], inl, inr, ℤ}
 use Rattle.std.proofs.Common.{⊎_elim}
 use Rattle.level_plan.specs.declared.table.Table.{Table}
 use Rattle.level_plan.specs.Level.{PlainLevel, PlainPlan, Orders}
@@ -8,6 +8,7 @@ use Rattle.level_plan.specs.Units.{AreLinked, AreOrders, HasChain, IsLaneUnit, I
 use Rattle.level_stands.specs.Ready.{IsReady}
 use Rattle.level_ends.specs.Tops.{with_tops}
 use Rattle.level_nets.specs.Parts.{IsGiven, Parts, plan_of}
+use Rattle.level_units.proofs.LayerLemmas.{few_counted}
 use Rattle.level_draw.specs.Drawing.{IsDrawable}
 use Rattle.level_ends.proofs.TopLemmas.{no_tops}
 use Rattle.level_ends.proofs.AgreeingLemmas.{need_no_orders}
@@ -49,12 +50,16 @@ table_fits l p o q layers t ready orders table =
     need_no_orders l p q o t ready.level (no_tops.orders l (with_tops p []) q p.tops orders) ready.units.orders
     (no_tops.table l (with_tops p []) q p.tops t table)
 
+-- a plan has no layer but those that are listed, and these are below 2,048
+pub few_layers : (l : PlainLevel) (p : PlainPlan) (layers : List ℕ) → IsDrawable l p layers → p.layers ≤ 2048
+few_layers l p layers drawable = few_counted l p.reversed layers p.layers drawable.layering drawable.layer_count
+
 -- so the level is one whose gaps and routes are wanted
 pub is_given : (s : Parts) (rows : List (List ℕ)) (layers : List ℕ) (q : Orders) → IsDrawable s.level (plan_of s rows) layers
     → AreOrders s.level (with_tops (plan_of s rows) []) q → IsTable s.level (with_tops (plan_of s rows) []) q s.table → IsGiven s
 is_given s rows layers q drawable orders table =
     record {
-      few_layers = drawable.few_layers;
+      few_layers = few_layers s.level (plan_of s rows) layers drawable;
       bottoms = drawable.bottoms;
       plan = record {
         rows = rows;

@@ -1,5 +1,5 @@
 -- The drawing of a level, as it is answered.
-use Rattle.std.specs.Prelude.{◌≡◌, ◌≢◌, ℕ, ◌<◌, ◌≤◌, ◌^◌, List, map, ℤ, pos, ◌+ℤ◌, ◌<ℤ◌, length}
+use Rattle.std.specs.Prelude.{◌≡◌, ◌≢◌, ℕ, ◌<◌, ◌^◌, List, map, ℤ, pos, ◌+ℤ◌, ◌<ℤ◌, length}
 use Rattle.std.specs.List.{range_with_len}
 use Rattle.elk_doc.specs.declared.shape.Rect.{Rect}
 use Rattle.elk_doc.specs.declared.drawing.Certificate.{Certificate}
@@ -19,18 +19,21 @@ use Rattle.level_rules.specs.Routes.{RoutesKept}
 use Rattle.level_extent.specs.Reach.{IsReach, reached}
 use Rattle.level_nets.specs.Held.{plain_gaps}
 use Rattle.level_traces.specs.Traced.{plain_traces}
+use Rattle.level_units.specs.Layering.{AreLayersOf, IsLayerCount}
 use Rattle.level_draw.specs.declared.drawing.LevelOut.{LevelOut}
 
 -- the plan of these units, rows and tops, with the edges that a certificate says are turned round
 abbrev pub plan_from : Certificate → Layered → Order → Lines → PlainPlan
 plan_from certificate layered order lines = plain_plan layered order lines.top.items certificate.reversed
 
--- What is asked of a level and its plan: the units are those of the level, by the orders of its sides and the layers that are
--- listed for its children; there are at most 2,048 layers; and the tops, which keep the distances, leave each unit above 2^49.
+-- What is asked of a level and its plan. The layers that are listed for its children are below 2,048, and each edge, turned round
+-- where the plan says so, leads to a greater one. The units are those of the level in these layers, by the orders of its sides,
+-- with no layer after the last of them. The tops, which keep the distances, leave each unit above 2^49.
 pub record IsDrawable (l : PlainLevel) (p : PlainPlan) (layers : List ℕ) : Type 0 where
   pub orders : Orders
+  pub layering : AreLayersOf l p.reversed layers
   pub ready : IsReady l p orders layers
-  pub few_layers : p.layers ≤ 2048
+  pub layer_count : IsLayerCount layers p.layers
   pub bottoms : (u : ℕ) → u < length p.layered.units → (top_of p.tops u +ℤ (unit_at p.layered.units u).height) <ℤ pos (2 ^ 49)
 
 -- what was given stays in the answer

@@ -28,6 +28,7 @@ use Rattle.level_draw.specs.declared.drawing.LevelOut.{LevelOut}
 use Rattle.level_draw.specs.Drawing.{IsDrawable, IsDrawn, IsMadeFrom, plan_from}
 use Rattle.level_ranks.specs.Laws.{MakeUnits}
 use Rattle.level_layout.specs.Bounds.{AreFew}
+use Rattle.level_layout.proofs.LayerLemmas.{layers_from}
 use Rattle.level_layout.proofs.LinkLemmas.{links_few}
 use Rattle.level_layout.proofs.PinLemmas.{pins_low}
 use Rattle.level_layout.specs.Chosen.{AreChosenLines, IsReduced}
@@ -68,11 +69,14 @@ pub record ArePinned (l : PlainLevel) (u v : Layered) (order : Order) (rs : List
   pub rows : AreRows (plain v) (rows_of order)
   pub kept : AreKept (plain u) (plain v)
 
-pub drawable : (l : PlainLevel) (c : Certificate) (u v : Layered) (order : Order) (lines : Lines) (placing : Placing) (fixed : Option Sweep) → MakeUnits → IsLevel l → AreRankedUnits l c u
-    → ArePinned l u v order c.reversed → AreChosenLines (plain v) (rows_of order) placing fixed lines.top.items → IsDrawable l (plan_from c v order lines) c.layers
-drawable l c u v order lines placing fixed made level ranked pinned placed =
+use Rattle.level_layout.specs.Bounds.{AreFew}
+use Rattle.level_layout.proofs.LayerLemmas.{layers_from}
+use Rattle.level_layout.proofs.LinkLemmas.{links_few}
+use Rattle.level_layout.proofs.PinLemmas.{pins_low}
+use Rattle.level_layout.specs.Chosen.{AreChosenLines, IsReduced}
     record {
       orders = pinned.fitted.0;
+      layering = layers_from l c level is;
       ready = record {
         level = level;
         units = made.units l (plan_from c v order lines) pinned.fitted.0 c.layers (pinned.fitted.1 c.layers lines.top.items (ranked.linked (rows_of order) []))
@@ -82,7 +86,7 @@ drawable l c u v order lines placing fixed made level ranked pinned placed =
         apart = placed.apart;
         layers_are = refl;
       };
-      few_layers = let same = pinned.kept.alike.layers_are in let few = ranked.few_layers in omega (arith, same, few);
+      layer_count = subst (IsLayerCount c.layers) (sym pinned.kept.alike.layers_are) ranked.layers;
       bottoms = bottom_low (plain v) lines.top.items pinned.sound pinned.low placed.within;
     }
 
@@ -133,12 +137,12 @@ pub laid_out : (level : LevelIn) (c : Certificate) (u v : Layered) (start order 
     → AreRankedUnits (plain_level level) c u → IsStart (plain u) (rows_of start) → IsReduced (plain u) (rows_of start) (rows_of order) → ArePinned (plain_level level) u v order c.reversed
     → AreChosenLines (plain v) (rows_of order) level.placing level.fixed lines.top.items → IsMadeFrom c v start order lines w → IsDrawn (plain_level level) (plan_from c v order lines) c.layers w → IsLaidOut level w
 laid_out level c u v start order lines w made sound is ranked started reduced pinned placed from drawn =
-    let can = drawable (plain_level level) c u v order lines level.placing level.fixed made sound ranked pinned placed in
+    let can = drawable (plain_level level) c u v order lines level.placing level.fixed made sound is ranked pinned placed in
     as_answered level c v start order lines w from
     (record {
       certificate = is;
       numbered = numbered_through (plain_level level) c u v ranked pinned.kept;
-      layers = subst (IsLayerCount c.layers) (sym pinned.kept.alike.layers_are) ranked.layers;
+      layers = can.layer_count;
       started = start_alike (plain u) (plain v) (rows_of start) pinned.kept.alike started;
       reduced = reduced_for (plain u) (plain v) pinned.kept (rows_of start) (rows_of order) reduced;
       placed = placed;

@@ -2,6 +2,7 @@ pub mod SumLemmas
 pub mod GrownLemmas
 pub mod CountLemmas
 pub mod FilterLemmas
+pub mod LayerLemmas
 pub mod RunLemmas
 pub mod NumberLemmas
 pub mod SoundLemmas

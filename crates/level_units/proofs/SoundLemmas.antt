@@ -144,10 +144,3 @@ module _ (s : Layering) (level : IsLevel s.level) (are : AreLayersOf s.level s.r
             has_unit HasBodyWithin (λ c less. record { top = omega (arith, ints); height = omega (arith, ints); bottom = omega (arith, ints) })
             (λ e i he hi. record { top = omega (arith, ints); height = omega (arith, ints); bottom = omega (arith, ints) }) u h;
       }
-
-  pub few_layers : q.layers ≤ 2048
-  few_layers =
-      ⊎_elim
-      (λ (none : q.layers ≡ 0). omega (arith, none))
-      (λ (h : (c : ℕ) × (c < length s.layers) × (layer_in s.layers c + 1 ≡ q.layers)). let below = are.below h.0 h.1 in let at = h.2 in omega (arith, below, at))
-      made.count_is.reached

@@ -26,7 +26,7 @@ draw-requires c =
     c.as_slice-reversed.ensures.value c.in_ok-layered.ensures.fitted c.in_ok-layered.ensures.sound c.in_ok-layered.ensures.low c.in_ok-layered.ensures.rows c.in_ok-layered.ensures.kept
     in
     drawable (plain_level c.args.level.now) c.in_ok-certificate.certificate c.in_ok-start.start.layered c.in_ok-layered.layered c.in_ok-order.order c.in_ok-lines.lines c.args.level.now.placing c.args.level.now.fixed
-    make_units c.requires c.in_ok-start.ensures.units pinned c.in_ok-lines.ensures
+    make_units c.requires c.in_ok-certificate.ensures c.in_ok-start.ensures.units pinned c.in_ok-lines.ensures
 
 pub returns : goal.returns
 returns c =
