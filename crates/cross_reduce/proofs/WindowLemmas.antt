@@ -2,15 +2,15 @@
 use Rattle.std.proofs.Common.{◌≡◌, ◌≢◌, ℕ, ◌+◌, ◌-◌, ◌*◌, ◌<◌, ◌≤◌, List, length, get_or, take, drop, map, Bool, true, false, ◌&&◌, refl, arith, sym, ◌∙◌, ap, subst, inl, inr, ltb, eqb, eq-eqb}
 use Rattle.std.proofs.lemmas.Bool.{cases_eq, cases_lt}
 use Rattle.std.specs.List.{All, count_by}
-use Rattle.std.specs.List.Sorted.{IsPermutation}
-use Rattle.std.proofs.lemmas.List.{get_or-drop, get_or-take, length-drop, length-take, drop-map, take-map}
+use Rattle.std.specs.List.Sorted.{IsPermutation, IsNonDecreasingBy}
+use Rattle.std.proofs.lemmas.List.{get_or_default, get_or-drop, get_or-take, length-drop, length-take, drop-map, take-map}
 use Rattle.std.proofs.lemmas.List.Elements.{All-get_or, All-map, All-weaker}
 use Rattle.std.proofs.lemmas.List.Sorted.{length_permutation, All-permutation}
 use Rattle.elk_layers.specs.Layered.{Plain, IsSound, IsSoundLink}
 use Rattle.elk_layers.specs.Crossings.{crossings}
 use Rattle.cross_reduce.specs.declared.counting.Pin.{Pin}
 use Rattle.cross_reduce.specs.Places.{ArePlaces, FitPlaces}
-use Rattle.cross_reduce.specs.Pins.{pin_at, pin_of, pin_from, pins_of, start_of, is_under, crossed, HasSmallTail}
+use Rattle.cross_reduce.specs.Pins.{pin_at, pin_of, pin_from, pins_of, start_of, is_under, crossed, HasSmallTail, IsBegin}
 use Rattle.cross_reduce.proofs.ExchangeLemmas.{same_no}
 use Rattle.cross_reduce.proofs.CrossingLemmas.{count_drop, count_take, count_same, crossed_is, crossed_permuted}
 use Rattle.cross_reduce.proofs.PlaceLemmas.{map_same, links_sound}
@@ -107,3 +107,35 @@ few_pins l place pins sound p =
     let a = length_permutation (map (pin_from l place) l.links) pins p in
     let b = Rattle.std.proofs.lemmas.List.length-map l.links (pin_from l place) in
     omega (arith, a, b, sound.few_links)
+
+-- none begins before the place 0
+pub begin_nowhere : (pins : List Pin) → IsBegin pins 0 0
+begin_nowhere pins = record { bound = omega arith; before = λ j h. absurd (omega (arith, h)); behind = λ j h l. omega arith }
+
+-- where the neighbour before a pin begins before it
+pub begin_here : (pins : List Pin) (i : ℕ) (d : Pin) → IsNonDecreasingBy start_of pins → i < length pins → 1 ≤ i
+    → start_of (get_or pins (i - 1) d) < start_of (pin_at pins i) → IsBegin pins (start_of (pin_at pins i)) i
+begin_here pins i d rise h k less =
+    let e : Pin = record { gap = 0; tail = 0; head = 0 } in
+    let last : start_of (pin_at pins (i - 1)) < start_of (pin_at pins i) = subst (λ (p : Pin). start_of p < start_of (pin_at pins i)) (get_or_default pins (i - 1) d e (omega (arith, h))) less in
+    record {
+      bound = omega (arith, h);
+      before = λ j l. let up = rise j (i - 1) e (omega (arith, l)) (omega (arith, h)) in omega (arith, up, last);
+      behind = λ j l g. rise i j e l g;
+    }
+
+-- the window of a pin, by the counts of pins that begin before its gap and before it
+pub window_of : (pins : List Pin) (i gap first end : ℕ) → All HasSmallTail pins → i < length pins → gap ≡ (pin_at pins i).gap * 4294967296
+    → IsBegin pins gap first → IsBegin pins (start_of (pin_at pins i)) end
+    → count_by (λ x. ltb (pin_at pins i).head x) (take (end - first) (drop first (map (λ (p : Pin). p.head) pins))) ≡ count_by (λ b. is_under b (pin_at pins i)) pins
+window_of pins i gap first end all h same begin start =
+    window pins (pin_at pins i) first end all (All-get_or HasSmallTail pins i (record { gap = 0; tail = 0; head = 0 }) h all) start.bound
+    (subst (λ n. (j : ℕ) → j < first → start_of (pin_at pins j) < n) same begin.before)
+    (subst (λ n. (j : ℕ) → first ≤ j → j < length pins → n ≤ start_of (pin_at pins j)) same begin.behind)
+    start.before start.behind
+
+pub window_order : (pins : List Pin) (i gap first end : ℕ) → gap ≡ (pin_at pins i).gap * 4294967296
+    → IsBegin pins gap first → IsBegin pins (start_of (pin_at pins i)) end → first ≤ end
+window_order pins i gap first end same begin start =
+    first_below_end pins (pin_at pins i) first end begin.bound
+    (subst (λ n. (j : ℕ) → j < first → start_of (pin_at pins j) < n) same begin.before) start.behind

@@ -1,5 +1,5 @@
 -- Links by their gap and the keys of their ends, and which of them cross.
-use Rattle.std.specs.Prelude.{ℕ, ◌+◌, ◌*◌, ◌<◌, ◌==◌, List, map, slice_index, slice_index_or, Bool, ◌&&◌, nat_lt}
+use Rattle.std.specs.Prelude.{ℕ, ◌+◌, ◌*◌, ◌<◌, ◌≤◌, ◌==◌, List, map, length, slice_index, slice_index_or, Bool, ◌&&◌, nat_lt}
 use Rattle.std.specs.List.{sum_by, count_by}
 use Rattle.elk_layers.specs.declared.units.Link.{Link}
 use Rattle.elk_layers.specs.Layered.{Plain, gap_of, tail_key, head_key}
@@ -34,3 +34,9 @@ crossed pins = sum_by (λ a. count_by (λ b. is_under b a) pins) pins
 -- the key of the tail has 32 bits
 abbrev pub HasSmallTail : Pin → Type 0
 HasSmallTail p = p.tail < 4294967296
+
+-- so many pins begin before a place, and stand first
+pub record IsBegin (pins : List Pin) (place count : ℕ) : Type 0 where
+  pub bound : count ≤ length pins
+  pub before : (j : ℕ) → j < count → start_of (pin_at pins j) < place
+  pub behind : (j : ℕ) → count ≤ j → j < length pins → place ≤ start_of (pin_at pins j)

@@ -5,7 +5,7 @@ ghost use Rattle.std.specs.List.Sorted.{IsNonDecreasingBy, IsPermutation};
 ghost use Rattle.elk_layers.specs.Layered.{plain, rows_of, IsSound, IsSoundLink, AreRows};
 ghost use Rattle.elk_layers.specs.Crossings as spec;
 ghost use Rattle.cross_reduce.specs.Places.{ArePlaces, FitPlaces};
-ghost use Rattle.cross_reduce.specs.Pins.{pin_of, pin_at, start_of, is_under, crossed, pin_from, HasSmallTail};
+ghost use Rattle.cross_reduce.specs.Pins.{pin_of, pin_at, start_of, is_under, crossed, pin_from, HasSmallTail, IsBegin};
 
 use crate::places::places;
 use elk_layers::{Layered, Link, Order};
@@ -78,17 +78,54 @@ fn begin_before(pins: &[Pin], place: u64) -> usize
     pins.partition_point(|p| start(p) < place)
 }
 
-/// How many links begin above a link of their gap and end below it.
-fn crossed_by(pins: &[Pin], heads: &[u32], pin: Pin) -> u64
+/// How many links begin before a place.
+#[derive(Clone, Copy)]
+struct Begin {
+    place: u64,
+    count: usize,
+}
+
+/// How many links begin before a place, where it is known of one that may be the same.
+fn begin_again(pins: &[Pin], known: Begin, place: u64) -> Begin
+    requires sorted { IsNonDecreasingBy start_of pins.now }
+    requires known { IsBegin pins.now known.place known.count }
+    ensures place { result.place ≡ place }
+    ensures begin { IsBegin pins.now result.place result.count }
+{
+    if known.place == place {
+        return known;
+    }
+    Begin {
+        place,
+        count: begin_before(pins, place),
+    }
+}
+
+/// How many links begin before a link.
+fn begin_before_pin(pins: &[Pin], i: usize) -> usize
+    requires sorted { IsNonDecreasingBy start_of pins.now }
+    requires pin { i < length pins.now }
+    ensures { IsBegin pins.now (start_of (pin_at pins.now i)) result }
+{
+    let place = start(&pins[i]);
+    if i > 0 && start(&pins[i - 1]) < place {
+        return i;
+    }
+    begin_before(pins, place)
+}
+
+/// How many links begin above a link of their gap and end below it, where it is known how many begin before the gap.
+fn crossed_by(pins: &[Pin], heads: &[u32], i: usize, gap: Begin) -> u64
     requires sorted { IsNonDecreasingBy start_of pins.now }
     requires fits { All HasSmallTail pins.now }
-    requires pin_fits { HasSmallTail pin }
     requires heads { heads.now ≡ map (λ (p : Pin). p.head) pins.now }
-    ensures { result ≡ count_by (λ b. is_under b pin) pins.now }
+    requires pin { i < length pins.now }
+    requires place { gap.place ≡ (pin_at pins.now i).gap * 4294967296 }
+    requires gap { IsBegin pins.now gap.place gap.count }
+    ensures { result ≡ count_by (λ b. is_under b (pin_at pins.now i)) pins.now }
 {
-    let first = begin_before(pins, pin.gap as u64 * 4294967296);
-    let end = begin_before(pins, start(&pin));
-    count_above(&heads[first..end], pin.head)
+    let end = begin_before_pin(pins, i);
+    count_above(&heads[gap.count..end], pins[i].head)
 }
 
 /// The crossings among these links.
@@ -99,9 +136,11 @@ fn crossed_links(pins: &[Pin], heads: &[u32]) -> u64
     requires few { length pins.now ≤ 2 ^ 24 }
     ensures { result ≡ crossed pins.now }
 {
+    let mut gap = Begin { place: 0, count: 0 };
     let mut total: u64 = 0;
-    for pin in pins {
-        total += crossed_by(pins, heads, *pin);
+    for i in 0..pins.len() {
+        gap = begin_again(pins, gap, pins[i].gap as u64 * 4294967296);
+        total += crossed_by(pins, heads, i, gap);
     }
     total
 }

@@ -5,13 +5,15 @@ ghost use Rattle.elk_layers.specs.Layered.{plain, rows_of, row_at, IsSound, AreR
 ghost use Rattle.elk_layers.specs.Crossings.{HasSameRows, NoBetterSwap};
 ghost use Rattle.elk_layers.specs.Crossings as crossing;
 ghost use Rattle.cross_reduce.specs.Reduced.{LowersTo};
-ghost use Rattle.cross_reduce.specs.Fans.{far_keys, fan_lists, fan_at};
+ghost use Rattle.cross_reduce.specs.Fans.{far_keys, fan_lists, fan_at, AreFans};
+ghost use Rattle.cross_reduce.specs.declared.fans.Towards.TheVariants.{Left, Right};
 ghost use Rattle.cross_reduce.specs.Fans as fan;
 ghost use Rattle.cross_reduce.specs.Exchanges.{FitsKey, FitKeys, IsState, IsTried, IsNoBetter, NoneInRow, KeepsOthers, AreSettled, crossed_above, crossed_between};
 
-use crate::fans::{Fans, Far, Towards, fans_towards};
+use crate::fans::{Fans, Far, Towards};
 use crate::places::places;
 use crate::settling::note_row;
+use crate::sweeping::fans_for;
 use elk_layers::{Layered, Order};
 use lane_count::count_above;
 use std::alloc::{AllocError, Global};
@@ -300,17 +302,22 @@ fn try_rows(
     Ok(changed)
 }
 
-/// The order with its places and far ends.
-pub(crate) fn state_of(alloc: Global, layered: &Layered, order: Order) -> Result<State, AllocError>
+/// The order with its places and these far ends.
+fn state_with(
+    alloc: Global,
+    layered: &Layered,
+    order: Order,
+    left: Fans,
+    right: Fans,
+) -> Result<State, AllocError>
     requires sound { IsSound (plain layered.now) }
     requires rows { AreRows (plain layered.now) (rows_of order) }
+    requires left { AreFans Left (plain layered.now).links (length (plain layered.now).units) (fan_lists left) }
+    requires right { AreFans Right (plain layered.now).links (length (plain layered.now).units) (fan_lists right) }
     ensures order { IfOk result (λ state. rows_of state.order ≡ rows_of order) }
     ensures state { IfOk result (λ state. IsState (plain layered.now) (rows_of state.order) state.place.items (fan_lists state.left) (fan_lists state.right)) }
 {
-    let links = layered.links.as_slice();
     let place = places(alloc, layered, &order)?;
-    let left = fans_towards(alloc, Towards::Left, links, layered.units.len())?;
-    let right = fans_towards(alloc, Towards::Right, links, layered.units.len())?;
     Ok(State {
         order,
         place,
@@ -319,9 +326,47 @@ pub(crate) fn state_of(alloc: Global, layered: &Layered, order: Order) -> Result
     })
 }
 
-/// Exchanges neighbours until no exchange lowers the crossings.
+/// The order with its places and far ends.
+pub(crate) fn state_of(alloc: Global, layered: &Layered, order: Order) -> Result<State, AllocError>
+    requires sound { IsSound (plain layered.now) }
+    requires rows { AreRows (plain layered.now) (rows_of order) }
+    ensures order { IfOk result (λ state. rows_of state.order ≡ rows_of order) }
+    ensures state { IfOk result (λ state. IsState (plain layered.now) (rows_of state.order) state.place.items (fan_lists state.left) (fan_lists state.right)) }
+{
+    let left = fans_for(alloc, layered, Towards::Left)?;
+    let right = fans_for(alloc, layered, Towards::Right)?;
+    state_with(alloc, layered, order, left, right)
+}
+
+/// Exchanges neighbours until no exchange lowers the crossings, by the far ends of the links to both sides.
 ///
 /// A row in which no exchange did is tried again only once it or a row beside it has changed.
+pub(crate) fn exchanged_by(
+    alloc: Global,
+    layered: &Layered,
+    order: Order,
+    left: Fans,
+    right: Fans,
+) -> Result<Order, AllocError>
+    requires sound { IsSound (plain layered.now) }
+    requires rows { AreRows (plain layered.now) (rows_of order) }
+    requires left { AreFans Left (plain layered.now).links (length (plain layered.now).units) (fan_lists left) }
+    requires right { AreFans Right (plain layered.now).links (length (plain layered.now).units) (fan_lists right) }
+    ensures same { IfOk result (λ o. HasSameRows (rows_of order) (rows_of o)) }
+    ensures fewer { IfOk result (λ o. crossing.crossings (plain layered.now) (rows_of o) ≤ crossing.crossings (plain layered.now) (rows_of order)) }
+    ensures settled { IfOk result (λ o. NoBetterSwap (plain layered.now) (rows_of o)) }
+    ensures lowered { IfOk result (λ o. LowersTo (plain layered.now) (rows_of order) (rows_of o)) }
+{
+    let mut state = state_with(alloc, layered, order, left, right)?;
+    let mut settled: Vec<bool> = vec![in alloc; false; layered.layers as usize]?;
+    let mut changed = true;
+    while changed {
+        changed = try_rows(alloc, layered, &mut state, &mut settled)?;
+    }
+    Ok(state.order)
+}
+
+/// Exchanges neighbours until no exchange lowers the crossings.
 pub(crate) fn exchanged(alloc: Global, layered: &Layered, order: Order) -> Result<Order, AllocError>
     requires sound { IsSound (plain layered.now) }
     requires rows { AreRows (plain layered.now) (rows_of order) }
@@ -330,11 +375,7 @@ pub(crate) fn exchanged(alloc: Global, layered: &Layered, order: Order) -> Resul
     ensures settled { IfOk result (λ o. NoBetterSwap (plain layered.now) (rows_of o)) }
     ensures lowered { IfOk result (λ o. LowersTo (plain layered.now) (rows_of order) (rows_of o)) }
 {
-    let mut state = state_of(alloc, layered, order)?;
-    let mut settled: Vec<bool> = vec![in alloc; false; layered.layers as usize]?;
-    let mut changed = true;
-    while changed {
-        changed = try_rows(alloc, layered, &mut state, &mut settled)?;
-    }
-    Ok(state.order)
+    let left = fans_for(alloc, layered, Towards::Left)?;
+    let right = fans_for(alloc, layered, Towards::Right)?;
+    exchanged_by(alloc, layered, order, left, right)
 }

@@ -1,17 +1,20 @@
 //! The sweep orders of a start, the best of them, and the exchanges after it.
-ghost use Rattle.std.specs.Prelude.{◌≡◌, ◌<◌, ◌≤◌, ◌⊎◌, ◌++◌, ◌∷◌, [], ℕ, List, IfOk};
+ghost use Rattle.std.specs.Prelude.{◌≡◌, ◌<◌, ◌≤◌, ◌⊎◌, ◌++◌, ◌∷◌, [], ℕ, List, length, IfOk};
 ghost use Rattle.std.specs.List.{All};
 ghost use Rattle.elk_layers.specs.Layered.{plain, rows_of, IsSound, AreRows};
 ghost use Rattle.elk_layers.specs.Crossings.{HasSameRows, NoBetterSwap};
 ghost use Rattle.elk_layers.specs.Crossings as spec;
+ghost use Rattle.cross_reduce.specs.declared.fans.Towards.TheVariants.{Left, Right};
+ghost use Rattle.cross_reduce.specs.Fans.{fan_lists, AreFans};
 ghost use Rattle.cross_reduce.specs.Reduced.{IsFirstOfFewest, IsExchangedFromFewest};
 ghost use Rattle.elk_layers.specs.Sweeps.{sweep_orders, forward_sweep, backward_sweep};
 
 use crate::counting::crossings;
 use crate::effort::work_for;
-use crate::exchanging::exchanged;
+use crate::exchanging::{exchanged, exchanged_by};
+use crate::fans::{Fans, Towards};
 use crate::searching::search;
-use crate::sweeping::{backward, forward};
+use crate::sweeping::{backward, fans_for, forward};
 use elk_layers::{Layered, Order};
 use std::alloc::{AllocError, Global};
 
@@ -65,9 +68,17 @@ pub(crate) fn fewer(
 }
 
 /// The orders after a forward sweep, and after a backward sweep of that.
-fn two_sweeps(alloc: Global, layered: &Layered, order: &Order) -> Result<(Order, Order), AllocError>
+fn two_sweeps(
+    alloc: Global,
+    layered: &Layered,
+    order: &Order,
+    left: &Fans,
+    right: &Fans,
+) -> Result<(Order, Order), AllocError>
     requires sound { IsSound (plain layered.now) }
     requires rows { AreRows (plain layered.now) (rows_of order.now) }
+    requires left { AreFans Left (plain layered.now).links (length (plain layered.now).units) (fan_lists left.now) }
+    requires right { AreFans Right (plain layered.now).links (length (plain layered.now).units) (fan_lists right.now) }
     ensures one { IfOk result (λ v. rows_of v.0 ≡ forward_sweep (plain layered.now) (rows_of order.now)) }
     ensures two { IfOk result (λ v. rows_of v.1 ≡ backward_sweep (plain layered.now) (forward_sweep (plain layered.now) (rows_of order.now))) }
     ensures one_rows { IfOk result (λ v. AreRows (plain layered.now) (rows_of v.0)) }
@@ -75,23 +86,31 @@ fn two_sweeps(alloc: Global, layered: &Layered, order: &Order) -> Result<(Order,
     ensures one_same { IfOk result (λ v. HasSameRows (rows_of order.now) (rows_of v.0)) }
     ensures two_same { IfOk result (λ v. HasSameRows (rows_of order.now) (rows_of v.1)) }
 {
-    let one = forward(alloc, layered, order)?;
-    let (one, two) = backward(alloc, layered, one)?;
+    let one = forward(alloc, layered, order, left)?;
+    let (one, two) = backward(alloc, layered, one, right)?;
     Ok((one, two))
 }
 
 /// The first of fewest crossings among an order and its four sweep orders.
-fn best_sweep(alloc: Global, layered: &Layered, start: Counted) -> Result<Order, AllocError>
+fn best_sweep(
+    alloc: Global,
+    layered: &Layered,
+    start: Counted,
+    left: &Fans,
+    right: &Fans,
+) -> Result<Order, AllocError>
     requires sound { IsSound (plain layered.now) }
     requires rows { AreRows (plain layered.now) (rows_of start.order) }
+    requires left { AreFans Left (plain layered.now).links (length (plain layered.now).units) (fan_lists left.now) }
+    requires right { AreFans Right (plain layered.now).links (length (plain layered.now).units) (fan_lists right.now) }
     requires counted { start.crossings ≡ spec.crossings (plain layered.now) (rows_of start.order) }
     ensures same_rows { IfOk result (λ o. HasSameRows (rows_of start.order) (rows_of o)) }
     ensures first { IfOk result (λ o. IsFirstOfFewest (plain layered.now) (rows_of start.order ∷ sweep_orders (plain layered.now) (rows_of start.order)) (rows_of o)) }
     ensures no_more { IfOk result (λ o. spec.crossings (plain layered.now) (rows_of o) ≤ spec.crossings (plain layered.now) (rows_of start.order)) }
     ensures sweeps { IfOk result (λ o. All (λ swept. spec.crossings (plain layered.now) (rows_of o) ≤ spec.crossings (plain layered.now) swept) (sweep_orders (plain layered.now) (rows_of start.order))) }
 {
-    let (one, two) = two_sweeps(alloc, layered, &start.order)?;
-    let (three, four) = two_sweeps(alloc, layered, &two)?;
+    let (one, two) = two_sweeps(alloc, layered, &start.order, left, right)?;
+    let (three, four) = two_sweeps(alloc, layered, &two, left, right)?;
     let best = fewer(alloc, layered, start, one)?;
     let best = fewer(alloc, layered, best, two)?;
     let best = fewer(alloc, layered, best, three)?;
@@ -125,8 +144,10 @@ pub fn reduce(alloc: Global, layered: &Layered, start: Order) -> Result<Order, A
     if start.crossings == 0 {
         return Ok(start.order);
     }
-    let swept = best_sweep(alloc, layered, start)?;
-    let settled = exchanged(alloc, layered, swept)?;
+    let left = fans_for(alloc, layered, Towards::Left)?;
+    let right = fans_for(alloc, layered, Towards::Right)?;
+    let swept = best_sweep(alloc, layered, start, &left, &right)?;
+    let settled = exchanged_by(alloc, layered, swept, left, right)?;
     if work_for(layered) == 0 {
         return Ok(settled);
     }

@@ -12,8 +12,8 @@ use Rattle.cross_reduce.proofs.StateLemmas.{same_trans}
 use Rattle.cross_reduce.proofs.ReduceLemmas.{AtMostEach, at_most_each}
 use Rattle.cross_reduce.proofs.reducing.reduce.Goals as goal
 
-pub exchanged-requires-clause-rows : goal.exchanged-requires-clause-rows
-exchanged-requires-clause-rows c =
+pub exchanged_by-requires-clause-rows : goal.exchanged_by-requires-clause-rows
+exchanged_by-requires-clause-rows c =
     rows_permuted (plain c.args.layered.now) (rows_of c.args.start) (rows_of c.in_ok-swept.swept) c.requires.sound.layers_are c.requires.rows
     (subst (λ order. HasSameRows (rows_of order) (rows_of c.in_ok-swept.swept)) c.in_ok-start.ensures.order c.in_ok-swept.ensures.same_rows)
 
@@ -39,36 +39,36 @@ returns-clause-same_rows c =
     let swept = subst (λ order. HasSameRows (rows_of order) (rows_of c.in_ok-swept.swept)) c.in_ok-start.ensures.order c.in_ok-swept.ensures.same_rows in
     let settled = same_trans (rows_of c.args.start) (rows_of c.in_ok-swept.swept) (rows_of c.in_ok-settled.settled) swept c.in_ok-settled.ensures.same in
     let best = subst (λ order. HasSameRows (rows_of order) (rows_of c.in_ok-best.best.order)) c.in_ok-settled-2.ensures.order c.in_ok-best.ensures.best.same in
-    IfOk-weaker c.exchanged-2.result _ _
+    IfOk-weaker c.exchanged.result _ _
     (λ o same. same_trans (rows_of c.args.start) (rows_of c.in_ok-best.best.order) (rows_of o) (same_trans (rows_of c.args.start) (rows_of c.in_ok-settled.settled) (rows_of c.in_ok-best.best.order) settled best) same)
-    c.exchanged-2.ensures.same
+    c.exchanged.ensures.same
 
 pub returns-clause-no_more : goal.returns-clause-no_more
 returns-clause-no_more c =
     let best = kept_at_most (plain c.args.layered.now) (rows_of c.in_ok-settled-2.settled.order) (rows_of c.in_ok-best.best.order) c.in_ok-best.ensures.fewer in
     let settled = ap (λ order. crossings (plain c.args.layered.now) (rows_of order)) c.in_ok-settled-2.ensures.order in
     let start = ap (λ order. crossings (plain c.args.layered.now) (rows_of order)) c.in_ok-start.ensures.order in
-    IfOk-weaker c.exchanged-2.result _ _ (λ o fewer. omega (arith, best, settled, start, fewer, c.in_ok-settled.ensures.fewer, c.in_ok-swept.ensures.no_more)) c.exchanged-2.ensures.fewer
+    IfOk-weaker c.exchanged.result _ _ (λ o fewer. omega (arith, best, settled, start, fewer, c.in_ok-settled.ensures.fewer, c.in_ok-swept.ensures.no_more)) c.exchanged.ensures.fewer
 
 pub returns-clause-sweeps : goal.returns-clause-sweeps
 returns-clause-sweeps c =
     let best = kept_at_most (plain c.args.layered.now) (rows_of c.in_ok-settled-2.settled.order) (rows_of c.in_ok-best.best.order) c.in_ok-best.ensures.fewer in
     let settled = ap (λ order. crossings (plain c.args.layered.now) (rows_of order)) c.in_ok-settled-2.ensures.order in
-    IfOk-weaker c.exchanged-2.result _ _
+    IfOk-weaker c.exchanged.result _ _
     (λ o fewer.
     at_most_each (plain c.args.layered.now) (rows_of c.in_ok-swept.swept) (rows_of o) (sweep_orders (plain c.args.layered.now) (rows_of c.args.start)) (omega (arith, best, settled, fewer, c.in_ok-settled.ensures.fewer))
     (subst (λ order. AtMostEach (plain c.args.layered.now) (rows_of c.in_ok-swept.swept) (sweep_orders (plain c.args.layered.now) (rows_of order))) c.in_ok-start.ensures.order c.in_ok-swept.ensures.sweeps))
-    c.exchanged-2.ensures.fewer
+    c.exchanged.ensures.fewer
 
 pub returns-clause-from_fewest : goal.returns-clause-from_fewest
 returns-clause-from_fewest c =
-    IfOk-weaker c.exchanged-2.result _ _
+    IfOk-weaker c.exchanged.result _ _
     (λ o lowered.
     reduced_found (plain c.args.layered.now) (rows_of c.args.start) (rows_of c.in_ok-swept.swept) (rows_of c.in_ok-settled.settled) (rows_of c.in_ok-best.best.order) (rows_of o)
     (subst (λ order. IsFirstOfFewest (plain c.args.layered.now) (rows_of order ∷ sweep_orders (plain c.args.layered.now) (rows_of order)) (rows_of c.in_ok-swept.swept)) c.in_ok-start.ensures.order c.in_ok-swept.ensures.first)
     c.in_ok-settled.ensures.lowered c.in_ok-settled.ensures.fewer
     (subst (λ order. IsKeptOrFewer (plain c.args.layered.now) (rows_of order) (rows_of c.in_ok-best.best.order)) c.in_ok-settled-2.ensures.order c.in_ok-best.ensures.fewer) lowered)
-    c.exchanged-2.ensures.lowered
+    c.exchanged.ensures.lowered
 
 pub returns-then-work_for-eq0-clause-same_rows : goal.returns-then-work_for-eq0-clause-same_rows
 returns-then-work_for-eq0-clause-same_rows c =

@@ -5,7 +5,7 @@ use Rattle.cross_reduce.specs.Reduced.{LowersTo, stay}
 use Rattle.cross_reduce.proofs.LoweringLemmas.{lowers_join}
 use Rattle.cross_reduce.proofs.StateLemmas.{same_refl, same_trans, tried_fewer, tried_same}
 use Rattle.cross_reduce.proofs.SettledLemmas.{settled_start}
-use Rattle.cross_reduce.proofs.exchanging.exchanged.Goals as goal
+use Rattle.cross_reduce.proofs.exchanging.exchanged_by.Goals as goal
 
 pub loop-changed-preserved : goal.loop-changed-preserved
 loop-changed-preserved c =

@@ -5,7 +5,7 @@ use Rattle.cross_reduce.specs.Fans.{fan_lists}
 use Rattle.cross_reduce.specs.Reduced.{LowersTo}
 use Rattle.cross_reduce.specs.Exchanges.{IsState, AreSettled}
 use Rattle.cross_reduce.proofs.Sums.{one_if}
-use Rattle.cross_reduce.proofs.exchanging.exchanged.Given as goal
+use Rattle.cross_reduce.proofs.exchanging.exchanged_by.Given as goal
 
 abbrev pub invariant-loop-changed : goal.invariant-loop-changed
 invariant-loop-changed l =
