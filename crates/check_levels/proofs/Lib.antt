@@ -1,3 +1,4 @@
 pub mod StepLaws
 pub mod SumLaws
+pub mod NodeSums
 pub mod ListedLaws

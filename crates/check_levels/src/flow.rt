@@ -12,7 +12,7 @@ use elk_doc::form::is_child;
 use elk_doc::level::is_loop;
 
 // The number of an edge in a list, and 0 past its end.
-fn value_at(values: &[u64], edge: usize) -> u128
+pub(crate) fn value_at(values: &[u64], edge: usize) -> u128
     ensures value { result ≡ slice_index values.now edge }
     ensures fits { result < 2 ^ 64 }
 {
@@ -24,7 +24,7 @@ fn value_at(values: &[u64], edge: usize) -> u128
 }
 
 // Whether an edge of the level that is no self-loop has its end at a child.
-fn ends_at(doc: &Doc, node: u32, ends: &[u32], child: u32, edge: u32) -> bool
+pub(crate) fn ends_at(doc: &Doc, node: u32, ends: &[u32], child: u32, edge: u32) -> bool
     requires edge_in { edge < length doc.now.edges }
     requires ends { length ends.now ≡ length doc.now.edges }
     ensures { result ≡ ends_at doc.now node ends.now child edge }
@@ -51,7 +51,7 @@ fn sum_at(doc: &Doc, node: u32, ends: &[u32], values: &[u64], child: u32) -> u12
 }
 
 // The sum of the numbers of the level's edges.
-fn sum_of(doc: &Doc, node: u32, values: &[u64]) -> u128
+pub(crate) fn sum_of(doc: &Doc, node: u32, values: &[u64]) -> u128
     ensures { result ≡ sum_below (is_edge_of doc.now node) (slice_index values.now) (length doc.now.edges) }
 {
     let mut sum: u128 = 0;
@@ -79,7 +79,7 @@ fn is_idle(doc: &Doc, node: u32, _certificate: &Certificate, flows: &[u64], edge
 }
 
 // Whether all self-loops of the level have no flow.
-fn are_idle(doc: &Doc, node: u32, certificate: &Certificate, flows: &[u64]) -> bool
+pub(crate) fn are_idle(doc: &Doc, node: u32, certificate: &Certificate, flows: &[u64]) -> bool
     requires flows { AreFlows doc.now node certificate.now flows.now }
     ensures { IsTrue result ↔ ((e : ℕ) → IsIdle doc.now node certificate.now e) }
 {

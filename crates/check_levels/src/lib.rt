@@ -7,8 +7,10 @@ mod layering;
 mod lists;
 mod paths;
 mod reversed;
+mod sums;
 
 pub use flow::flow_fault;
 pub use layering::layering_fault;
 pub use lists::{flows, heads, layers, parts, tails, weights};
 pub use reversed::reversed_fault;
+pub use sums::flow_fault_by_sums;
