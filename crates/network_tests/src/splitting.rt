@@ -20,6 +20,13 @@ fn nodes_are_listed(arena: &Arena, layer: &[u32]) -> bool
     true
 }
 
+fn layer_of(layer: &[u32], node: NodeKey) -> u32
+    requires { node.at < length layer.now }
+    ensures { result ≡ slice_index layer.now node.at }
+{
+    layer[node.at]
+}
+
 fn climbs(arena: &Arena, layer: &[u32], edge: EdgeKey) -> bool
     requires { (v : ℕ) → IsNode arena.now v → v < length layer.now }
     ensures { IsTrue result → (x : Ends) → ends_at arena.now edge.at ≡ Some x → slice_index layer.now x.tail < slice_index layer.now x.head }
@@ -28,8 +35,8 @@ fn climbs(arena: &Arena, layer: &[u32], edge: EdgeKey) -> bool
         return true;
     }
     arena.incidence();
-    let low = layer[arena.tail(edge).at];
-    let high = layer[arena.head(edge).at];
+    let low = layer_of(layer, arena.tail(edge));
+    let high = layer_of(layer, arena.head(edge));
     low < high
 }
 
