@@ -81,11 +81,12 @@ fn nested_document(rt: HostRuntime) -> Result<(), Fail> {
     let placed = nested_drawing(alloc)?;
     let text = answered(
         alloc,
-        "{\"id\":\"r\",\"children\":[{\"id\":\"c\",\"children\":[{\"id\":\"a\",\"width\":30,\"height\":30},{\"id\":\"b\",\"width\":30,\"height\":30}]}],\"edges\":[{\"id\":7,\"junctionPoints\":[],\"sources\":[\"a\"],\"targets\":[\"b\"]}]}",
+        r#"{"id":"r","children":[{"id":"c","children":[{"id":"a","width":30,"height":30},{"id":"b","width":30,"height":30}]}],"edges":[{"id":7,"junctionPoints":[],"sources":["a"],"targets":["b"]}]}"#,
         &placed,
     )?;
     let wanted =
-        "{\"children\":[{\"children\":[{\"height\":30,\"id\":\"a\",\"width\":30,\"x\":12,\"y\":12},{\"height\":30,\"id\":\"b\",\"width\":30,\"x\":62,\"y\":12}],\"height\":54,\"id\":\"c\",\"layering\":{\"flow\":[1],\"layers\":[0,1],\"reversed\":[],\"span\":1},\"width\":104,\"x\":12,\"y\":12}],\"edges\":[{\"id\":7,\"sections\":[{\"endPoint\":{\"x\":62,\"y\":27},\"id\":\"7_s0\",\"startPoint\":{\"x\":42,\"y\":27}}],\"sources\":[\"a\"],\"targets\":[\"b\"]}],\"height\":78,\"id\":\"r\",\"layering\":{\"flow\":[],\"layers\":[0],\"reversed\":[],\"span\":0},\"width\":128,\"x\":0,\"y\":0}\n";
+        r#"{"children":[{"children":[{"height":30,"id":"a","width":30,"x":12,"y":12},{"height":30,"id":"b","width":30,"x":62,"y":12}],"height":54,"id":"c","layering":{"flow":[1],"layers":[0,1],"reversed":[],"span":1},"width":104,"x":12,"y":12}],"edges":[{"id":7,"sections":[{"endPoint":{"x":62,"y":27},"id":"7_s0","startPoint":{"x":42,"y":27}}],"sources":["a"],"targets":["b"]}],"height":78,"id":"r","layering":{"flow":[],"layers":[0],"reversed":[],"span":0},"width":128,"x":0,"y":0}
+"#;
     match text {
         None => assert!(rt; false),
         Some(text) => assert!(rt; text.as_slice() == wanted.as_bytes()),
@@ -96,7 +97,7 @@ fn nested_document(rt: HostRuntime) -> Result<(), Fail> {
 #[test]
 fn ids(rt: HostRuntime) -> Result<(), Fail> {
     let alloc = rt.alloc();
-    let text = Id::Text(Name::from_string(String::from_str(alloc, "a\"1")?));
+    let text = Id::Text(Name::from_string(String::from_str(alloc, r#"a"1"#)?));
     assert!(rt; id_text(alloc, &text)?.as_slice() == "\"a\\\"1\"".as_bytes());
     assert!(rt; id_text(alloc, &Id::Whole(-5))?.as_slice() == "-5".as_bytes());
     Ok(())

@@ -7,7 +7,7 @@ use std::test::Fail;
 
 // A compound node with two ports beside a leaf, an edge between them, and a cycle of two edges and a self-loop inside.
 const PLACED: &str =
-    "{\"id\":\"r\",\"x\":0,\"y\":0,\"width\":300,\"height\":90,\"layering\":{\"flow\":[1],\"layers\":[0,1],\"reversed\":[],\"span\":1},\"children\":[{\"id\":\"c\",\"x\":12,\"y\":13,\"width\":200,\"height\":60,\"layering\":{\"flow\":[1,2,0],\"layers\":[1,0],\"parts\":[0,0],\"reversed\":[\"f\"],\"span\":3},\"ports\":[{\"id\":\"p\",\"x\":200,\"y\":10},{\"id\":\"q\",\"x\":-5,\"y\":-6,\"width\":5}],\"edges\":[{\"id\":\"f\",\"sources\":[\"a\"],\"targets\":[\"b\"],\"sections\":[{\"id\":\"f_s0\",\"startPoint\":{\"x\":1,\"y\":2},\"bendPoints\":[{\"x\":3,\"y\":2},{\"x\":3,\"y\":4}],\"endPoint\":{\"x\":5,\"y\":4}}]},{\"id\":7,\"sources\":[\"b\"],\"targets\":[\"a\"],\"sections\":[{\"id\":\"7_s0\",\"startPoint\":{\"x\":6,\"y\":7},\"endPoint\":{\"x\":8,\"y\":7}}]},{\"id\":\"g\",\"sources\":[\"a\"],\"targets\":[\"a\"],\"sections\":[{\"id\":\"g_s0\",\"startPoint\":{\"x\":1,\"y\":1},\"bendPoints\":[],\"endPoint\":{\"x\":1,\"y\":1}}]}],\"children\":[{\"id\":\"a\",\"width\":30,\"height\":20,\"x\":14,\"y\":15},{\"id\":\"b\",\"x\":64,\"y\":65}]},{\"id\":\"d\",\"width\":9,\"height\":8,\"x\":250,\"y\":20}],\"edges\":[{\"id\":\"e\",\"sources\":[\"p\"],\"targets\":[\"d\"],\"sections\":[{\"id\":\"e_s0\",\"startPoint\":{\"x\":212,\"y\":23},\"endPoint\":{\"x\":250,\"y\":23}}]}]}";
+    r#"{"id":"r","x":0,"y":0,"width":300,"height":90,"layering":{"flow":[1],"layers":[0,1],"reversed":[],"span":1},"children":[{"id":"c","x":12,"y":13,"width":200,"height":60,"layering":{"flow":[1,2,0],"layers":[1,0],"parts":[0,0],"reversed":["f"],"span":3},"ports":[{"id":"p","x":200,"y":10},{"id":"q","x":-5,"y":-6,"width":5}],"edges":[{"id":"f","sources":["a"],"targets":["b"],"sections":[{"id":"f_s0","startPoint":{"x":1,"y":2},"bendPoints":[{"x":3,"y":2},{"x":3,"y":4}],"endPoint":{"x":5,"y":4}}]},{"id":7,"sources":["b"],"targets":["a"],"sections":[{"id":"7_s0","startPoint":{"x":6,"y":7},"endPoint":{"x":8,"y":7}}]},{"id":"g","sources":["a"],"targets":["a"],"sections":[{"id":"g_s0","startPoint":{"x":1,"y":1},"bendPoints":[],"endPoint":{"x":1,"y":1}}]}],"children":[{"id":"a","width":30,"height":20,"x":14,"y":15},{"id":"b","x":64,"y":65}]},{"id":"d","width":9,"height":8,"x":250,"y":20}],"edges":[{"id":"e","sources":["p"],"targets":["d"],"sections":[{"id":"e_s0","startPoint":{"x":212,"y":23},"endPoint":{"x":250,"y":23}}]}]}"#;
 
 fn is_text(id: &Option<Id>, text: &str) -> bool {
     match id {
@@ -38,81 +38,77 @@ fn what_is_missing(rt: HostRuntime) -> Result<(), Fail> {
     let rows = [
         ("", "", "read"),
         // the root
-        ("\"x\":0,", "", "r"),
-        ("\"x\":0", "\"x\":1", "r"),
-        ("\"y\":0", "\"y\":-1", "r"),
-        ("\"width\":300,", "", "r"),
-        ("\"height\":90", "\"height\":-1", "r"),
-        ("\"height\":90", "\"height\":9007199254740993", "r"),
-        ("\"flow\":[1]", "\"flow\":[]", "r"),
-        ("\"flow\":[1]", "\"flow\":[-1]", "r"),
-        ("\"layers\":[0,1]", "\"layers\":[0,1,1]", "r"),
-        ("\"layers\":[0,1]", "\"layers\":[0,4294967296]", "r"),
-        ("\"layers\":[0,1]", "\"layers\":[0,4294967295]", "read"),
-        ("\"span\":1}", "\"span\":18446744073709551615}", "read"),
-        ("\"span\":1}", "\"span\":\"1\"}", "r"),
-        ("\"reversed\":[],", "", "r"),
-        ("\"reversed\":[]", "\"reversed\":[\"f\"]", "r"),
-        ("\"reversed\":[]", "\"reversed\":[\"e\"]", "read"),
-        ("\"span\":1}", "\"span\":1,\"parts\":7}", "read"),
+        (r#""x":0,"#, "", "r"),
+        (r#""x":0"#, r#""x":1"#, "r"),
+        (r#""y":0"#, r#""y":-1"#, "r"),
+        (r#""width":300,"#, "", "r"),
+        (r#""height":90"#, r#""height":-1"#, "r"),
+        (r#""height":90"#, r#""height":9007199254740993"#, "r"),
+        (r#""flow":[1]"#, r#""flow":[]"#, "r"),
+        (r#""flow":[1]"#, r#""flow":[-1]"#, "r"),
+        (r#""layers":[0,1]"#, r#""layers":[0,1,1]"#, "r"),
+        (r#""layers":[0,1]"#, r#""layers":[0,4294967296]"#, "r"),
+        (r#""layers":[0,1]"#, r#""layers":[0,4294967295]"#, "read"),
+        (r#""span":1}"#, r#""span":18446744073709551615}"#, "read"),
+        (r#""span":1}"#, r#""span":"1"}"#, "r"),
+        (r#""reversed":[],"#, "", "r"),
+        (r#""reversed":[]"#, r#""reversed":["f"]"#, "r"),
+        (r#""reversed":[]"#, r#""reversed":["e"]"#, "read"),
+        (r#""span":1}"#, r#""span":1,"parts":7}"#, "read"),
         // the inner level
-        ("\"x\":12", "\"x\":9007199254740993", "c"),
-        ("\"x\":12", "\"x\":9007199254740992", "read"),
-        ("\"x\":12", "\"x\":-9007199254740993", "c"),
-        ("\"x\":12", "\"x\":true", "c"),
+        (r#""x":12"#, r#""x":9007199254740993"#, "c"),
+        (r#""x":12"#, r#""x":9007199254740992"#, "read"),
+        (r#""x":12"#, r#""x":-9007199254740993"#, "c"),
+        (r#""x":12"#, r#""x":true"#, "c"),
         (
-            "\"layering\":{\"flow\":[1,2,0]",
-            "\"Layering\":{\"flow\":[1,2,0]",
+            r#""layering":{"flow":[1,2,0]"#,
+            r#""Layering":{"flow":[1,2,0]"#,
             "c",
         ),
-        ("\"reversed\":[\"f\"]", "\"reversed\":[\"f\",7]", "read"),
-        ("\"reversed\":[\"f\"]", "\"reversed\":[7,\"f\"]", "c"),
-        ("\"reversed\":[\"f\"]", "\"reversed\":[\"f\",\"f\"]", "c"),
-        ("\"reversed\":[\"f\"]", "\"reversed\":[\"g\"]", "c"),
-        ("\"reversed\":[\"f\"]", "\"reversed\":[\"e\"]", "c"),
-        ("\"reversed\":[\"f\"]", "\"reversed\":[\"7\"]", "c"),
-        ("\"reversed\":[\"f\"]", "\"reversed\":\"f\"", "c"),
+        (r#""reversed":["f"]"#, r#""reversed":["f",7]"#, "read"),
+        (r#""reversed":["f"]"#, r#""reversed":[7,"f"]"#, "c"),
+        (r#""reversed":["f"]"#, r#""reversed":["f","f"]"#, "c"),
+        (r#""reversed":["f"]"#, r#""reversed":["g"]"#, "c"),
+        (r#""reversed":["f"]"#, r#""reversed":["e"]"#, "c"),
+        (r#""reversed":["f"]"#, r#""reversed":["7"]"#, "c"),
+        (r#""reversed":["f"]"#, r#""reversed":"f""#, "c"),
         // ports
-        ("\"x\":200,", "", "p"),
-        ("\"y\":-6,", "", "q"),
-        ("\"y\":-6", "\"y\":9007199254740993", "other"),
+        (r#""x":200,"#, "", "p"),
+        (r#""y":-6,"#, "", "q"),
+        (r#""y":-6"#, r#""y":9007199254740993"#, "other"),
         // edges
-        ("\"id\":\"f_s0\",", "", "f"),
-        ("\"id\":\"f_s0\"", "\"id\":\"f_s1\"", "f"),
-        ("\"id\":\"f_s0\"", "\"id\":\"f_s0\",\"z\":0", "read"),
-        ("\"id\":\"7_s0\"", "\"id\":7", "7"),
-        ("\"startPoint\":{\"x\":1,\"y\":2},", "", "f"),
+        (r#""id":"f_s0","#, "", "f"),
+        (r#""id":"f_s0""#, r#""id":"f_s1""#, "f"),
+        (r#""id":"f_s0""#, r#""id":"f_s0","z":0"#, "read"),
+        (r#""id":"7_s0""#, r#""id":7"#, "7"),
+        (r#""startPoint":{"x":1,"y":2},"#, "", "f"),
+        (r#""endPoint":{"x":5,"y":4}"#, r#""endPoint":{"x":5}"#, "f"),
+        (r#"{"x":3,"y":4}"#, r#"{"x":3,"Y":4}"#, "f"),
+        (r#"{"x":3,"y":4}"#, "3", "f"),
+        (r#""bendPoints":[]"#, r#""bendPoints":{}"#, "g"),
         (
-            "\"endPoint\":{\"x\":5,\"y\":4}",
-            "\"endPoint\":{\"x\":5}",
-            "f",
-        ),
-        ("{\"x\":3,\"y\":4}", "{\"x\":3,\"Y\":4}", "f"),
-        ("{\"x\":3,\"y\":4}", "3", "f"),
-        ("\"bendPoints\":[]", "\"bendPoints\":{}", "g"),
-        (
-            "\"sections\":[{\"id\":\"e_s0\"",
-            "\"sections\":[{},{\"id\":\"e_s0\"",
+            r#""sections":[{"id":"e_s0""#,
+            r#""sections":[{},{"id":"e_s0""#,
             "e",
         ),
         (
-            "\"sections\":[{\"id\":\"e_s0\"",
-            "\"section\":[{\"id\":\"e_s0\"",
+            r#""sections":[{"id":"e_s0""#,
+            r#""section":[{"id":"e_s0""#,
             "e",
         ),
         // leaves
-        ("\"x\":14,", "", "a"),
-        ("\"x\":64,", "", "b"),
-        ("\"x\":250,\"y\":20", "\"x\":250", "d"),
+        (r#""x":14,"#, "", "a"),
+        (r#""x":64,"#, "", "b"),
+        (r#""x":250,"y":20"#, r#""x":250"#, "d"),
         // an earlier element, and an earlier rule
         (
-            "\"y\":15},{\"id\":\"b\",\"x\":64",
-            "\"Y\":15},{\"id\":\"b\",\"X\":64",
+            r#""y":15},{"id":"b","x":64"#,
+            r#""Y":15},{"id":"b","X":64"#,
             "a",
         ),
         (
-            "\"targets\":[\"d\"],\"sections\"",
-            "\"targets\":[\"z\"],\"section\"",
+            r#""targets":["d"],"sections""#,
+            r#""targets":["z"],"section""#,
             "other",
         ),
     ];
@@ -141,15 +137,16 @@ fn again(alloc: Global, text: &str) -> Result<Option<Vec<u8>>, AllocError> {
 fn read_and_written_again(rt: HostRuntime) -> Result<(), Fail> {
     let alloc = rt.alloc();
     let wanted =
-        "{\"children\":[{\"height\":30,\"id\":\"a\",\"width\":30,\"x\":12,\"y\":12},{\"height\":30,\"id\":\"b\",\"width\":30,\"x\":62,\"y\":12}],\"edges\":[{\"id\":\"e\",\"sections\":[{\"endPoint\":{\"x\":62,\"y\":27},\"id\":\"e_s0\",\"startPoint\":{\"x\":42,\"y\":27}}],\"sources\":[\"a\"],\"targets\":[\"b\"]}],\"height\":54,\"id\":\"r\",\"layering\":{\"flow\":[1],\"layers\":[0,1],\"reversed\":[],\"span\":1},\"width\":104,\"x\":0,\"y\":0}\n";
+        r#"{"children":[{"height":30,"id":"a","width":30,"x":12,"y":12},{"height":30,"id":"b","width":30,"x":62,"y":12}],"edges":[{"id":"e","sections":[{"endPoint":{"x":62,"y":27},"id":"e_s0","startPoint":{"x":42,"y":27}}],"sources":["a"],"targets":["b"]}],"height":54,"id":"r","layering":{"flow":[1],"layers":[0,1],"reversed":[],"span":1},"width":104,"x":0,"y":0}
+"#;
     match again(alloc, wanted)? {
         None => assert!(rt; false),
         Some(text) => assert!(rt; text.as_slice() == wanted.as_bytes()),
     }
     let unplaced =
-        "{\"id\":\"r\",\"children\":[{\"id\":\"a\",\"width\":30,\"height\":30},{\"id\":\"b\",\"width\":30,\"height\":30}],\"edges\":[{\"id\":\"e\",\"sources\":[\"a\"],\"targets\":[\"b\"]}]}";
+        r#"{"id":"r","children":[{"id":"a","width":30,"height":30},{"id":"b","width":30,"height":30}],"edges":[{"id":"e","sources":["a"],"targets":["b"]}]}"#;
     assert!(rt; holds(alloc, unplaced, "r"));
-    let no_start = wanted.replacen(alloc, ",\"startPoint\":{\"x\":42,\"y\":27}", "", 1)?;
+    let no_start = wanted.replacen(alloc, r#","startPoint":{"x":42,"y":27}"#, "", 1)?;
     assert!(rt; holds(alloc, no_start.as_str(), "e"));
     Ok(())
 }

@@ -1,5 +1,5 @@
 -- The document of one node is sound, and the drawing of its level can be written.
-use Rattle.std.proofs.Common.{◌≡◌, ◌∙◌, ap, sym, subst, refl, ℕ, zero, suc, ◌<◌, ◌≤◌, List, [], ◌∷◌, length, get_or, IsSome, IfSome, IsTrue, arith, rules}
+use Rattle.std.proofs.Common.{◌≡◌, ◌∙◌, ap, sym, subst, refl, ℕ, zero, suc, ◌<◌, ◌≤◌, [], ◌∷◌, length, get_or, All, IsSome, IfSome, IsTrue, arith, rules}
 use Rattle.std.proofs.lemmas.Int.{ints}
 use Rattle.std.proofs.lemmas.List.{length-map}
 use Rattle.std.proofs.lemmas.List.Elements.{All-nil, All-cons}
@@ -21,7 +21,7 @@ use Rattle.level_writing.specs.Ranges.{IsLongBox}
 use Rattle.level_writing.specs.declared.figure.LevelFigure.{LevelFigure}
 use Rattle.level_writing.specs.declared.writing.LevelNumbers.{LevelNumbers}
 use Rattle.level_writing.specs.Written.{AreNumbersAt, ArePortPlaces, IsWritable, rows_in}
-use Rattle.level_tests.specs.Turning.{figure, padded, turning}
+use Rattle.level_tests.specs.Turning.{figure, padded, port_rows, turning}
 
 below1 : (P : ℕ → Type 0) → P 0 → (k : ℕ) → k < 1 → P k
 below1 P a zero h = a
@@ -95,9 +95,6 @@ no_port way = refl
 one_port : (way : Direction) → 0 ∷ [] ≡ ports_of (turning way) 1
 unfolding numbers_below
 one_port way = refl
-
-abbrev pub port_rows : List (List ℕ)
-port_rows = [] ∷ (0 ∷ []) ∷ []
 
 pub are_numbers : (way : Direction) (d : Document) (numbers : LevelNumbers) → d ≡ turning way → numbers.children.now ≡ 1 ∷ [] → numbers.edges.now ≡ 0 ∷ []
     → rows_in numbers.ports.now ≡ port_rows → AreNumbersAt d 0 numbers

@@ -1,5 +1,5 @@
 -- A document whose root runs in any direction, over one node with a port and a loop, and a drawing of the root's level.
-use Rattle.std.specs.Prelude.{ℕ, false, [], ◌∷◌, None, Some, pos}
+use Rattle.std.specs.Prelude.{ℕ, false, List, [], ◌∷◌, None, Some, pos}
 use Rattle.elk_doc.specs.declared.document.Direction.{Direction}
 use Rattle.elk_doc.specs.declared.document.End.TheVariants.{Node as AtNode}
 use Rattle.elk_doc.specs.declared.document.Id.TheVariants.{Whole}
@@ -38,6 +38,10 @@ port = record { id = Whole (pos 2); node = 1; size = size 10 7; place = point (p
 
 abbrev pub turning : Direction → Document
 turning way = record { nodes = root way ∷ leaf ∷ []; ports = port ∷ []; edges = edge (AtNode 1) (AtNode 1) ∷ [] }
+
+-- the numbers of the ports of each node
+abbrev pub port_rows : List (List ℕ)
+port_rows = [] ∷ (0 ∷ []) ∷ []
 
 -- a drawing of 65 by 31, in which the port has this place
 abbrev pub figure : ℕ → ℕ → LevelFigure

@@ -1,6 +1,7 @@
 //! Boxes, ports and routes that come back from the frames of the four directions, a document of which nothing is placed, and the
 //! size of a node round its content.
 ghost use Rattle.std.specs.Prelude.{◌≡◌, IfOk};
+ghost use Rattle.level_writing.specs.Written.{rows_in};
 ghost use Rattle.level_tests.specs.Turning as turning;
 
 use crate::fixtures::level_options;
@@ -125,7 +126,9 @@ fn make_figure(alloc: Global, x: u8, y: u8) -> Result<LevelFigure, AllocError>
 }
 
 // The ports of each node.
-fn port_numbers(alloc: Global) -> Result<Vec<Vec<u32>>, AllocError> {
+fn port_numbers(alloc: Global) -> Result<Vec<Vec<u32>>, AllocError>
+    ensures { IfOk result (λ rows. rows_in rows.items ≡ turning.port_rows) }
+{
     let one = vec![in alloc; 0]?;
     Ok(vec![in alloc; Vec::new(alloc), one]?)
 }

@@ -5,65 +5,76 @@ use elk_engine::run;
 use elk_outer::{MemSink, MemSource};
 use std::test::Fail;
 
-const ROOT: &str = "{\"id\":\"r\"}";
+const ROOT: &str = r#"{"id":"r"}"#;
 
 const ROOT_ANSWER: &str =
-    "{\"height\":24,\"id\":\"r\",\"layering\":{\"flow\":[],\"layers\":[],\"reversed\":[],\"span\":0},\"width\":24,\"x\":0,\"y\":0}\n";
+    r#"{"height":24,"id":"r","layering":{"flow":[],"layers":[],"reversed":[],"span":0},"width":24,"x":0,"y":0}
+"#;
 
 const PAIR: &str =
-    "{\"id\":\"r\",\"children\":[{\"id\":\"a\",\"width\":30,\"height\":30},{\"id\":\"b\",\"width\":10,\"height\":40}]}";
+    r#"{"id":"r","children":[{"id":"a","width":30,"height":30},{"id":"b","width":10,"height":40}]}"#;
 
 const PAIR_ANSWER: &str =
-    "{\"children\":[{\"height\":30,\"id\":\"a\",\"width\":30,\"x\":12,\"y\":12},{\"height\":40,\"id\":\"b\",\"width\":10,\"x\":12,\"y\":62}],\"height\":114,\"id\":\"r\",\"layering\":{\"flow\":[],\"layers\":[0,0],\"reversed\":[],\"span\":0},\"width\":54,\"x\":0,\"y\":0}\n";
+    r#"{"children":[{"height":30,"id":"a","width":30,"x":12,"y":12},{"height":40,"id":"b","width":10,"x":12,"y":62}],"height":114,"id":"r","layering":{"flow":[],"layers":[0,0],"reversed":[],"span":0},"width":54,"x":0,"y":0}
+"#;
 
-const DOUBLE: &str = "{\"id\":\"r\",\"children\":[{\"id\":\"a\"},{\"id\":\"a\"}]}";
+const DOUBLE: &str = r#"{"id":"r","children":[{"id":"a"},{"id":"a"}]}"#;
 
 // An edge between two nodes, as a document and placed.
 const EDGE_INPUT: &str =
-    "{\"id\":\"r\",\"children\":[{\"id\":\"a\",\"width\":30,\"height\":30},{\"id\":\"b\",\"width\":30,\"height\":30}],\"edges\":[{\"id\":\"e\",\"sources\":[\"a\"],\"targets\":[\"b\"]}]}";
+    r#"{"id":"r","children":[{"id":"a","width":30,"height":30},{"id":"b","width":30,"height":30}],"edges":[{"id":"e","sources":["a"],"targets":["b"]}]}"#;
 
 const EDGE_PLACED: &str =
-    "{\"children\":[{\"height\":30,\"id\":\"a\",\"width\":30,\"x\":12,\"y\":12},{\"height\":30,\"id\":\"b\",\"width\":30,\"x\":62,\"y\":12}],\"edges\":[{\"id\":\"e\",\"sections\":[{\"endPoint\":{\"x\":62,\"y\":27},\"id\":\"e_s0\",\"startPoint\":{\"x\":42,\"y\":27}}],\"sources\":[\"a\"],\"targets\":[\"b\"]}],\"height\":54,\"id\":\"r\",\"layering\":{\"flow\":[1],\"layers\":[0,1],\"reversed\":[],\"span\":1},\"width\":104,\"x\":0,\"y\":0}";
+    r#"{"children":[{"height":30,"id":"a","width":30,"x":12,"y":12},{"height":30,"id":"b","width":30,"x":62,"y":12}],"edges":[{"id":"e","sections":[{"endPoint":{"x":62,"y":27},"id":"e_s0","startPoint":{"x":42,"y":27}}],"sources":["a"],"targets":["b"]}],"height":54,"id":"r","layering":{"flow":[1],"layers":[0,1],"reversed":[],"span":1},"width":104,"x":0,"y":0}"#;
 
 const EDGE_ANSWER: &str =
-    "{\"children\":[{\"height\":30,\"id\":\"a\",\"width\":30,\"x\":12,\"y\":12},{\"height\":30,\"id\":\"b\",\"width\":30,\"x\":62,\"y\":12}],\"edges\":[{\"id\":\"e\",\"sections\":[{\"endPoint\":{\"x\":62,\"y\":27},\"id\":\"e_s0\",\"startPoint\":{\"x\":42,\"y\":27}}],\"sources\":[\"a\"],\"targets\":[\"b\"]}],\"height\":54,\"id\":\"r\",\"layering\":{\"flow\":[1],\"layers\":[0,1],\"reversed\":[],\"span\":1},\"width\":104,\"x\":0,\"y\":0}\n";
+    r#"{"children":[{"height":30,"id":"a","width":30,"x":12,"y":12},{"height":30,"id":"b","width":30,"x":62,"y":12}],"edges":[{"id":"e","sections":[{"endPoint":{"x":62,"y":27},"id":"e_s0","startPoint":{"x":42,"y":27}}],"sources":["a"],"targets":["b"]}],"height":54,"id":"r","layering":{"flow":[1],"layers":[0,1],"reversed":[],"span":1},"width":104,"x":0,"y":0}
+"#;
 
 // The same with the columns one too near to each other.
 const COLUMNS_NEAR: &str =
-    "{\"children\":[{\"height\":30,\"id\":\"a\",\"width\":30,\"x\":12,\"y\":12},{\"height\":30,\"id\":\"b\",\"width\":30,\"x\":61,\"y\":12}],\"edges\":[{\"id\":\"e\",\"sections\":[{\"endPoint\":{\"x\":62,\"y\":27},\"id\":\"e_s0\",\"startPoint\":{\"x\":42,\"y\":27}}],\"sources\":[\"a\"],\"targets\":[\"b\"]}],\"height\":54,\"id\":\"r\",\"layering\":{\"flow\":[1],\"layers\":[0,1],\"reversed\":[],\"span\":1},\"width\":104,\"x\":0,\"y\":0}";
+    r#"{"children":[{"height":30,"id":"a","width":30,"x":12,"y":12},{"height":30,"id":"b","width":30,"x":61,"y":12}],"edges":[{"id":"e","sections":[{"endPoint":{"x":62,"y":27},"id":"e_s0","startPoint":{"x":42,"y":27}}],"sources":["a"],"targets":["b"]}],"height":54,"id":"r","layering":{"flow":[1],"layers":[0,1],"reversed":[],"span":1},"width":104,"x":0,"y":0}"#;
 
 // The same with a flow that proves nothing.
 const NO_FLOW: &str =
-    "{\"children\":[{\"height\":30,\"id\":\"a\",\"width\":30,\"x\":12,\"y\":12},{\"height\":30,\"id\":\"b\",\"width\":30,\"x\":62,\"y\":12}],\"edges\":[{\"id\":\"e\",\"sections\":[{\"endPoint\":{\"x\":62,\"y\":27},\"id\":\"e_s0\",\"startPoint\":{\"x\":42,\"y\":27}}],\"sources\":[\"a\"],\"targets\":[\"b\"]}],\"height\":54,\"id\":\"r\",\"layering\":{\"flow\":[0],\"layers\":[0,1],\"reversed\":[],\"span\":1},\"width\":104,\"x\":0,\"y\":0}";
+    r#"{"children":[{"height":30,"id":"a","width":30,"x":12,"y":12},{"height":30,"id":"b","width":30,"x":62,"y":12}],"edges":[{"id":"e","sections":[{"endPoint":{"x":62,"y":27},"id":"e_s0","startPoint":{"x":42,"y":27}}],"sources":["a"],"targets":["b"]}],"height":54,"id":"r","layering":{"flow":[0],"layers":[0,1],"reversed":[],"span":1},"width":104,"x":0,"y":0}"#;
 
 // The same without the start of the section.
 const NO_START: &str =
-    "{\"children\":[{\"height\":30,\"id\":\"a\",\"width\":30,\"x\":12,\"y\":12},{\"height\":30,\"id\":\"b\",\"width\":30,\"x\":62,\"y\":12}],\"edges\":[{\"id\":\"e\",\"sections\":[{\"endPoint\":{\"x\":62,\"y\":27},\"id\":\"e_s0\"}],\"sources\":[\"a\"],\"targets\":[\"b\"]}],\"height\":54,\"id\":\"r\",\"layering\":{\"flow\":[1],\"layers\":[0,1],\"reversed\":[],\"span\":1},\"width\":104,\"x\":0,\"y\":0}";
+    r#"{"children":[{"height":30,"id":"a","width":30,"x":12,"y":12},{"height":30,"id":"b","width":30,"x":62,"y":12}],"edges":[{"id":"e","sections":[{"endPoint":{"x":62,"y":27},"id":"e_s0"}],"sources":["a"],"targets":["b"]}],"height":54,"id":"r","layering":{"flow":[1],"layers":[0,1],"reversed":[],"span":1},"width":104,"x":0,"y":0}"#;
 
 // Two parallel edges, the second of which leaves along the side of its node.
 const ALONG_THE_SIDE: &str =
-    "{\"children\":[{\"height\":30,\"id\":\"a\",\"width\":30,\"x\":12,\"y\":12},{\"height\":30,\"id\":\"b\",\"width\":30,\"x\":62,\"y\":12}],\"edges\":[{\"id\":\"e\",\"sections\":[{\"endPoint\":{\"x\":62,\"y\":22},\"id\":\"e_s0\",\"startPoint\":{\"x\":42,\"y\":22}}],\"sources\":[\"a\"],\"targets\":[\"b\"]},{\"id\":\"f\",\"sections\":[{\"bendPoints\":[{\"x\":42,\"y\":22},{\"x\":62,\"y\":22}],\"endPoint\":{\"x\":62,\"y\":32},\"id\":\"f_s0\",\"startPoint\":{\"x\":42,\"y\":32}}],\"sources\":[\"a\"],\"targets\":[\"b\"]}],\"height\":54,\"id\":\"r\",\"layering\":{\"flow\":[1,1],\"layers\":[0,1],\"reversed\":[],\"span\":2},\"width\":104,\"x\":0,\"y\":0}";
+    r#"{"children":[{"height":30,"id":"a","width":30,"x":12,"y":12},{"height":30,"id":"b","width":30,"x":62,"y":12}],"edges":[{"id":"e","sections":[{"endPoint":{"x":62,"y":22},"id":"e_s0","startPoint":{"x":42,"y":22}}],"sources":["a"],"targets":["b"]},{"id":"f","sections":[{"bendPoints":[{"x":42,"y":22},{"x":62,"y":22}],"endPoint":{"x":62,"y":32},"id":"f_s0","startPoint":{"x":42,"y":32}}],"sources":["a"],"targets":["b"]}],"height":54,"id":"r","layering":{"flow":[1,1],"layers":[0,1],"reversed":[],"span":2},"width":104,"x":0,"y":0}"#;
 
 // Three boxes that no edge joins, of which two are said to be one part.
 const PARTS_JOINED: &str =
-    "{\"children\":[{\"height\":10,\"id\":\"a\",\"width\":10,\"x\":12,\"y\":12},{\"height\":10,\"id\":\"b\",\"width\":10,\"x\":42,\"y\":12},{\"height\":10,\"id\":\"c\",\"width\":10,\"x\":12,\"y\":42}],\"height\":64,\"id\":\"r\",\"layering\":{\"flow\":[],\"layers\":[0,0,0],\"parts\":[0,0,1],\"reversed\":[],\"span\":0},\"layoutOptions\":{\"elk.separateConnectedComponents\":\"true\"},\"width\":64,\"x\":0,\"y\":0}";
+    r#"{"children":[{"height":10,"id":"a","width":10,"x":12,"y":12},{"height":10,"id":"b","width":10,"x":42,"y":12},{"height":10,"id":"c","width":10,"x":12,"y":42}],"height":64,"id":"r","layering":{"flow":[],"layers":[0,0,0],"parts":[0,0,1],"reversed":[],"span":0},"layoutOptions":{"elk.separateConnectedComponents":"true"},"width":64,"x":0,"y":0}"#;
 
 const USAGE_NOTE: &str =
     "usage: elk layout\n       elk check\n       elk demo <n>\n       elk batch\n";
 
 // Three lines, of which the second is no JSON and the last has no line feed, and their replies.
-const LINES: &str = "{\"id\":\"r\"}\n{\"id\":\n{\"id\":\"r\"}";
+const LINES: &str = r#"{"id":"r"}
+{"id":
+{"id":"r"}"#;
 
 const REPLIES: &str =
-    "{\"height\":24,\"id\":\"r\",\"layering\":{\"flow\":[],\"layers\":[],\"reversed\":[],\"span\":0},\"width\":24,\"x\":0,\"y\":0}\nrefused 1 NotJson -\n{\"height\":24,\"id\":\"r\",\"layering\":{\"flow\":[],\"layers\":[],\"reversed\":[],\"span\":0},\"width\":24,\"x\":0,\"y\":0}\n";
+    r#"{"height":24,"id":"r","layering":{"flow":[],"layers":[],"reversed":[],"span":0},"width":24,"x":0,"y":0}
+refused 1 NotJson -
+{"height":24,"id":"r","layering":{"flow":[],"layers":[],"reversed":[],"span":0},"width":24,"x":0,"y":0}
+"#;
 
 // The replies to the first two.
 const FIRST_REPLIES: &str =
-    "{\"height\":24,\"id\":\"r\",\"layering\":{\"flow\":[],\"layers\":[],\"reversed\":[],\"span\":0},\"width\":24,\"x\":0,\"y\":0}\nrefused 1 NotJson -\n";
+    r#"{"height":24,"id":"r","layering":{"flow":[],"layers":[],"reversed":[],"span":0},"width":24,"x":0,"y":0}
+refused 1 NotJson -
+"#;
 
 // The first reply and a part of the second.
 const BROKEN_REPLIES: &str =
-    "{\"height\":24,\"id\":\"r\",\"layering\":{\"flow\":[],\"layers\":[],\"reversed\":[],\"span\":0},\"width\":24,\"x\":0,\"y\":0}\nref";
+    r#"{"height":24,"id":"r","layering":{"flow":[],"layers":[],"reversed":[],"span":0},"width":24,"x":0,"y":0}
+ref"#;
 
 const NEVER: u64 = 99;
 
@@ -116,7 +127,7 @@ const ROWS: [Row; 32] = [
     },
     Row {
         words: &["layout"],
-        input: "{\"id\":",
+        input: r#"{"id":"#,
         read_fails: NEVER,
         out_fails: NEVER,
         notes_fail: NEVER,
@@ -127,7 +138,7 @@ const ROWS: [Row; 32] = [
     },
     Row {
         words: &["layout"],
-        input: "{\"id\":\"r\",\"width\":30.0}",
+        input: r#"{"id":"r","width":30.0}"#,
         read_fails: NEVER,
         out_fails: NEVER,
         notes_fail: NEVER,
@@ -166,7 +177,7 @@ const ROWS: [Row; 32] = [
         notes_fail: NEVER,
         room: 10,
         status: 4,
-        out: "{\"children",
+        out: r#"{"children"#,
         notes: "write fault\n",
     },
     Row {

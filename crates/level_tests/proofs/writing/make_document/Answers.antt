@@ -3,8 +3,8 @@ use Rattle.level_tests.specs.Turning.{turning}
 use Rattle.level_tests.proofs.TurningLemmas.{turning_sound}
 use Rattle.level_tests.proofs.writing.make_document.Goals as goal
 
-pub new-requires-2 : goal.new-requires-2
-new-requires-2 c =
+pub new-requires : goal.new-requires
+new-requires c =
     let nodes : c.push-2.new.self.items ≡ (turning c.args.way).nodes = search rules in
     let ports : c.push-3.new.self.items ≡ (turning c.args.way).ports = search rules in
     let edges : c.push-4.new.self.items ≡ (turning c.args.way).edges = search rules in
