@@ -40,6 +40,11 @@ pub record AreLast (l : Plain) (rows : List (List ℕ)) (sweep : Sweep) (chosen 
   pub past : (g here : ℕ) → is_past sweep (last_at last g) here
       ≡ list_all (λ j. not (near_layer l sweep j == g) || is_beyond sweep here (far_place l rows sweep (link_at l.links j))) chosen
 
+-- the places of the units of an order, and which links are marked in it
+pub record IsMarked (l : Plain) (rows : List (List ℕ)) (place : List ℕ) (marked : List Bool) : Type 0 where
+  pub places : ArePlaces l rows place
+  pub marks : AreMarkedLinks l rows marked
+
 -- what the visits need
 pub record CanVisit (l : Plain) (rows : List (List ℕ)) (sweep : Sweep) (place : List ℕ) (marked : List Bool) (spokes : List Spoke) : Type 0 where
   pub sound : IsSound l

@@ -5,7 +5,7 @@ ghost use Rattle.elk_layers.specs.Layered.{plain, rows_of, layer_of, link_at, Is
 ghost use Rattle.elk_layers.specs.Alignment as spec;
 ghost use Rattle.elk_layers.specs.Straight.{AreStraight};
 ghost use Rattle.alignment.specs.Choosing as choosing;
-ghost use Rattle.alignment.specs.Choosing.{as_list, choice, last_at, AreLast, CanVisit, VisitsTo};
+ghost use Rattle.alignment.specs.Choosing.{as_list, choice, last_at, AreLast, CanVisit, VisitsTo, IsMarked};
 ghost use Rattle.alignment.specs.Spokes.{numbers_of, AreFirsts, is_of};
 ghost use Rattle.std.specs.List.{filter};
 
@@ -198,6 +198,62 @@ fn visit_all(
     Ok(chosen)
 }
 
+/// What the sweeps of an order share: the place of each unit in its row, and by link whether it is marked.
+#[derive(Drop)]
+pub struct Marked {
+    pub place: Vec<u32>,
+    pub marked: Vec<bool>,
+}
+
+/// The places of the units of an order, and the links that no sweep makes level, since they aren't inner and
+/// cross a link between two lanes.
+///
+/// It is the same for all sweeps, so several of them are cheaper by `align_marked`. The only error is want of
+/// memory.
+pub fn marked_order(alloc: Global, layered: &Layered, order: &Order) -> Result<Marked, AllocError>
+    requires sound { IsSound (plain layered.now) }
+    requires rows { AreRows (plain layered.now) (rows_of order.now) }
+    ensures { IfOk result (λ m. IsMarked (plain layered.now) (rows_of order.now) m.place.items m.marked.items) }
+{
+    let place = places(alloc, layered, order)?;
+    let marked = marks(alloc, layered, place.as_slice())?;
+    Ok(Marked { place, marked })
+}
+
+/// The links that a sweep makes level, where the places and the marked links of the order are known.
+///
+/// They are those of `align`. The only error is want of memory.
+pub fn align_marked(
+    alloc: Global,
+    layered: &Layered,
+    order: &Order,
+    known: &Marked,
+    sweep: Sweep,
+) -> Result<Alignment, AllocError>
+    requires sound { IsSound (plain layered.now) }
+    requires rows { AreRows (plain layered.now) (rows_of order.now) }
+    requires known { IsMarked (plain layered.now) (rows_of order.now) known.now.place.items known.now.marked.items }
+    ensures chosen { IfOk result (λ a. a.links.items ≡ spec.aligned (plain layered.now) (rows_of order.now) sweep) }
+    ensures straight { IfOk result (λ a. AreStraight (plain layered.now) (rows_of order.now) a.links.items) }
+{
+    let place = known.place.as_slice();
+    let spokes = spokes_of(alloc, layered, sweep, place)?;
+    let firsts = firsts_of(alloc, spokes.as_slice(), layered.units.as_slice().len())?;
+    let mut last: Vec<Option<u32>> = vec![in alloc; None; order.rows.as_slice().len()]?;
+    let links = visit_all(
+        alloc,
+        layered,
+        order,
+        sweep,
+        place,
+        known.marked.as_slice(),
+        spokes.as_slice(),
+        firsts.as_slice(),
+        last.as_mut_slice(),
+    )?;
+    Ok(Alignment { links })
+}
+
 /// The links that a sweep makes level, in the order in which it chooses them.
 ///
 /// LEFT visits the layers from the second to the last and looks at the links to the left, RIGHT from the last
@@ -216,21 +272,6 @@ pub fn align(
     ensures chosen { IfOk result (λ a. a.links.items ≡ spec.aligned (plain layered.now) (rows_of order.now) sweep) }
     ensures straight { IfOk result (λ a. AreStraight (plain layered.now) (rows_of order.now) a.links.items) }
 {
-    let place = places(alloc, layered, order)?;
-    let marked = marks(alloc, layered, place.as_slice())?;
-    let spokes = spokes_of(alloc, layered, sweep, place.as_slice())?;
-    let firsts = firsts_of(alloc, spokes.as_slice(), layered.units.as_slice().len())?;
-    let mut last: Vec<Option<u32>> = vec![in alloc; None; order.rows.as_slice().len()]?;
-    let links = visit_all(
-        alloc,
-        layered,
-        order,
-        sweep,
-        place.as_slice(),
-        marked.as_slice(),
-        spokes.as_slice(),
-        firsts.as_slice(),
-        last.as_mut_slice(),
-    )?;
-    Ok(Alignment { links })
+    let known = marked_order(alloc, layered, order)?;
+    align_marked(alloc, layered, order, &known, sweep)
 }

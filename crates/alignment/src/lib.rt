@@ -13,4 +13,4 @@ mod reaching;
 mod spokes;
 mod visiting;
 
-pub use choosing::{Alignment, align};
+pub use choosing::{Alignment, Marked, align, align_marked, marked_order};

@@ -2,11 +2,12 @@
 ghost use Rattle.std.specs.Prelude.{◌≡◌, ℕ, ◌+◌, List, IfOk};
 ghost use Rattle.elk_layers.specs.Layered.{plain, rows_of, IsSound, AreRows, Plain};
 ghost use Rattle.elk_layers.specs.Lines.{AreLeastLines};
+ghost use Rattle.alignment.specs.Choosing.{IsMarked};
 ghost use Rattle.block_lines.specs.Constraints.{EndsWithinStack};
 ghost use Rattle.bk_place.specs.Placement.{AreLinesOf, IsFirstLowest, IsFirstAmong, rank_of};
 
 use crate::heights::extent;
-use alignment::align;
+use alignment::{Marked, align_marked, marked_order};
 use block_lines::place_links;
 use elk_doc::document::Sweep;
 use elk_layers::{Layered, Lines, Order};
@@ -17,6 +18,24 @@ use std::alloc::{AllocError, Global};
 struct Placed {
     lines: Lines,
     height: i64,
+}
+
+/// The least lines in which the links of a sweep are level, where the marked links are known.
+fn place_marked(
+    alloc: Global,
+    layered: &Layered,
+    order: &Order,
+    known: &Marked,
+    sweep: Sweep,
+) -> Result<Lines, AllocError>
+    requires sound { IsSound (plain layered.now) }
+    requires rows { AreRows (plain layered.now) (rows_of order.now) }
+    requires known { IsMarked (plain layered.now) (rows_of order.now) known.now.place.items known.now.marked.items }
+    ensures least { IfOk result (λ lines. AreLeastLines (plain layered.now) (rows_of order.now) sweep lines.top.items) }
+    ensures within { IfOk result (λ lines. EndsWithinStack (plain layered.now) lines.top.items) }
+{
+    let chosen = align_marked(alloc, layered, order, known, sweep)?;
+    place_links(alloc, layered, order, chosen.links.as_slice())
 }
 
 /// The least lines in which the links of a sweep are level.
@@ -31,22 +50,24 @@ fn place_sweep(
     ensures least { IfOk result (λ lines. AreLeastLines (plain layered.now) (rows_of order.now) sweep lines.top.items) }
     ensures within { IfOk result (λ lines. EndsWithinStack (plain layered.now) lines.top.items) }
 {
-    let chosen = align(alloc, layered, order, sweep)?;
-    place_links(alloc, layered, order, chosen.links.as_slice())
+    let known = marked_order(alloc, layered, order)?;
+    place_marked(alloc, layered, order, &known, sweep)
 }
 
-/// The lines of a sweep with their height.
+/// The lines of a sweep with their height, where the marked links are known.
 fn measured(
     alloc: Global,
     layered: &Layered,
     order: &Order,
+    known: &Marked,
     sweep: Sweep,
 ) -> Result<Placed, AllocError>
     requires sound { IsSound (plain layered.now) }
     requires rows { AreRows (plain layered.now) (rows_of order.now) }
+    requires known { IsMarked (plain layered.now) (rows_of order.now) known.now.place.items known.now.marked.items }
     ensures { IfOk result (λ p. IsFirstAmong (plain layered.now) (rows_of order.now) (rank_of sweep) (rank_of sweep + 1) p.lines.top.items p.height) }
 {
-    let lines = place_sweep(alloc, layered, order, sweep)?;
+    let lines = place_marked(alloc, layered, order, known, sweep)?;
     let height = extent(layered, &lines);
     Ok(Placed { lines, height })
 }
@@ -69,11 +90,12 @@ fn place_lowest(alloc: Global, layered: &Layered, order: &Order) -> Result<Lines
     ensures first { IfOk result (λ lines. IsFirstLowest (plain layered.now) (rows_of order.now) lines.top.items) }
     ensures within { IfOk result (λ lines. EndsWithinStack (plain layered.now) lines.top.items) }
 {
-    let left_up = measured(alloc, layered, order, Sweep::LeftUp)?;
-    let left_down = measured(alloc, layered, order, Sweep::LeftDown)?;
+    let known = marked_order(alloc, layered, order)?;
+    let left_up = measured(alloc, layered, order, &known, Sweep::LeftUp)?;
+    let left_down = measured(alloc, layered, order, &known, Sweep::LeftDown)?;
     let left = lower(left_up, left_down);
-    let right_up = measured(alloc, layered, order, Sweep::RightUp)?;
-    let right_down = measured(alloc, layered, order, Sweep::RightDown)?;
+    let right_up = measured(alloc, layered, order, &known, Sweep::RightUp)?;
+    let right_down = measured(alloc, layered, order, &known, Sweep::RightDown)?;
     let right = lower(right_up, right_down);
     let lowest = lower(left, right);
     Ok(lowest.lines)

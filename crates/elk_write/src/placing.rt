@@ -95,7 +95,7 @@ fn box_in(number: usize, node: &Node, value: &Value) -> Option<Rect>
 fn level_in(
     alloc: Global,
     doc: &Doc,
-    number: usize,
+    number: u32,
     level: &Option<LevelOptions>,
     value: &Value,
 ) -> Result<Option<Option<Certificate>>, AllocError>
@@ -106,13 +106,7 @@ fn level_in(
         Some(options) => match value.get("layering") {
             None => Ok(None),
             Some(layering) => {
-                let certificate = certificate_in(
-                    alloc,
-                    doc,
-                    number as u32,
-                    options.split,
-                    layering,
-                )?;
+                let certificate = certificate_in(alloc, doc, number, options.split, layering)?;
                 Ok(certificate.map(Some))
             }
         },
@@ -133,7 +127,7 @@ fn node_part(
     let Some(area) = box_in(number, node, element.value) else {
         return Ok(None);
     };
-    let level = level_in(alloc, doc, number, &node.level, element.value)?;
+    let level = level_in(alloc, doc, number as u32, &node.level, element.value)?;
     match level {
         None => Ok(None),
         Some(level) => Ok(Some(Part::Node(area, level))),

@@ -69,11 +69,9 @@ pub record ArePinned (l : PlainLevel) (u v : Layered) (order : Order) (rs : List
   pub rows : AreRows (plain v) (rows_of order)
   pub kept : AreKept (plain u) (plain v)
 
-use Rattle.level_layout.specs.Bounds.{AreFew}
-use Rattle.level_layout.proofs.LayerLemmas.{layers_from}
-use Rattle.level_layout.proofs.LinkLemmas.{links_few}
-use Rattle.level_layout.proofs.PinLemmas.{pins_low}
-use Rattle.level_layout.specs.Chosen.{AreChosenLines, IsReduced}
+pub drawable : (l : PlainLevel) (c : Certificate) (u v : Layered) (order : Order) (lines : Lines) (placing : Placing) (fixed : Option Sweep) → MakeUnits → IsLevel l → IsCertificateOf l c → AreRankedUnits l c u
+    → ArePinned l u v order c.reversed → AreChosenLines (plain v) (rows_of order) placing fixed lines.top.items → IsDrawable l (plan_from c v order lines) c.layers
+drawable l c u v order lines placing fixed made level is ranked pinned placed =
     record {
       orders = pinned.fitted.0;
       layering = layers_from l c level is;
