@@ -34,8 +34,8 @@ returns-else-ends_at c =
     let none : ends_at d n ends at c.args.edge ≡ false = sym c.ends_at.ensures ∙ c.if-ends_at.false in
     sums_stay d n ends c.args.values.now c.args.sums.now c.args.edge
     (λ a l.
-        elim (cases_eq at a) [
-          | inl here ↦ subst (λ k. ends_at d n ends k c.args.edge ≡ false) here none
-          | inr away ↦ ends_elsewhere d n ends a c.args.edge away
-        ])
+    elim (cases_eq at a) [
+      | inl here ↦ subst (λ k. ends_at d n ends k c.args.edge ≡ false) here none
+      | inr away ↦ ends_elsewhere d n ends a c.args.edge away
+    ])
     c.requires.sums
