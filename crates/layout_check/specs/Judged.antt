@@ -8,6 +8,7 @@ use Rattle.drawing_faults.specs.declared.fault.Fault.{Fault}
 use Rattle.drawing_faults.specs.Shapes.{AreOutlines, AreSides, AreDocks}
 use Rattle.check_levels.specs.FirstLevels.{AreHeads, AreTails, AreWeights}
 use Rattle.check_routes.specs.Bounds.{AreRouteBounds}
+use Rattle.check_routes.specs.Ends.{AreEnds}
 use Rattle.layout_check.specs.declared.definition.Definition.{Definition}
 use Rattle.layout_check.specs.declared.definition.Definition.TheVariants.{Route, Clear, Sharing}
 use Rattle.layout_check.specs.declared.shapes.Shapes.{Shapes}
@@ -23,6 +24,7 @@ pub record AreShapes (d : Document) (p : Placed) (s : Shapes) : Type 0 where
   pub tails : AreTails d p s.tails.items
   pub weights : AreWeights d s.weights.items
   pub bounds : AreRouteBounds d p s.bounds.items
+  pub ends : AreEnds d p s.ends
 
 -- what a definition needs of those before it: routes keep clear and share only where they are routes
 abbrev pub Needs : Definition → Document → Placed → Type 0

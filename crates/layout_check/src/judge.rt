@@ -11,9 +11,9 @@ use crate::definition::Definition;
 use crate::shapes::Shapes;
 use check_apart::apart_fault;
 use check_inside::inside_fault;
-use check_levels::{flow_fault, flows, layering_fault, layers, parts, reversed_fault};
+use check_levels::{flow_fault_by_sums, flows, layering_fault, layers, parts, reversed_fault};
 use check_ports::ports_fault;
-use check_routes::{clear_fault, route_fault, sharing_fault_by_bounds};
+use check_routes::{clear_fault_by_ends, route_fault, sharing_fault_by_bounds};
 use drawing_faults::Fault;
 use elk_doc::document::{Doc, LevelOptions};
 use elk_doc::drawing::{Certificate, Placed};
@@ -132,7 +132,7 @@ fn clear(
     requires routes { Holds Route doc.now placed.now node _options.now _certificate.now }
     ensures { Judges Clear doc.now placed.now node _options.now _certificate.now result }
 {
-    clear_fault(doc, placed, shapes.outlines.as_slice(), node)
+    clear_fault_by_ends(doc, placed, shapes.outlines.as_slice(), &shapes.ends, node)
 }
 
 // The first fault of shared pieces.
@@ -223,7 +223,8 @@ fn flow(
     ensures { IfOk result (Judges FlowProof doc.now placed.now node _options.now certificate.now) }
 {
     let flows = flows(alloc, doc, node, certificate)?;
-    Ok(flow_fault(
+    flow_fault_by_sums(
+        alloc,
         doc,
         placed,
         node,
@@ -232,7 +233,7 @@ fn flow(
         shapes.tails.as_slice(),
         shapes.weights.as_slice(),
         flows.as_slice(),
-    ))
+    )
 }
 
 // The first fault of a definition at a level.

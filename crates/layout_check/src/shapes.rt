@@ -4,7 +4,7 @@ ghost use Rattle.elk_doc.specs.Fits.{Fits};
 ghost use Rattle.layout_check.specs.Judged.{AreShapes};
 
 use check_levels::{heads, tails, weights};
-use check_routes::{RouteBounds, route_bounds};
+use check_routes::{OutlineEnds, RouteBounds, outline_ends, route_bounds};
 use drawing_faults::{docks, listed, outlines, sides};
 use elk_doc::document::Doc;
 use elk_doc::drawing::Placed;
@@ -22,6 +22,7 @@ pub(crate) struct Shapes {
     pub tails: Vec<u32>,
     pub weights: Vec<u64>,
     pub bounds: Vec<RouteBounds>,
+    pub ends: OutlineEnds,
 }
 
 // The shapes of a drawing.
@@ -32,8 +33,11 @@ pub(crate) fn shapes_of(alloc: Global, doc: &Doc, placed: &Placed) -> Result<Sha
     let listed = listed(alloc, doc, placed)?;
     let listed = listed.as_slice();
     let sides = sides(alloc, doc, placed, listed)?;
+    let outlines = outlines(alloc, doc, placed)?;
+    let ends = outline_ends(alloc, doc, placed, outlines.as_slice())?;
     Ok(Shapes {
-        outlines: outlines(alloc, doc, placed)?,
+        outlines,
+        ends,
         sources: docks(alloc, doc, placed, sides.as_slice(), listed, true)?,
         targets: docks(alloc, doc, placed, sides.as_slice(), listed, false)?,
         sides,

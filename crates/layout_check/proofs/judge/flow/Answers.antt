@@ -1,7 +1,10 @@
+use Rattle.std.proofs.lemmas.Result.{IfOk-weaker}
 use Rattle.layout_check.specs.declared.definition.Definition.TheVariants.{FlowProof}
 use Rattle.layout_check.proofs.BreakLaws.{judged}
 use Rattle.layout_check.proofs.judge.flow.Goals as goal
 
 pub returns : goal.returns
 returns c =
-    judged FlowProof c.args.doc.now c.args.placed.now c.args.node c.args._options.now c.args.certificate.now _ c.requires.sound c.flow_fault.ensures
+    IfOk-weaker c.flow_fault_by_sums.result _ _
+    (λ fault found. judged FlowProof c.args.doc.now c.args.placed.now c.args.node c.args._options.now c.args.certificate.now fault c.requires.sound found)
+    c.flow_fault_by_sums.ensures
