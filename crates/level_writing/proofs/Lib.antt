@@ -8,4 +8,3 @@ pub mod SizeLemmas
 pub mod FramedLemmas
 pub mod CanvasLemmas
 pub mod RoomLemmas
-pub mod ExampleLemmas

@@ -4,4 +4,3 @@ pub mod LevelLemmas
 pub mod EndLemmas
 pub mod SameLemmas
 pub mod SplitLemmas
-mod ExampleLemmas
