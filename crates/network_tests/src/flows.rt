@@ -1,58 +1,62 @@
 //! Worked networks, whose answers were found by hand.
-use crate::networks::{is_sound, network};
+use crate::networks::{has_flow, has_layers, is_sound, network, six_nodes};
 use flow_dual::{parts, solve};
+use layering_laws::{Network, Solution};
+use std::alloc::{AllocError, Global};
 use std::test::Fail;
 
+/// The solution of a sound network.
+pub fn solved(alloc: Global, net: &Network) -> Result<Option<Solution>, AllocError> {
+    if !is_sound(net) {
+        return Ok(None);
+    }
+    let solution = solve(alloc, net)?;
+    Ok(Some(solution))
+}
+
+// Whether the nodes of a sound network have these parts.
+fn has_parts(alloc: Global, net: &Network, wanted: &[u32]) -> Result<bool, AllocError> {
+    if !is_sound(net) {
+        return Ok(false);
+    }
+    let numbers = parts(alloc, net)?;
+    Ok(numbers.as_slice() == wanted)
+}
+
 #[test]
-fn six_nodes(rt: HostRuntime) -> Result<(), Fail> {
-    let rows = [
-        (0, 1, 1, 1),
-        (1, 4, 1, 1),
-        (1, 5, 1, 1),
-        (0, 2, 1, 1),
-        (2, 3, 1, 1),
-        (3, 4, 1, 1),
-        (3, 5, 1, 1),
-    ];
-    let net = network(rt.alloc(), 6, rows.as_slice())?;
-    assert!(rt; is_sound(&net));
-    let solved = solve(rt.alloc(), &net)?;
-    assert_eq!(rt; solved.layer.as_slice(), [0, 2, 1, 2, 3, 3].as_slice());
-    assert_eq!(rt; solved.cost, 8);
-    let numbers = parts(rt.alloc(), &net)?;
-    assert_eq!(rt; numbers.as_slice(), [0, 0, 0, 0, 0, 0].as_slice());
+fn six_nodes_in_four_layers(rt: HostRuntime) -> Result<(), Fail> {
+    let net = six_nodes(rt.alloc())?;
+    let found = solved(rt.alloc(), &net)?.ok_or("unsound")?;
+    assert!(rt; has_layers(&found, &[0, 2, 1, 2, 3, 3], 8));
+    assert!(rt; has_parts(rt.alloc(), &net, &[0, 0, 0, 0, 0, 0])?);
     Ok(())
 }
 
 #[test]
 fn lengths_and_weights(rt: HostRuntime) -> Result<(), Fail> {
-    let net = network(
-        rt.alloc(),
-        3,
-        [(0, 1, 5, 2), (1, 2, 0, 1), (0, 2, 9, 1)].as_slice(),
-    )?;
-    assert!(rt; is_sound(&net));
-    let solved = solve(rt.alloc(), &net)?;
-    assert_eq!(rt; solved.layer.as_slice(), [0, 5, 9].as_slice());
-    assert_eq!(rt; solved.flow.as_slice(), [1, 0, 2].as_slice());
-    assert_eq!(rt; solved.cost, 23);
+    let rows = [(0, 1, 5, 2), (1, 2, 0, 1), (0, 2, 9, 1)];
+    let net = network(rt.alloc(), 3, rows.as_slice())?;
+    let found = solved(rt.alloc(), &net)?.ok_or("unsound")?;
+    assert!(rt; has_layers(&found, &[0, 5, 9], 23));
+    assert!(rt; has_flow(&found, &[1, 0, 2]));
     Ok(())
 }
 
 #[test]
-fn nothing_and_parts(rt: HostRuntime) -> Result<(), Fail> {
-    let none = network(rt.alloc(), 0, [].as_slice())?;
-    assert!(rt; is_sound(&none));
-    let solved = solve(rt.alloc(), &none)?;
-    assert_eq!(rt; solved.layer.len(), 0);
-    assert_eq!(rt; solved.flow.len(), 0);
-    assert_eq!(rt; solved.cost, 0);
-    let some = network(rt.alloc(), 5, [(1, 3, 2, 0), (2, 4, 0, 7)].as_slice())?;
-    assert!(rt; is_sound(&some));
-    let numbers = parts(rt.alloc(), &some)?;
-    assert_eq!(rt; numbers.as_slice(), [0, 1, 2, 1, 2].as_slice());
-    let solved = solve(rt.alloc(), &some)?;
-    assert_eq!(rt; solved.layer.as_slice(), [0, 0, 0, 2, 0].as_slice());
-    assert_eq!(rt; solved.cost, 0);
+fn nothing(rt: HostRuntime) -> Result<(), Fail> {
+    let net = network(rt.alloc(), 0, &[])?;
+    let found = solved(rt.alloc(), &net)?.ok_or("unsound")?;
+    assert!(rt; has_layers(&found, &[], 0));
+    assert!(rt; has_flow(&found, &[]));
+    Ok(())
+}
+
+#[test]
+fn three_parts(rt: HostRuntime) -> Result<(), Fail> {
+    let rows = [(1, 3, 2, 0), (2, 4, 0, 7)];
+    let net = network(rt.alloc(), 5, rows.as_slice())?;
+    assert!(rt; has_parts(rt.alloc(), &net, &[0, 1, 2, 1, 2])?);
+    let found = solved(rt.alloc(), &net)?.ok_or("unsound")?;
+    assert!(rt; has_layers(&found, &[0, 0, 0, 2, 0], 0));
     Ok(())
 }

@@ -7,6 +7,8 @@ mod arena;
 #[cfg(test)]
 mod flows;
 #[cfg(test)]
+mod incidence;
+#[cfg(test)]
 mod mixed_parts;
 #[cfg(test)]
 mod networks;

@@ -1,7 +1,31 @@
 //! A cycle of three, and a loop.
+use crate::incidence::connect;
 use cycle_break::{orient, path, topological};
-use graph_arena::Arena;
+use graph_arena::{Arena, EdgeKey, NodeKey};
+use std::alloc::{AllocError, Global};
 use std::test::Fail;
+
+// A way between two nodes, if both are live.
+fn way(
+    alloc: Global,
+    arena: &Arena,
+    from: NodeKey,
+    to: NodeKey,
+) -> Result<Option<Vec<EdgeKey>>, AllocError> {
+    if !arena.is_live_node(from) || !arena.is_live_node(to) {
+        return Ok(None);
+    }
+    path(alloc, arena, from, to)
+}
+
+fn are_same(edges: &[EdgeKey], wanted: &[EdgeKey]) -> bool {
+    for (edge, other) in edges.iter().zip(wanted) {
+        if edge.at != other.at {
+            return false;
+        }
+    }
+    edges.len() == wanted.len()
+}
 
 #[test]
 fn a_cycle_of_three(rt: HostRuntime) -> Result<(), Fail> {
@@ -10,20 +34,16 @@ fn a_cycle_of_three(rt: HostRuntime) -> Result<(), Fail> {
     let a = arena.add_node()?;
     let b = arena.add_node()?;
     let c = arena.add_node()?;
-    assert!(rt; arena.is_live_node(a) && arena.is_live_node(b) && arena.is_live_node(c));
-    arena.add_edge(a, b)?;
-    let second = arena.add_edge(b, c)?;
-    let third = arena.add_edge(c, a)?;
-    assert!(rt; arena.is_live_node(a) && arena.is_live_node(b));
+    connect(&mut arena, a, b)?;
+    let second = connect(&mut arena, b, c)?.ok_or("no node")?;
+    let third = connect(&mut arena, c, a)?.ok_or("no node")?;
     assert!(rt; topological(rt.alloc(), &arena)?.is_none());
-    let way = path(rt.alloc(), &arena, b, a)?.ok_or("no path")?;
-    assert_eq!(rt; way.len(), 2);
-    assert_eq!(rt; way.as_slice()[0].at, second.at);
-    assert_eq!(rt; way.as_slice()[1].at, third.at);
+    let found = way(rt.alloc(), &arena, b, a)?.ok_or("no path")?;
+    assert!(rt; are_same(found.as_slice(), &[second, third]));
     let turned = orient(rt.alloc(), &mut arena)?;
-    assert_eq!(rt; turned.edges.len(), 1);
+    assert!(rt; turned.edges.len() == 1);
     let order = topological(rt.alloc(), &arena)?.ok_or("a cycle")?;
-    assert_eq!(rt; order.len(), 3);
+    assert!(rt; order.len() == 3);
     Ok(())
 }
 
@@ -31,11 +51,11 @@ fn a_cycle_of_three(rt: HostRuntime) -> Result<(), Fail> {
 fn a_loop_stays(rt: HostRuntime) -> Result<(), Fail> {
     let mut arena = Arena::new(rt.alloc());
     let a = arena.add_node()?;
-    let stays = arena.add_edge(a, a)?;
+    let stays = connect(&mut arena, a, a)?.ok_or("no node")?;
     assert!(rt; topological(rt.alloc(), &arena)?.is_none());
-    assert!(rt; path(rt.alloc(), &arena, a, a)?.is_some());
+    assert!(rt; way(rt.alloc(), &arena, a, a)?.is_some());
     let turned = orient(rt.alloc(), &mut arena)?;
-    assert_eq!(rt; turned.edges.len(), 0);
+    assert!(rt; turned.edges.len() == 0);
     assert!(rt; arena.is_live_edge(stays));
     Ok(())
 }

@@ -4,10 +4,11 @@ ghost use Rattle.std.specs.Prelude.{◌≡◌, ◌<◌, ℕ, IsTrue, IfOk, lengt
 ghost use Rattle.layering_laws.specs.Network.{IsNetwork};
 ghost use Rattle.net_simplex.specs.Grown.{IsConnected};
 
-use crate::networks::{is_sound, network};
+use crate::flows;
+use crate::networks::{has_flow, has_layers, is_sound, network, six_nodes};
 use flow_dual::parts;
 use layering_laws::{NetEdge, Network};
-use net_simplex::{Way, solve};
+use net_simplex::{Solved, Way, solve};
 use std::alloc::{AllocError, Global};
 use std::test::Fail;
 
@@ -30,7 +31,19 @@ fn is_connected(alloc: Global, net: &Network) -> Result<bool, AllocError>
     Ok(all_first(numbers.as_slice()))
 }
 
-/// The next number below `n` of a sequence.
+// The solution of a connected network with at most so many pivots.
+fn solved(alloc: Global, net: &Network, budget: u64) -> Result<Option<Solved>, AllocError> {
+    if !is_sound(net) || net.nodes == 0 {
+        return Ok(None);
+    }
+    if !is_connected(alloc, net)? {
+        return Ok(None);
+    }
+    let found = solve(alloc, net, budget)?;
+    Ok(Some(found))
+}
+
+// The next number below `n` of a sequence.
 fn draw(seed: &mut u64, n: u64) -> u64
     requires { 0 < n }
     ensures { result < n }
@@ -41,7 +54,7 @@ fn draw(seed: &mut u64, n: u64) -> u64
     (*seed >> 33) % n
 }
 
-/// A connected network of up to nine nodes, whose edges lead to greater numbers.
+// A connected network of up to nine nodes, whose edges lead to greater numbers.
 fn draw_network(alloc: Global, seed: &mut u64) -> Result<Network, AllocError> {
     let nodes = 1 + draw(seed, 9);
     let mut edges: Vec<NetEdge> = Vec::new(alloc);
@@ -62,55 +75,24 @@ fn draw_network(alloc: Global, seed: &mut u64) -> Result<Network, AllocError> {
 }
 
 #[test]
-fn six_nodes(rt: HostRuntime) -> Result<(), Fail> {
-    let rows = [
-        (0, 1, 1, 1),
-        (1, 4, 1, 1),
-        (1, 5, 1, 1),
-        (0, 2, 1, 1),
-        (2, 3, 1, 1),
-        (3, 4, 1, 1),
-        (3, 5, 1, 1),
-    ];
-    let net = network(rt.alloc(), 6, rows.as_slice())?;
-    assert!(rt; is_sound(&net));
-    assert!(rt; net.nodes > 0);
-    let connected = is_connected(rt.alloc(), &net)?;
-    assert!(rt; connected);
-    let one = solve(rt.alloc(), &net, 1)?;
-    assert_eq!(rt;
-        one.solution.layer.as_slice(),
-        [0, 2, 1, 2, 3, 3].as_slice()
-    );
-    assert_eq!(rt;
-        one.solution.flow.as_slice(),
-        [0, 1, 0, 2, 2, 1, 2].as_slice()
-    );
-    assert_eq!(rt; one.solution.cost, 8);
-    assert_eq!(rt; one.pivots, 1);
-    assert!(rt; matches!(one.way, Way::Simplex));
-    let none = solve(rt.alloc(), &net, 0)?;
-    assert_eq!(rt;
-        none.solution.layer.as_slice(),
-        [0, 2, 1, 2, 3, 3].as_slice()
-    );
-    assert_eq!(rt; none.solution.cost, 8);
-    assert_eq!(rt; none.pivots, 0);
-    assert!(rt; matches!(none.way, Way::Flow));
+fn six_nodes_by_one_pivot(rt: HostRuntime) -> Result<(), Fail> {
+    let net = six_nodes(rt.alloc())?;
+    let one = solved(rt.alloc(), &net, 1)?.ok_or("not connected")?;
+    assert!(rt; has_layers(&one.solution, &[0, 2, 1, 2, 3, 3], 8));
+    assert!(rt; has_flow(&one.solution, &[0, 1, 0, 2, 2, 1, 2]));
+    assert!(rt; one.pivots == 1 && matches!(one.way, Way::Simplex));
+    let none = solved(rt.alloc(), &net, 0)?.ok_or("not connected")?;
+    assert!(rt; has_layers(&none.solution, &[0, 2, 1, 2, 3, 3], 8));
+    assert!(rt; none.pivots == 0 && matches!(none.way, Way::Flow));
     Ok(())
 }
 
 #[test]
 fn one_node(rt: HostRuntime) -> Result<(), Fail> {
-    let lone = network(rt.alloc(), 1, [].as_slice())?;
-    assert!(rt; is_sound(&lone));
-    assert!(rt; lone.nodes > 0);
-    let connected = is_connected(rt.alloc(), &lone)?;
-    assert!(rt; connected);
-    let solved = solve(rt.alloc(), &lone, 0)?;
-    assert_eq!(rt; solved.solution.layer.as_slice(), [0].as_slice());
-    assert_eq!(rt; solved.pivots, 0);
-    assert!(rt; matches!(solved.way, Way::Simplex));
+    let lone = network(rt.alloc(), 1, &[])?;
+    let found = solved(rt.alloc(), &lone, 0)?.ok_or("not connected")?;
+    assert!(rt; has_layers(&found.solution, &[0], 0));
+    assert!(rt; found.pivots == 0 && matches!(found.way, Way::Simplex));
     Ok(())
 }
 
@@ -127,39 +109,31 @@ fn flows_without_a_pivot(rt: HostRuntime) -> Result<(), Fail> {
     let costs = [2, 23, 2, 0];
     for i in 0..4_usize {
         let net = network(rt.alloc(), 3, rows[i].as_slice())?;
-        assert!(rt; is_sound(&net));
-        assert!(rt; net.nodes > 0);
-        let connected = is_connected(rt.alloc(), &net)?;
-        assert!(rt; connected);
-        let solved = solve(rt.alloc(), &net, 256)?;
-        assert_eq!(rt; solved.solution.layer.as_slice(), layers[i].as_slice());
-        assert_eq!(rt; solved.solution.flow.as_slice(), flows[i].as_slice());
-        assert_eq!(rt; solved.solution.cost, costs[i]);
-        assert_eq!(rt; solved.pivots, 0);
+        let found = solved(rt.alloc(), &net, 256)?.ok_or("not connected")?;
+        assert!(rt; has_layers(&found.solution, layers[i].as_slice(), costs[i]));
+        assert!(rt; has_flow(&found.solution, flows[i].as_slice()));
+        assert!(rt; found.pivots == 0);
     }
     Ok(())
 }
 
 #[test]
-fn a_tree_and_two_parts(rt: HostRuntime) -> Result<(), Fail> {
-    let tree = network(
-        rt.alloc(),
-        4,
-        [(0, 1, 2, 3), (0, 2, 1, 1), (2, 3, 0, 5)].as_slice(),
-    )?;
-    assert!(rt; is_sound(&tree));
-    assert!(rt; tree.nodes > 0);
-    let connected = is_connected(rt.alloc(), &tree)?;
-    assert!(rt; connected);
-    let solved = solve(rt.alloc(), &tree, 0)?;
-    assert_eq!(rt; solved.solution.layer.as_slice(), [0, 2, 1, 1].as_slice());
-    assert_eq!(rt; solved.solution.flow.as_slice(), [3, 1, 5].as_slice());
-    assert_eq!(rt; solved.solution.cost, 7);
-    assert!(rt; matches!(solved.way, Way::Simplex));
-    let two = network(rt.alloc(), 4, [(0, 1, 2, 3), (2, 3, 0, 5)].as_slice())?;
+fn a_tree(rt: HostRuntime) -> Result<(), Fail> {
+    let rows = [(0, 1, 2, 3), (0, 2, 1, 1), (2, 3, 0, 5)];
+    let tree = network(rt.alloc(), 4, rows.as_slice())?;
+    let found = solved(rt.alloc(), &tree, 0)?.ok_or("not connected")?;
+    assert!(rt; has_layers(&found.solution, &[0, 2, 1, 1], 7));
+    assert!(rt; has_flow(&found.solution, &[3, 1, 5]));
+    assert!(rt; matches!(found.way, Way::Simplex));
+    Ok(())
+}
+
+#[test]
+fn two_parts_are_not_connected(rt: HostRuntime) -> Result<(), Fail> {
+    let rows = [(0, 1, 2, 3), (2, 3, 0, 5)];
+    let two = network(rt.alloc(), 4, rows.as_slice())?;
     assert!(rt; is_sound(&two));
-    let connected = is_connected(rt.alloc(), &two)?;
-    assert!(rt; !connected);
+    assert!(rt; !is_connected(rt.alloc(), &two)?);
     Ok(())
 }
 
@@ -169,13 +143,9 @@ fn costs_of_both_solvers(rt: HostRuntime) -> Result<(), Fail> {
     for _ in 0..200 {
         let net = draw_network(rt.alloc(), &mut seed)?;
         let budget = draw(&mut seed, 8);
-        assert!(rt; is_sound(&net));
-        assert!(rt; net.nodes > 0);
-        let connected = is_connected(rt.alloc(), &net)?;
-        assert!(rt; connected);
-        let by_pivots = solve(rt.alloc(), &net, budget)?;
-        let by_flow = flow_dual::solve(rt.alloc(), &net)?;
-        assert_eq!(rt; by_pivots.solution.cost, by_flow.cost);
+        let by_pivots = solved(rt.alloc(), &net, budget)?.ok_or("not connected")?;
+        let by_flow = flows::solved(rt.alloc(), &net)?.ok_or("unsound")?;
+        assert!(rt; by_pivots.solution.cost == by_flow.cost);
     }
     Ok(())
 }

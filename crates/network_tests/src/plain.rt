@@ -1,4 +1,5 @@
 //! A thousand random changes of a graph, against plain lists.
+use crate::incidence::{connect, enter, leave};
 use graph_arena::{Arena, EdgeKey, NodeKey};
 use std::alloc::{AllocError, Global};
 use std::test::Fail;
@@ -78,50 +79,6 @@ impl Plain {
     }
 }
 
-fn same_outs(arena: &Arena, plain: &Plain, node: NodeKey) -> bool {
-    if !arena.is_live_node(node) {
-        return false;
-    }
-    let mut next = arena.first_out(node);
-    for entry in &plain.outs {
-        if entry.node.at != node.at {
-            continue;
-        }
-        match next {
-            Some(edge) => {
-                if edge.at != entry.edge.at || !arena.is_live_edge(edge) {
-                    return false;
-                }
-                next = arena.next_out(edge);
-            }
-            None => return false,
-        }
-    }
-    next.is_none()
-}
-
-fn same_ins(arena: &Arena, plain: &Plain, node: NodeKey) -> bool {
-    if !arena.is_live_node(node) {
-        return false;
-    }
-    let mut next = arena.first_in(node);
-    for entry in &plain.ins {
-        if entry.node.at != node.at {
-            continue;
-        }
-        match next {
-            Some(edge) => {
-                if edge.at != entry.edge.at || !arena.is_live_edge(edge) {
-                    return false;
-                }
-                next = arena.next_in(edge);
-            }
-            None => return false,
-        }
-    }
-    next.is_none()
-}
-
 fn same_ends(arena: &Arena, plain: &Plain) -> bool {
     for entry in &plain.outs {
         if !arena.is_live_edge(entry.edge) || arena.tail(entry.edge).at != entry.node.at {
@@ -136,13 +93,15 @@ fn same_ends(arena: &Arena, plain: &Plain) -> bool {
     true
 }
 
-fn same(arena: &Arena, plain: &Plain) -> bool {
+fn same(alloc: Global, arena: &Arena, plain: &Plain) -> Result<bool, AllocError> {
     for node in &plain.nodes {
-        if !same_outs(arena, plain, *node) || !same_ins(arena, plain, *node) {
-            return false;
+        let outs = edges_at(alloc, &plain.outs, *node)?;
+        let ins = edges_at(alloc, &plain.ins, *node)?;
+        if !leave(arena, *node, outs.as_slice()) || !enter(arena, *node, ins.as_slice()) {
+            return Ok(false);
         }
     }
-    same_ends(arena, plain)
+    Ok(same_ends(arena, plain))
 }
 
 fn random(state: &mut u64) -> usize {
@@ -164,8 +123,7 @@ fn grow(arena: &mut Arena, plain: &mut Plain, state: &mut u64) -> Result<(), All
     }
     let tail = nodes[random(state) % nodes.len()];
     let head = nodes[random(state) % nodes.len()];
-    if arena.is_live_node(tail) && arena.is_live_node(head) {
-        let edge = arena.add_edge(tail, head)?;
+    if let Some(edge) = connect(arena, tail, head)? {
         plain.outs.push(Entry { node: tail, edge })?;
         plain.ins.push(Entry { node: head, edge })?;
     }
@@ -236,7 +194,7 @@ fn a_thousand_random_changes_agree_with_plain_lists(rt: HostRuntime) -> Result<(
             4..7 => change(&mut arena, &mut plain, &mut state)?,
             _ => shrink(rt.alloc(), &mut arena, &mut plain, &mut state)?,
         }
-        assert!(rt; same(&arena, &plain));
+        assert!(rt; same(rt.alloc(), &arena, &plain)?);
     }
     assert!(rt; plain.nodes.len() >= 2);
     Ok(())
