@@ -13,7 +13,7 @@ use Rattle.elk_doc.specs.Drawing.{box_of, section_of}
 use Rattle.elk_doc.specs.Places.{anchor_of, dock_of, offset_on}
 use Rattle.elk_doc.specs.Sides.{side_of_end, end_node}
 use Rattle.elk_doc.specs.Segments.{IsAxisParallel}
-use Rattle.elk_doc.specs.Route.{Route, IsStep, IsPointLoop}
+use Rattle.elk_doc.specs.Route.{Route, IsStep}
 use Rattle.check_routes.specs.Stretches.{point_of, AreParallel, HasSegment}
 
 same_or_not_z : (a b : ℤ) → (a ≡ b) ⊎ (a ≢ b)
@@ -49,12 +49,12 @@ straight s (suc i) none h along =
     let short = subst P none h in
     absurd (omega arith)
 
--- a point loop has one segment, along or across its side
-point_loop_parallel : (d : Document) (p : Placed) (e i : ℕ) → Route d p e → IsPointLoop d p e → HasSegment (section_of p e) i → IsAxisParallel (point_of (section_of p e) i) (point_of (section_of p e) (i + 1))
-point_loop_parallel d p e i r l h =
-    let anchors = same_dock d p e l.1 in
+-- a loop at one dock has one segment, along or across its side
+one_dock_parallel : (d : Document) (p : Placed) (e i : ℕ) → Route d p e → dock_of d p e true ≡ dock_of d p e false → HasSegment (section_of p e) i → IsAxisParallel (point_of (section_of p e) i) (point_of (section_of p e) (i + 1))
+one_dock_parallel d p e i r l h =
+    let anchors = same_dock d p e l in
     let ends : IsAxisParallel (section_of p e).start (section_of p e).end = rw (r.from_source, r.to_target) anchors in
-    straight (section_of p e) i (r.point_loop l) h ends
+    straight (section_of p e) i (r.one_dock l) h ends
 
 step_parallel : (a b : Point) → IsStep a b → IsAxisParallel a b
 step_parallel a b (inl h) = inl h.0
@@ -69,7 +69,7 @@ route_parallel d p e r i h =
     (λ x. ⊎_elim
     (λ same. inr same)
     (λ y.
-    let no_loop : IsPointLoop d p e → ⊥ = λ l. ⊎_elim x y (point_loop_parallel d p e i r l h) in
-    step_parallel a b ((r.orthogonal no_loop).steps i h))
+    let differ : dock_of d p e true ≡ dock_of d p e false → ⊥ = λ l. ⊎_elim x y (one_dock_parallel d p e i r l h) in
+    step_parallel a b ((r.orthogonal differ).steps i h))
     (same_or_not_z a.y b.y))
     (same_or_not_z a.x b.x)

@@ -1,11 +1,11 @@
 -- The faults of routes: which comes first at a level.
-use Rattle.std.specs.Prelude.{◌≡◌, ℕ, ◌<◌, ◌-◌, Bool, true, false}
+use Rattle.std.specs.Prelude.{◌≡◌, ℕ, ◌<◌, ◌-◌, true, false}
 use Rattle.elk_doc.specs.declared.drawing.Placed.{Placed}
 use Rattle.elk_doc.specs.Document.{Document}
 use Rattle.elk_doc.specs.Level.{IsChild, IsEdge}
 use Rattle.elk_doc.specs.Drawing.{section_of, point_at, point_count}
 use Rattle.elk_doc.specs.Sides.{side_of_end}
-use Rattle.elk_doc.specs.Places.{dock_of, anchor_of}
+use Rattle.elk_doc.specs.Places.{anchor_of}
 use Rattle.elk_doc.specs.Route.{Route, LeavesOutward}
 use Rattle.elk_doc.specs.Clear.{Clear}
 use Rattle.elk_doc.specs.Sharing.{Sharing}
@@ -37,10 +37,6 @@ FirstClear d p n x = (e a : ℕ) × (x ≡ fault_at (Edge e) (Node a)) × FailsF
 -- a fault names the first two edges whose routes share a piece without a common dock, the lower number first
 abbrev pub FirstSharing : Document → Placed → ℕ → Fault → Type 0
 FirstSharing d p n x = (e f : ℕ) × (x ≡ fault_at (Edge e) (Edge f)) × FailsFirstAt (SharingHolds d p n) e f
-
--- some dock of the one edge is a dock of the other
-abbrev pub ShareDock : Document → Placed → ℕ → ℕ → Type 0
-ShareDock d p e f = (s t : Bool) × (dock_of d p e s ≡ dock_of d p f t)
 
 -- the route begins and ends at its anchors
 pub record IsAnchored (d : Document) (p : Placed) (e : ℕ) : Type 0 where

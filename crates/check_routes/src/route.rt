@@ -1,7 +1,10 @@
 //! Orthogonal routes that leave both docks outward.
-ghost use Rattle.std.specs.Prelude.{◌↔◌, ℕ, ◌<◌, IsTrue, MatchOption, false, length, true};
+ghost use Rattle.std.specs.Prelude.{◌≡◌, ◌↔◌, ℕ, ◌<◌, IsTrue, MatchOption, false, length, true};
+ghost use Rattle.elk_doc.specs.Drawing.{path_of};
 ghost use Rattle.elk_doc.specs.Fits.{Fits};
-ghost use Rattle.elk_doc.specs.Route.{IsOrthogonal, IsPointLoop, IsStep, IsTurn, LeavesOutward, Route};
+ghost use Rattle.elk_doc.specs.Places.{dock_of};
+ghost use Rattle.elk_doc.specs.Route.{IsOrthogonal, IsStep, IsTurn, LeavesOutward, Route};
+ghost use Rattle.elk_doc.specs.Sides.{side_of_end};
 ghost use Rattle.drawing_faults.specs.Faults.{IsFirst};
 ghost use Rattle.drawing_faults.specs.Shapes.{AreDocks, AreSides};
 ghost use Rattle.check_routes.specs.FirstRoutes.{FirstRoute, IsAnchored, LeavesBoth, RouteHolds};
@@ -10,7 +13,6 @@ ghost use Rattle.check_routes.specs.Stretches.{AreSteps, AreTurns};
 use drawing_faults::{Fault, Place, anchor_at, dock_of, is_edge_of, point_at, point_count};
 use elk_doc::document::Doc;
 use elk_doc::drawing::{Placed, Section};
-use elk_doc::level::is_loop;
 use elk_doc::shape::{Dock, Point, Side};
 
 // Whether two points differ in exactly one coordinate.
@@ -102,7 +104,7 @@ fn is_orthogonal(doc: &Doc, placed: &Placed, sources: &[Dock], targets: &[Dock],
     requires fits { Fits doc.now placed.now }
     requires sources { AreDocks doc.now placed.now true sources.now }
     requires targets { AreDocks doc.now placed.now false targets.now }
-    ensures { IsTrue result ↔ IsOrthogonal doc.now placed.now edge }
+    ensures { IsTrue result ↔ IsOrthogonal (path_of placed.now edge) (side_of_end doc.now placed.now edge true) (side_of_end doc.now placed.now edge false) }
 {
     let section = placed.section(edge);
     if !are_steps(section) {
@@ -114,17 +116,14 @@ fn is_orthogonal(doc: &Doc, placed: &Placed, sources: &[Dock], targets: &[Dock],
     is_outward(doc, placed, sources, targets, edge)
 }
 
-// Whether an edge is a self-loop at one single dock.
-fn is_point_loop(doc: &Doc, placed: &Placed, sources: &[Dock], targets: &[Dock], edge: u32) -> bool
+// Whether both ends of an edge have one dock.
+fn has_one_dock(doc: &Doc, placed: &Placed, sources: &[Dock], targets: &[Dock], edge: u32) -> bool
     requires edge_in { edge < length doc.now.edges }
     requires fits { Fits doc.now placed.now }
     requires sources { AreDocks doc.now placed.now true sources.now }
     requires targets { AreDocks doc.now placed.now false targets.now }
-    ensures { IsTrue result ↔ IsPointLoop doc.now placed.now edge }
+    ensures { IsTrue result ↔ dock_of doc.now placed.now edge true ≡ dock_of doc.now placed.now edge false }
 {
-    if !is_loop(doc, edge) {
-        return false;
-    }
     let source = dock_of(doc, placed, sources, edge, true);
     source == dock_of(doc, placed, targets, edge, false)
 }
@@ -162,7 +161,7 @@ fn is_route(
     if !is_anchored(doc, placed, sides, edge) {
         return false;
     }
-    if is_point_loop(doc, placed, sources, targets, edge) {
+    if has_one_dock(doc, placed, sources, targets, edge) {
         return placed.section(edge).bends.as_slice().is_empty();
     }
     is_orthogonal(doc, placed, sources, targets, edge)

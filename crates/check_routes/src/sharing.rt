@@ -2,12 +2,13 @@
 ghost use Rattle.std.specs.Prelude.{◌≡◌, ◌↔◌, ℕ, ◌<◌, IsTrue, MatchOption, length, true, false};
 ghost use Rattle.elk_doc.specs.Fits.{Fits};
 ghost use Rattle.elk_doc.specs.Level.{IsEdge};
+ghost use Rattle.elk_doc.specs.Places.{dock_of};
 ghost use Rattle.elk_doc.specs.Route.{Route};
 ghost use Rattle.elk_doc.specs.Segments.{IsAxisParallel};
-ghost use Rattle.elk_doc.specs.Sharing.{Sharing};
+ghost use Rattle.elk_doc.specs.Sharing.{DocksShare, Sharing};
 ghost use Rattle.drawing_faults.specs.Faults.{IsFirst};
 ghost use Rattle.drawing_faults.specs.Shapes.{AreDocks};
-ghost use Rattle.check_routes.specs.FirstRoutes.{FirstSharing, ShareDock, SharingHolds};
+ghost use Rattle.check_routes.specs.FirstRoutes.{FirstSharing, SharingHolds};
 ghost use Rattle.check_routes.specs.Stretches.{AreFree, AreParallel, IsFreeOf};
 
 use drawing_faults::{Fault, Place, dock_of, is_edge_of, point_at, point_count};
@@ -64,7 +65,7 @@ fn share_dock(
     requires other_in { other < length doc.now.edges }
     requires sources { AreDocks doc.now placed.now true sources.now }
     requires targets { AreDocks doc.now placed.now false targets.now }
-    ensures { IsTrue result ↔ ShareDock doc.now placed.now edge other }
+    ensures { IsTrue result ↔ DocksShare (dock_of doc.now placed.now edge) (dock_of doc.now placed.now other) }
 {
     let source = dock_of(doc, placed, sources, edge, true);
     let target = dock_of(doc, placed, targets, edge, false);

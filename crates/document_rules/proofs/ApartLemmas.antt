@@ -25,7 +25,7 @@ use Rattle.turning_laws.proofs.TurningLaws.{boxes}
 use Rattle.level_layers.specs.Certificate.{source_of, target_of}
 use Rattle.level_plan.specs.FromPlan.{LevelDrawing, section_at}
 use Rattle.level_plan.specs.Level.{PlainLevel}
-use Rattle.level_rules.specs.Routes.{points_of as level_points, route_count, route_point}
+use Rattle.level_rules.specs.Routes.{route_count, route_point}
 use Rattle.level_stands.specs.Apart.{drawn_outline}
 use Rattle.part_levels.specs.Divided.{edge_keys}
 use Rattle.part_levels.specs.Parts.{InOnePart as InOneLevelPart, IsJoined as IsJoinedBy}
@@ -39,19 +39,7 @@ use Rattle.turned_levels.specs.Turned.{child_number, edge_number, level_edge, le
 use Rattle.turned_levels.proofs.NumberedLemmas.{ends_match, levels_are_listed, numbers_match}
 use Rattle.turned_drawings.specs.Outlines.{shifted}
 use Rattle.turned_drawings.proofs.OutlineLemmas.{outlines_turn_back}
-
--- ---- points of routes come back
-
-map_points : (f : Point → Point) (s : Section) → map f (points_of s) ≡ f s.start ∷ (map f s.bends ++ f s.end ∷ [])
-map_points f s = ap (λ ps. f s.start ∷ ps) (map-append f s.bends (s.end ∷ []))
-
-points_turned : (way : Direction) (by : Point) (s t : Section) → IsTurnedSection way by s t → map (turned_point way) (points_of s) ≡ map (plus by) (level_points t)
-points_turned way by s t h =
-    map_points (turned_point way) s
-    ∙ ap (λ a. a ∷ (map (turned_point way) s.bends ++ turned_point way s.end ∷ [])) h.start
-    ∙ ap (λ bs. plus by t.start ∷ (bs ++ turned_point way s.end ∷ [])) h.bends
-    ∙ ap (λ b. plus by t.start ∷ (map (plus by) t.bends ++ b ∷ [])) h.end
-    ∙ sym (map_points (plus by) t)
+use Rattle.turned_drawings.proofs.RouteLemmas.{points_turned}
 
 -- ---- rectangles that stand clear
 
@@ -193,14 +181,14 @@ module _ (d : Document) (p : Placed) (n : ℕ) (o : LevelOptions) (out : PartsOu
       let j = place_of_edge d n e in
       let section : IsTurnedSection o.direction by (section_of p e) (section_at v j) = subst (λ f. IsTurnedSection o.direction by (section_of p f) (section_at v j)) (m.found e h) (turned_back.sections j (m.place_in e h)) in
       let all = points_turned o.direction by (section_of p e) (section_at v j) section in
-      let many = sym (length-map (points_of (section_of p e)) (turned_point o.direction)) ∙ ap length all ∙ length-map (level_points (section_at v j)) (plus by) in
+      let many = sym (length-map (points_of (section_of p e)) (turned_point o.direction)) ∙ ap length all ∙ length-map (points_of (section_at v j)) (plus by) in
       let inside : i < route_count v j = subst (λ n. i < n) many less in (
         inside,
         boxes.point o.direction (point_at p e i)
             ∙ ap point_rect (
             sym (get_or-map (turned_point o.direction) (points_of (section_of p e)) i origin origin less)
             ∙ ap (λ ps. get_or ps i origin) all
-            ∙ get_or-map (plus by) (level_points (section_at v j)) i origin origin inside),
+            ∙ get_or-map (plus by) (points_of (section_at v j)) i origin origin inside),
       )
 
   key_is : (e : ℕ) → IsEdge d n e → slice_index (edge_keys l out.parts) (place_of_edge d n e) ≡ part_in d n written (source_node d e)

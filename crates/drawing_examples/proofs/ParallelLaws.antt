@@ -15,7 +15,7 @@ use Rattle.elk_doc.specs.declared.drawing.Certificate.{Certificate}
 use Rattle.elk_doc.specs.Document.{node_at}
 use Rattle.elk_doc.specs.Numbers.{count_below, sum_below, total_below}
 use Rattle.elk_doc.specs.Level.{IsChild, IsEdge, is_child, is_loop, source_node, target_node}
-use Rattle.elk_doc.specs.Drawing.{certificate_of, point_at, point_count, tail_node, head_node, flow_in}
+use Rattle.elk_doc.specs.Drawing.{certificate_of, path_of, point_at, point_count, tail_node, head_node, flow_in}
 use Rattle.elk_doc.specs.Fits.{Fits, FitsBox, FitsLevel, FitsSection, IsNear, KeepsSize, MayBeListed}
 use Rattle.elk_doc.specs.Shapes.{point_rect}
 use Rattle.elk_doc.specs.Segments.{EntersRect, IsOnSegment}
@@ -28,7 +28,7 @@ use Rattle.elk_doc.specs.Sides.{end_of}
 use Rattle.elk_doc.specs.PortsKept.{KeepsPorts, KeepsEnd, Spot, a_port, an_end, IsSpread, is_side, is_spread_end, spot_offset}
 use Rattle.elk_doc.specs.Route.{Route, IsStep}
 use Rattle.elk_doc.specs.Clear.{Clear}
-use Rattle.elk_doc.specs.Sharing.{RoutesShare, Sharing}
+use Rattle.elk_doc.specs.Sharing.{PathsShare, Sharing}
 use Rattle.elk_doc.specs.Reversed.{Reversed, UnlistedStep}
 use Rattle.elk_doc.specs.Layering.{Layering, written_layer}
 use Rattle.elk_doc.specs.FlowProof.{FlowProof}
@@ -193,7 +193,7 @@ routes =
     (record {
       from_source = refl;
       to_target = refl;
-      point_loop = λ h. absurd (let t = h.0 in search rules);
+      one_dock = λ h. absurd (let t = ap (λ (k : Dock). k.node) h in search rules);
       orthogonal = λ _.
           record {
             steps = λ i h. below1 (λ i. IsStep (point_at parallel_drawn 0 i) (point_at parallel_drawn 0 (i + 1))) (inr (λ e. absurd (omega (arith, ints)), refl)) i (omega arith);
@@ -205,7 +205,7 @@ routes =
     (record {
       from_source = refl;
       to_target = refl;
-      point_loop = λ h. absurd (let t = h.0 in search rules);
+      one_dock = λ h. absurd (let t = ap (λ (k : Dock). k.node) h in search rules);
       orthogonal = λ _.
           record {
             steps = λ i h. below1 (λ i. IsStep (point_at parallel_drawn 1 i) (point_at parallel_drawn 1 (i + 1))) (inr (λ e. absurd (omega (arith, ints)), refl)) i (omega arith);
@@ -252,14 +252,14 @@ clear e c h k =
 level_at : (y : ℤ) (a b q : Point) → a.y ≡ y → b.y ≡ y → IsOnSegment a b q → q.y ≡ y
 level_at y a b q ea eb h = let s = h.along in omega (arith, ints, clamps, ea, eb, s)
 
-apart_routes : RoutesShare parallel_drawn 0 1 → ⊥
+apart_routes : PathsShare (path_of parallel_drawn 0) (path_of parallel_drawn 1) → ⊥
 apart_routes s =
     let p = s.piece in
     let high = level_at (pos 22) _ _ p.one (first_at s.i (omega (arith, s.i_in))).0 (first_at (s.i + 1) s.i_in).0 p.one_on_first in
     let low = level_at (pos 32) _ _ p.one (second_at s.j (omega (arith, s.j_in))).0 (second_at (s.j + 1) s.j_in).0 p.one_on_second in
     omega (arith, ints, high, low)
 
-apart_back : RoutesShare parallel_drawn 1 0 → ⊥
+apart_back : PathsShare (path_of parallel_drawn 1) (path_of parallel_drawn 0) → ⊥
 apart_back s =
     let p = s.piece in
     let low = level_at (pos 32) _ _ p.one (second_at s.i (omega (arith, s.i_in))).0 (second_at (s.i + 1) s.i_in).0 p.one_on_first in
@@ -341,7 +341,7 @@ drawn n o c k =
 abbrev joined_drawn : Rattle.elk_doc.specs.declared.drawing.Placed.Placed
 joined_drawn = parallel_with (rect 62 12 30 30) joining
 
-joined_share : RoutesShare joined_drawn 0 1
+joined_share : PathsShare (path_of joined_drawn 0) (path_of joined_drawn 1)
 joined_share =
     record {
       i = 0;

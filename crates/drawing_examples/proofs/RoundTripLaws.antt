@@ -5,6 +5,7 @@ use Rattle.std.proofs.lemmas.Int.{ints, clamps}
 use Rattle.std.proofs.lemmas.List.Elements.{All-nil, All-cons}
 use Rattle.elk_doc.specs.declared.shape.Point.{Point}
 use Rattle.elk_doc.specs.declared.shape.Rect.{Rect}
+use Rattle.elk_doc.specs.declared.shape.Dock.{Dock}
 use Rattle.elk_doc.specs.declared.shape.Side.{Side}
 use Rattle.elk_doc.specs.declared.shape.Side.TheVariants.{North, East, South, West}
 use Rattle.elk_doc.specs.declared.document.Direction.TheVariants.{Right}
@@ -15,7 +16,7 @@ use Rattle.elk_doc.specs.declared.drawing.Certificate.{Certificate}
 use Rattle.elk_doc.specs.Document.{node_at}
 use Rattle.elk_doc.specs.Numbers.{any_below, count_below, sum_below, total_below}
 use Rattle.elk_doc.specs.Level.{IsChild, IsEdge, is_child, is_loop, source_node, target_node}
-use Rattle.elk_doc.specs.Drawing.{certificate_of, point_at, point_count, tail_node, head_node, flow_in, layer_in}
+use Rattle.elk_doc.specs.Drawing.{certificate_of, path_of, point_at, point_count, tail_node, head_node, flow_in, layer_in}
 use Rattle.elk_doc.specs.Fits.{Fits, FitsBox, FitsLevel, FitsSection, IsNear, KeepsSize, MayBeListed}
 use Rattle.elk_doc.specs.Shapes.{bottom_of, point_rect, right_of}
 use Rattle.elk_doc.specs.Segments.{MeetsRect, EntersRect}
@@ -30,7 +31,7 @@ use Rattle.elk_doc.specs.Sides.{end_of}
 use Rattle.elk_doc.specs.PortsKept.{KeepsPort, KeepsPorts, KeepsEnd, Spot, a_port, an_end, IsSpread, is_side, is_pinned, is_spread_port, is_spread_end, spot_offset}
 use Rattle.elk_doc.specs.Route.{Route, IsStep, IsTurn}
 use Rattle.elk_doc.specs.Clear.{Clear}
-use Rattle.elk_doc.specs.Sharing.{RoutesShare, Sharing}
+use Rattle.elk_doc.specs.Sharing.{PathsShare, Sharing}
 use Rattle.elk_doc.specs.Reversed.{Reversed, UnlistedStep}
 use Rattle.elk_doc.specs.Layering.{Layering, written_layer}
 use Rattle.elk_doc.specs.FlowProof.{FlowProof}
@@ -218,7 +219,7 @@ rising_route =
     record {
       from_source = refl;
       to_target = refl;
-      point_loop = λ h. absurd (let t = h.0 in search rules);
+      one_dock = λ h. absurd (let t = ap (λ (k : Dock). k.node) h in search rules);
       orthogonal = λ _.
           record {
             steps = λ i h. below3 (λ i. IsStep (point_at round_trip_drawn 0 i) (point_at round_trip_drawn 0 (i + 1))) (inr (λ e. absurd (omega (arith, ints)), refl)) (inl (refl, λ e. absurd (omega (arith, ints)))) (inr (λ e. absurd (omega (arith, ints)), refl)) i (omega arith);
@@ -234,7 +235,7 @@ straight_route =
     record {
       from_source = refl;
       to_target = refl;
-      point_loop = λ h. absurd (let t = h.0 in search rules);
+      one_dock = λ h. absurd (let t = ap (λ (k : Dock). k.node) h in search rules);
       orthogonal = λ _.
           record {
             steps = λ i h. below1 (λ i. IsStep (point_at round_trip_drawn 1 i) (point_at round_trip_drawn 1 (i + 1))) (inr (λ e. absurd (omega (arith, ints)), refl)) i (omega arith);
@@ -250,7 +251,7 @@ falling_route =
     record {
       from_source = refl;
       to_target = refl;
-      point_loop = λ h. absurd (let t = h.0 in search rules);
+      one_dock = λ h. absurd (let t = ap (λ (k : Dock). k.node) h in search rules);
       orthogonal = λ _.
           record {
             steps = λ i h. below3 (λ i. IsStep (point_at round_trip_drawn 2 i) (point_at round_trip_drawn 2 (i + 1))) (inr (λ e. absurd (omega (arith, ints)), refl)) (inl (refl, λ e. absurd (omega (arith, ints)))) (inr (λ e. absurd (omega (arith, ints)), refl)) i (omega arith);
@@ -266,8 +267,8 @@ staying_route =
     record {
       from_source = refl;
       to_target = refl;
-      point_loop = λ _. refl;
-      orthogonal = λ h. absurd (h (search rules, refl));
+      one_dock = λ _. refl;
+      orthogonal = λ h. absurd (h refl);
     }
 
 -- a segment enters neither box, and the point of the loop doesn't meet the second node
@@ -324,7 +325,7 @@ sharing e f h k _ =
     let b = docked f k in
     (a.0, b.0, a.1 ∙ sym b.1)
 
-shared : RoutesShare round_trip_drawn 0 1
+shared : PathsShare (path_of round_trip_drawn 0) (path_of round_trip_drawn 1)
 shared =
     record {
       i = 0;

@@ -1,7 +1,8 @@
 -- The split level, proved by computing.
-use Rattle.std.proofs.Common.{◌≡◌, ◌≢◌, ◌⊎◌, ⊎_elim, ◌↔◌, subst, ◌∙◌, Bool, true, false, Some, refl, ℕ, ◌+◌, ◌<◌, ◌+ℤ◌, ◌≤ℤ◌, pos, inl, inr, [], ◌∷◌, IsTrue, ◌==◌, ◌&&◌, IsNone, arith, rules}
+use Rattle.std.proofs.Common.{◌≡◌, ◌≢◌, ◌⊎◌, ⊎_elim, ◌↔◌, subst, ◌∙◌, Bool, true, false, Some, refl, ℕ, ◌+◌, ◌<◌, ◌+ℤ◌, ◌≤ℤ◌, pos, inl, inr, [], ◌∷◌, IsTrue, ◌==◌, ◌&&◌, ap, IsNone, arith, rules}
 use Rattle.std.proofs.lemmas.Int.{ints, clamps}
 use Rattle.std.proofs.lemmas.List.Elements.{All-nil, All-cons}
+use Rattle.elk_doc.specs.declared.shape.Dock.{Dock}
 use Rattle.elk_doc.specs.declared.shape.Rect.{Rect}
 use Rattle.elk_doc.specs.declared.shape.Side.{Side}
 use Rattle.elk_doc.specs.declared.shape.Side.TheVariants.{North, West}
@@ -332,7 +333,7 @@ route =
     record {
       from_source = refl;
       to_target = refl;
-      point_loop = λ h. absurd (let t = h.0 in search rules);
+      one_dock = λ h. absurd (let t = ap (λ (k : Dock). k.node) h in search rules);
       orthogonal = λ _.
           record {
             steps = λ i h. below1 (λ i. IsStep (point_at split_drawn 0 i) (point_at split_drawn 0 (i + 1))) (inr (λ e. absurd (omega (arith, ints)), refl)) i (omega arith);

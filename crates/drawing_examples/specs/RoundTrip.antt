@@ -18,7 +18,8 @@ use Rattle.elk_doc.specs.Reversed.{Reversed}
 use Rattle.elk_doc.specs.Layering.{Layering}
 use Rattle.elk_doc.specs.FlowProof.{FlowProof}
 use Rattle.elk_doc.specs.Fitted.{Fitted}
-use Rattle.elk_doc.specs.Sharing.{RoutesShare}
+use Rattle.elk_doc.specs.Drawing.{path_of}
+use Rattle.elk_doc.specs.Sharing.{PathsShare}
 use Rattle.elk_doc.specs.Drawn.{Drawn}
 
 -- two edges from the port of the first node to the second node, one back, and one from the port to itself
@@ -67,7 +68,7 @@ round_trip_drawn = drawn_with (rect 0 0 114 54) (at_xy 30 10) straight one_back
 pub record RoundTripDrawn : Type 0 where
   pub drawn : Drawn round_trip round_trip_drawn
   pub fitted : Fitted round_trip round_trip_drawn
-  pub shared : RoutesShare round_trip_drawn 0 1
+  pub shared : PathsShare (path_of round_trip_drawn 0) (path_of round_trip_drawn 1)
 
 -- One change each: a root that is one too narrow, a port that stands off its node, an edge that ends within its node, a
 -- list without the edge back, both nodes in one layer, a span that is one too small, and a flow that misses an edge.

@@ -1,6 +1,6 @@
 -- Documents that are the same but for the places of ports, where the sides that they give ports are the same too, ask the
 -- same of siblings, content, routes and certificates.
-use Rattle.std.proofs.Common.{◌≡◌, ◌≢◌, ℕ, ◌+◌, ◌-◌, List, length, get_or, map, Bool, true, false, not, ◌&&◌, ◌⊎◌, ⊎_elim, inl, inr, Option, Some, None, sym, ap, ◌∙◌, subst}
+use Rattle.std.proofs.Common.{◌≡◌, ◌≢◌, ℕ, ◌+◌, ◌-◌, List, length, get_or, map, Bool, true, false, not, ◌&&◌, ◌⊎◌, ⊎_elim, inl, inr, Option, Some, None, sym, ap, ◌∙◌, subst, subst₂}
 use Rattle.std.specs.Prelude.{◌==◌, ℤ, pos, ◌+ℤ◌, ◌-ℤ◌, ◌*ℤ◌, ◌≤ℤ◌, IsTrue, IsFalse, slice_index}
 use Rattle.std.proofs.Math.Path.{fun_ext}
 use Rattle.elk_doc.specs.declared.shape.Rect.{Rect}
@@ -13,7 +13,7 @@ use Rattle.elk_doc.specs.declared.drawing.Placed.{Placed}
 use Rattle.elk_doc.specs.Document.{Document, document, node_at, edge_at}
 use Rattle.elk_doc.specs.Level.{IsChild, IsEdge, source_node, target_node, is_loop, is_edge_of}
 use Rattle.elk_doc.specs.Numbers.{count_below, sum_below, total_below}
-use Rattle.elk_doc.specs.Drawing.{point_at, point_count, certificate_of, tail_node, head_node, flow_in}
+use Rattle.elk_doc.specs.Drawing.{path_of, point_at, certificate_of, tail_node, head_node, flow_in}
 use Rattle.elk_doc.specs.Shapes.{turned}
 use Rattle.elk_doc.specs.Segments.{MeetsRect}
 use Rattle.elk_doc.specs.Sides.{given_side, side_of_end}
@@ -23,7 +23,7 @@ use Rattle.elk_doc.specs.Fits.{Fits, FitsLevel, FitsCertificate, MayBeListed}
 use Rattle.elk_doc.specs.Content.{EachShapeOf, IsLeftBy, IsAboveBy}
 use Rattle.elk_doc.specs.Apart.{Apart, IsJoined, InOnePart, NumbersParts, LayersApart, framed, PartIsLeft, PartIsAbove, PartsApart, StandsClear, BoxesApart}
 use Rattle.elk_doc.specs.Inside.{Inside}
-use Rattle.elk_doc.specs.Route.{Route, IsPointLoop, IsOrthogonal, LeavesOutward}
+use Rattle.elk_doc.specs.Route.{Route, IsOrthogonal}
 use Rattle.elk_doc.specs.Clear.{Clear}
 use Rattle.elk_doc.specs.Sharing.{Sharing}
 use Rattle.elk_doc.specs.Reversed.{Reversed, UnlistedStep}
@@ -290,26 +290,12 @@ module _ (ns : List Node) (es : List Edge) (ps qs : List Port) (same : map witho
       dock_is : (e : ℕ) (b : Bool) → dock_of other p e b ≡ dock_of doc p e b
       dock_is e b = docks ns es ps qs same p given e b
 
-      loop_back : (e : ℕ) → IsPointLoop other p e → IsPointLoop doc p e
-      loop_back e h = (subst IsTrue (loop_is e) h.0, sym (dock_is e true) ∙ h.1 ∙ dock_is e false)
-
-      loop_over : (e : ℕ) → IsPointLoop doc p e → IsPointLoop other p e
-      loop_over e h = (subst IsTrue (sym (loop_is e)) h.0, dock_is e true ∙ h.1 ∙ sym (dock_is e false))
-
-      orthogonal_over : (e : ℕ) → IsOrthogonal doc p e → IsOrthogonal other p e
-      orthogonal_over e h = record {
-        steps = h.steps;
-        turns = h.turns;
-        source_outward = subst (λ s. LeavesOutward s (point_at p e 0) (point_at p e 1)) (sym (end_is e true)) h.source_outward;
-        target_outward = subst (λ s. LeavesOutward s (point_at p e (point_count p e - 1)) (point_at p e (point_count p e - 2))) (sym (end_is e false)) h.target_outward;
-      }
-
       pub route_over : (e : ℕ) → Route doc p e → Route other p e
       route_over e h = record {
         from_source = h.from_source ∙ sym (anchors ns es ps qs same p given e true);
         to_target = h.to_target ∙ sym (anchors ns es ps qs same p given e false);
-        point_loop = λ l. h.point_loop (loop_back e l);
-        orthogonal = λ no_loop. orthogonal_over e (h.orthogonal (λ l. no_loop (loop_over e l)));
+        one_dock = λ one. h.one_dock (sym (dock_is e true) ∙ one ∙ dock_is e false);
+        orthogonal = λ differ. subst₂ (IsOrthogonal (path_of p e)) (sym (end_is e true)) (sym (end_is e false)) (h.orthogonal (λ one. differ (dock_is e true ∙ one ∙ sym (dock_is e false))));
       }
 
       pub clear_over : (e c : ℕ) → Clear doc p e c → Clear other p e c

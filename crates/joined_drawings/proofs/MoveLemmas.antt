@@ -9,6 +9,7 @@ use Rattle.elk_doc.specs.declared.shape.Side.{Side}
 use Rattle.elk_doc.specs.declared.shape.Side.TheVariants.{North, East, South, West}
 use Rattle.elk_doc.specs.declared.drawing.Section.{Section}
 use Rattle.elk_doc.specs.Apart.{StandsClear}
+use Rattle.elk_doc.specs.Drawing.{points_of}
 use Rattle.elk_doc.specs.Content.{IsAboveBy, IsLeftBy}
 use Rattle.elk_doc.specs.Places.{offset_on}
 use Rattle.elk_doc.specs.PortsKept.{IsOnSide}
@@ -16,7 +17,6 @@ use Rattle.elk_doc.specs.Segments.{EntersRect, EntersSpan, MeetsRect, MeetsSpan,
 use Rattle.elk_doc.specs.Shapes.{Holds, moved_by, point_rect, right_of, bottom_of}
 use Rattle.elk_doc.proofs.SegmentBounds.{EntersRect-spans, MeetsRect-spans}
 use Rattle.elk_doc.proofs.ShapeLaws.{same_point}
-use Rattle.level_rules.specs.Routes.{points_of}
 use Rattle.turned_drawings.specs.Outlines.{shifted}
 use Rattle.turned_levels.specs.Drawing.{plus}
 use Rattle.joined_drawings.specs.Joined.{moved_section}

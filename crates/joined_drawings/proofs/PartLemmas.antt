@@ -1,16 +1,17 @@
 -- Boxes, outlines and routes of the whole are those of the parts, moved.
-use Rattle.std.proofs.Common.{◌≡◌, ℕ, ◌<◌, List, [], ◌∷◌, length, slice_index, get_or, refl, sym, ap, ap₂, ◌∙◌, subst}
+use Rattle.std.proofs.Common.{◌≡◌, ℕ, ◌<◌, List, [], ◌∷◌, map, length, slice_index, get_or, refl, sym, ap, ap₂, ◌∙◌, subst}
 use Rattle.std.specs.List.{range_with_len}
 use Rattle.std.proofs.lemmas.List.{get_or-map, length-map}
 use Rattle.elk_doc.specs.declared.shape.Point.{Point}
 use Rattle.elk_doc.specs.Document.{origin}
+use Rattle.elk_doc.specs.Drawing.{point_in, points_of}
 use Rattle.elk_doc.specs.Shapes.{hull, moved_by, rect_at}
 use Rattle.port_order.specs.declared.children.Child.{Child}
 use Rattle.port_order.specs.Child.{port_at}
 use Rattle.level_plan.specs.Conditions.{IsLevel}
 use Rattle.level_plan.specs.FromPlan.{LevelDrawing, point_or, section_at}
 use Rattle.level_plan.specs.Level.{PlainLevel, child_at}
-use Rattle.level_rules.specs.Routes.{points_of, route_count, route_point}
+use Rattle.level_rules.specs.Routes.{route_count, route_path, route_point}
 use Rattle.level_stands.specs.Apart.{drawn_box, drawn_outline, drawn_outline_from, drawn_port}
 use Rattle.part_layers.specs.Divided.{place_of}
 use Rattle.part_layers.proofs.PlaceLemmas.{node_in, node_place, place_less, place_node}
@@ -124,12 +125,13 @@ module _ (l : PlainLevel) (numbers : List ℕ) (at : ℕ → Point) (own : ℕ �
     pub section_is : section_at v (edge_of k j) ≡ moved_section (at k) (section_at (own k) j)
     section_is = joined.sections (edge_of k j) edge_there ∙ ap₂ (λ q x. moved_section (at q) (section_at (own q) x)) key_is edge_place
 
+    pub path_is : route_path v (edge_of k j) ≡ map (plus (at k)) (route_path (own k) j)
+    path_is = ap (λ s. points_of s) section_is ∙ points_moved (at k) (section_at (own k) j)
+
     pub count_is : route_count v (edge_of k j) ≡ route_count (own k) j
     count_is =
-        ap (λ s. length (points_of s)) section_is ∙ ap length (points_moved (at k) (section_at (own k) j)) ∙ length-map (points_of (section_at (own k) j)) (plus (at k))
+        ap length path_is ∙ length-map (route_path (own k) j) (plus (at k))
 
     pub point_is : (x : ℕ) → x < route_count (own k) j → route_point v (edge_of k j) x ≡ plus (at k) (route_point (own k) j x)
     point_is x less =
-        ap (λ s. point_or (points_of s) x) section_is
-        ∙ ap (λ ps. point_or ps x) (points_moved (at k) (section_at (own k) j))
-        ∙ get_or-map (plus (at k)) (points_of (section_at (own k) j)) x origin origin less
+        ap (λ ps. point_in ps x) path_is ∙ get_or-map (plus (at k)) (route_path (own k) j) x origin origin less

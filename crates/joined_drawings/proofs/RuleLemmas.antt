@@ -1,7 +1,6 @@
 -- Ports and routes of the whole keep the rules, since those of the parts do.
 use Rattle.std.proofs.Common.{◌≡◌, ◌≢◌, ◌⊎◌, inl, inr, ℕ, ◌+◌, ◌-◌, ◌<◌, ◌≤◌, Bool, true, false, List, [], ◌∷◌, length, map, slice_index, ℤ, pos, ◌≤ℤ◌, ◌<ℤ◌, None, refl, sym, ap, ap₂, ◌∙◌, subst, subst₂, arith}
 use Rattle.std.proofs.lemmas.Bool.{cases_eq}
-use Rattle.std.proofs.lemmas.List.{length-append}
 use Rattle.elk_doc.specs.declared.shape.Point.{Point}
 use Rattle.elk_doc.specs.declared.shape.Rect.{Rect}
 use Rattle.elk_doc.specs.declared.shape.Dock.{Dock}
@@ -10,17 +9,19 @@ use Rattle.elk_doc.specs.declared.document.PortRule.TheVariants.{FixedOrder}
 use Rattle.elk_doc.specs.Apart.{StandsClear}
 use Rattle.elk_doc.specs.Places.{offset_on}
 use Rattle.elk_doc.specs.PortsKept.{IsOnSide, Spot as Place, a_port, an_end, size_along}
-use Rattle.elk_doc.specs.Route.{IsStep, IsTurn, LeavesOutward}
-use Rattle.elk_doc.specs.Segments.{EntersRect, MeetsRect, Share}
+use Rattle.elk_doc.specs.Route.{IsOrthogonal}
+use Rattle.elk_doc.specs.Clear.{IsClear}
+use Rattle.elk_doc.specs.Sharing.{PathsShare}
 use Rattle.elk_doc.specs.Shapes.{Holds, moved_by, point_rect}
 use Rattle.elk_doc.specs.Sound.{IsWithin}
+use Rattle.elk_doc.proofs.PathLemmas.{clear_numbered, some_points}
 use Rattle.port_order.specs.declared.children.Child.{Child}
 use Rattle.port_order.specs.Child.{is_pinned}
 use Rattle.port_order.specs.Order.{ClockwiseFirst, clockwise}
 use Rattle.port_order.specs.Sides.{is_forward}
 use Rattle.level_plan.specs.FromPlan.{LevelDrawing, IsDrawnFrom, anchor, box_place, point_or, section_at}
 use Rattle.level_plan.specs.Level.{Orders, PlainLevel, PlainPlan, anchor_of_spot, child_at, dock_of, end_at, holds, port_place, spoke, spot_of}
-use Rattle.level_rules.specs.Routes.{DocksShare, IsClear, IsOrthogonal, IsRouted, RoutesKept, RoutesShare, end_child, route_count, route_point}
+use Rattle.level_rules.specs.Routes.{KeepsClear, KeepsRoute, KeepsSharing, RoutesKept, end_child, end_dock, route_count, route_path, route_point}
 use Rattle.level_stands.specs.Apart.{drawn_box, drawn_outline, drawn_port}
 use Rattle.level_stands.specs.PortsKept.{ArePortsPlaced, IsSpreadAt, KeepsEnd, KeepsOrder, KeepsPort, KeepsPorts, SpreadsApart, drawn_offset, port_offset, port_side}
 use Rattle.part_layers.specs.Divided.{place_of}
@@ -33,7 +34,7 @@ use Rattle.part_levels.proofs.SameLemmas.{says_the_same}
 use Rattle.part_levels.proofs.SplitLemmas.{keys_below}
 use Rattle.turned_drawings.specs.Outlines.{shifted}
 use Rattle.turned_levels.specs.Drawing.{plus}
-use Rattle.turned_drawings.proofs.MoveLemmas.{enters_back, meets_back, outward_moved, share_back, step_moved, turn_moved}
+use Rattle.turned_drawings.proofs.MoveLemmas.{clear_moved, orthogonal_moved, sharing_unmoved}
 use Rattle.joined_drawings.specs.Joined.{AreDrawn, IsJoined}
 use Rattle.joined_drawings.proofs.MoveLemmas.{anchor_moved, clear_enters, clear_meets, clear_shares, offset_moved, side_moved}
 use Rattle.joined_drawings.proofs.PartLemmas as parts
@@ -194,44 +195,22 @@ module _ (l : PlainLevel) (numbers : List ℕ) (count : ℕ) (plans : ℕ → Pl
   abbrev inner_count : ℕ → ℕ → ℕ
   inner_count k j = route_count (own k) j
 
-  abbrev inner_point : ℕ → ℕ → ℕ → Point
-  inner_point k j x = route_point (own k) j x
-
-  point_is : (k j x : ℕ) → j < many k → x < inner_count k j → route_point v (edge_of k j) x ≡ plus (at k) (inner_point k j x)
-  point_is k j x less there = parts.point_is l numbers at own v are.level are.numbered joined k j less x there
-
   count_is : (k j : ℕ) → j < many k → route_count v (edge_of k j) ≡ inner_count k j
   count_is k j less = parts.count_is l numbers at own v are.level are.numbered joined k j less
 
-  two_points : (k j : ℕ) → 2 ≤ inner_count k j
-  two_points k j = let both = length-append (section_at (own k) j).bends ((section_at (own k) j).end ∷ []) in omega (arith, both)
+  path_is : (k j : ℕ) → j < many k → route_path v (edge_of k j) ≡ map (plus (at k)) (route_path (own k) j)
+  path_is k j less = parts.path_is l numbers at own v are.level are.numbered joined k j less
 
-  outward : (k j : ℕ) (t : Bool) (x y : ℕ) → k < count → j < many k → x < inner_count k j → y < inner_count k j
-      → LeavesOutward (dock_of (part k) (plans k) (orders k) (end_at j t)).side (inner_point k j x) (inner_point k j y)
-      → LeavesOutward (dock_of l p o (end_at (edge_of k j) t)).side (route_point v (edge_of k j) x) (route_point v (edge_of k j) y)
-  outward k j t x y h less hx hy out =
-      let side = (dock_of (part k) (plans k) (orders k) (end_at j t)).side in
-      subst (λ s. LeavesOutward s (route_point v (edge_of k j) x) (route_point v (edge_of k j) y)) (side_up k j t h less)
-      (subst₂ (λ a b. LeavesOutward side a b) (sym (point_is k j x less hx)) (sym (point_is k j y less hy)) (outward_moved (at k) side (inner_point k j x) (inner_point k j y) out))
-
-  orthogonal : (k j : ℕ) → k < count → j < many k → IsOrthogonal (part k) (plans k) (orders k) (own k) j → IsOrthogonal l p o v (edge_of k j)
+  orthogonal : (k j : ℕ) → k < count → j < many k → IsOrthogonal (route_path (own k) j) (end_dock (part k) (plans k) (orders k) j true).side (end_dock (part k) (plans k) (orders k) j false).side
+      → IsOrthogonal (route_path v (edge_of k j)) (end_dock l p o (edge_of k j) true).side (end_dock l p o (edge_of k j) false).side
   orthogonal k j h less q =
-      let e = edge_of k j in
-      let count_same = count_is k j less in
-      let two = two_points k j in
-      record {
-        steps = λ x there. let inside : x + 1 < inner_count k j = omega (arith, there, count_same) in
-            subst₂ (λ a b. IsStep a b) (sym (point_is k j x less (omega (arith, inside)))) (sym (point_is k j (x + 1) less inside)) (step_moved (at k) (inner_point k j x) (inner_point k j (x + 1)) (q.steps x inside));
-        turns = λ x there. let inside : x + 2 < inner_count k j = omega (arith, there, count_same) in
-            subst (λ a. IsTurn a (route_point v e (x + 1)) (route_point v e (x + 2))) (sym (point_is k j x less (omega (arith, inside))))
-            (subst₂ (λ b c. IsTurn (plus (at k) (inner_point k j x)) b c) (sym (point_is k j (x + 1) less (omega (arith, inside)))) (sym (point_is k j (x + 2) less inside))
-            (turn_moved (at k) (inner_point k j x) (inner_point k j (x + 1)) (inner_point k j (x + 2)) (q.turns x inside)));
-        source_outward = outward k j true 0 1 h less (omega (arith, two)) (omega (arith, two)) q.source_outward;
-        target_outward = subst (λ m. LeavesOutward (dock_of l p o (end_at e false)).side (route_point v e (m - 1)) (route_point v e (m - 2))) (sym count_same)
-            (outward k j false (inner_count k j - 1) (inner_count k j - 2) h less (omega (arith, two)) (omega (arith, two)) q.target_outward);
-      }
+      let path = route_path (own k) j in
+      let source = (end_dock (part k) (plans k) (orders k) j true).side in
+      let target = (end_dock (part k) (plans k) (orders k) j false).side in
+      subst₂ (IsOrthogonal (route_path v (edge_of k j))) (side_up k j true h less) (side_up k j false h less)
+      (subst (λ ps. IsOrthogonal ps source target) (sym (path_is k j less)) (orthogonal_moved (at k) path source target (some_points (section_at (own k) j)) q))
 
-  routed_at : (k j : ℕ) → k < count → j < many k → IsRouted l p o v (edge_of k j)
+  routed_at : (k j : ℕ) → k < count → j < many k → KeepsRoute l p o v (edge_of k j)
   routed_at k j h less =
       let inner = (rules k h).routes j (parts.edge_in_part l numbers at own v are.level are.numbered joined k j less) in
       let section = parts.section_is l numbers at own v are.level are.numbered joined k j less in
@@ -248,25 +227,23 @@ module _ (l : PlainLevel) (numbers : List ℕ) (count : ℕ) (plans : ℕ → Pl
   held k j x h less there = lies.points k j x h less there
 
   abbrev ClearOf : ℕ → ℕ → Type 0
-  ClearOf e c = IsClear l v e c
+  ClearOf e c = KeepsClear l v e c
 
   clear_same : (k j i : ℕ) → k < count → j < many k → i < some k → ClearOf (edge_of k j) (child_of k i)
   clear_same k j i h less there =
       let inner = (rules k h).clear j i (parts.edge_in_part l numbers at own v are.level are.numbered joined k j less) (parts.in_part l numbers at own v are.level are.numbered joined k i there) in
-      let count_same = count_is k j less in
-      let not_at : (t : Bool) → end_child l (edge_of k j) t ≢ child_of k i → end_child (part k) j t ≢ i = λ t other same. other (sym (child_up k j t h less) ∙ ap (child_of k) same) in
-      record {
-        foreign = λ source target x inside meets. let within : x + 1 < inner_count k j = omega (arith, inside, count_same) in
-            inner.foreign (not_at true source) (not_at false target) x within
-            (meets_back (at k) (inner_point k j x) (inner_point k j (x + 1)) (drawn_outline (part k) (own k) i)
-            (subst₂ (λ a b. MeetsRect a b (shifted (at k) (drawn_outline (part k) (own k) i))) (point_is k j x less (omega (arith, within))) (point_is k j (x + 1) less within)
-            (subst (λ r. MeetsRect (route_point v (edge_of k j) x) (route_point v (edge_of k j) (x + 1)) r) (parts.outline_at l numbers at own v are.level are.numbered joined k i there) meets)));
-        own = λ x inside enters. let within : x + 1 < inner_count k j = omega (arith, inside, count_same) in
-            inner.own x within
-            (enters_back (at k) (inner_point k j x) (inner_point k j (x + 1)) (drawn_box (part k) (own k) i)
-            (subst₂ (λ a b. EntersRect a b (shifted (at k) (drawn_box (part k) (own k) i))) (point_is k j x less (omega (arith, within))) (point_is k j (x + 1) less within)
-            (subst (λ r. EntersRect (route_point v (edge_of k j) x) (route_point v (edge_of k j) (x + 1)) r) (parts.drawn_box_at l numbers at own v are.level are.numbered joined k i there) enters)));
-      }
+      let e = edge_of k j in
+      let c = child_of k i in
+      let path = route_path (own k) j in
+      let outline = drawn_outline (part k) (own k) i in
+      let box = drawn_box (part k) (own k) i in
+      let not_at : (t : Bool) → end_child l e t ≢ c → end_child (part k) j t ≢ i = λ t other same. other (sym (child_up k j t h less) ∙ ap (child_of k) same) in
+      let is_at : (t : Bool) → end_child l e t ≡ c → end_child (part k) j t ≡ i = λ t same. same_number k (end_child (part k) j t) i (same_end k j t h less).child_in there (child_up k j t h less ∙ same) in
+      subst₂ (IsClear (route_path v e) (end_child l e true) (end_child l e false) c) (sym (parts.outline_at l numbers at own v are.level are.numbered joined k i there))
+      (sym (parts.drawn_box_at l numbers at own v are.level are.numbered joined k i there))
+      (subst (λ ps. IsClear ps (end_child l e true) (end_child l e false) c (shifted (at k) outline) (shifted (at k) box)) (sym (path_is k j less))
+      (clear_numbered (map (plus (at k)) path) (end_child (part k) j true) (end_child (part k) j false) i (end_child l e true) (end_child l e false) c (shifted (at k) outline) (shifted (at k) box) (not_at true) (not_at false)
+      (is_at true) (is_at false) (clear_moved (at k) path (end_child (part k) j true) (end_child (part k) j false) i outline box inner)))
 
   clear_other : (k m j i : ℕ) → k < count → m < count → k ≢ m → j < many k → i < some m → ClearOf (edge_of k j) (child_of m i)
   clear_other k m j i h hm differ less there =
@@ -276,7 +253,7 @@ module _ (l : PlainLevel) (numbers : List ℕ) (count : ℕ) (plans : ℕ → Pl
         foreign = λ source target x inside meets. let within : x + 1 < inner_count k j = omega (arith, inside, count_same) in
             clear_meets gap (rect k) (rect m) (route_point v (edge_of k j) x) (route_point v (edge_of k j) (x + 1)) (drawn_outline l v (child_of m i)) lies.gap_above apart
             (held k j x h less (omega (arith, within))) (held k j (x + 1) h less within) (lies.outlines m i hm there) meets;
-        own = λ x inside enters. let within : x + 1 < inner_count k j = omega (arith, inside, count_same) in
+        own = λ _ x inside enters. let within : x + 1 < inner_count k j = omega (arith, inside, count_same) in
             clear_enters gap (rect k) (rect m) (route_point v (edge_of k j) x) (route_point v (edge_of k j) (x + 1)) (drawn_box l v (child_of m i)) lies.gap_above apart
             (held k j x h less (omega (arith, within))) (held k j (x + 1) h less within) (lies.boxes m i hm there) enters;
       }
@@ -292,23 +269,13 @@ module _ (l : PlainLevel) (numbers : List ℕ) (count : ℕ) (plans : ℕ → Pl
   -- ---- sharing
 
   abbrev Shares : ℕ → ℕ → Type 0
-  Shares e f = RoutesShare v e f → DocksShare l p o e f
+  Shares e f = KeepsSharing l p o v e f
 
   shares_same : (k i j : ℕ) → k < count → i < many k → j < many k → i ≢ j → Shares (edge_of k i) (edge_of k j)
   shares_same k i j h hi hj differ share =
-      let ci = count_is k i hi in
-      let cj = count_is k j hj in
-      let first = share.i_in in
-      let second = share.j_in in
-      let x : share.i + 1 < inner_count k i = omega (arith, first, ci) in
-      let y : share.j + 1 < inner_count k j = omega (arith, second, cj) in
-      let piece =
-      subst₂ (λ a b. Share a b (plus (at k) (inner_point k j share.j)) (plus (at k) (inner_point k j (share.j + 1)))) (point_is k i share.i hi (omega (arith, x))) (point_is k i (share.i + 1) hi x)
-      (subst₂ (λ a b. Share (route_point v (edge_of k i) share.i) (route_point v (edge_of k i) (share.i + 1)) a b) (point_is k j share.j hj (omega (arith, y))) (point_is k j (share.j + 1) hj y) share.piece)
-      in
       let docks =
       (rules k h).sharing i j (parts.edge_in_part l numbers at own v are.level are.numbered joined k i hi) (parts.edge_in_part l numbers at own v are.level are.numbered joined k j hj) differ
-      (record { i = share.i; j = share.j; i_in = x; j_in = y; piece = share_back (at k) (inner_point k i share.i) (inner_point k i (share.i + 1)) (inner_point k j share.j) (inner_point k j (share.j + 1)) piece })
+      (sharing_unmoved (at k) (route_path (own k) i) (route_path (own k) j) (subst₂ PathsShare (path_is k i hi) (path_is k j hj) share))
       in
       (docks.0, docks.1, docks_up k i j docks.0 docks.1 h hi hj docks.2)
 
@@ -336,7 +303,7 @@ module _ (l : PlainLevel) (numbers : List ℕ) (count : ℕ) (plans : ℕ → Pl
   pub routes_kept : RoutesKept l p o v
   routes_kept =
       record {
-        routes = parts.by_edge l numbers at own v are.level are.numbered joined (IsRouted l p o v) (λ k j is less. routed_at k j (key_below k j is less) less);
+        routes = parts.by_edge l numbers at own v are.level are.numbered joined (KeepsRoute l p o v) (λ k j is less. routed_at k j (key_below k j is less) less);
         clear = λ e c he hc. parts.by_edge l numbers at own v are.level are.numbered joined (λ e. ClearOf e c)
             (λ k j is less. parts.by_child l numbers at own v are.level are.numbered joined (ClearOf (edge_of k j))
             (λ m i part_is there. clear_at k m j i (key_below k j is less) (part_below m i part_is there) less there) c hc) e he;

@@ -1,5 +1,5 @@
 -- Where first places are named, the definition fails.
-use Rattle.std.proofs.Common.{◌≢◌, ℕ, ◌<◌, Option, Some, None, MatchOption, arith, sym, inl, inr}
+use Rattle.std.proofs.Common.{◌≢◌, ℕ, ◌<◌, List, Option, Some, None, MatchOption, arith, sym, inl, inr}
 use Rattle.std.proofs.lemmas.Bool.{cases_order}
 use Rattle.std.proofs.lemmas.List.Elements.{All-contains}
 use Rattle.elk_doc.specs.declared.document.LevelOptions.{LevelOptions}
@@ -9,7 +9,9 @@ use Rattle.elk_doc.specs.Document.{Document}
 use Rattle.elk_doc.specs.Level.{source_node, target_node}
 use Rattle.elk_doc.specs.Paths.{Reaches}
 use Rattle.elk_doc.specs.Reversed.{UnlistedStep}
-use Rattle.elk_doc.specs.Sharing.{RoutesShare, Sharing as SharesRightly}
+use Rattle.elk_doc.specs.Drawing.{path_of}
+use Rattle.elk_doc.specs.Sharing.{PathsShare, Sharing as SharesRightly}
+use Rattle.elk_doc.specs.declared.shape.Point.{Point}
 use Rattle.elk_doc.specs.Sound.{IsSound}
 use Rattle.drawing_faults.specs.declared.fault.Fault.{Fault}
 use Rattle.check_apart.proofs.BreakLaws.{fault_breaks as apart_breaks}
@@ -45,8 +47,8 @@ judged t d p n o c None sound holds = holds
 judged t d p n o c (Some x) sound places = record { breaks = places_break t d p n o c x sound places; places = places }
 
 -- sharing is even-handed, so that it may be asked of the lower number first
-turned_round : (p : Placed) (e f : ℕ) → RoutesShare p e f → RoutesShare p f e
-turned_round p e f r =
+turned_round : (path other : List Point) → PathsShare path other → PathsShare other path
+turned_round path other r =
     record {
       i = r.j;
       j = r.i;
@@ -66,7 +68,7 @@ turned_round p e f r =
 
 other_way : (d : Document) (p : Placed) (e f : ℕ) → SharesRightly d p f e → SharesRightly d p e f
 other_way d p e f h share =
-    let found = h (turned_round p e f share) in
+    let found = h (turned_round (path_of p e) (path_of p f) share) in
     (found.1, found.0, sym found.2)
 
 sharing_by_order : (d : Document) (p : Placed) (n : ℕ) (o : LevelOptions) (c : Certificate) → ((e f : ℕ) → SharingHolds d p n e f) → Holds Sharing d p n o c

@@ -7,6 +7,7 @@ use Rattle.elk_doc.specs.declared.shape.Point.{Point}
 use Rattle.elk_doc.specs.declared.shape.Dock.{Dock}
 use Rattle.elk_doc.specs.Shapes.{right_of, bottom_of}
 use Rattle.elk_doc.specs.Segments.{MeetsRect, EntersRect, MeetsSpan, EntersSpan}
+use Rattle.elk_doc.specs.Clear.{IsClear}
 use Rattle.elk_doc.proofs.SegmentBounds.{MeetsRect-spans, spans-MeetsRect, EntersRect-spans}
 use Rattle.route_slots.specs.declared.Pin.{Pin}
 use Rattle.route_slots.specs.Pieces.{Abscissa, left_border, slot, right_border, border_of, Corner, IsAbscissa, net_at}
@@ -14,9 +15,10 @@ use Rattle.route_slots.proofs.Borders.{IsBorder, PinAt, from_pin, to_pin}
 use Rattle.route_lines.specs.Points.{gap_in as gap_at, stand, point_at}
 use Rattle.route_lines.proofs.Dropping.{some_all, meetings_split, entries_split}
 use Rattle.level_plan.specs.Stage.{Stage, Line, anchor_line, dock_lane, loop_lane, long_lane, HasDock, InUse, IsLane, IsLaneAt, unit_of_line, ChildStands, Stands, IsPinOf}
-use Rattle.level_plan.specs.Law.{IsPart, stub, lane_part, border_part, net_part, IsLanePart, IsNetPart, IsLawful, KeepsClear}
+use Rattle.level_plan.specs.Law.{IsPart, stub, lane_part, border_part, net_part, IsLanePart, IsNetPart, IsLawful}
 use Rattle.level_plan.proofs.Zones.{InUnit, stub_in, lane_in, border_in, dock_child, net_before, net_after, x_of, y_of}
 use Rattle.level_plan.proofs.AtDocks.{north_above, south_below, east_right, west_left}
+use Rattle.level_plan.proofs.Paths.{some_at}
 use Rattle.level_plan.proofs.Sharing.{together}
 
 no_meet_right : (a b c d low size : ℤ) → a ≤ℤ c → b ≤ℤ c → c <ℤ d → d ≤ℤ low → MeetsSpan a b low size → ⊥
@@ -324,14 +326,18 @@ part_enters s e c a b st k (net_part p) m =
           no_enter_before a.x b.x _ _ (le3 _ _ _ _ n.0 k.left k.box_left) (le3 _ _ _ _ n.1 k.left k.box_left) x
     ]
 
-pub clear_law : (s : Stage) (e c : ℕ) (ps : List Point) → Stands s → IsLawful s e ps → ChildStands s c → KeepsClear s e ps c
+both_ends : (P : Bool → Type 0) → P true → P false → (t : Bool) → P t
+both_ends P x y true = x
+both_ends P x y false = y
+
+pub clear_law : (s : Stage) (e c : ℕ) (ps : List Point) → Stands s → IsLawful s e ps → ChildStands s c → IsClear ps (s.dock e true).node (s.dock e false).node c (s.outline c) (s.box c)
 clear_law s e c ps st x k =
     record {
-      foreign = λ foreign m.
+      foreign = λ source target i h m.
           together (IsPart s e) (λ a b. MeetsRect a b (s.outline c)) x.fine
-          (λ a b u v. let h = part_meets s e c a b st k u v in foreign h.0 h.1) x.parts
-          (some_all (λ a b. MeetsRect a b (s.outline c)) x.fine ps (meetings_split (s.outline c)) x.tidied.dropped m);
-      own = λ m.
+          (λ a b u v. let h = part_meets s e c a b st k u v in both_ends (λ t. (s.dock e t).node ≢ c) source target h.0 h.1) x.parts
+          (some_all (λ a b. MeetsRect a b (s.outline c)) x.fine ps (meetings_split (s.outline c)) x.tidied.dropped (some_at (λ a b. MeetsRect a b (s.outline c)) ps i h m));
+      own = λ _ i h m.
           together (IsPart s e) (λ a b. EntersRect a b (s.box c)) x.fine (λ a b u v. part_enters s e c a b st k u v) x.parts
-          (some_all (λ a b. EntersRect a b (s.box c)) x.fine ps (entries_split (s.box c)) x.tidied.dropped m);
+          (some_all (λ a b. EntersRect a b (s.box c)) x.fine ps (entries_split (s.box c)) x.tidied.dropped (some_at (λ a b. EntersRect a b (s.box c)) ps i h m));
     }

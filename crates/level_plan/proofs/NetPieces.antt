@@ -7,26 +7,27 @@ use Rattle.elk_doc.specs.declared.shape.Point.{Point}
 use Rattle.elk_doc.specs.declared.shape.Side.{Side}
 use Rattle.elk_doc.specs.declared.shape.Side.TheVariants.{East, West}
 use Rattle.elk_doc.specs.Segments.{Share}
+use Rattle.elk_doc.specs.Sharing.{DocksShare}
 use Rattle.elk_doc.proofs.SegmentBounds.{Share-piece}
 use Rattle.route_slots.specs.declared.Pin.{Pin}
 use Rattle.route_slots.specs.Pieces.{Abscissa, Corner, slot, rank, Overlap, LevelOverlap, UprightOverlap, IsAbscissa, IsPieceOf, corners, net_at, route_at}
 use Rattle.route_slots.specs.GapFree.{CommonPin}
 use Rattle.route_slots.proofs.Turning.{pieces_overlap}
 use Rattle.route_lines.specs.Points.{gap_in as gap_at, stand}
-use Rattle.level_plan.specs.Stage.{Stage, Line, anchor_line, dock_lane, loop_lane, long_lane, CommonDock, InUse, Uses, Reaches, unit_of_line, Stands, InGap, IsPinOf, IsLane}
+use Rattle.level_plan.specs.Stage.{Stage, Line, anchor_line, dock_lane, loop_lane, long_lane, InUse, Uses, Reaches, unit_of_line, Stands, InGap, IsPinOf, IsLane}
 use Rattle.level_plan.specs.Law.{IsNetPart}
 use Rattle.level_plan.proofs.Zones.{gaps_apart, turned_share, x_of, y_of}
 
 -- two edges that use one line have a common dock
-shared_line : (s : Stage) (e f : ℕ) (l : Line) → e ≢ f → Uses s e l → Uses s f l → CommonDock s e f
-shared_line s e f (anchor_line d) n h k = record { shared = d; in_first = h; in_second = k }
-shared_line s e f (dock_lane d) n h k = record { shared = d; in_first = h; in_second = k }
+shared_line : (s : Stage) (e f : ℕ) (l : Line) → e ≢ f → Uses s e l → Uses s f l → DocksShare (s.dock e) (s.dock f)
+shared_line s e f (anchor_line d) n h k = (h.0, k.0, h.1 ∙ sym k.1)
+shared_line s e f (dock_lane d) n h k = (h.0, k.0, h.1 ∙ sym k.1)
 shared_line s e f (loop_lane g side) n h k = absurd (n (sym h ∙ k))
 shared_line s e f (long_lane u) n h k = absurd (n (sym h ∙ k))
 
 -- two lines in use that reach one border of a column at one height are one, so their edges have a common dock
 pub same_end : (s : Stage) (e f : ℕ) (l m : Line) (side : Side) → Stands s → e ≢ f → InUse s e l → InUse s f m → Reaches side l → Reaches side m
-    → s.layer (unit_of_line s l) ≡ s.layer (unit_of_line s m) → s.height l ≡ s.height m → CommonDock s e f
+    → s.layer (unit_of_line s l) ≡ s.layer (unit_of_line s m) → s.height l ≡ s.height m → DocksShare (s.dock e) (s.dock f)
 same_end s e f l m side st n ul um rl rm layers heights =
     let lt = st.lines.top e l ul in
     let lb = st.lines.bottom e l ul in
@@ -47,7 +48,7 @@ same_end s e f l m side st n ul um rl rm layers heights =
     clash h k b t e x y z = absurd (omega (arith, ints))
 
 -- nets with a common pin belong to edges with a common dock
-pub pin_docks : (s : Stage) (e f g : ℕ) (p : Pin) → Stands s → e ≢ f → IsPinOf s e g p → IsPinOf s f g p → CommonDock s e f
+pub pin_docks : (s : Stage) (e f g : ℕ) (p : Pin) → Stands s → e ≢ f → IsPinOf s e g p → IsPinOf s f g p → DocksShare (s.dock e) (s.dock f)
 pin_docks s e f g p st n x y =
     elim (cases_bool p.on_left) [
       | inl l ↦
@@ -211,7 +212,7 @@ net_overlap s e f a b c d st p q same m =
     level s e a b p h = y_of a _ _ p.a_is ∙ h ∙ sym (y_of b _ _ p.b_is)
 
 -- pieces of nets of two edges that share something
-pub nets_share : (s : Stage) (e f : ℕ) (a b c d : Point) → Stands s → e ≢ f → IsNetPart s e a b → IsNetPart s f c d → Share a b c d → CommonDock s e f
+pub nets_share : (s : Stage) (e f : ℕ) (a b c d : Point) → Stands s → e ≢ f → IsNetPart s e a b → IsNetPart s f c d → Share a b c d → DocksShare (s.dock e) (s.dock f)
 nets_share s e f a b c d st n p q m =
     ⊎_elim
     (λ l. absurd (gaps_apart s e f a b c d st p q l m))
@@ -221,7 +222,7 @@ nets_share s e f a b c d st n p q m =
     r)
     (three_ways p.gap q.gap)
   where
-    one_gap : (s : Stage) (e f : ℕ) (a b c d : Point) → Stands s → e ≢ f → (p : IsNetPart s e a b) → (q : IsNetPart s f c d) → p.gap ≡ q.gap → Share a b c d → CommonDock s e f
+    one_gap : (s : Stage) (e f : ℕ) (a b c d : Point) → Stands s → e ≢ f → (p : IsNetPart s e a b) → (q : IsNetPart s f c d) → p.gap ≡ q.gap → Share a b c d → DocksShare (s.dock e) (s.dock f)
     one_gap s e f a b c d st n p q same m =
         let nets = st.nets p.gap p.gap_there in
         let q_in : q.net < length (gap_at s.gaps p.gap).nets = subst (λ z. q.net < length (gap_at s.gaps z).nets) (sym same) q.net_there in

@@ -1,5 +1,5 @@
 -- Routes share a piece only where their edges share a dock.
-use Rattle.std.proofs.Common.{◌≡◌, ◌≢◌, ⊎_elim, inl, inr, ℕ, ℤ, pos, ◌+ℤ◌, ◌≤ℤ◌, List, [], ◌∷◌, refl, subst, sym, ap, ◌∙◌, arith}
+use Rattle.std.proofs.Common.{◌≡◌, ◌≢◌, ⊎_elim, inl, inr, ℕ, ◌+◌, ℤ, pos, ◌+ℤ◌, ◌≤ℤ◌, List, [], ◌∷◌, refl, subst, sym, ap, ◌∙◌, arith}
 use Rattle.std.proofs.lemmas.Int.{ints, clamps}
 use Rattle.std.proofs.lemmas.Bool.{cases_eq}
 use Rattle.std.specs.Int.{int_min, int_max}
@@ -7,24 +7,27 @@ use Rattle.elk_doc.specs.declared.shape.Point.{Point}
 use Rattle.elk_doc.specs.declared.shape.Side.{Side}
 use Rattle.elk_doc.specs.declared.shape.Side.TheVariants.{North, East, South}
 use Rattle.elk_doc.specs.declared.shape.Dock.{Dock}
+use Rattle.elk_doc.specs.Drawing.{point_in}
 use Rattle.elk_doc.specs.Segments.{Share}
+use Rattle.elk_doc.specs.Sharing.{DocksShare, PathsShare}
 use Rattle.elk_doc.proofs.SegmentBounds.{Share-piece}
-use Rattle.level_plan.specs.Stage.{Stage, anchor_line, HasDock, CommonDock, unit_of_line, Stands}
+use Rattle.level_plan.specs.Stage.{Stage, anchor_line, HasDock, unit_of_line, Stands}
 use Rattle.elk_doc.specs.Shapes.{right_of, bottom_of}
 use Rattle.route_lines.specs.Tidied.{SomeSegment, EachSegment}
 use Rattle.route_lines.proofs.Dropping.{some_all, shares_split}
-use Rattle.level_plan.specs.Law.{IsStub, IsLanePart, IsBorderPart, IsPart, stub, lane_part, border_part, net_part, IsNorthOrSouth, IsLawful, RoutesShare}
+use Rattle.level_plan.specs.Law.{IsStub, IsLanePart, IsBorderPart, IsPart, stub, lane_part, border_part, net_part, IsNorthOrSouth, IsLawful}
+use Rattle.level_plan.proofs.Paths.{some_at}
 use Rattle.level_plan.proofs.Zones.{InUnit, stub_in, lane_in, border_in, units_apart, unit_net_apart, turned_share}
 use Rattle.level_plan.proofs.NetPieces.{nets_share, lane_reaches, one_height, no_cross, same_end}
 use Rattle.level_plan.proofs.AtDocks.{same_stub, no_opposite, no_facing, north_above, south_below, east_right, west_left}
 
 -- pieces at one dock
-one_dock : (s : Stage) (e f : ℕ) (d k : Dock) → HasDock s e d → HasDock s f k → d ≡ k → CommonDock s e f
-one_dock s e f d k x y h = record { shared = d; in_first = x; in_second = subst (λ z. HasDock s f z) (sym h) y }
+one_dock : (s : Stage) (e f : ℕ) (d k : Dock) → HasDock s e d → HasDock s f k → d ≡ k → DocksShare (s.dock e) (s.dock f)
+one_dock s e f d k x y h = (x.0, y.0, x.1 ∙ h ∙ sym y.1)
 
 -- two stubs
 stubs_share : (s : Stage) (e f : ℕ) (a b c d : Point) → Stands s → (p : IsStub s e a b) → (q : IsStub s f c d)
-    → s.unit_of (s.dock e p.at_source).node ≡ s.unit_of (s.dock f q.at_source).node → Share a b c d → CommonDock s e f
+    → s.unit_of (s.dock e p.at_source).node ≡ s.unit_of (s.dock f q.at_source).node → Share a b c d → DocksShare (s.dock e) (s.dock f)
 stubs_share s e f a b c d st p q same m =
     let ds = st.ends e p.at_source p.edge_in in
     let ks = st.ends f q.at_source q.edge_in in
@@ -58,24 +61,24 @@ stubs_share s e f a b c d st p q same m =
 
 -- two parts of lanes
 lanes_share : (s : Stage) (e f : ℕ) (a b c d : Point) → Stands s → e ≢ f → (p : IsLanePart s e a b) → (q : IsLanePart s f c d)
-    → unit_of_line s p.lane ≡ unit_of_line s q.lane → Share a b c d → CommonDock s e f
+    → unit_of_line s p.lane ≡ unit_of_line s q.lane → Share a b c d → DocksShare (s.dock e) (s.dock f)
 lanes_share s e f a b c d st n p q same m =
     same_end s e f p.lane q.lane East st n p.in_use q.in_use (lane_reaches p.lane East p.is_lane) (lane_reaches q.lane East q.is_lane)
     (ap (λ u. s.layer u) same) (one_height a b c d _ _ p.a_y p.b_y q.a_y q.b_y m)
 
 -- a part of a lane, and a piece from an anchor to its border
 lane_border_share : (s : Stage) (e f : ℕ) (a b c d : Point) → Stands s → e ≢ f → (p : IsLanePart s e a b) → (q : IsBorderPart s f c d)
-    → unit_of_line s p.lane ≡ s.unit_of (s.dock f q.at_source).node → Share a b c d → CommonDock s e f
+    → unit_of_line s p.lane ≡ s.unit_of (s.dock f q.at_source).node → Share a b c d → DocksShare (s.dock e) (s.dock f)
 lane_border_share s e f a b c d st n p q same m =
     same_end s e f p.lane (anchor_line (s.dock f q.at_source)) (s.dock f q.at_source).side st n p.in_use q.in_use (lane_reaches p.lane (s.dock f q.at_source).side p.is_lane) refl
     (ap (λ u. s.layer u) same) (one_height a b c d _ _ p.a_y p.b_y (q.a_y ∙ sym q.height) (q.b_y ∙ sym q.height) m)
 
-turned_docks : (s : Stage) (e f : ℕ) → CommonDock s e f → CommonDock s f e
-turned_docks s e f h = record { shared = h.shared; in_first = h.in_second; in_second = h.in_first }
+turned_docks : (s : Stage) (e f : ℕ) → DocksShare (s.dock e) (s.dock f) → DocksShare (s.dock f) (s.dock e)
+turned_docks s e f h = (h.1, h.0, sym h.2)
 
 -- two pieces from anchors to their borders
 borders_share : (s : Stage) (e f : ℕ) (a b c d : Point) → Stands s → e ≢ f → (p : IsBorderPart s e a b) → (q : IsBorderPart s f c d)
-    → s.unit_of (s.dock e p.at_source).node ≡ s.unit_of (s.dock f q.at_source).node → Share a b c d → CommonDock s e f
+    → s.unit_of (s.dock e p.at_source).node ≡ s.unit_of (s.dock f q.at_source).node → Share a b c d → DocksShare (s.dock e) (s.dock f)
 borders_share s e f a b c d st n p q same m =
     let ds = st.ends e p.at_source p.edge_in in
     let ks = st.ends f q.at_source q.edge_in in
@@ -104,7 +107,7 @@ borders_share s e f a b c d st n p q same m =
     over y h z k l = omega (arith, ints)
 
 -- two pieces in units: in different ones they share nothing
-in_units : (s : Stage) (e f u v : ℕ) (a b c d : Point) → Stands s → InUnit s u a b → InUnit s v c d → (u ≡ v → CommonDock s e f) → Share a b c d → CommonDock s e f
+in_units : (s : Stage) (e f u v : ℕ) (a b c d : Point) → Stands s → InUnit s u a b → InUnit s v c d → (u ≡ v → DocksShare (s.dock e) (s.dock f)) → Share a b c d → DocksShare (s.dock e) (s.dock f)
 in_units s e f u v a b c d st x y h m =
     elim (cases_eq u v) [
       | inl same ↦ h same
@@ -112,7 +115,7 @@ in_units s e f u v a b c d st x y h m =
     ]
 
 -- two pieces of routes of different edges share something only where the edges share a dock
-pub parts_share : (s : Stage) (e f : ℕ) (a b c d : Point) → Stands s → e ≢ f → IsPart s e a b → IsPart s f c d → Share a b c d → CommonDock s e f
+pub parts_share : (s : Stage) (e f : ℕ) (a b c d : Point) → Stands s → e ≢ f → IsPart s e a b → IsPart s f c d → Share a b c d → DocksShare (s.dock e) (s.dock f)
 parts_share s e f a b c d st n (stub p) (stub q) m =
     in_units s e f _ _ a b c d st (stub_in s e a b st p) (stub_in s f c d st q) (λ h. stubs_share s e f a b c d st p q h m) m
 parts_share s e f a b c d st n (stub p) (lane_part q) m = absurd (no_cross a b c d (p.a_x ∙ sym p.b_x) (q.a_y ∙ sym q.b_y) m)
@@ -163,8 +166,9 @@ pick P (a ∷ b ∷ ps) y =
     (λ z. let w = pick P (b ∷ ps) z in (w.0, w.1, w.2, inr w.3))
     y
 
-pub sharing_law : (s : Stage) (e f : ℕ) (ps qs : List Point) → Stands s → IsLawful s e ps → IsLawful s f qs → e ≢ f → RoutesShare ps qs → CommonDock s e f
-sharing_law s e f ps qs st x y n m =
+segments_share : (s : Stage) (e f : ℕ) (ps qs : List Point) → Stands s → IsLawful s e ps → IsLawful s f qs → e ≢ f → SomeSegment (λ a b. SomeSegment (λ c d. Share a b c d) qs) ps
+    → DocksShare (s.dock e) (s.dock f)
+segments_share s e f ps qs st x y n m =
     let on_second : SomeSegment (Met (IsPart s f)) ps =
     some_map (λ a b. SomeSegment (λ c d. Share a b c d) qs) (Met (IsPart s f)) ps
     (λ a b k.
@@ -176,3 +180,8 @@ sharing_law s e f ps qs st x y n m =
     let found = pick (IsPart s f) ps on_second in
     together (IsPart s e) (λ a b. Share a b found.0 found.1) x.fine (λ a b u v. parts_share s e f a b found.0 found.1 st n u found.2 v) x.parts
     (some_all (λ a b. Share a b found.0 found.1) x.fine ps (shares_split found.0 found.1) x.tidied.dropped found.3)
+
+pub sharing_law : (s : Stage) (e f : ℕ) (ps qs : List Point) → Stands s → IsLawful s e ps → IsLawful s f qs → e ≢ f → PathsShare ps qs → DocksShare (s.dock e) (s.dock f)
+sharing_law s e f ps qs st x y n m =
+    segments_share s e f ps qs st x y n
+    (some_at (λ a b. SomeSegment (λ c d. Share a b c d) qs) ps m.i m.i_in (some_at (λ c d. Share (point_in ps m.i) (point_in ps (m.i + 1)) c d) qs m.j m.j_in m.piece))

@@ -4,11 +4,14 @@ use Rattle.elk_doc.specs.declared.shape.Point.{Point}
 use Rattle.elk_doc.specs.declared.shape.Side.{Side}
 use Rattle.elk_doc.specs.declared.shape.Side.TheVariants.{North, East, South, West}
 use Rattle.elk_doc.specs.Shapes.{right_of, bottom_of}
-use Rattle.elk_doc.specs.Segments.{IsBetween, Share, MeetsRect, EntersRect}
+use Rattle.elk_doc.specs.Segments.{IsBetween}
+use Rattle.elk_doc.specs.Route.{IsOrthogonal}
+use Rattle.elk_doc.specs.Clear.{IsClear}
+use Rattle.elk_doc.specs.Sharing.{DocksShare, PathsShare}
 use Rattle.route_slots.specs.Pieces.{Corner, corners, net_at, route_at, IsPieceOf, IsStraightPiece, IsAbscissa}
 use Rattle.route_lines.specs.Points.{gap_in as gap_at, stand, point_at}
-use Rattle.route_lines.specs.Tidied.{StartsAt, EndsAt, IsTidied, SomeSegment, EachSegment, Heading, up, down, left, right, opposite, Runs, RunsSquare}
-use Rattle.level_plan.specs.Stage.{Stage, Line, anchor_line, InUse, CommonDock, unit_of_line, IsLane, ChildStands, Stands}
+use Rattle.route_lines.specs.Tidied.{StartsAt, EndsAt, IsTidied, EachSegment, Heading, up, down, left, right, opposite, Runs}
+use Rattle.level_plan.specs.Stage.{Stage, Line, anchor_line, InUse, unit_of_line, IsLane, ChildStands, Stands}
 
 abbrev pub IsNorthOrSouth : Side → Type 0
 IsNorthOrSouth side = (side ≡ North) ⊎ (side ≡ South)
@@ -104,30 +107,23 @@ pub record IsLawful (s : Stage) (e : ℕ) (points : List Point) : Type 0 where
   pub ends : EndsAt (s.anchor e false) fine
   pub runs : (IsPointLoop s e → ⊥) → Runs (outward (s.dock e true).side) (opposite (outward (s.dock e false).side)) fine
 
--- some segment of the one route shares a piece with some segment of the other
-abbrev pub RoutesShare : List Point → List Point → Type 0
-RoutesShare ps qs = SomeSegment (λ a b. SomeSegment (λ c d. Share a b c d) qs) ps
-
 -- routes share a piece only where their edges share a dock
 abbrev pub SharingLaw : Type 0
 SharingLaw =
     (s : Stage) (e f : ℕ) (ps qs : List Point) → Stands s → IsLawful s e ps → IsLawful s f qs
-    → e ≢ f → RoutesShare ps qs → CommonDock s e f
+    → e ≢ f → PathsShare ps qs → DocksShare (s.dock e) (s.dock f)
 
--- a route keeps out of the outlines of foreign children, and out of the boxes of all
-pub record KeepsClear (s : Stage) (e : ℕ) (points : List Point) (c : ℕ) : Type 0 where
-  pub foreign : ((at_source : Bool) → (s.dock e at_source).node ≢ c) → SomeSegment (λ a b. MeetsRect a b (s.outline c)) points → ⊥
-  pub own : SomeSegment (λ a b. EntersRect a b (s.box c)) points → ⊥
-
+-- routes keep clear of children
 abbrev pub ClearLaw : Type 0
-ClearLaw = (s : Stage) (e c : ℕ) (ps : List Point) → Stands s → IsLawful s e ps → ChildStands s c → KeepsClear s e ps c
+ClearLaw =
+    (s : Stage) (e c : ℕ) (ps : List Point) → Stands s → IsLawful s e ps → ChildStands s c
+    → IsClear ps (s.dock e true).node (s.dock e false).node c (s.outline c) (s.box c)
 
--- A route leads from the source's anchor to the target's. But for a self-loop at one dock it goes by right angles, outward
--- from its source, and to its target from without.
+-- A route leads from the source's anchor to the target's. But for a self-loop at one dock it is orthogonal.
 pub record IsRouted (s : Stage) (e : ℕ) (points : List Point) : Type 0 where
   pub starts : StartsAt (s.anchor e true) points
   pub ends : EndsAt (s.anchor e false) points
-  pub square : (IsPointLoop s e → ⊥) → RunsSquare (outward (s.dock e true).side) (opposite (outward (s.dock e false).side)) points
+  pub orthogonal : (IsPointLoop s e → ⊥) → IsOrthogonal points (s.dock e true).side (s.dock e false).side
 
 abbrev pub RouteLaw : Type 0
 RouteLaw = (s : Stage) (e : ℕ) (ps : List Point) → IsLawful s e ps → IsRouted s e ps

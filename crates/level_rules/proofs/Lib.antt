@@ -1,4 +1,3 @@
-pub mod Paths
 pub mod PointLoops
 pub mod Keeping
 pub mod Ways

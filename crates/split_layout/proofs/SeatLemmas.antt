@@ -9,6 +9,7 @@ use Rattle.elk_doc.specs.declared.drawing.Certificate.{Certificate}
 use Rattle.elk_doc.specs.declared.drawing.Section.{Section}
 use Rattle.elk_doc.specs.declared.shape.Point.{Point}
 use Rattle.elk_doc.specs.Document.{origin}
+use Rattle.elk_doc.specs.Drawing.{points_of}
 use Rattle.elk_doc.specs.Sound.{IsDistance}
 use Rattle.box_pack.specs.declared.packing.Rows.{Rows}
 use Rattle.box_pack.specs.Packed.{AreRows}
@@ -30,7 +31,7 @@ use Rattle.level_plan.specs.declared.level.LevelIn.{LevelIn}
 use Rattle.level_plan.specs.Conditions.{IsLevel, plain_level}
 use Rattle.level_plan.specs.FromPlan.{LevelDrawing, IsDrawnFrom, point_or, section_at}
 use Rattle.level_plan.specs.Level.{PlainLevel, child_at, holds}
-use Rattle.level_rules.specs.Routes.{points_of, route_count, route_point}
+use Rattle.level_rules.specs.Routes.{route_count, route_point}
 use Rattle.level_stands.specs.Apart.{drawn_outline}
 use Rattle.level_stands.proofs.Lists.{below_has, has_at}
 use Rattle.part_layers.specs.Divided.{place_of}

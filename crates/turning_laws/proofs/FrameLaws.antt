@@ -12,19 +12,16 @@ use Rattle.elk_doc.specs.declared.document.Padding.{Padding}
 use Rattle.elk_doc.specs.declared.document.LevelOptions.{LevelOptions}
 use Rattle.elk_doc.specs.declared.drawing.Placed.{Placed}
 use Rattle.elk_doc.specs.Document.{Document}
-use Rattle.elk_doc.specs.Drawing.{box_of, point_at, point_count}
+use Rattle.elk_doc.specs.Drawing.{box_of}
 use Rattle.elk_doc.specs.Shapes.{turned}
 use Rattle.elk_doc.specs.Segments.{IsBetween, IsOnSegment, Share}
-use Rattle.elk_doc.specs.Sides.{side_of_end}
 use Rattle.elk_doc.specs.Places.{outline_of, offset_on}
 use Rattle.elk_doc.specs.Apart.{StandsClear}
 use Rattle.elk_doc.specs.Inside.{Inside, IsWithinPadding}
-use Rattle.elk_doc.specs.Route.{IsOrthogonal}
-use Rattle.elk_doc.specs.Clear.{Clear}
-use Rattle.elk_doc.specs.Sharing.{RoutesShare}
 use Rattle.elk_doc.proofs.ShapeLaws.{same_rect}
+use Rattle.elk_doc.proofs.PathLemmas.{orthogonal_there, orthogonal_back, clear_there, clear_back, share_there, share_back}
 use Rattle.turning_laws.specs.Turning.{turned_point, turned_side}
-use Rattle.turning_laws.specs.Frames.{TurnsBack, DocksTurn, DrawnRoutesTurn, DistancesTurn, IsOrthogonalIn, ClearIn, RoutesShareIn, InsideIn, point_back, rect_back, side_back, turned_offset, turned_dock, turned_padding, turned_within}
+use Rattle.turning_laws.specs.Frames.{TurnsBack, DocksTurn, PathsTurn, DistancesTurn, InsideIn, point_back, rect_back, side_back, turned_offset, turned_dock, turned_padding, turned_within}
 use Rattle.turning_laws.proofs.TurningLaws.{sides, routes, boxes}
 
 -- ---- the way back
@@ -167,8 +164,8 @@ on_segment Up a b q = (
 point_injective : (way : Direction) (p q : Point) → turned_point way p ≡ turned_point way q → p ≡ q
 point_injective way p q e = sym (point_there_and_back way p) ∙ ap (point_back way) e ∙ point_there_and_back way q
 
-share_there : (way : Direction) (a b c e : Point) → Share a b c e → Share (turned_point way a) (turned_point way b) (turned_point way c) (turned_point way e)
-share_there way a b c e s =
+share_turned : (way : Direction) (a b c e : Point) → Share a b c e → Share (turned_point way a) (turned_point way b) (turned_point way c) (turned_point way e)
+share_turned way a b c e s =
     record {
       one = turned_point way s.one;
       other = turned_point way s.other;
@@ -183,8 +180,8 @@ on_segment_back : (way : Direction) (a b q : Point) → IsOnSegment (turned_poin
 on_segment_back way a b q h =
     (on_segment way a b (point_back way q)).1 (subst (IsOnSegment (turned_point way a) (turned_point way b)) (sym (point_back_and_there way q)) h)
 
-share_back : (way : Direction) (a b c e : Point) → Share (turned_point way a) (turned_point way b) (turned_point way c) (turned_point way e) → Share a b c e
-share_back way a b c e s =
+share_unturned : (way : Direction) (a b c e : Point) → Share (turned_point way a) (turned_point way b) (turned_point way c) (turned_point way e) → Share a b c e
+share_unturned way a b c e s =
     record {
       one = point_back way s.one;
       other = point_back way s.other;
@@ -195,53 +192,22 @@ share_back way a b c e s =
       other_on_second = on_segment_back way c e s.other s.other_on_second;
     }
 
-orthogonal : (way : Direction) (d : Document) (p : Placed) (e : ℕ) → IsOrthogonal d p e ↔ IsOrthogonalIn way d p e
-orthogonal way d p e = (
-  λ h.
-      record {
-        steps = λ i k. (routes.step way _ _).0 (h.steps i k);
-        turns = λ i k. (routes.turn way _ _ _).0 (h.turns i k);
-        source_outward = (sides.outward way _ _ _).0 h.source_outward;
-        target_outward = (sides.outward way _ _ _).0 h.target_outward;
-      },
-  λ h.
-      record {
-        steps = λ i k. (routes.step way (point_at p e i) (point_at p e (i + 1))).1 (h.steps i k);
-        turns = λ i k. (routes.turn way (point_at p e i) (point_at p e (i + 1)) (point_at p e (i + 2))).1 (h.turns i k);
-        source_outward = (sides.outward way (side_of_end d p e true) (point_at p e 0) (point_at p e 1)).1 h.source_outward;
-        target_outward = (sides.outward way (side_of_end d p e false) (point_at p e (point_count p e - 1)) (point_at p e (point_count p e - 2))).1 h.target_outward;
-      },
-)
-
-clear : (way : Direction) (d : Document) (p : Placed) (e c : ℕ) → Clear d p e c ↔ ClearIn way d p e c
-clear way d p e c = (
-  λ h.
-      record {
-        foreign = λ s t i k m. h.foreign s t i k ((boxes.meets way (point_at p e i) (point_at p e (i + 1)) (outline_of d p c)).1 m);
-        own = λ s i k m. h.own s i k ((boxes.enters way (point_at p e i) (point_at p e (i + 1)) (box_of p c)).1 m);
-      },
-  λ h.
-      record {
-        foreign = λ s t i k m. h.foreign s t i k ((boxes.meets way _ _ _).0 m);
-        own = λ s i k m. h.own s i k ((boxes.enters way _ _ _).0 m);
-      },
-)
-
-sharing : (way : Direction) (p : Placed) (e f : ℕ) → RoutesShare p e f ↔ RoutesShareIn way p e f
-sharing way p e f = (
-  λ h. record { i = h.i; j = h.j; i_in = h.i_in; j_in = h.j_in; piece = share_there way _ _ _ _ h.piece },
-  λ h.
-      record {
-        i = h.i;
-        j = h.j;
-        i_in = h.i_in;
-        j_in = h.j_in;
-        piece = share_back way (point_at p e h.i) (point_at p e (h.i + 1)) (point_at p f h.j) (point_at p f (h.j + 1)) h.piece;
-      },
-)
-
-pub drawn_routes : DrawnRoutesTurn
-drawn_routes = record { orthogonal = orthogonal; clear = clear; on_segment = on_segment; sharing = sharing }
+pub paths : PathsTurn
+paths =
+    record {
+      orthogonal = λ way path s t some. (
+        orthogonal_there (turned_point way) path s t (turned_side way s) (turned_side way t) (λ a b. (routes.step way a b).0) (λ a b c. (routes.turn way a b c).0) (λ a b. (sides.outward way s a b).0)
+            (λ a b. (sides.outward way t a b).0) some,
+        orthogonal_back (turned_point way) path s t (turned_side way s) (turned_side way t) (λ a b. (routes.step way a b).1) (λ a b c. (routes.turn way a b c).1) (λ a b. (sides.outward way s a b).1)
+            (λ a b. (sides.outward way t a b).1) some,
+      );
+      clear = λ way path s t c outline box. (
+        clear_there (turned_point way) path (turned way) s t c outline box (λ a b r. (boxes.meets way a b r).1) (λ a b r. (boxes.enters way a b r).1),
+        clear_back (turned_point way) path (turned way) s t c outline box (λ a b r. (boxes.meets way a b r).0) (λ a b r. (boxes.enters way a b r).0),
+      );
+      on_segment = on_segment;
+      sharing = λ way path other. (share_there (turned_point way) path other (share_turned way), share_back (turned_point way) path other (share_unturned way));
+    }
 
 -- ---- distances
 

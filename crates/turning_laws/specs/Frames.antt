@@ -1,5 +1,5 @@
 -- The definitions of a good drawing, said in the frame of a direction.
-use Rattle.std.specs.Prelude.{◌≡◌, ◌≢◌, ◌↔◌, ◌⊎◌, ℕ, ◌+◌, ◌-◌, ◌<◌, ℤ, ◌-ℤ◌, neg_ℤ, true, false}
+use Rattle.std.specs.Prelude.{◌≡◌, ◌↔◌, ◌⊎◌, ℕ, ◌≤◌, List, map, length, ℤ, ◌-ℤ◌, neg_ℤ}
 use Rattle.elk_doc.specs.declared.shape.Point.{Point}
 use Rattle.elk_doc.specs.declared.shape.Rect.{Rect}
 use Rattle.elk_doc.specs.declared.shape.Side.{Side}
@@ -11,18 +11,16 @@ use Rattle.elk_doc.specs.declared.document.Padding.{Padding}
 use Rattle.elk_doc.specs.declared.document.LevelOptions.{LevelOptions}
 use Rattle.elk_doc.specs.declared.drawing.Placed.{Placed}
 use Rattle.elk_doc.specs.Document.{Document}
-use Rattle.elk_doc.specs.Level.{source_node, target_node}
-use Rattle.elk_doc.specs.Drawing.{box_of, point_at, point_count}
+use Rattle.elk_doc.specs.Drawing.{box_of}
 use Rattle.elk_doc.specs.Shapes.{turned, right_of, bottom_of}
-use Rattle.elk_doc.specs.Segments.{IsOnSegment, MeetsRect, EntersRect, Share}
-use Rattle.elk_doc.specs.Sides.{side_of_end}
+use Rattle.elk_doc.specs.Segments.{IsOnSegment}
 use Rattle.elk_doc.specs.Places.{outline_of, offset_on}
 use Rattle.elk_doc.specs.Content.{EachShape}
 use Rattle.elk_doc.specs.Apart.{BoxesApart, StandsClear}
 use Rattle.elk_doc.specs.Inside.{Inside, IsWithinPadding}
-use Rattle.elk_doc.specs.Route.{IsOrthogonal, IsStep, IsTurn, LeavesOutward}
-use Rattle.elk_doc.specs.Clear.{Clear}
-use Rattle.elk_doc.specs.Sharing.{RoutesShare}
+use Rattle.elk_doc.specs.Route.{IsOrthogonal}
+use Rattle.elk_doc.specs.Clear.{IsClear}
+use Rattle.elk_doc.specs.Sharing.{PathsShare}
 use Rattle.turning_laws.specs.Turning.{turned_point, turned_side}
 
 -- ---- the way back from the frame of a direction
@@ -73,36 +71,15 @@ pub record DocksTurn : Type 0 where
 
 -- ---- Route, Clear and Sharing
 
--- a point of a route, in the frame
-abbrev pub point_in : Direction → Placed → ℕ → ℕ → Point
-point_in way p e i = turned_point way (point_at p e i)
-
--- the route of e is orthogonal in the frame
-pub record IsOrthogonalIn (way : Direction) (d : Document) (p : Placed) (e : ℕ) : Type 0 where
-  pub steps : (i : ℕ) → i + 1 < point_count p e → IsStep (point_in way p e i) (point_in way p e (i + 1))
-  pub turns : (i : ℕ) → i + 2 < point_count p e → IsTurn (point_in way p e i) (point_in way p e (i + 1)) (point_in way p e (i + 2))
-  pub source_outward : LeavesOutward (turned_side way (side_of_end d p e true)) (point_in way p e 0) (point_in way p e 1)
-  pub target_outward : LeavesOutward (turned_side way (side_of_end d p e false)) (point_in way p e (point_count p e - 1)) (point_in way p e (point_count p e - 2))
-
--- the route of e keeps clear of the child c in the frame
-pub record ClearIn (way : Direction) (d : Document) (p : Placed) (e c : ℕ) : Type 0 where
-  pub foreign : source_node d e ≢ c → target_node d e ≢ c → (i : ℕ) → i + 1 < point_count p e → MeetsRect (point_in way p e i) (point_in way p e (i + 1)) (turned way (outline_of d p c)) → ⊥
-  pub own : (source_node d e ≡ c) ⊎ (target_node d e ≡ c) → (i : ℕ) → i + 1 < point_count p e → EntersRect (point_in way p e i) (point_in way p e (i + 1)) (turned way (box_of p c)) → ⊥
-
--- the routes of e and f share a piece in the frame
-pub record RoutesShareIn (way : Direction) (p : Placed) (e f : ℕ) : Type 0 where
-  pub i : ℕ
-  pub j : ℕ
-  pub i_in : i + 1 < point_count p e
-  pub j_in : j + 1 < point_count p f
-  pub piece : Share (point_in way p e i) (point_in way p e (i + 1)) (point_in way p f j) (point_in way p f (j + 1))
-
--- routes are orthogonal, keep clear and share pieces in the one frame exactly where they do in the other
-pub record DrawnRoutesTurn : Type 0 where
-  pub orthogonal : (way : Direction) (d : Document) (p : Placed) (e : ℕ) → IsOrthogonal d p e ↔ IsOrthogonalIn way d p e
-  pub clear : (way : Direction) (d : Document) (p : Placed) (e c : ℕ) → Clear d p e c ↔ ClearIn way d p e c
+-- A path of two points or more is orthogonal, keeps clear of a child and shares a piece with another one in the frame exactly
+-- where it does.
+pub record PathsTurn : Type 0 where
+  pub orthogonal : (way : Direction) (path : List Point) (source target : Side) → 2 ≤ length path
+      → IsOrthogonal path source target ↔ IsOrthogonal (map (turned_point way) path) (turned_side way source) (turned_side way target)
+  pub clear : (way : Direction) (path : List Point) (source target c : ℕ) (outline box : Rect)
+      → IsClear path source target c outline box ↔ IsClear (map (turned_point way) path) source target c (turned way outline) (turned way box)
   pub on_segment : (way : Direction) (a b q : Point) → IsOnSegment a b q ↔ IsOnSegment (turned_point way a) (turned_point way b) (turned_point way q)
-  pub sharing : (way : Direction) (p : Placed) (e f : ℕ) → RoutesShare p e f ↔ RoutesShareIn way p e f
+  pub sharing : (way : Direction) (path other : List Point) → PathsShare path other ↔ PathsShare (map (turned_point way) path) (map (turned_point way) other)
 
 -- ---- Inside and Apart
 

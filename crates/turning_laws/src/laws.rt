@@ -1,5 +1,5 @@
 //! Laws of the frame of a direction, each as the contract of a function that does nothing.
-ghost use Rattle.turning_laws.specs.Frames.{DistancesTurn, DocksTurn, DrawnRoutesTurn, TurnsBack};
+ghost use Rattle.turning_laws.specs.Frames.{DistancesTurn, DocksTurn, PathsTurn, TurnsBack};
 ghost use Rattle.turning_laws.specs.Turning.{BoxesTurn, RoutesTurn, SidesTurn};
 
 /// A direction runs to the east in its frame, and ways that leave a side outward do so there.
@@ -27,9 +27,9 @@ pub fn docks_turn()
     ensures { DocksTurn }
 {}
 
-/// Whole routes are orthogonal, keep clear of children and share pieces in the frame of a direction exactly where they do.
-pub fn drawn_routes_turn()
-    ensures { DrawnRoutesTurn }
+/// Paths are orthogonal, keep clear of children and share pieces in the frame of a direction exactly where they do.
+pub fn paths_turn()
+    ensures { PathsTurn }
 {}
 
 /// Padding and the distances of boxes are kept in the frame of a direction exactly where they are.

@@ -4,5 +4,5 @@
 mod laws;
 
 pub use laws::{
-    boxes_turn, distances_turn, docks_turn, drawn_routes_turn, routes_turn, sides_turn, turns_back,
+    boxes_turn, distances_turn, docks_turn, paths_turn, routes_turn, sides_turn, turns_back,
 };

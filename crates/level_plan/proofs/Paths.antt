@@ -1,13 +1,13 @@
--- Segments of paths by number.
+-- Segments and turns of paths by number.
 use Rattle.std.proofs.Common.{◌≡◌, ◌≢◌, ◌⊎◌, ⊎_elim, inl, inr, ℕ, zero, suc, ◌+◌, ◌-◌, ◌<◌, ◌≤◌, List, [], ◌∷◌, length, arith, sym, subst}
 use Rattle.std.proofs.lemmas.Int.{ints}
 use Rattle.elk_doc.specs.declared.shape.Point.{Point}
 use Rattle.elk_doc.specs.declared.shape.Side.{Side}
 use Rattle.elk_doc.specs.declared.shape.Side.TheVariants.{North, East, South, West}
-use Rattle.elk_doc.specs.Route.{IsStep, IsTurn, LeavesOutward}
+use Rattle.elk_doc.specs.Drawing.{point_in}
+use Rattle.elk_doc.specs.Route.{IsStep, IsTurn, LeavesOutward, IsOrthogonal}
 use Rattle.route_lines.specs.Tidied.{SomeSegment, Heading, up, down, left, right, Goes, opposite, IsRightAngle, Bends, RunsSquare, DropsSome, Drops, equal, middle, later, none, more}
 use Rattle.level_plan.specs.Law.{outward}
-use Rattle.level_plan.specs.FromPlan.{point_or}
 
 -- places behind a first point
 more_one : (i : ℕ) → suc i + 1 ≡ suc (i + 1)
@@ -16,12 +16,12 @@ more_one i = omega arith
 more_two : (i : ℕ) → suc i + 2 ≡ suc (i + 2)
 more_two i = omega arith
 
-pub some_at : (Q : Point → Point → Type 0) (ps : List Point) (i : ℕ) → i + 1 < length ps → Q (point_or ps i) (point_or ps (i + 1)) → SomeSegment Q ps
+pub some_at : (Q : Point → Point → Type 0) (ps : List Point) (i : ℕ) → i + 1 < length ps → Q (point_in ps i) (point_in ps (i + 1)) → SomeSegment Q ps
 some_at Q [] i h q = absurd (omega (arith, h))
 some_at Q (a ∷ []) i h q = absurd (omega (arith, h))
 some_at Q (a ∷ b ∷ ps) zero h q = inl q
 some_at Q (a ∷ b ∷ ps) (suc i) h q =
-    inr (some_at Q (b ∷ ps) i (omega (arith, h)) (subst (λ j. Q (point_or (b ∷ ps) i) (point_or (a ∷ b ∷ ps) j)) (more_one i) q))
+    inr (some_at Q (b ∷ ps) i (omega (arith, h)) (subst (λ j. Q (point_in (b ∷ ps) i) (point_in (a ∷ b ∷ ps) j)) (more_one i) q))
 
 goes_step : (h : Heading) (a b : Point) → Goes h a b → IsStep a b
 goes_step up a b g = let w = g.1 in inl (g.0, λ e. omega (arith, ints, e, w))
@@ -88,36 +88,36 @@ right_turn h i a b c r g k =
 
 -- a path that goes on from a heading by right angles
 
-bends_steps : (h k : Heading) (ps : List Point) → Bends h k ps → (i : ℕ) → i + 1 < length ps → IsStep (point_or ps i) (point_or ps (i + 1))
+bends_steps : (h k : Heading) (ps : List Point) → Bends h k ps → (i : ℕ) → i + 1 < length ps → IsStep (point_in ps i) (point_in ps (i + 1))
 bends_steps h k [] b i lt = absurd b
 bends_steps h k (a ∷ []) b i lt = absurd (omega (arith, lt))
 bends_steps h k (a ∷ c ∷ ps) b zero lt = goes_step b.0 a c b.2
 bends_steps h k (a ∷ c ∷ ps) b (suc i) lt =
-    subst (λ j. IsStep (point_or (c ∷ ps) i) (point_or (a ∷ c ∷ ps) j)) (sym (more_one i)) (bends_steps b.0 k (c ∷ ps) b.3 i (omega (arith, lt)))
+    subst (λ j. IsStep (point_in (c ∷ ps) i) (point_in (a ∷ c ∷ ps) j)) (sym (more_one i)) (bends_steps b.0 k (c ∷ ps) b.3 i (omega (arith, lt)))
 
 bends_turns : (h k : Heading) (z : Point) (a : Point) (ps : List Point) → Goes h z a → Bends h k (a ∷ ps) → (i : ℕ) → i + 2 < length (z ∷ a ∷ ps)
-    → IsTurn (point_or (z ∷ a ∷ ps) i) (point_or (z ∷ a ∷ ps) (i + 1)) (point_or (z ∷ a ∷ ps) (i + 2))
+    → IsTurn (point_in (z ∷ a ∷ ps) i) (point_in (z ∷ a ∷ ps) (i + 1)) (point_in (z ∷ a ∷ ps) (i + 2))
 bends_turns h k z a [] g b i lt = absurd (omega (arith, lt))
 bends_turns h k z a (c ∷ ps) g b zero lt = right_turn h b.0 z a c b.1 g b.2
 bends_turns h k z a (c ∷ ps) g b (suc i) lt =
-    subst (λ j. IsTurn (point_or (a ∷ c ∷ ps) i) (point_or (z ∷ a ∷ c ∷ ps) j) (point_or (z ∷ a ∷ c ∷ ps) (suc i + 2))) (sym (more_one i))
-    (subst (λ j. IsTurn (point_or (a ∷ c ∷ ps) i) (point_or (a ∷ c ∷ ps) (i + 1)) (point_or (z ∷ a ∷ c ∷ ps) j)) (sym (more_two i))
+    subst (λ j. IsTurn (point_in (a ∷ c ∷ ps) i) (point_in (z ∷ a ∷ c ∷ ps) j) (point_in (z ∷ a ∷ c ∷ ps) (suc i + 2))) (sym (more_one i))
+    (subst (λ j. IsTurn (point_in (a ∷ c ∷ ps) i) (point_in (a ∷ c ∷ ps) (i + 1)) (point_in (z ∷ a ∷ c ∷ ps) j)) (sym (more_two i))
     (bends_turns b.0 k a c ps b.2 b.3 i (omega (arith, lt))))
 
 last_goes : (h k : Heading) (a b : Point) (ps : List Point) → Goes h a b → Bends h k (b ∷ ps)
-    → Goes k (point_or (a ∷ b ∷ ps) (length ps)) (point_or (a ∷ b ∷ ps) (length ps + 1))
+    → Goes k (point_in (a ∷ b ∷ ps) (length ps)) (point_in (a ∷ b ∷ ps) (length ps + 1))
 last_goes h k a b [] g bends = subst (λ z. Goes z a b) bends g
 last_goes h k a b (c ∷ ps) g bends =
-    subst (λ j. Goes k (point_or (b ∷ c ∷ ps) (length ps)) (point_or (a ∷ b ∷ c ∷ ps) j)) (sym (more_one (length ps))) (last_goes bends.0 k b c ps bends.2 bends.3)
+    subst (λ j. Goes k (point_in (b ∷ c ∷ ps) (length ps)) (point_in (a ∷ b ∷ c ∷ ps) j)) (sym (more_one (length ps))) (last_goes bends.0 k b c ps bends.2 bends.3)
 
-pub square_steps : (h k : Heading) (ps : List Point) → RunsSquare h k ps → (i : ℕ) → i + 1 < length ps → IsStep (point_or ps i) (point_or ps (i + 1))
+square_steps : (h k : Heading) (ps : List Point) → RunsSquare h k ps → (i : ℕ) → i + 1 < length ps → IsStep (point_in ps i) (point_in ps (i + 1))
 square_steps h k [] r i lt = absurd r
 square_steps h k (a ∷ []) r i lt = absurd r
 square_steps h k (a ∷ b ∷ ps) r zero lt = goes_step h a b r.0
 square_steps h k (a ∷ b ∷ ps) r (suc i) lt =
-    subst (λ j. IsStep (point_or (b ∷ ps) i) (point_or (a ∷ b ∷ ps) j)) (sym (more_one i)) (bends_steps h k (b ∷ ps) r.1 i (omega (arith, lt)))
+    subst (λ j. IsStep (point_in (b ∷ ps) i) (point_in (a ∷ b ∷ ps) j)) (sym (more_one i)) (bends_steps h k (b ∷ ps) r.1 i (omega (arith, lt)))
 
-pub square_turns : (h k : Heading) (ps : List Point) → RunsSquare h k ps → (i : ℕ) → i + 2 < length ps → IsTurn (point_or ps i) (point_or ps (i + 1)) (point_or ps (i + 2))
+square_turns : (h k : Heading) (ps : List Point) → RunsSquare h k ps → (i : ℕ) → i + 2 < length ps → IsTurn (point_in ps i) (point_in ps (i + 1)) (point_in ps (i + 2))
 square_turns h k [] r i lt = absurd r
 square_turns h k (a ∷ []) r i lt = absurd r
 square_turns h k (a ∷ b ∷ ps) r i lt = bends_turns h k a b ps r.0 r.1 i lt
@@ -134,21 +134,30 @@ comes_back East a b g = (sym g.0, g.1)
 comes_back South a b g = (sym g.0, g.1)
 comes_back West a b g = (sym g.0, g.1)
 
-pub square_leaves : (side : Side) (k : Heading) (ps : List Point) → RunsSquare (outward side) k ps → LeavesOutward side (point_or ps 0) (point_or ps 1)
+square_leaves : (side : Side) (k : Heading) (ps : List Point) → RunsSquare (outward side) k ps → LeavesOutward side (point_in ps 0) (point_in ps 1)
 square_leaves side k [] r = absurd r
 square_leaves side k (a ∷ []) r = absurd r
 square_leaves side k (a ∷ b ∷ ps) r = leaves side a b r.0
 
-pub square_comes : (h : Heading) (side : Side) (ps : List Point) → RunsSquare h (opposite (outward side)) ps
-    → LeavesOutward side (point_or ps (length ps - 1)) (point_or ps (length ps - 2))
+square_comes : (h : Heading) (side : Side) (ps : List Point) → RunsSquare h (opposite (outward side)) ps
+    → LeavesOutward side (point_in ps (length ps - 1)) (point_in ps (length ps - 2))
 square_comes h side [] r = absurd r
 square_comes h side (a ∷ []) r = absurd r
 square_comes h side (a ∷ b ∷ ps) r =
     let last : length (a ∷ b ∷ ps) - 1 ≡ length ps + 1 = omega arith in
     let before : length (a ∷ b ∷ ps) - 2 ≡ length ps = omega arith in
-    subst (λ j. LeavesOutward side (point_or (a ∷ b ∷ ps) j) (point_or (a ∷ b ∷ ps) (length (a ∷ b ∷ ps) - 2))) (sym last)
-    (subst (λ j. LeavesOutward side (point_or (a ∷ b ∷ ps) (length ps + 1)) (point_or (a ∷ b ∷ ps) j)) (sym before)
-    (comes_back side (point_or (a ∷ b ∷ ps) (length ps)) (point_or (a ∷ b ∷ ps) (length ps + 1)) (last_goes h (opposite (outward side)) a b ps r.0 r.1)))
+    subst (λ j. LeavesOutward side (point_in (a ∷ b ∷ ps) j) (point_in (a ∷ b ∷ ps) (length (a ∷ b ∷ ps) - 2))) (sym last)
+    (subst (λ j. LeavesOutward side (point_in (a ∷ b ∷ ps) (length ps + 1)) (point_in (a ∷ b ∷ ps) j)) (sym before)
+    (comes_back side (point_in (a ∷ b ∷ ps) (length ps)) (point_in (a ∷ b ∷ ps) (length ps + 1)) (last_goes h (opposite (outward side)) a b ps r.0 r.1)))
+
+pub square_orthogonal : (source target : Side) (ps : List Point) → RunsSquare (outward source) (opposite (outward target)) ps → IsOrthogonal ps source target
+square_orthogonal source target ps r =
+    record {
+      steps = square_steps (outward source) (opposite (outward target)) ps r;
+      turns = square_turns (outward source) (opposite (outward target)) ps r;
+      source_outward = square_leaves source (opposite (outward target)) ps r;
+      target_outward = square_comes (outward source) target ps r;
+    }
 
 -- dropping leaves no more points
 
