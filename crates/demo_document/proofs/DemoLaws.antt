@@ -14,7 +14,9 @@ use Rattle.elk_doc.specs.declared.document.End.TheVariants.{Node as AtNode}
 use Rattle.elk_doc.specs.Document.{node_at, edge_at, parent_of, no_node, no_edge}
 use Rattle.elk_doc.specs.Level.{node_of_end, source_node, target_node}
 use Rattle.elk_doc.specs.Sound.{IsSound, IsSoundLevel, IsSoundNode, IsSoundEdge, IsEndIn, HasParent, ancestor}
-use Rattle.demo_document.specs.Demo.{demo_document, demo_leaf, half_edge, half_edges, triple_edge, triple_edges, triple_weight, default_options, edge_count, IsCounted, IsPlainLevel, LeadsOn}
+use Rattle.elk_doc.specs.declared.document.Direction.TheVariants.{Right}
+use Rattle.elk_doc.specs.Defaults.{default_options}
+use Rattle.demo_document.specs.Demo.{demo_document, demo_leaf, half_edge, half_edges, triple_edge, triple_edges, triple_weight, edge_count, IsCounted, IsPlainLevel, LeadsOn}
 
 -- ---- nodes and edges by number
 
@@ -58,7 +60,7 @@ parent_zero n (suc i) =
     (cases_lt i n)
 
 -- a level stands at the root alone
-level_at : (n m : ℕ) (o : LevelOptions) → (node_at (demo_document n) m).level ≡ Some o → (m ≡ 0) × (default_options ≡ o)
+level_at : (n m : ℕ) (o : LevelOptions) → (node_at (demo_document n) m).level ≡ Some o → (m ≡ 0) × (default_options Right ≡ o)
 level_at n zero o e = (refl, cc)
 level_at n (suc i) o e =
     ⊎_elim
@@ -83,7 +85,7 @@ has_parent n (suc i) above h =
       before = rw (parent_zero n (suc i)) (omega arith);
     }
 
-sound_options : (n m : ℕ) → IsSoundLevel (demo_document n) m default_options
+sound_options : (n m : ℕ) → IsSoundLevel (demo_document n) m (default_options Right)
 sound_options n m =
     record {
       spacing = omega (arith, ints);

@@ -4,31 +4,16 @@ use Rattle.std.specs.List.{range_with_len}
 use Rattle.elk_doc.specs.declared.document.Id.TheVariants.{Whole}
 use Rattle.elk_doc.specs.declared.document.PortRule.TheVariants.{Free}
 use Rattle.elk_doc.specs.declared.document.Direction.TheVariants.{Right}
-use Rattle.elk_doc.specs.declared.document.Placing.TheVariants.{BrandesKoepf}
-use Rattle.elk_doc.specs.declared.document.LevelOptions.{LevelOptions}
 use Rattle.elk_doc.specs.declared.document.Node.{Node}
 use Rattle.elk_doc.specs.declared.document.Edge.{Edge}
 use Rattle.elk_doc.specs.declared.document.End.TheVariants.{Node as AtNode}
+use Rattle.elk_doc.specs.Defaults.{default_options}
 use Rattle.elk_doc.specs.Document.{Document, no_size}
 use Rattle.elk_doc.specs.Level.{level_of_edge, source_node, target_node}
 
--- the options of a level that asks for none
-abbrev pub default_options : LevelOptions
-default_options =
-    record {
-      direction = Right;
-      spacing = record { node_node = pos 20; edge_node = pos 10; edge_edge = pos 10; node_layers = pos 20; edge_node_layers = pos 10; edge_edge_layers = pos 10 };
-      padding = record { top = pos 12; left = pos 12; bottom = pos 12; right = pos 12 };
-      fixed = None;
-      split = false;
-      component = pos 20;
-      placing = BrandesKoepf;
-      boxes = false;
-    }
-
 -- the root, which has no id
 abbrev pub demo_root : Node
-demo_root = record { id = None; parent = None; size = no_size; rule = Free; level = Some default_options }
+demo_root = record { id = None; parent = None; size = no_size; rule = Free; level = Some (default_options Right) }
 
 -- the leaf i, with its number as its id: 30 wide, and 20, 30, 40 or 50 high in turn
 abbrev pub demo_leaf : ℕ → Node

@@ -1,7 +1,6 @@
 //! The document, list by list.
 ghost use Rattle.std.specs.Prelude.{◌≡◌, ◌≤◌, ◌<◌, ◌++◌, IfOk, OnOk};
 ghost use Rattle.demo_document.specs.Demo.{
-  default_options,
   demo_document,
   demo_leaf,
   demo_nodes,
@@ -13,9 +12,7 @@ ghost use Rattle.demo_document.specs.Demo.{
 };
 
 use crate::counting::triple_weight;
-use elk_doc::document::{
-    Direction, Doc, Edge, End, Id, LevelOptions, Node, Padding, Placing, PortRule, Spacing,
-};
+use elk_doc::document::{Direction, Doc, Edge, End, Id, Node, PortRule, default_options};
 use elk_doc::shape::Size;
 use std::alloc::{AllocError, Global};
 
@@ -31,34 +28,6 @@ pub fn demo(alloc: Global, nodes: u32) -> Result<Doc, AllocError>
     Ok(Doc::new(list, Vec::new(alloc), edges))
 }
 
-// The default options of a level.
-fn plain_options() -> LevelOptions
-    ensures { result ≡ default_options }
-{
-    LevelOptions {
-        direction: Direction::Right,
-        spacing: Spacing {
-            node_node: 20,
-            edge_node: 10,
-            edge_edge: 10,
-            node_layers: 20,
-            edge_node_layers: 10,
-            edge_edge_layers: 10,
-        },
-        padding: Padding {
-            top: 12,
-            left: 12,
-            bottom: 12,
-            right: 12,
-        },
-        fixed: None,
-        split: false,
-        component: 20,
-        placing: Placing::BrandesKoepf,
-        boxes: false,
-    }
-}
-
 // The root, which has no id.
 fn root_node() -> Node
     ensures { result ≡ demo_root }
@@ -71,7 +40,7 @@ fn root_node() -> Node
             height: 0,
         },
         rule: PortRule::Free,
-        level: Some(plain_options()),
+        level: Some(default_options(Direction::Right)),
     }
 }
 

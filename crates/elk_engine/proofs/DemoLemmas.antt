@@ -18,7 +18,9 @@ use Rattle.elk_doc.specs.Reversed.{Reversed, UnlistedStep}
 use Rattle.elk_doc.specs.Layering.{IsLayering, span_of, written_layer}
 use Rattle.elk_doc.specs.Drawn.{Drawn}
 use Rattle.drawing_laws.proofs.DualityLaw.{flow_shows_least}
-use Rattle.demo_document.specs.Demo.{demo_document, default_options, edge_count, total_weight}
+use Rattle.elk_doc.specs.declared.document.Direction.TheVariants.{Right}
+use Rattle.elk_doc.specs.Defaults.{default_options}
+use Rattle.demo_document.specs.Demo.{demo_document, edge_count, total_weight}
 use Rattle.demo_document.proofs.DemoLaws.{demo_sound, edges_lead_on}
 use Rattle.elk_engine.specs.Demo.{no_drawing, demo_text, IsDemoLine, IsLeastSpan}
 
@@ -84,7 +86,7 @@ module _ (n : ℕ) where
   -- the span of a drawing is the least
   pub least_span : (p : Placed) (c : Certificate) → 1 ≤ n → n ≤ 1024 → certificate_of p 0 ≡ Some c → Drawn d p → IsLeastSpan d 0 c.span
   least_span p c some few has drawn =
-      let level = drawn.levels 0 default_options c (omega arith) refl has in
+      let level = drawn.levels 0 (default_options Right) c (omega arith) refl has in
       record {
         layer = written_layer d 0 c;
         layering = as_given p c has level.reversed (written_layer d 0 c) level.layering.layers;
@@ -94,7 +96,7 @@ module _ (n : ℕ) where
 
   pub demo_line : (p : Placed) (span : ℕ) (text : List ℕ) → 1 ≤ n → n ≤ 1024 → Drawn d p → IfSome (certificate_of p 0) (λ c. span ≡ c.span) → text ≡ demo_text n (edge_count n) (total_weight n) span → IsDemoLine n text
   demo_line p span text some few drawn read is =
-      let found = has_certificate d 0 default_options (certificate_of p 0) (drawn.fits.certificates 0 (omega arith)) in
+      let found = has_certificate d 0 (default_options Right) (certificate_of p 0) (drawn.fits.certificates 0 (omega arith)) in
       let same : span ≡ found.0.span = subst (λ (o : Option Certificate). IfSome o (λ c. span ≡ c.span)) found.1 read in
       record {
         span = span;

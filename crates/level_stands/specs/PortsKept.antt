@@ -1,13 +1,13 @@
 -- The ports and ends of a drawing obey the constraints of their children.
-use Rattle.std.specs.Prelude.{◌≡◌, ◌≢◌, ℕ, ◌<◌, not, ◌&&◌, Bool, ℤ, pos, ◌+ℤ◌, ◌≤ℤ◌, ◌<ℤ◌, None, length, IsTrue, IsFalse}
+use Rattle.std.specs.Prelude.{◌≡◌, ℕ, ◌<◌, not, Bool, ℤ, ◌+ℤ◌, ◌≤ℤ◌, None, length, IsTrue, IsFalse}
 use Rattle.std.specs.List.{filter}
 use Rattle.elk_doc.specs.declared.shape.Point.{Point}
 use Rattle.elk_doc.specs.declared.shape.Side.{Side}
 use Rattle.elk_doc.specs.declared.document.PortRule.TheVariants.{FixedOrder}
 use Rattle.elk_doc.specs.Document.{origin}
 use Rattle.elk_doc.specs.Shapes.{rect_at}
-use Rattle.elk_doc.specs.Sound.{IsWithin, along}
-use Rattle.elk_doc.specs.PortsKept.{size_along, across, flush, IsOnSide, Spot as Place, a_port, an_end}
+use Rattle.elk_doc.specs.Sound.{along}
+use Rattle.elk_doc.specs.PortsKept.{size_along, flush, IsPortKept, IsEndKept, StandApart, Spot as Place, a_port, an_end}
 use Rattle.elk_doc.specs.Places.{offset_on}
 use Rattle.port_order.specs.declared.children.Child.{Child}
 use Rattle.port_order.specs.Child.{port_at, is_pinned}
@@ -28,18 +28,15 @@ port_side l p c k = side_of (child_at l c) (port_spot l p c k)
 abbrev pub port_offset : Child → Side → ℕ → Point → ℤ
 port_offset c side k place = along side place +ℤ (port_at c k).half
 
--- A port at its place. A pinned one has its given place along its side, and at a leaf across it too; every other port stands
--- flush outside; the anchor of a port that is not pinned lies on its side.
-pub record KeepsPort (c : Child) (side : Side) (k : ℕ) (place : Point) : Type 0 where
-  pub along_kept : IsTrue (is_pinned c k) → along side place ≡ along side (port_at c k).place
-  pub across_kept : IsTrue (is_pinned c k && not c.compound) → across side place ≡ across side (port_at c k).place
-  pub flush_outside : IsFalse (is_pinned c k && not c.compound) → across side place ≡ flush side (rect_at origin c.size) (port_at c k).size
-  pub on_side : IsFalse (is_pinned c k) → IsWithin (pos 0) (size_along side c.size) (port_offset c side k place)
+-- a port of a child at its place on this side
+abbrev pub KeepsPort : Child → Side → ℕ → Point → Type 0
+KeepsPort c side k place =
+    IsPortKept (is_pinned c k) (not c.compound) side (size_along side c.size) (port_at c k).place place (flush side (rect_at origin c.size) (port_at c k).size) (port_offset c side k place)
 
--- an end without a port: its anchor lies on its side of the box
-pub record KeepsEnd (l : PlainLevel) (p : PlainPlan) (o : Orders) (d : LevelDrawing) (n : End) : Type 0 where
-  pub on_line : IsOnSide (dock_of l p o n).side (drawn_box l d (spoke l n).child) (anchor l p o d n)
-  pub on_side : IsWithin (pos 0) (size_along (dock_of l p o n).side (child_at l (spoke l n).child).size) (offset_on (dock_of l p o n).side (drawn_box l d (spoke l n).child) (anchor l p o d n))
+-- an end without a port, by its anchor
+abbrev pub KeepsEnd : PlainLevel → PlainPlan → Orders → LevelDrawing → End → Type 0
+KeepsEnd l p o d n =
+    IsEndKept (dock_of l p o n).side (size_along (dock_of l p o n).side (child_at l (spoke l n).child).size) (drawn_box l d (spoke l n).child) (anchor l p o d n)
 
 -- Under a fixed order a port that comes before another of its side, as clockwise runs in the document, does not stand further
 -- clockwise.
@@ -66,9 +63,7 @@ spread_count l p c side = length (filter (is_spread_on (child_at l c) side) (spo
 
 -- where a side is longer than the number of its spread spots, these have different offsets
 abbrev pub SpreadsApart : PlainLevel → PlainPlan → Orders → LevelDrawing → ℕ → Type 0
-SpreadsApart l p o d c =
-    (side : Side) (x y : Place) → pos (spread_count l p c side) <ℤ size_along side (child_at l c).size → IsSpreadAt l p o c side x → IsSpreadAt l p o c side y → x ≢ y
-    → drawn_offset l p o d c side x ≢ drawn_offset l p o d c side y
+SpreadsApart l p o d c = (side : Side) → StandApart (spread_count l p c side) (size_along side (child_at l c).size) (IsSpreadAt l p o c side) (drawn_offset l p o d c side)
 
 -- the ports of a child, and the ends at it, are kept
 pub record KeepsPorts (l : PlainLevel) (p : PlainPlan) (o : Orders) (d : LevelDrawing) (c : ℕ) : Type 0 where
