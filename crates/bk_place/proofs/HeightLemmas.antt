@@ -10,8 +10,8 @@ use Rattle.elk_layers.specs.declared.units.Unit.{Unit as LayerUnit}
 use Rattle.elk_layers.specs.Layered.{Plain, IsSound, unit_at, total_height}
 use Rattle.elk_layers.specs.Lines.{top_of, extent, extent_from, AreLeastLines, AreLines}
 use Rattle.elk_layers.specs.Alignment.{aligned}
-use Rattle.block_lines.specs.Constraints.{EndsWithinStack, AreLeast, greatest_spacing, stacked_height}
-use Rattle.block_lines.proofs.SumLemmas.{stacked_bound}
+use Rattle.row_blocks.specs.Constraints.{EndsWithinStack, AreLeast, greatest_spacing, stacked_height}
+use Rattle.row_blocks.proofs.SumLemmas.{stacked_bound}
 use Rattle.bk_place.specs.Placement.{rank_of, IsFirstAmong, IsFirstLowest}
 
 pub extent_from_zero : (units : List LayerUnit) (tops : List ℤ) → pos 0 ≤ℤ extent_from units tops

@@ -4,7 +4,7 @@ use Rattle.elk_doc.specs.declared.document.Sweep.{Sweep}
 use Rattle.elk_doc.specs.declared.document.Sweep.TheVariants.{LeftUp, LeftDown, RightUp, RightDown}
 use Rattle.elk_layers.specs.Layered.{Plain}
 use Rattle.elk_layers.specs.Lines.{AreLeastLines, extent}
-use Rattle.block_lines.specs.Constraints.{EndsWithinStack}
+use Rattle.row_blocks.specs.Constraints.{EndsWithinStack}
 
 -- the order in which sweeps of one height are preferred
 abbrev pub rank_of : Sweep → ℕ

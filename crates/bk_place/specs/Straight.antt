@@ -4,7 +4,7 @@ use Rattle.elk_doc.specs.declared.document.Sweep.{Sweep}
 use Rattle.elk_layers.specs.Layered.{Plain, IsSound, AreRows, link_at}
 use Rattle.elk_layers.specs.Alignment.{is_inner, aligned}
 use Rattle.elk_layers.specs.Lines.{IsLevel, AreLines}
-use Rattle.alignment.specs.Lanes.{HaveOneLink, LanesKeepOrder}
+use Rattle.row_alignment.specs.Lanes.{HaveOneLink, LanesKeepOrder}
 
 -- where no two links between lanes cross, the lines of a sweep make each of them level
 abbrev pub LanesAreLevel : Type 0

@@ -9,5 +9,5 @@ mod heights;
 pub mod laws;
 mod placing;
 
-pub use alignment::{Alignment, align};
 pub use placing::place;
+pub use row_alignment::{Alignment, align};

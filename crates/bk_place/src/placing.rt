@@ -2,15 +2,15 @@
 ghost use Rattle.std.specs.Prelude.{◌≡◌, ℕ, ◌+◌, List, IfOk};
 ghost use Rattle.elk_layers.specs.Layered.{plain, rows_of, IsSound, AreRows, Plain};
 ghost use Rattle.elk_layers.specs.Lines.{AreLeastLines};
-ghost use Rattle.alignment.specs.Choosing.{IsMarked};
-ghost use Rattle.block_lines.specs.Constraints.{EndsWithinStack};
+ghost use Rattle.row_alignment.specs.Choosing.{IsMarked};
+ghost use Rattle.row_blocks.specs.Constraints.{EndsWithinStack};
 ghost use Rattle.bk_place.specs.Placement.{AreLinesOf, IsFirstLowest, IsFirstAmong, rank_of};
 
 use crate::heights::extent;
-use alignment::{Marked, align_marked, marked_order};
-use block_lines::place_links;
 use elk_doc::document::Sweep;
 use elk_layers::{Layered, Lines, Order};
+use row_alignment::{Marked, align_marked, marked_order};
+use row_blocks::place_links;
 use std::alloc::{AllocError, Global};
 
 /// Lines with their height.

@@ -7,7 +7,7 @@ use Rattle.elk_doc.specs.Paths.{Reaches, stay, go}
 use Rattle.elk_doc.specs.Sound.{IsSound}
 use Rattle.elk_doc.specs.Apart.{IsJoined, InOnePart}
 use Rattle.elk_doc.proofs.SoundLaws.{node_of_end-in}
-use Rattle.drawing_faults.specs.Shapes.{Lists}
+use Rattle.check_faults.specs.Shapes.{Lists}
 use Rattle.check_apart.specs.Names.{AreNamesBelow, Renames, name_of}
 
 -- paths, joined and turned round

@@ -14,10 +14,10 @@ use Rattle.elk_doc.specs.Numbers.{count_below}
 use Rattle.elk_doc.specs.Shapes.{turned, point_rect}
 use Rattle.elk_doc.specs.Content.{EachShapeOf, IsLeftBy, IsAboveBy}
 use Rattle.elk_doc.specs.Apart.{Apart, InOnePart, LayersApart, PartsApart, BoxesApart}
-use Rattle.drawing_faults.specs.declared.fault.Fault.{Fault}
-use Rattle.drawing_faults.specs.declared.fault.Place.TheVariants.{Node}
-use Rattle.drawing_faults.specs.Faults.{fault_at, lone_fault, FailsFirst, FailsFirstAt}
-use Rattle.drawing_faults.specs.Shapes.{Lists}
+use Rattle.check_faults.specs.declared.fault.Fault.{Fault}
+use Rattle.check_faults.specs.declared.fault.Place.TheVariants.{Node}
+use Rattle.check_faults.specs.Faults.{fault_at, lone_fault, FailsFirst, FailsFirstAt}
+use Rattle.check_faults.specs.Shapes.{Lists}
 use Rattle.check_apart.specs.Names.{name_of}
 
 -- A number for each child of n: children have one number exactly where they lie in one part, and each smaller number was

@@ -3,7 +3,7 @@ ghost use Rattle.std.specs.Prelude.{◌<◌, ℕ, IfOk, IsTrue, MatchOption, len
 ghost use Rattle.elk_doc.specs.Apart.{Apart};
 ghost use Rattle.elk_doc.specs.Fits.{Fits};
 ghost use Rattle.elk_doc.specs.Sound.{IsSound};
-ghost use Rattle.drawing_faults.specs.Shapes.{AreOutlines};
+ghost use Rattle.check_faults.specs.Shapes.{AreOutlines};
 ghost use Rattle.check_apart.specs.FirstApart.{AreLayers, AreParts, FirstApart, FirstPair, PartHolds, PartsHold};
 ghost use Rattle.check_apart.specs.Names.{AreNames};
 
@@ -12,7 +12,7 @@ use crate::bounds::quickly_apart;
 use crate::names::part_names;
 use crate::pairs::{box_fault, near_fault};
 use crate::parts::first_part;
-use drawing_faults::{Fault, Place};
+use check_faults::{Fault, Place};
 use elk_doc::document::{Doc, LevelOptions};
 use elk_doc::drawing::{Certificate, Placed};
 use elk_doc::shape::Rect;

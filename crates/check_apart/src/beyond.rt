@@ -5,14 +5,14 @@ ghost use Rattle.elk_doc.specs.Drawing.{part_in};
 ghost use Rattle.elk_doc.specs.Fits.{Fits};
 ghost use Rattle.elk_doc.specs.Shapes.{point_rect};
 ghost use Rattle.elk_doc.specs.Sound.{IsSound};
-ghost use Rattle.drawing_faults.specs.Faults.{IsFirst};
-ghost use Rattle.drawing_faults.specs.Shapes.{AreOutlines};
+ghost use Rattle.check_faults.specs.Faults.{IsFirst};
+ghost use Rattle.check_faults.specs.Shapes.{AreOutlines};
 ghost use Rattle.check_apart.specs.Names.{AreNames};
 ghost use Rattle.check_apart.specs.FirstApart.{AreParts, FirstPair, IsBeyond, IsLeastOfPart, OutlineBeyond, OutlineClear, PartBeyond, PartHolds, PartsBeyond, PartsClear, PartsHold, RouteBeyond, RouteClear, SectionBeyond, SectionClear};
 
 use crate::distances::is_beyond;
 use crate::parts::is_leader;
-use drawing_faults::{Fault, Place, is_edge_of, outline_at, point_at, point_count};
+use check_faults::{Fault, Place, is_edge_of, outline_at, point_at, point_count};
 use elk_doc::document::{Doc, LevelOptions};
 use elk_doc::drawing::{Certificate, Placed, Section};
 use elk_doc::form::is_child;

@@ -1,13 +1,13 @@
 //! Parts that stand apart by the rectangles that hold them: a quick test in front of the one that compares all their shapes.
 ghost use Rattle.std.specs.Prelude.{◌<◌, ◌≤ℤ◌, ℕ, IfOk, IsTrue, length};
 ghost use Rattle.elk_doc.specs.Fits.{Fits};
-ghost use Rattle.drawing_faults.specs.Shapes.{AreOutlines};
+ghost use Rattle.check_faults.specs.Shapes.{AreOutlines};
 ghost use Rattle.check_apart.specs.Bounds.{BoundsApart, Covers, Encloses, Held, Keeps, OutlineHeld, RouteHeld, SectionHeld, bounds_at};
 ghost use Rattle.check_apart.specs.FirstApart.{AreParts, PartsHold};
 
 use crate::beyond::{part_at, point_rect};
 use crate::distances::{bottom, left, right, top};
-use drawing_faults::{is_edge_of, outline_at, point_at, point_count};
+use check_faults::{is_edge_of, outline_at, point_at, point_count};
 use elk_doc::document::{Direction, Doc, LevelOptions};
 use elk_doc::drawing::{Certificate, Placed, Section};
 use elk_doc::form::is_child;

@@ -4,7 +4,7 @@ ghost use Rattle.elk_doc.specs.Level.{IsEdge};
 ghost use Rattle.elk_doc.specs.Sound.{IsSound};
 ghost use Rattle.check_apart.specs.Names.{AreNames, AreNamesBelow, Renames};
 
-use drawing_faults::is_edge_of;
+use check_faults::is_edge_of;
 use elk_doc::document::Doc;
 use elk_doc::level::node_of;
 use std::alloc::{AllocError, Global};

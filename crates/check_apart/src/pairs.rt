@@ -2,12 +2,12 @@
 ghost use Rattle.std.specs.Prelude.{◌≡◌, ◌↔◌, ◌<◌, ℕ, IsTrue, MatchOption, length};
 ghost use Rattle.elk_doc.specs.Apart.{BoxesApart, LayersApart};
 ghost use Rattle.elk_doc.specs.Drawing.{part_in};
-ghost use Rattle.drawing_faults.specs.Faults.{IsFirst};
-ghost use Rattle.drawing_faults.specs.Shapes.{AreOutlines};
+ghost use Rattle.check_faults.specs.Faults.{IsFirst};
+ghost use Rattle.check_faults.specs.Shapes.{AreOutlines};
 ghost use Rattle.check_apart.specs.FirstApart.{AreLayers, AreParts, BothApart, BoxesHold, FirstPair, LayersHold, LevelApart, MayBeNear};
 
 use crate::distances::{is_beyond, stands_clear};
-use drawing_faults::{Fault, Place, outline_at};
+use check_faults::{Fault, Place, outline_at};
 use elk_doc::document::{Direction, Doc, LevelOptions};
 use elk_doc::drawing::{Certificate, Placed};
 use elk_doc::form::is_child;

@@ -1,7 +1,7 @@
 //! Numbers of parts.
 ghost use Rattle.std.specs.Prelude.{◌≡◌, ◌↔◌, ◌<◌, IsTrue, length};
 ghost use Rattle.elk_doc.specs.Sound.{IsSound};
-ghost use Rattle.drawing_faults.specs.Faults.{IsFirst};
+ghost use Rattle.check_faults.specs.Faults.{IsFirst};
 ghost use Rattle.check_apart.specs.Names.{AreNames};
 ghost use Rattle.check_apart.specs.FirstApart.{AreParts, PartHolds, is_leader, number_by};
 

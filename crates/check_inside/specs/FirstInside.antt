@@ -11,9 +11,9 @@ use Rattle.elk_doc.specs.Level.{IsChild, IsEdge}
 use Rattle.elk_doc.specs.Places.{outline_of}
 use Rattle.elk_doc.specs.Shapes.{point_rect}
 use Rattle.elk_doc.specs.Inside.{Inside, IsWithinPadding}
-use Rattle.drawing_faults.specs.declared.fault.Fault.{Fault}
-use Rattle.drawing_faults.specs.declared.fault.Place.TheVariants.{Node, Edge}
-use Rattle.drawing_faults.specs.Faults.{lone_fault, FailsFirst}
+use Rattle.check_faults.specs.declared.fault.Fault.{Fault}
+use Rattle.check_faults.specs.declared.fault.Place.TheVariants.{Node, Edge}
+use Rattle.check_faults.specs.Faults.{lone_fault, FailsFirst}
 
 -- all points of a route lie within a padding
 abbrev pub PointsWithin : Section → Rect → Padding → Type 0

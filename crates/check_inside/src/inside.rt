@@ -3,11 +3,11 @@ ghost use Rattle.std.specs.Prelude.{◌≡◌, ◌↔◌, ◌<◌, ◌+ℤ◌, �
 ghost use Rattle.elk_doc.specs.Fits.{Fits};
 ghost use Rattle.elk_doc.specs.Shapes.{point_rect};
 ghost use Rattle.elk_doc.specs.Inside.{Inside, IsWithinPadding};
-ghost use Rattle.drawing_faults.specs.Faults.{IsFirst};
-ghost use Rattle.drawing_faults.specs.Shapes.{AreOutlines};
+ghost use Rattle.check_faults.specs.Faults.{IsFirst};
+ghost use Rattle.check_faults.specs.Shapes.{AreOutlines};
 ghost use Rattle.check_inside.specs.FirstInside.{FirstInside, OutlineHolds, PointsHold, PointsWithin};
 
-use drawing_faults::{Fault, Place, is_edge_of, outline_at, point_at, point_count};
+use check_faults::{Fault, Place, is_edge_of, outline_at, point_at, point_count};
 use elk_doc::document::{Doc, LevelOptions, Padding};
 use elk_doc::drawing::{Placed, Section};
 use elk_doc::form::is_child;

@@ -10,10 +10,10 @@ use Rattle.elk_doc.specs.Paths.{Reaches}
 use Rattle.elk_doc.specs.Reversed.{UnlistedStep}
 use Rattle.elk_doc.specs.Layering.{span_of, written_layer}
 use Rattle.elk_doc.specs.FlowProof.{FlowProof, enters_child, leaves_child, weight_at}
-use Rattle.drawing_faults.specs.declared.fault.Fault.{Fault}
-use Rattle.drawing_faults.specs.declared.fault.Place.TheVariants.{Node, Edge}
-use Rattle.drawing_faults.specs.Faults.{lone_fault, FailsFirst}
-use Rattle.drawing_faults.specs.Shapes.{Lists}
+use Rattle.check_faults.specs.declared.fault.Fault.{Fault}
+use Rattle.check_faults.specs.declared.fault.Place.TheVariants.{Node, Edge}
+use Rattle.check_faults.specs.Faults.{lone_fault, FailsFirst}
+use Rattle.check_faults.specs.Shapes.{Lists}
 use Rattle.check_levels.specs.declared.paths.Step.{Step}
 use Rattle.check_levels.specs.Steps.{HasStep, AreBelow}
 

@@ -5,7 +5,7 @@ ghost use Rattle.elk_doc.specs.Level.{is_edge_of};
 ghost use Rattle.elk_doc.specs.Numbers.{sum_below};
 ghost use Rattle.check_levels.specs.FirstLevels.{AreFlows, AreHeads, AreTails, AreWeights, FirstFlow, IsBalanced, IsIdle, ends_at};
 
-use drawing_faults::{Fault, Place, is_edge_of};
+use check_faults::{Fault, Place, is_edge_of};
 use elk_doc::document::Doc;
 use elk_doc::drawing::{Certificate, Placed};
 use elk_doc::form::is_child;

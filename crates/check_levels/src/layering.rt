@@ -4,11 +4,11 @@ ghost use Rattle.elk_doc.specs.Layering.{Layering};
 ghost use Rattle.elk_doc.specs.Level.{is_edge_of};
 ghost use Rattle.elk_doc.specs.Numbers.{sum_below};
 ghost use Rattle.elk_doc.specs.Sound.{IsSound};
-ghost use Rattle.drawing_faults.specs.Faults.{IsFirst};
+ghost use Rattle.check_faults.specs.Faults.{IsFirst};
 ghost use Rattle.check_levels.specs.FirstLevels.{AreHeads, AreLayers, AreTails, EdgeRises, FirstLayering, end_layer, length_of, rise_of};
 
 use crate::lists::number_at;
-use drawing_faults::{Fault, Place, is_edge_of};
+use check_faults::{Fault, Place, is_edge_of};
 use elk_doc::document::Doc;
 use elk_doc::drawing::{Certificate, Placed};
 use elk_doc::level::is_loop;

@@ -3,7 +3,7 @@ ghost use Rattle.std.specs.Prelude.{◌≡◌, ◌<◌, IfOk, slice_index};
 ghost use Rattle.elk_doc.specs.Fits.{Fits};
 ghost use Rattle.check_levels.specs.FirstLevels.{AreByChild, AreFlows, AreHeads, AreLayers, AreParts, AreTails, AreWeights};
 
-use drawing_faults::{head_node, is_edge_of, tail_node};
+use check_faults::{head_node, is_edge_of, tail_node};
 use elk_doc::document::Doc;
 use elk_doc::drawing::{Certificate, Placed};
 use elk_doc::form::is_child;

@@ -2,12 +2,12 @@
 ghost use Rattle.std.specs.Prelude.{◌≡◌, ◌↔◌, ◌<◌, All, Contains, IfOk, IsTrue, MatchOption, length};
 ghost use Rattle.elk_doc.specs.Fits.{MayBeListed};
 ghost use Rattle.elk_doc.specs.Reversed.{Reversed};
-ghost use Rattle.drawing_faults.specs.Faults.{IsFirst};
+ghost use Rattle.check_faults.specs.Faults.{IsFirst};
 ghost use Rattle.check_levels.specs.FirstLevels.{AreSteps, ClosesAt, FirstReversed, IsUnlisted, NeverRound, step_of};
 ghost use Rattle.check_levels.specs.Steps.{AreBelow};
 
 use crate::paths::{Step, reaches};
-use drawing_faults::{Fault, Place, is_edge_of};
+use check_faults::{Fault, Place, is_edge_of};
 use elk_doc::document::Doc;
 use elk_doc::drawing::Certificate;
 use elk_doc::level::{is_loop, node_of};

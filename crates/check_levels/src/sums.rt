@@ -7,7 +7,7 @@ ghost use Rattle.check_levels.specs.FirstLevels.{AreFlows, AreHeads, AreTails, A
 ghost use Rattle.check_levels.specs.Sums.{AreSums, AreSumsBelow};
 
 use crate::flow::{are_idle, ends_at, sum_of, value_at};
-use drawing_faults::{Fault, Place};
+use check_faults::{Fault, Place};
 use elk_doc::document::Doc;
 use elk_doc::drawing::{Certificate, Placed};
 use elk_doc::form::is_child;

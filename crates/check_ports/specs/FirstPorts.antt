@@ -10,9 +10,9 @@ use Rattle.elk_doc.specs.Level.{IsChild, IsEdge}
 use Rattle.elk_doc.specs.Sides.{side_of_port, end_of}
 use Rattle.elk_doc.specs.Sound.{IsSound}
 use Rattle.elk_doc.specs.PortsKept.{KeepsPort, KeepsEnd, ComesBefore, clockwise, port_offset, side_length, Spot, a_port, an_end, IsSpread, spread_count, spot_offset, PortsKept}
-use Rattle.drawing_faults.specs.declared.fault.Fault.{Fault}
-use Rattle.drawing_faults.specs.declared.fault.Place.TheVariants.{Port, Edge}
-use Rattle.drawing_faults.specs.Faults.{lone_fault, FailsFirst}
+use Rattle.check_faults.specs.declared.fault.Fault.{Fault}
+use Rattle.check_faults.specs.declared.fault.Place.TheVariants.{Port, Edge}
+use Rattle.check_faults.specs.Faults.{lone_fault, FailsFirst}
 
 -- the ports of m count with the level of n: m is a child of n, or both are the root
 abbrev pub CountsWith : Document → ℕ → ℕ → Type 0

@@ -4,14 +4,14 @@ ghost use Rattle.elk_doc.specs.declared.document.End.TheVariants.{Node as AtNode
 ghost use Rattle.elk_doc.specs.Fits.{Fits};
 ghost use Rattle.elk_doc.specs.PortsKept.{KeepsEnd, an_end};
 ghost use Rattle.elk_doc.specs.Sides.{end_of, side_of_end};
-ghost use Rattle.drawing_faults.specs.Faults.{IsFirst};
-ghost use Rattle.drawing_faults.specs.Shapes.{AreDocks, AreSides};
+ghost use Rattle.check_faults.specs.Faults.{IsFirst};
+ghost use Rattle.check_faults.specs.Shapes.{AreDocks, AreSides};
 ghost use Rattle.check_ports.specs.FirstPorts.{EdgeClear, EdgesClear, EndApart, EndHolds, EndKept, EndsHold, PortClear, PortsClear, SpotsDiffer};
 ghost use Rattle.check_ports.specs.Spots.{IsRoomy};
 
 use crate::sides::is_on_side;
 use crate::spots::{are_apart, end_spot, is_roomy, lies_on, port_spot};
-use drawing_faults::is_edge_of;
+use check_faults::is_edge_of;
 use elk_doc::document::{Doc, End};
 use elk_doc::drawing::Placed;
 use elk_doc::places::section_end;

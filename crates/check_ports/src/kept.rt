@@ -2,12 +2,12 @@
 ghost use Rattle.std.specs.Prelude.{◌<◌, MatchOption, false, length, true};
 ghost use Rattle.elk_doc.specs.Fits.{Fits};
 ghost use Rattle.elk_doc.specs.PortsKept.{PortsKept};
-ghost use Rattle.drawing_faults.specs.Shapes.{AreDocks, AreSides};
+ghost use Rattle.check_faults.specs.Shapes.{AreDocks, AreSides};
 ghost use Rattle.check_ports.specs.FirstPorts.{FirstPorts};
 
 use crate::ends::first_edge;
 use crate::ports::first_port;
-use drawing_faults::{Fault, Place};
+use check_faults::{Fault, Place};
 use elk_doc::document::Doc;
 use elk_doc::drawing::Placed;
 use elk_doc::shape::{Dock, Side};

@@ -6,12 +6,12 @@ ghost use Rattle.elk_doc.specs.PortsKept.{ComesBefore, clockwise, given_clockwis
 ghost use Rattle.elk_doc.specs.Shapes.{half_of};
 ghost use Rattle.elk_doc.specs.Sides.{side_of_port};
 ghost use Rattle.elk_doc.specs.Sound.{IsPlaceWithin, IsSoundSize, along};
-ghost use Rattle.drawing_faults.specs.Shapes.{AreSides};
+ghost use Rattle.check_faults.specs.Shapes.{AreSides};
 ghost use Rattle.check_ports.specs.FirstPorts.{OrderHolds};
 
 use crate::sides::clockwise;
 use crate::spots::{is_side, middle_along, port_offset};
-use drawing_faults::side_at;
+use check_faults::side_at;
 use elk_doc::document::{Doc, PortRule};
 use elk_doc::drawing::Placed;
 use elk_doc::shape::Side;

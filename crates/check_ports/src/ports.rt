@@ -4,15 +4,15 @@ ghost use Rattle.elk_doc.specs.Document.{node_of_port};
 ghost use Rattle.elk_doc.specs.Fits.{Fits};
 ghost use Rattle.elk_doc.specs.PortsKept.{KeepsPort, is_pinned};
 ghost use Rattle.elk_doc.specs.Sides.{is_leaf, side_of_port};
-ghost use Rattle.drawing_faults.specs.Faults.{IsFirst};
-ghost use Rattle.drawing_faults.specs.Shapes.{AreDocks, AreSides};
+ghost use Rattle.check_faults.specs.Faults.{IsFirst};
+ghost use Rattle.check_faults.specs.Shapes.{AreDocks, AreSides};
 ghost use Rattle.check_ports.specs.FirstPorts.{CountsWith, LowerHold, PairHolds, PortHolds, PortKept, PortPair};
 ghost use Rattle.check_ports.specs.Spots.{IsRoomy};
 
 use crate::order::order_holds;
 use crate::sides::{agree_across, agree_along, is_pinned, stands_flush};
 use crate::spots::{are_apart, is_roomy, lies_on, port_spot};
-use drawing_faults::side_at;
+use check_faults::side_at;
 use elk_doc::document::Doc;
 use elk_doc::drawing::Placed;
 use elk_doc::form::is_child;

@@ -6,11 +6,11 @@ ghost use Rattle.elk_doc.specs.Places.{dock_of};
 ghost use Rattle.elk_doc.specs.PortsKept.{is_at_node, is_side, is_spread_end, is_spread_port, port_offset, size_along};
 ghost use Rattle.elk_doc.specs.Shapes.{half_of};
 ghost use Rattle.elk_doc.specs.Sound.{IsPlaceWithin, IsSoundSize, along};
-ghost use Rattle.drawing_faults.specs.Shapes.{AreDocks, AreSides};
+ghost use Rattle.check_faults.specs.Shapes.{AreDocks, AreSides};
 ghost use Rattle.check_ports.specs.Spots.{IsRoomy, KeepApart, LiesOn, end_spot, is_implicit, port_spot};
 
 use crate::sides::{along, is_pinned, side_length, size_along};
-use drawing_faults::{dock_of, side_at};
+use check_faults::{dock_of, side_at};
 use elk_doc::document::{Doc, End};
 use elk_doc::drawing::Placed;
 use elk_doc::shape::{Dock, Point, Rect, Side, Size};

@@ -9,9 +9,9 @@ use Rattle.elk_doc.specs.Places.{anchor_of}
 use Rattle.elk_doc.specs.Route.{Route, LeavesOutward}
 use Rattle.elk_doc.specs.Clear.{Clear}
 use Rattle.elk_doc.specs.Sharing.{Sharing}
-use Rattle.drawing_faults.specs.declared.fault.Fault.{Fault}
-use Rattle.drawing_faults.specs.declared.fault.Place.TheVariants.{Node, Edge}
-use Rattle.drawing_faults.specs.Faults.{fault_at, lone_fault, FailsFirst, FailsFirstAt}
+use Rattle.check_faults.specs.declared.fault.Fault.{Fault}
+use Rattle.check_faults.specs.declared.fault.Place.TheVariants.{Node, Edge}
+use Rattle.check_faults.specs.Faults.{fault_at, lone_fault, FailsFirst, FailsFirstAt}
 
 -- what each edge of the level of n owes, each edge with each child, and each edge with each later one
 abbrev pub RouteHolds : Document → Placed → ℕ → ℕ → Type 0

@@ -4,7 +4,7 @@ ghost use Rattle.elk_doc.specs.Fits.{Fits};
 ghost use Rattle.elk_doc.specs.Sound.{IsWithin};
 ghost use Rattle.check_routes.specs.Bounds.{AreRouteBounds, HoldsPoint, HoldsRoute, LieApart, LieOff};
 
-use drawing_faults::{point_at, point_count};
+use check_faults::{point_at, point_count};
 use elk_doc::document::Doc;
 use elk_doc::drawing::{Placed, Section};
 use elk_doc::shape::{Point, Rect};

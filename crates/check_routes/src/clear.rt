@@ -6,14 +6,14 @@ ghost use Rattle.elk_doc.specs.Fits.{Fits};
 ghost use Rattle.elk_doc.specs.Level.{IsEdge, source_node, target_node};
 ghost use Rattle.elk_doc.specs.Places.{outline_of};
 ghost use Rattle.elk_doc.specs.Route.{Route};
-ghost use Rattle.drawing_faults.specs.Faults.{IsFirst};
-ghost use Rattle.drawing_faults.specs.Shapes.{AreOutlines};
+ghost use Rattle.check_faults.specs.Faults.{IsFirst};
+ghost use Rattle.check_faults.specs.Shapes.{AreOutlines};
 ghost use Rattle.check_routes.specs.Bounds.{HoldsRoute};
 ghost use Rattle.check_routes.specs.FirstRoutes.{ChildClear, ClearHolds, FirstClear};
 ghost use Rattle.check_routes.specs.Stretches.{AreParallel, KeepsOff, KeepsOut};
 
 use crate::bounds::{RouteBounds, bounds_of, lie_off};
-use drawing_faults::{Fault, Place, is_edge_of, outline_at, point_at, point_count};
+use check_faults::{Fault, Place, is_edge_of, outline_at, point_at, point_count};
 use elk_doc::document::Doc;
 use elk_doc::drawing::{Placed, Section};
 use elk_doc::form::is_child;

@@ -3,13 +3,13 @@ ghost use Rattle.std.specs.Prelude.{ℕ, ◌<◌, IsTrue, MatchOption, false, le
 ghost use Rattle.elk_doc.specs.Fits.{Fits};
 ghost use Rattle.elk_doc.specs.Level.{IsEdge};
 ghost use Rattle.elk_doc.specs.Route.{Route};
-ghost use Rattle.drawing_faults.specs.Shapes.{AreDocks};
+ghost use Rattle.check_faults.specs.Shapes.{AreDocks};
 ghost use Rattle.check_routes.specs.Bounds.{AreRouteBounds};
 ghost use Rattle.check_routes.specs.FirstRoutes.{FirstSharing, SharingHolds};
 
 use crate::bounds::{RouteBounds, lie_apart};
 use crate::sharing::{sharing_fault, sharing_holds};
-use drawing_faults::{Fault, is_edge_of};
+use check_faults::{Fault, is_edge_of};
 use elk_doc::document::Doc;
 use elk_doc::drawing::Placed;
 use elk_doc::shape::Dock;

@@ -5,12 +5,12 @@ ghost use Rattle.elk_doc.specs.Fits.{Fits};
 ghost use Rattle.elk_doc.specs.Places.{dock_of};
 ghost use Rattle.elk_doc.specs.Route.{IsOrthogonal, IsStep, IsTurn, LeavesOutward, Route};
 ghost use Rattle.elk_doc.specs.Sides.{side_of_end};
-ghost use Rattle.drawing_faults.specs.Faults.{IsFirst};
-ghost use Rattle.drawing_faults.specs.Shapes.{AreDocks, AreSides};
+ghost use Rattle.check_faults.specs.Faults.{IsFirst};
+ghost use Rattle.check_faults.specs.Shapes.{AreDocks, AreSides};
 ghost use Rattle.check_routes.specs.FirstRoutes.{FirstRoute, IsAnchored, LeavesBoth, RouteHolds};
 ghost use Rattle.check_routes.specs.Stretches.{AreSteps, AreTurns};
 
-use drawing_faults::{Fault, Place, anchor_at, dock_of, is_edge_of, point_at, point_count};
+use check_faults::{Fault, Place, anchor_at, dock_of, is_edge_of, point_at, point_count};
 use elk_doc::document::Doc;
 use elk_doc::drawing::{Placed, Section};
 use elk_doc::shape::{Dock, Point, Side};

@@ -6,12 +6,12 @@ ghost use Rattle.elk_doc.specs.Places.{dock_of};
 ghost use Rattle.elk_doc.specs.Route.{Route};
 ghost use Rattle.elk_doc.specs.Segments.{IsAxisParallel};
 ghost use Rattle.elk_doc.specs.Sharing.{DocksShare, Sharing};
-ghost use Rattle.drawing_faults.specs.Faults.{IsFirst};
-ghost use Rattle.drawing_faults.specs.Shapes.{AreDocks};
+ghost use Rattle.check_faults.specs.Faults.{IsFirst};
+ghost use Rattle.check_faults.specs.Shapes.{AreDocks};
 ghost use Rattle.check_routes.specs.FirstRoutes.{FirstSharing, SharingHolds};
 ghost use Rattle.check_routes.specs.Stretches.{AreFree, AreParallel, IsFreeOf};
 
-use drawing_faults::{Fault, Place, dock_of, is_edge_of, point_at, point_count};
+use check_faults::{Fault, Place, dock_of, is_edge_of, point_at, point_count};
 use elk_doc::document::Doc;
 use elk_doc::drawing::{Placed, Section};
 use elk_doc::geometry::segments_share;

@@ -2,12 +2,12 @@
 ghost use Rattle.std.specs.Prelude.{◌≡◌, ℕ, ◌<◌, ◌≤◌, ◌+ℤ◌, IfOk, IsTrue, length};
 ghost use Rattle.elk_doc.specs.declared.shape.Rect.{Rect};
 ghost use Rattle.elk_doc.specs.Places.{outline_of};
-ghost use Rattle.drawing_faults.specs.Shapes.{AreOutlines};
+ghost use Rattle.check_faults.specs.Shapes.{AreOutlines};
 ghost use Rattle.check_routes.specs.Bounds.{LieOff};
 ghost use Rattle.check_routes.specs.Ends.{AreEnds, AreHighEnds, AreLowEnds, IsHighEnd, MeetNone, end_along, low_along};
 
 use crate::bounds::RouteBounds;
-use drawing_faults::outline_at;
+use check_faults::outline_at;
 use elk_doc::document::Doc;
 use elk_doc::drawing::Placed;
 use elk_doc::shape::Rect;

@@ -31,13 +31,13 @@ use Rattle.level_stands.specs.Apart.{drawn_outline_from}
 use Rattle.level_boxes.specs.Boxes.{IsBoxesLayout, alone}
 use Rattle.level_boxes.specs.Outlines.{child_in, outline_from, outline_of, outline_size, port_rect, ports_in, rect_in}
 use Rattle.level_boxes.specs.Placing.{corner}
-use Rattle.turned_levels.specs.Drawing.{IsTurnedDrawing, plus}
-use Rattle.turned_levels.specs.Turned.{box_size, child_number, edge_number, level_edge, level_of, turned_place, turned_size}
-use Rattle.turned_levels.proofs.NumberedLemmas.{levels_are_listed}
-use Rattle.turned_drawings.specs.Framed.{start_of}
-use Rattle.turned_drawings.specs.Outlines.{shifted}
-use Rattle.turned_drawings.proofs.HullLemmas.{hull_moved}
-use Rattle.turned_drawings.proofs.OutlineLemmas.{drawn_port_box, outlines_turn_back}
+use Rattle.level_frame.specs.Drawing.{IsTurnedDrawing, plus}
+use Rattle.level_frame.specs.Turned.{box_size, child_number, edge_number, level_edge, level_of, turned_place, turned_size}
+use Rattle.level_frame.proofs.NumberedLemmas.{levels_are_listed}
+use Rattle.level_turns.specs.Framed.{start_of}
+use Rattle.level_turns.specs.Outlines.{shifted}
+use Rattle.level_turns.proofs.HullLemmas.{hull_moved}
+use Rattle.level_turns.proofs.OutlineLemmas.{drawn_port_box, outlines_turn_back}
 use Rattle.level_writing.specs.declared.figure.LevelFigure.{LevelFigure}
 use Rattle.level_writing.specs.Figure.{figure_in}
 use Rattle.level_writing.specs.Sizes.{IsSizeRound}

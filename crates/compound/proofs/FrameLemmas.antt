@@ -16,10 +16,10 @@ use Rattle.route_lines.specs.Points.{PlainGap}
 use Rattle.level_plan.specs.FromPlan.{PlainTrace}
 use Rattle.level_nets.specs.Held.{plain_gaps}
 use Rattle.level_traces.specs.Traced.{plain_traces}
-use Rattle.turned_levels.specs.Drawing.{IsTurnedDrawing}
-use Rattle.turned_levels.specs.Turned.{box_size, level_of}
-use Rattle.turned_levels.proofs.KeptLemmas.{drawings_read_levels, levels_read_sizes}
-use Rattle.turned_drawings.specs.Framed.{start_of}
+use Rattle.level_frame.specs.Drawing.{IsTurnedDrawing}
+use Rattle.level_frame.specs.Turned.{box_size, level_of}
+use Rattle.level_frame.proofs.KeptLemmas.{drawings_read_levels, levels_read_sizes}
+use Rattle.level_turns.specs.Framed.{start_of}
 use Rattle.level_reading.specs.Read.{size_at}
 use Rattle.level_writing.specs.declared.figure.LevelFigure.{LevelFigure}
 use Rattle.level_writing.specs.Back.{size_of}

@@ -22,9 +22,9 @@ use Rattle.level_traces.specs.Traced.{plain_traces}
 use Rattle.level_boxes.specs.Boxes.{alone}
 use Rattle.level_draw.specs.declared.drawing.LevelOut.{LevelOut}
 use Rattle.level_draw.specs.Drawing.{IsTight, drawn_in, plan_from}
-use Rattle.turned_levels.specs.Turned.{level_of}
-use Rattle.turned_levels.proofs.NumberedLemmas.{levels_are_listed}
-use Rattle.turned_drawings.proofs.EdgeLemmas.{has_holds}
+use Rattle.level_frame.specs.Turned.{level_of}
+use Rattle.level_frame.proofs.NumberedLemmas.{levels_are_listed}
+use Rattle.level_turns.proofs.EdgeLemmas.{has_holds}
 use Rattle.level_bounds.proofs.Bounded.{extents_small}
 use Rattle.level_reading.specs.Levels.{HasRoom}
 use Rattle.level_reading.specs.Read.{AreSizes, HasSizes}
@@ -41,12 +41,12 @@ use Rattle.document_plan.specs.Planned.{ArePlannedFrom}
 use Rattle.document_rules.proofs.EdgeLemmas.{edges_none}
 use Rattle.document_rules.specs.Nested.{IsSmallBox}
 use Rattle.document_rules.proofs.NestedLemmas.{planned_boxes_are_small, planned_levels_have_room}
-use Rattle.joined_drawings.specs.Joined.{with_gaps}
-use Rattle.split_layout.specs.declared.layout.PartsOut.{PartsOut}
-use Rattle.split_layout.specs.Laws.{IsPartedDrawing}
-use Rattle.split_layout.specs.Parts.{IsPartsLayout, whole_drawing}
-use Rattle.split_layout.proofs.WholeLemmas.{parts_are_drawn}
-use Rattle.split_layout.proofs.BoundLemmas.{parts_are_bounded}
+use Rattle.level_joined.specs.Joined.{with_gaps}
+use Rattle.level_split.specs.declared.layout.PartsOut.{PartsOut}
+use Rattle.level_split.specs.Laws.{IsPartedDrawing}
+use Rattle.level_split.specs.Parts.{IsPartsLayout, whole_drawing}
+use Rattle.level_split.proofs.WholeLemmas.{parts_are_drawn}
+use Rattle.level_split.proofs.BoundLemmas.{parts_are_bounded}
 use Rattle.compound.specs.Figures.{IsBoxed, figure_of_parts}
 use Rattle.compound.specs.Work.{IsFigureOf, IsWork}
 use Rattle.compound.proofs.BoxLemmas.{alone_is}

@@ -8,8 +8,8 @@ use Rattle.level_draw.specs.declared.drawing.LevelOut.{LevelOut}
 use Rattle.level_layout.specs.Layout.{IsLaidOut}
 use Rattle.level_boxes.specs.declared.layout.BoxesOut.{BoxesOut}
 use Rattle.level_boxes.specs.Boxes.{HasRoom, IsBoxesLayout}
-use Rattle.split_layout.specs.declared.layout.PartsOut.{PartsOut}
-use Rattle.split_layout.specs.Parts.{IsPartsLayout}
+use Rattle.level_split.specs.declared.layout.PartsOut.{PartsOut}
+use Rattle.level_split.specs.Parts.{IsPartsLayout}
 use Rattle.level_writing.specs.declared.figure.LevelFigure.{LevelFigure}
 use Rattle.level_writing.specs.Figure.{figure_of}
 

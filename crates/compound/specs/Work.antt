@@ -10,7 +10,7 @@ use Rattle.elk_doc.specs.Fits.{IsRooted}
 use Rattle.level_plan.specs.declared.level.LevelIn.{LevelIn}
 use Rattle.level_plan.specs.Conditions.{plain_level}
 use Rattle.level_writing.specs.declared.figure.LevelFigure.{LevelFigure}
-use Rattle.turned_levels.specs.Turned.{box_size, level_of}
+use Rattle.level_frame.specs.Turned.{box_size, level_of}
 use Rattle.level_reading.specs.Read.{size_at}
 use Rattle.level_writing.specs.Canvas.{IsDrawingOf}
 use Rattle.level_writing.specs.Sizes.{IsNodeFramed}

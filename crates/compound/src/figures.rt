@@ -11,8 +11,8 @@ use elk_doc::shape::Point;
 use level_boxes::{BoxesOut, layout_boxes};
 use level_layout::layout_level;
 use level_plan::LevelIn;
+use level_split::layout_parts;
 use level_writing::{LevelFigure, figure_of};
-use split_layout::layout_parts;
 use std::alloc::{AllocError, Global};
 
 // Layer 0 for each box.

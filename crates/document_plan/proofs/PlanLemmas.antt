@@ -11,18 +11,18 @@ use Rattle.elk_doc.specs.Places.{outline_of, outline_to, port_box}
 use Rattle.elk_doc.specs.Shapes.{hull, moved_by, rect_at}
 use Rattle.box_pack.specs.Squareness.{IsSquarest}
 use Rattle.level_plan.specs.Level.{PlainLevel}
-use Rattle.turned_levels.specs.Kept.{AgreeAt}
-use Rattle.turned_levels.specs.Turned.{box_size, child_number, port_number, turned_place, turned_size}
-use Rattle.turned_levels.proofs.KeptLemmas.{drawings_read_levels, levels_read_sizes}
-use Rattle.turned_levels.proofs.NumberedLemmas.{numbers_match}
+use Rattle.level_frame.specs.Kept.{AgreeAt}
+use Rattle.level_frame.specs.Turned.{box_size, child_number, port_number, turned_place, turned_size}
+use Rattle.level_frame.proofs.KeptLemmas.{drawings_read_levels, levels_read_sizes}
+use Rattle.level_frame.proofs.NumberedLemmas.{numbers_match}
 use Rattle.level_draw.specs.Drawing.{drawn_in}
-use Rattle.turned_drawings.specs.Framed.{start_of}
+use Rattle.level_turns.specs.Framed.{start_of}
 use Rattle.level_writing.specs.Sizes.{IsSizeRound}
 use Rattle.document_plan.specs.Boxed.{IsBoxedPlan, corner_of, outline_sizes, size_of}
 use Rattle.document_plan.specs.Laws.{PlansStay}
 use Rattle.document_plan.specs.Parted.{IsPartedPlan}
 use Rattle.document_plan.specs.Planned.{IsLayeredPlan}
-use Rattle.split_layout.specs.Parts.{whole_drawing}
+use Rattle.level_split.specs.Parts.{whole_drawing}
 
 -- ---- outlines
 

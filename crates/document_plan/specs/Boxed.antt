@@ -20,8 +20,8 @@ use Rattle.level_layout.specs.Layout.{IsLaidOut}
 use Rattle.box_pack.specs.declared.squarest.Squarest.{Squarest}
 use Rattle.box_pack.specs.Boxes.{point_at}
 use Rattle.box_pack.specs.Squareness.{IsSquarest}
-use Rattle.turned_levels.specs.Turned.{box_size, child_number, level_child, port_number, ports_of, turned_place, turned_size}
-use Rattle.turned_levels.specs.Drawing.{plus}
+use Rattle.level_frame.specs.Turned.{box_size, child_number, level_child, port_number, ports_of, turned_place, turned_size}
+use Rattle.level_frame.specs.Drawing.{plus}
 use Rattle.level_writing.specs.Sizes.{IsSizeRound}
 
 -- the children of n, with their sizes in the drawing, as a level without edges

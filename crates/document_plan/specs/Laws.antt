@@ -4,8 +4,8 @@ use Rattle.elk_doc.specs.declared.document.LevelOptions.{LevelOptions}
 use Rattle.elk_doc.specs.declared.drawing.Placed.{Placed}
 use Rattle.elk_doc.specs.Document.{Document}
 use Rattle.elk_doc.specs.Drawing.{certificate_of}
-use Rattle.turned_levels.specs.Kept.{AgreeAt}
-use Rattle.turned_levels.specs.Turned.{box_size}
+use Rattle.level_frame.specs.Kept.{AgreeAt}
+use Rattle.level_frame.specs.Turned.{box_size}
 use Rattle.document_plan.specs.Planned.{IsPlannedLevel}
 
 -- A level stays planned where its drawing, its certificate and the size of its node stay.

@@ -5,11 +5,11 @@ use Rattle.elk_doc.specs.declared.drawing.Placed.{Placed}
 use Rattle.elk_doc.specs.Document.{Document}
 use Rattle.level_plan.specs.declared.level.LevelIn.{LevelIn}
 use Rattle.level_plan.specs.Conditions.{plain_level}
-use Rattle.split_layout.specs.declared.layout.PartsOut.{PartsOut}
-use Rattle.split_layout.specs.Parts.{IsPartsLayout, whole_drawing}
-use Rattle.turned_levels.specs.Turned.{box_size, level_of}
-use Rattle.turned_levels.specs.Drawing.{IsTurnedDrawing}
-use Rattle.turned_drawings.specs.Framed.{start_of}
+use Rattle.level_split.specs.declared.layout.PartsOut.{PartsOut}
+use Rattle.level_split.specs.Parts.{IsPartsLayout, whole_drawing}
+use Rattle.level_frame.specs.Turned.{box_size, level_of}
+use Rattle.level_frame.specs.Drawing.{IsTurnedDrawing}
+use Rattle.level_turns.specs.Framed.{start_of}
 use Rattle.level_writing.specs.Sizes.{IsSizeRound}
 use Rattle.level_writing.specs.Written.{HasCertificate}
 

@@ -12,9 +12,9 @@ use Rattle.level_plan.specs.Level.{PlainLevel}
 use Rattle.level_draw.specs.declared.drawing.LevelOut.{LevelOut}
 use Rattle.level_draw.specs.Drawing.{drawn_in}
 use Rattle.level_layout.specs.Layout.{IsLaidOut}
-use Rattle.turned_levels.specs.Turned.{box_size, level_child, level_of, port_number, ports_of, turned_place}
-use Rattle.turned_levels.specs.Drawing.{IsTurnedDrawing}
-use Rattle.turned_drawings.specs.Framed.{start_of}
+use Rattle.level_frame.specs.Turned.{box_size, level_child, level_of, port_number, ports_of, turned_place}
+use Rattle.level_frame.specs.Drawing.{IsTurnedDrawing}
+use Rattle.level_turns.specs.Framed.{start_of}
 use Rattle.level_writing.specs.Sizes.{IsSizeRound}
 use Rattle.level_writing.specs.Written.{HasCertificate}
 use Rattle.document_plan.specs.Boxed.{IsBoxedPlan}

@@ -20,26 +20,26 @@ use Rattle.elk_doc.specs.Places.{outline_of}
 use Rattle.elk_doc.specs.Shapes.{Holds, point_rect, turned}
 use Rattle.elk_doc.specs.Sound.{IsSound}
 use Rattle.elk_doc.proofs.NumberLaws.{count_below-le}
-use Rattle.turning_laws.specs.Turning.{turned_point}
-use Rattle.turning_laws.proofs.TurningLaws.{boxes}
+use Rattle.drawing_turns.specs.Turning.{turned_point}
+use Rattle.drawing_turns.proofs.TurningLaws.{boxes}
 use Rattle.level_layers.specs.Certificate.{source_of, target_of}
 use Rattle.level_plan.specs.FromPlan.{LevelDrawing, section_at}
 use Rattle.level_plan.specs.Level.{PlainLevel}
 use Rattle.level_rules.specs.Routes.{route_count, route_point}
 use Rattle.level_stands.specs.Apart.{drawn_outline}
-use Rattle.part_levels.specs.Divided.{edge_keys}
-use Rattle.part_levels.specs.Parts.{InOnePart as InOneLevelPart, IsJoined as IsJoinedBy}
-use Rattle.part_levels.proofs.LevelLemmas.{edge_part}
+use Rattle.level_parts.specs.Divided.{edge_keys}
+use Rattle.level_parts.specs.Parts.{InOnePart as InOneLevelPart, IsJoined as IsJoinedBy}
+use Rattle.level_parts.proofs.LevelLemmas.{edge_part}
 use Rattle.level_plan.specs.Conditions.{IsLevel}
-use Rattle.split_layout.specs.declared.layout.PartsOut.{PartsOut}
-use Rattle.split_layout.specs.Laws.{IsPartedDrawing}
-use Rattle.split_layout.specs.Parts.{whole_drawing}
-use Rattle.turned_levels.specs.Drawing.{IsTurnedDrawing, IsTurnedSection, plus}
-use Rattle.turned_levels.specs.Turned.{child_number, edge_number, level_edge, level_of}
-use Rattle.turned_levels.proofs.NumberedLemmas.{ends_match, levels_are_listed, numbers_match}
-use Rattle.turned_drawings.specs.Outlines.{shifted}
-use Rattle.turned_drawings.proofs.OutlineLemmas.{outlines_turn_back}
-use Rattle.turned_drawings.proofs.RouteLemmas.{points_turned}
+use Rattle.level_split.specs.declared.layout.PartsOut.{PartsOut}
+use Rattle.level_split.specs.Laws.{IsPartedDrawing}
+use Rattle.level_split.specs.Parts.{whole_drawing}
+use Rattle.level_frame.specs.Drawing.{IsTurnedDrawing, IsTurnedSection, plus}
+use Rattle.level_frame.specs.Turned.{child_number, edge_number, level_edge, level_of}
+use Rattle.level_frame.proofs.NumberedLemmas.{ends_match, levels_are_listed, numbers_match}
+use Rattle.level_turns.specs.Outlines.{shifted}
+use Rattle.level_turns.proofs.OutlineLemmas.{outlines_turn_back}
+use Rattle.level_turns.proofs.RouteLemmas.{points_turned}
 
 -- ---- rectangles that stand clear
 

@@ -32,11 +32,11 @@ use Rattle.level_stands.specs.Apart.{drawn_outline, drawn_outline_from}
 use Rattle.level_stands.proofs.ApartLemmas.{outlines_are_drawn}
 use Rattle.level_draw.specs.Drawing.{drawn_in}
 use Rattle.level_bounds.proofs.Sums.{over}
-use Rattle.turned_levels.specs.Turned.{box_size, child_number, level_of, turned_size}
-use Rattle.turned_levels.proofs.NumberedLemmas.{levels_are_listed, numbers_match}
-use Rattle.turned_drawings.specs.Outlines.{shifted}
-use Rattle.turned_drawings.proofs.HullLemmas.{hull_moved, place_moved}
-use Rattle.turned_drawings.proofs.OutlineLemmas.{drawn_port_box, outlines_turn_back}
+use Rattle.level_frame.specs.Turned.{box_size, child_number, level_of, turned_size}
+use Rattle.level_frame.proofs.NumberedLemmas.{levels_are_listed, numbers_match}
+use Rattle.level_turns.specs.Outlines.{shifted}
+use Rattle.level_turns.proofs.HullLemmas.{hull_moved, place_moved}
+use Rattle.level_turns.proofs.OutlineLemmas.{drawn_port_box, outlines_turn_back}
 use Rattle.document_plan.specs.Boxed.{IsBoxedPlan, outline_sizes, size_of}
 use Rattle.document_plan.specs.Planned.{IsPlannedLevel}
 use Rattle.document_rules.proofs.EdgeLemmas.{level_sound}

@@ -14,10 +14,10 @@ use Rattle.elk_doc.specs.Fitted.{IsGreatestOf}
 use Rattle.elk_doc.specs.Level.{IsChild, children, place_of_child}
 use Rattle.elk_doc.specs.Paths.{stay}
 use Rattle.elk_doc.specs.PortsKept.{KeepsPorts}
-use Rattle.turned_levels.specs.Turned.{turned_size}
+use Rattle.level_frame.specs.Turned.{turned_size}
 use Rattle.level_plan.specs.FromPlan.{LevelDrawing}
-use Rattle.turned_drawings.specs.Framed.{AsksHeight, AsksWidth, IsFittedBox, IsFramed, start_of}
-use Rattle.turned_drawings.specs.Levels.{IsWellDrawn}
+use Rattle.level_turns.specs.Framed.{AsksHeight, AsksWidth, IsFittedBox, IsFramed, start_of}
+use Rattle.level_turns.specs.Levels.{IsWellDrawn}
 use Rattle.level_writing.specs.Sizes.{KeepsPinned}
 use Rattle.level_writing.proofs.FramedLemmas.{framed}
 use Rattle.document_plan.specs.Boxed.{boxes_certificate, lowest}

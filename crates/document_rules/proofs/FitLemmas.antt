@@ -21,9 +21,9 @@ use Rattle.elk_doc.specs.Sound.{IsSoundSpacing}
 use Rattle.box_pack.specs.Boxes as rows
 use Rattle.box_pack.specs.Boxes.{point_at}
 use Rattle.box_pack.specs.Spaced.{box_at}
-use Rattle.turned_drawings.specs.Framed.{AsksHeight, AsksWidth, IsFittedBox}
-use Rattle.turned_levels.specs.Turned.{child_number}
-use Rattle.turned_levels.proofs.NumberedLemmas.{numbers_match}
+use Rattle.level_turns.specs.Framed.{AsksHeight, AsksWidth, IsFittedBox}
+use Rattle.level_frame.specs.Turned.{child_number}
+use Rattle.level_frame.proofs.NumberedLemmas.{numbers_match}
 use Rattle.document_plan.specs.Boxed.{IsBoxedPlan, outline_sizes}
 use Rattle.document_rules.proofs.RowLemmas.{outline_at_place, outline_is, size_count, spaced}
 

@@ -17,15 +17,15 @@ use Rattle.level_plan.specs.FromPlan.{LevelDrawing}
 use Rattle.level_stands.specs.Ready.{IsReady}
 use Rattle.level_layers.specs.Certificate.{IsCertificateOf}
 use Rattle.level_draw.specs.Drawing.{drawn_in, IsDrawing, plan_from}
-use Rattle.turned_levels.specs.Turned.{level_of}
-use Rattle.turned_levels.proofs.NumberedLemmas.{levels_are_listed}
-use Rattle.turned_drawings.specs.Framed.{IsFramed, start_of}
-use Rattle.turned_drawings.specs.Certified.{IsCertified, IsProofOf}
-use Rattle.turned_drawings.proofs.WholeLemmas.{certificates_turn_back}
-use Rattle.turned_drawings.specs.DockLaws.{IsFromLevel}
-use Rattle.turned_drawings.proofs.SpreadLemmas.{ports_turn_back}
-use Rattle.turned_drawings.specs.Levels.{IsWellDrawn}
-use Rattle.turned_drawings.proofs.LevelLemmas.{anchored, levels_are_drawn, ports_placed}
+use Rattle.level_frame.specs.Turned.{level_of}
+use Rattle.level_frame.proofs.NumberedLemmas.{levels_are_listed}
+use Rattle.level_turns.specs.Framed.{IsFramed, start_of}
+use Rattle.level_turns.specs.Certified.{IsCertified, IsProofOf}
+use Rattle.level_turns.proofs.WholeLemmas.{certificates_turn_back}
+use Rattle.level_turns.specs.DockLaws.{IsFromLevel}
+use Rattle.level_turns.proofs.SpreadLemmas.{ports_turn_back}
+use Rattle.level_turns.specs.Levels.{IsWellDrawn}
+use Rattle.level_turns.proofs.LevelLemmas.{anchored, levels_are_drawn, ports_placed}
 use Rattle.level_writing.specs.Sizes.{KeepsPinned}
 use Rattle.level_writing.proofs.FramedLemmas.{framed}
 use Rattle.document_plan.specs.Boxed.{boxes_certificate}

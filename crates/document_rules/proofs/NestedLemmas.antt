@@ -14,8 +14,8 @@ use Rattle.elk_doc.proofs.NumberLaws.{is_true}
 use Rattle.port_order.specs.declared.children.Child.{Child}
 use Rattle.level_plan.specs.Conditions.{total_height, total_ports, total_width}
 use Rattle.level_plan.specs.Level.{child_at}
-use Rattle.turned_levels.specs.Turned.{box_size, child_number, level_of}
-use Rattle.turned_levels.proofs.NumberedLemmas.{levels_are_listed, numbers_match}
+use Rattle.level_frame.specs.Turned.{box_size, child_number, level_of}
+use Rattle.level_frame.proofs.NumberedLemmas.{levels_are_listed, numbers_match}
 use Rattle.level_reading.specs.Levels.{HasRoom}
 use Rattle.level_reading.proofs.CountLemmas.{few_ports}
 use Rattle.level_reading.proofs.TotalLemmas.{ArePortsShort, Measure, ports_short}

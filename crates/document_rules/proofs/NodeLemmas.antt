@@ -25,9 +25,9 @@ use Rattle.port_order.specs.declared.children.ChildPort.{ChildPort}
 use Rattle.level_plan.specs.Conditions.{plain_level}
 use Rattle.level_plan.specs.Level.{PlainLevel}
 use Rattle.level_draw.specs.Drawing.{drawn_in, plan_from}
-use Rattle.turned_levels.specs.Numbered.{IsPortOf}
-use Rattle.turned_levels.specs.Turned.{box_size, child_number, level_child, level_edge, level_of, port_number, ports_of, turned_size}
-use Rattle.turned_levels.proofs.NumberedLemmas.{levels_are_listed, numbers_match}
+use Rattle.level_frame.specs.Numbered.{IsPortOf}
+use Rattle.level_frame.specs.Turned.{box_size, child_number, level_child, level_edge, level_of, port_number, ports_of, turned_size}
+use Rattle.level_frame.proofs.NumberedLemmas.{levels_are_listed, numbers_match}
 use Rattle.level_reading.proofs.ReadLemmas.{turned_sound}
 use Rattle.level_bounds.proofs.Bounded.{extents_bounded, extents_small}
 use Rattle.level_writing.specs.Sizes.{Asks, IsSizeRound, end_across, end_down, end_of, padded_height, padded_width, pinned_under}
@@ -36,7 +36,7 @@ use Rattle.document_plan.specs.Planned.{IsLayeredPlan}
 use Rattle.document_rules.proofs.EdgeLemmas.{level_sound}
 use Rattle.document_rules.proofs.ExtentLemmas.{AllShort, extent_most, high, wide}
 use Rattle.document_rules.proofs.PartLemmas.{parts_most}
-use Rattle.split_layout.proofs.BoundLemmas.{parts_are_bounded}
+use Rattle.level_split.proofs.BoundLemmas.{parts_are_bounded}
 use Rattle.level_bounds.proofs.Sums.{over}
 use Rattle.document_rules.proofs.ListLemmas.{over_both, over_numbers}
 use Rattle.document_rules.proofs.SumLemmas.{cost, room}

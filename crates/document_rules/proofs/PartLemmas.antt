@@ -5,20 +5,20 @@ use Rattle.elk_doc.specs.declared.shape.Rect.{Rect}
 use Rattle.elk_doc.specs.Sound.{IsDistance}
 use Rattle.port_order.specs.declared.children.Child.{Child}
 use Rattle.box_pack.specs.Boxes.{point_at}
-use Rattle.joined_drawings.proofs.PartLemmas as parts
-use Rattle.joined_drawings.proofs.ReachLemmas as reach
+use Rattle.level_joined.proofs.PartLemmas as parts
+use Rattle.level_joined.proofs.ReachLemmas as reach
 use Rattle.level_bounds.specs.Extents.{outline_heights, outline_widths}
 use Rattle.level_bounds.proofs.Sums.{over}
 use Rattle.level_plan.specs.declared.level.LevelIn.{LevelIn}
 use Rattle.level_plan.specs.Conditions.{plain_level}
 use Rattle.level_plan.specs.Level.{PlainLevel, child_at}
 use Rattle.level_stands.specs.Apart.{drawn_outline}
-use Rattle.part_levels.specs.Divided.{child_number, part_level}
-use Rattle.part_levels.proofs.LevelLemmas.{child_in, child_is, many_children}
-use Rattle.split_layout.specs.declared.layout.PartsOut.{PartsOut}
-use Rattle.split_layout.specs.Parts.{IsPartsLayout, whole_drawing}
-use Rattle.split_layout.proofs.BoundLemmas.{parts_are_bounded}
-use Rattle.split_layout.proofs.WholeLemmas as whole
+use Rattle.level_parts.specs.Divided.{child_number, part_level}
+use Rattle.level_parts.proofs.LevelLemmas.{child_in, child_is, many_children}
+use Rattle.level_split.specs.declared.layout.PartsOut.{PartsOut}
+use Rattle.level_split.specs.Parts.{IsPartsLayout, whole_drawing}
+use Rattle.level_split.proofs.BoundLemmas.{parts_are_bounded}
+use Rattle.level_split.proofs.WholeLemmas as whole
 use Rattle.document_rules.proofs.ExtentLemmas.{AllShort, high, high_at, wide, wide_at}
 use Rattle.document_rules.proofs.ListLemmas.{sum_most}
 use Rattle.document_rules.proofs.OutlineLemmas.{HasShortPorts}

@@ -15,24 +15,24 @@ use Rattle.elk_doc.proofs.NumberLaws.{length-numbers_below}
 use Rattle.level_plan.specs.Conditions.{IsLevel}
 use Rattle.level_plan.specs.FromPlan.{LevelDrawing}
 use Rattle.level_plan.specs.Level.{PlainLevel, holds}
-use Rattle.joined_drawings.specs.Joined.{KeepsRules, with_gaps}
-use Rattle.split_layout.specs.Laws.{IsPartedDrawing}
-use Rattle.split_layout.specs.Parts.{whole_drawing}
-use Rattle.split_layout.proofs.WholeLemmas.{parts_are_drawn}
+use Rattle.level_joined.specs.Joined.{KeepsRules, with_gaps}
+use Rattle.level_split.specs.Laws.{IsPartedDrawing}
+use Rattle.level_split.specs.Parts.{whole_drawing}
+use Rattle.level_split.proofs.WholeLemmas.{parts_are_drawn}
 use Rattle.level_writing.specs.Sizes.{KeepsPinned}
 use Rattle.level_writing.proofs.FramedLemmas.{framed}
-use Rattle.turned_levels.specs.Drawing.{IsTurnedDrawing}
-use Rattle.turned_levels.specs.Turned.{edge_number, level_of}
-use Rattle.turned_levels.proofs.NumberedLemmas.{levels_are_listed}
-use Rattle.turned_drawings.specs.Framed.{IsFramed, start_of}
-use Rattle.turned_drawings.proofs.FrameLemmas.{framed_boxes_fit}
-use Rattle.turned_drawings.specs.Certified.{IsCertified, IsSoundCertificate}
-use Rattle.turned_drawings.proofs.WholeLemmas.{certificates_turn_back}
-use Rattle.turned_drawings.specs.DockLaws.{IsFromLevel}
-use Rattle.turned_drawings.proofs.SpreadLemmas.{ports_turn_back}
-use Rattle.turned_drawings.proofs.RouteLemmas.{routes_turn_back}
-use Rattle.turned_drawings.specs.Levels.{IsWellDrawn}
-use Rattle.turned_drawings.proofs.LevelLemmas.{anchored}
+use Rattle.level_frame.specs.Drawing.{IsTurnedDrawing}
+use Rattle.level_frame.specs.Turned.{edge_number, level_of}
+use Rattle.level_frame.proofs.NumberedLemmas.{levels_are_listed}
+use Rattle.level_turns.specs.Framed.{IsFramed, start_of}
+use Rattle.level_turns.proofs.FrameLemmas.{framed_boxes_fit}
+use Rattle.level_turns.specs.Certified.{IsCertified, IsSoundCertificate}
+use Rattle.level_turns.proofs.WholeLemmas.{certificates_turn_back}
+use Rattle.level_turns.specs.DockLaws.{IsFromLevel}
+use Rattle.level_turns.proofs.SpreadLemmas.{ports_turn_back}
+use Rattle.level_turns.proofs.RouteLemmas.{routes_turn_back}
+use Rattle.level_turns.specs.Levels.{IsWellDrawn}
+use Rattle.level_turns.proofs.LevelLemmas.{anchored}
 use Rattle.document_rules.specs.Parted.{IsDrawnInParts, PartedLevelsAreDrawn}
 use Rattle.document_rules.proofs.ApartLemmas.{layers_apart, numbers_parts, parts_apart}
 

@@ -24,12 +24,12 @@ use Rattle.level_stands.specs.PortsKept.{ArePortsPlaced}
 use Rattle.level_stands.specs.Ready.{IsReady}
 use Rattle.level_stands.proofs.PortLemmas.{ports_are_kept}
 use Rattle.level_draw.specs.Drawing.{drawn_in, plan_from}
-use Rattle.turned_levels.specs.Drawing.{IsTurnedDrawing, plus}
-use Rattle.turned_levels.specs.Turned.{box_size, child_number, edge_number, level_edge, level_of, turned_size}
-use Rattle.turned_levels.proofs.NumberedLemmas.{levels_are_listed}
-use Rattle.turned_drawings.proofs.EdgeLemmas.{has_holds}
-use Rattle.turned_drawings.specs.DockLaws.{IsAnchored, IsFromLevel}
-use Rattle.turned_drawings.proofs.SpreadLemmas.{ports_turn_back}
+use Rattle.level_frame.specs.Drawing.{IsTurnedDrawing, plus}
+use Rattle.level_frame.specs.Turned.{box_size, child_number, edge_number, level_edge, level_of, turned_size}
+use Rattle.level_frame.proofs.NumberedLemmas.{levels_are_listed}
+use Rattle.level_turns.proofs.EdgeLemmas.{has_holds}
+use Rattle.level_turns.specs.DockLaws.{IsAnchored, IsFromLevel}
+use Rattle.level_turns.proofs.SpreadLemmas.{ports_turn_back}
 use Rattle.document_plan.specs.Boxed.{IsBoxedPlan, boxes_certificate, corner_of, edgeless}
 use Rattle.document_rules.proofs.EdgeLemmas.{edges_none, no_edges}
 

@@ -20,9 +20,9 @@ use Rattle.elk_doc.proofs.ShapeLaws.{same_rect}
 use Rattle.box_pack.specs.Boxes.{size_at}
 use Rattle.box_pack.specs.Spaced.{AreSolid, AreSpaced, box_at}
 use Rattle.box_pack.proofs.SpacedLemmas.{rows_are_spaced}
-use Rattle.turned_drawings.specs.Outlines.{shifted}
-use Rattle.turned_levels.specs.Turned.{child_number}
-use Rattle.turned_levels.proofs.NumberedLemmas.{numbers_match}
+use Rattle.level_turns.specs.Outlines.{shifted}
+use Rattle.level_frame.specs.Turned.{child_number}
+use Rattle.level_frame.proofs.NumberedLemmas.{numbers_match}
 use Rattle.document_plan.specs.Boxed.{IsBoxedPlan, inner_corner, outline_sizes, size_of}
 
 left_moved : (by : Point) (gap : ℤ) (r s : Rect) → StandsClear gap r s → StandsClear gap (shifted by r) (shifted by s)

@@ -11,11 +11,11 @@ use Rattle.elk_doc.specs.Drawing.{box_of, certificate_of}
 use Rattle.elk_doc.specs.Fits.{FitsLevel, HasCertificates, IsSolid}
 use Rattle.elk_doc.specs.PortsKept.{KeepsPorts}
 use Rattle.elk_doc.specs.Sound.{IsSound, IsWithin}
-use Rattle.turned_drawings.specs.Levels.{IsWellDrawn}
+use Rattle.level_turns.specs.Levels.{IsWellDrawn}
 use Rattle.drawing_laws.specs.Held.{IsHeld}
 use Rattle.drawing_laws.proofs.HeldLemmas.{held_drawings_are_small, held_drawings_fit}
 use Rattle.document_rules.proofs.NestedLemmas.{planned_boxes_are_small}
-use Rattle.root_ports.proofs.KeptLemmas.{root_ports_are_kept}
+use Rattle.document_root.proofs.KeptLemmas.{root_ports_are_kept}
 use Rattle.document_plan.specs.Planned.{ArePlannedFrom}
 use Rattle.document_rules.specs.Whole.{DocumentsAreDrawn, IsLaidOutDocument}
 use Rattle.document_rules.proofs.LevelLemmas.{IsPlannedDrawing, planned_drawing}

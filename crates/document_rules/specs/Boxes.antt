@@ -8,7 +8,7 @@ use Rattle.elk_doc.specs.Fits.{FitsCertificate, IsSolid, LeavesKept}
 use Rattle.elk_doc.specs.Level.{IsChild}
 use Rattle.elk_doc.specs.PortsKept.{KeepsPorts}
 use Rattle.elk_doc.specs.Sound.{IsSound}
-use Rattle.turned_drawings.specs.Levels.{IsWellDrawn}
+use Rattle.level_turns.specs.Levels.{IsWellDrawn}
 use Rattle.document_plan.specs.Boxed.{IsBoxedPlan, boxes_certificate}
 
 -- The level of n, which has these options, is one of boxes that comes from a layout, in a drawing whose leaves keep their sizes.

@@ -9,7 +9,7 @@ use Rattle.elk_doc.specs.Fits.{FitsCertificate, IsSolid, LeavesKept}
 use Rattle.elk_doc.specs.Level.{IsChild}
 use Rattle.elk_doc.specs.PortsKept.{KeepsPorts}
 use Rattle.elk_doc.specs.Sound.{IsSound}
-use Rattle.turned_drawings.specs.Levels.{IsWellDrawn}
+use Rattle.level_turns.specs.Levels.{IsWellDrawn}
 use Rattle.document_plan.specs.Parted.{IsPartedPlan}
 
 -- The level of n, which has these options, comes from layouts of its parts, in a drawing whose leaves keep their sizes.

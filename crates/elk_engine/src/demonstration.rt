@@ -4,7 +4,7 @@ ghost use Rattle.elk_doc.specs.Drawing.{certificate_of};
 ghost use Rattle.elk_engine.specs.Demo.{demo_text, IsDemoLine};
 
 use compound::lay_out;
-use demo_document::{Counts, counts, demo};
+use elk_demo::{Counts, counts, demo};
 use elk_doc::drawing::Placed;
 use std::alloc::{AllocError, Global};
 

@@ -4,11 +4,11 @@ use Rattle.std.proofs.lemmas.Int.{ints}
 use Rattle.std.proofs.lemmas.Bool.{cases_eq, cases_lt}
 use Rattle.std.proofs.lemmas.List.{get_or-set_same, get_or-set_other, get_or_past, get_or-replicate, length-set, length-replicate}
 use Rattle.std.proofs.lemmas.List.Sums.{sum_by-set, sum_by-cons}
-use Rattle.layering_laws.specs.declared.network.NetEdge.{NetEdge}
-use Rattle.layering_laws.specs.Layering.{layer_of}
-use Rattle.layering_laws.specs.Tight.{given, asked}
-use Rattle.layering_laws.specs.Linked.{is_marked}
-use Rattle.layering_laws.proofs.Tightness.{none_below}
+use Rattle.network_laws.specs.declared.network.NetEdge.{NetEdge}
+use Rattle.network_laws.specs.Layering.{layer_of}
+use Rattle.network_laws.specs.Tight.{given, asked}
+use Rattle.network_laws.specs.Linked.{is_marked}
+use Rattle.network_laws.proofs.Tightness.{none_below}
 use Rattle.flow_dual.specs.declared.Label.{Label}
 use Rattle.flow_dual.specs.State.{marked}
 use Rattle.flow_dual.specs.Labels.{label_at}

@@ -3,10 +3,10 @@ use Rattle.std.proofs.Common.{◌≡◌, ◌≢◌, ℕ, zero, suc, ◌+◌, ◌
 use Rattle.std.proofs.lemmas.Int.{ints}
 use Rattle.std.proofs.lemmas.Bool.{cases_eq, cases_lt, eq-eqb, ne_eqb}
 use Rattle.std.proofs.lemmas.List.{get_or-set_same, get_or-set_other, length-set}
-use Rattle.layering_laws.specs.declared.network.NetEdge.{NetEdge}
-use Rattle.layering_laws.specs.Network.{EndsBelow}
-use Rattle.layering_laws.specs.Layering.{layer_of, Balances}
-use Rattle.layering_laws.specs.Tight.{given, asked}
+use Rattle.network_laws.specs.declared.network.NetEdge.{NetEdge}
+use Rattle.network_laws.specs.Network.{EndsBelow}
+use Rattle.network_laws.specs.Layering.{layer_of, Balances}
+use Rattle.network_laws.specs.Tight.{given, asked}
 use Rattle.flow_dual.specs.declared.Label.{Label}
 use Rattle.flow_dual.specs.State.{marked}
 use Rattle.flow_dual.specs.Labels.{label_at, at_one, PushedFrom, IsLabelled, IsPushed}

@@ -5,12 +5,12 @@ use Rattle.std.specs.List.{All}
 use Rattle.std.proofs.lemmas.Bool.{cases_lt}
 use Rattle.std.proofs.lemmas.List.{get_or-replicate, get_or_past, get_or-map, length-replicate, length-map}
 use Rattle.std.proofs.lemmas.List.Elements.{All-from_get_or}
-use Rattle.layering_laws.specs.declared.network.NetEdge.{NetEdge}
-use Rattle.layering_laws.specs.Network.{EndsBelow, IsNetwork}
-use Rattle.layering_laws.specs.Layering.{layer_of, PartsBeginAtZero}
-use Rattle.layering_laws.specs.Lowering.{KeepsRises}
-use Rattle.layering_laws.specs.Paths.{AreGreatestSums}
-use Rattle.layering_laws.specs.Tight.{IsDone}
+use Rattle.network_laws.specs.declared.network.NetEdge.{NetEdge}
+use Rattle.network_laws.specs.Network.{EndsBelow, IsNetwork}
+use Rattle.network_laws.specs.Layering.{layer_of, PartsBeginAtZero}
+use Rattle.network_laws.specs.Lowering.{KeepsRises}
+use Rattle.network_laws.specs.Paths.{AreGreatestSums}
+use Rattle.network_laws.specs.Tight.{IsDone}
 use Rattle.flow_dual.specs.declared.Label.{Label}
 use Rattle.flow_dual.specs.Rounds.{all_least}
 use Rattle.flow_dual.specs.Searching.{IsCleared}

@@ -5,13 +5,13 @@ use Rattle.std.proofs.lemmas.Int.{ints}
 use Rattle.std.proofs.lemmas.Bool.{cases_eq, cases_lt, cases_Bool}
 use Rattle.std.proofs.lemmas.List.{get_or-set_same, get_or-set_other, get_or_append_left, get_or_push, get_or_default, length-set, length-append}
 use Rattle.std.proofs.lemmas.List.Elements.{All-contains, All-push, All-cons, All-nil}
-use Rattle.layering_laws.specs.declared.network.NetEdge.{NetEdge}
-use Rattle.layering_laws.specs.declared.links.End.{End}
-use Rattle.layering_laws.specs.declared.links.End.TheVariants.{Tail, Head}
-use Rattle.layering_laws.specs.Network.{edge_at, EndsBelow}
-use Rattle.layering_laws.specs.Layering.{layer_of, IsLayering}
-use Rattle.layering_laws.specs.Links.{end_of}
-use Rattle.layering_laws.specs.Tight.{given, asked}
+use Rattle.network_laws.specs.declared.network.NetEdge.{NetEdge}
+use Rattle.network_laws.specs.declared.links.End.{End}
+use Rattle.network_laws.specs.declared.links.End.TheVariants.{Tail, Head}
+use Rattle.network_laws.specs.Network.{edge_at, EndsBelow}
+use Rattle.network_laws.specs.Layering.{layer_of, IsLayering}
+use Rattle.network_laws.specs.Links.{end_of}
+use Rattle.network_laws.specs.Tight.{given, asked}
 use Rattle.flow_dual.specs.declared.Label.{Label}
 use Rattle.flow_dual.specs.declared.queue.Step.{Step}
 use Rattle.flow_dual.specs.State.{marked, Leaves, LeadsOn, IsClosed, IsRaised, IsLeastSlack}

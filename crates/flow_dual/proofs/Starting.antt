@@ -6,13 +6,13 @@ use Rattle.std.proofs.lemmas.Int.{ints}
 use Rattle.std.proofs.lemmas.Bool.{cases_eq, cases_lt, eq-eqb, ne_eqb}
 use Rattle.std.proofs.lemmas.List.{get_or-set_same, get_or-set_other, length-set, take_all}
 use Rattle.std.proofs.lemmas.List.Sums.{sum_by-cons}
-use Rattle.layering_laws.specs.declared.network.NetEdge.{NetEdge}
-use Rattle.layering_laws.specs.Network.{edge_at, EndsBelow, IsAcyclic, IsNetwork}
-use Rattle.layering_laws.specs.Layering.{layer_of, IsLayering, at_node, inward, outward, weights, weighed}
-use Rattle.layering_laws.specs.Paths.{AreGreatestSums}
-use Rattle.layering_laws.specs.Tight.{IsTightEdge, FlowOnTight}
-use Rattle.layering_laws.proofs.PathSums.{path_le}
-use Rattle.layering_laws.proofs.Duality.{over_nodes, at_ends}
+use Rattle.network_laws.specs.declared.network.NetEdge.{NetEdge}
+use Rattle.network_laws.specs.Network.{edge_at, EndsBelow, IsAcyclic, IsNetwork}
+use Rattle.network_laws.specs.Layering.{layer_of, IsLayering, at_node, inward, outward, weights, weighed}
+use Rattle.network_laws.specs.Paths.{AreGreatestSums}
+use Rattle.network_laws.specs.Tight.{IsTightEdge, FlowOnTight}
+use Rattle.network_laws.proofs.PathSums.{path_le}
+use Rattle.network_laws.proofs.Duality.{over_nodes, at_ends}
 use Rattle.flow_dual.specs.declared.Label.{Label}
 use Rattle.flow_dual.specs.Rounds.{all_least, surplus}
 use Rattle.flow_dual.specs.Searching.{TellsExcess, IsCleared, IsBetween}

@@ -4,10 +4,10 @@ use Rattle.std.proofs.lemmas.Int.{ints}
 use Rattle.std.proofs.lemmas.Bool.{cases_eq, cases_lt}
 use Rattle.std.proofs.lemmas.List.{get_or-set_same, get_or-set_other, get_or_past, length-set}
 use Rattle.std.proofs.lemmas.List.Sums.{sum_by-set}
-use Rattle.layering_laws.specs.declared.network.NetEdge.{NetEdge}
-use Rattle.layering_laws.specs.Network.{edge_at, EndsBelow}
-use Rattle.layering_laws.specs.Layering.{layer_of, IsLayering}
-use Rattle.layering_laws.specs.Tight.{given, asked}
+use Rattle.network_laws.specs.declared.network.NetEdge.{NetEdge}
+use Rattle.network_laws.specs.Network.{edge_at, EndsBelow}
+use Rattle.network_laws.specs.Layering.{layer_of, IsLayering}
+use Rattle.network_laws.specs.Tight.{given, asked}
 use Rattle.flow_dual.specs.declared.Label.{Label}
 use Rattle.flow_dual.specs.State.{marked, LeadsOn, IsClosed, SomeLeaves, IsLed}
 use Rattle.flow_dual.specs.Search.{IsSearch, Reaches}

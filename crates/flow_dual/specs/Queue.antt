@@ -4,12 +4,12 @@ use Rattle.std.specs.declared.cmp.Ordering.{Ordering}
 use Rattle.std.specs.Ordering.{ordering_then, nat_cmp}
 use Rattle.std.specs.List.{All, Contains}
 use Rattle.std.specs.List.Sorted.{IsPermutation}
-use Rattle.layering_laws.specs.declared.network.NetEdge.{NetEdge}
-use Rattle.layering_laws.specs.declared.links.End.{End}
-use Rattle.layering_laws.specs.declared.links.End.TheVariants.{Tail, Head}
-use Rattle.layering_laws.specs.Network.{edge_at}
-use Rattle.layering_laws.specs.Layering.{layer_of}
-use Rattle.layering_laws.specs.Links.{end_of}
+use Rattle.network_laws.specs.declared.network.NetEdge.{NetEdge}
+use Rattle.network_laws.specs.declared.links.End.{End}
+use Rattle.network_laws.specs.declared.links.End.TheVariants.{Tail, Head}
+use Rattle.network_laws.specs.Network.{edge_at}
+use Rattle.network_laws.specs.Layering.{layer_of}
+use Rattle.network_laws.specs.Links.{end_of}
 use Rattle.flow_dual.specs.declared.queue.Step.{Step}
 
 -- how far the reached nodes have to be raised for a step

@@ -1,10 +1,10 @@
 -- What the method keeps from one augmentation to the next.
 use Rattle.std.specs.Prelude.{◌≡◌, ℕ, zero, suc, ◌+◌, ◌-◌, ◌*◌, ◌<◌, ◌≤◌, Bool, true, false, ℤ, pos, ◌+ℤ◌, ◌≤ℤ◌, ◌<ℤ◌, ◌^◌, cond, List, length, slice_index}
 use Rattle.std.specs.List.{sum_by}
-use Rattle.layering_laws.specs.declared.network.NetEdge.{NetEdge}
-use Rattle.layering_laws.specs.Network.{edge_at, EndsBelow}
-use Rattle.layering_laws.specs.Layering.{layer_of, IsLayering, Balances}
-use Rattle.layering_laws.specs.Tight.{FlowOnTight, given, asked}
+use Rattle.network_laws.specs.declared.network.NetEdge.{NetEdge}
+use Rattle.network_laws.specs.Network.{edge_at, EndsBelow}
+use Rattle.network_laws.specs.Layering.{layer_of, IsLayering, Balances}
+use Rattle.network_laws.specs.Tight.{FlowOnTight, given, asked}
 use Rattle.flow_dual.specs.declared.Label.{Label}
 use Rattle.flow_dual.specs.State.{marked, Leaves, IsClosed, SomeLeaves, IsRaised}
 use Rattle.flow_dual.specs.Labels.{PushedFrom}

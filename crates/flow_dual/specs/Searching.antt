@@ -2,12 +2,12 @@
 -- it came among them. (Dijkstra's method over slacks.)
 use Rattle.std.specs.Prelude.{◌≡◌, ℕ, ◌<◌, ◌≤◌, ◌^◌, ◌-◌, Bool, true, false, ℤ, pos, ◌+ℤ◌, ◌≤ℤ◌, List, length, slice_index, set}
 use Rattle.std.specs.List.{All, Contains}
-use Rattle.layering_laws.specs.declared.network.NetEdge.{NetEdge}
-use Rattle.layering_laws.specs.declared.links.End.{End}
-use Rattle.layering_laws.specs.Network.{edge_at}
-use Rattle.layering_laws.specs.Layering.{layer_of}
-use Rattle.layering_laws.specs.Links.{end_of}
-use Rattle.layering_laws.specs.Tight.{given, asked}
+use Rattle.network_laws.specs.declared.network.NetEdge.{NetEdge}
+use Rattle.network_laws.specs.declared.links.End.{End}
+use Rattle.network_laws.specs.Network.{edge_at}
+use Rattle.network_laws.specs.Layering.{layer_of}
+use Rattle.network_laws.specs.Links.{end_of}
+use Rattle.network_laws.specs.Tight.{given, asked}
 use Rattle.flow_dual.specs.declared.Label.{Label}
 use Rattle.flow_dual.specs.declared.queue.Step.{Step}
 use Rattle.flow_dual.specs.State.{marked}

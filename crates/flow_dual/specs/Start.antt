@@ -1,9 +1,9 @@
 -- The first flow, which fills the tight edges, and what each node is then given more than it asks.
 use Rattle.std.specs.Prelude.{◌≡◌, ℕ, ◌<◌, ◌≤◌, ◌*◌, ◌^◌, ◌==◌, cond, ◌⊎◌, ℤ, pos, ◌+ℤ◌, ◌≤ℤ◌, List, length, set, slice_index, take}
-use Rattle.layering_laws.specs.declared.network.NetEdge.{NetEdge}
-use Rattle.layering_laws.specs.Network.{edge_at}
-use Rattle.layering_laws.specs.Layering.{layer_of, weights, inward, outward}
-use Rattle.layering_laws.specs.Tight.{IsTightEdge}
+use Rattle.network_laws.specs.declared.network.NetEdge.{NetEdge}
+use Rattle.network_laws.specs.Network.{edge_at}
+use Rattle.network_laws.specs.Layering.{layer_of, weights, inward, outward}
+use Rattle.network_laws.specs.Tight.{IsTightEdge}
 
 -- one edge's weight is given to its tail, and asked by its head
 pub record TalliesEdge (old : List ℤ) (e : NetEdge) (new : List ℤ) : Type 0 where

@@ -2,10 +2,10 @@
 //! a surplus.
 
 ghost use Rattle.std.specs.Prelude.{◌≡◌, ◌≢◌, ◌+◌, ◌≤◌, ◌<◌, ◌^◌, ℕ, pos, ◌≤ℤ◌, ◌<ℤ◌, ◌+ℤ◌, length, OnOk, slice_index};
-ghost use Rattle.layering_laws.specs.Network.{EndsBelow};
-ghost use Rattle.layering_laws.specs.Layering.{layer_of};
-ghost use Rattle.layering_laws.specs.Links.{AreLinks};
-ghost use Rattle.layering_laws.specs.declared.links.End.TheVariants.{Tail, Head};
+ghost use Rattle.network_laws.specs.Network.{EndsBelow};
+ghost use Rattle.network_laws.specs.Layering.{layer_of};
+ghost use Rattle.network_laws.specs.Links.{AreLinks};
+ghost use Rattle.network_laws.specs.declared.links.End.TheVariants.{Tail, Head};
 ghost use Rattle.flow_dual.specs.Rounds.{all_least};
 ghost use Rattle.flow_dual.specs.Searching.{IsBetween};
 ghost use Rattle.flow_dual.specs.Augmented.{MovesExcess, IsAugmented, IsDrained, IsDraining, AreDrained};
@@ -13,7 +13,7 @@ ghost use Rattle.flow_dual.specs.Augmented.{MovesExcess, IsAugmented, IsDrained,
 use crate::settle::settle;
 use crate::turns::search;
 use crate::{Label, push};
-use layering_laws::{Links, NetEdge};
+use network_laws::{Links, NetEdge};
 use std::alloc::{AllocError, Global};
 
 /// What a node asks for more than it is given.

@@ -2,9 +2,9 @@
 #![tactic(auto)]
 
 ghost use Rattle.std.specs.Prelude.{◌≡◌, ◌≢◌, ◌+◌, ◌≤◌, ◌<◌, ◌^◌, ◌*◌, ℕ, pos, ◌≤ℤ◌, ◌-ℤ◌, slice_index, length};
-ghost use Rattle.layering_laws.specs.Network.{EndsBelow};
-ghost use Rattle.layering_laws.specs.Layering.{IsLayering, layer_of, cost, natural, IsSolution};
-ghost use Rattle.layering_laws.specs.Tight.{IsDone};
+ghost use Rattle.network_laws.specs.Network.{EndsBelow};
+ghost use Rattle.network_laws.specs.Layering.{IsLayering, layer_of, cost, natural, IsSolution};
+ghost use Rattle.network_laws.specs.Tight.{IsDone};
 ghost use Rattle.flow_dual.specs.Labels.{PushesOver, IsLabelled, IsPushed};
 
 mod augment;
@@ -15,7 +15,7 @@ mod start;
 mod steps;
 mod turns;
 
-pub use layering_laws::{NetEdge, Network, Solution};
+pub use network_laws::{NetEdge, Network, Solution};
 pub use solving::{parts, solve, solve_from};
 
 /// The sum of weight times rise.

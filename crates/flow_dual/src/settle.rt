@@ -2,7 +2,7 @@
 
 ghost use Rattle.std.specs.Prelude.{◌≡◌, ◌+◌, ◌≤◌, ◌<◌, ◌^◌, ◌-◌, ℕ, pos, ◌≤ℤ◌, ◌+ℤ◌, length};
 ghost use Rattle.std.specs.List.{All};
-ghost use Rattle.layering_laws.specs.Layering.{layer_of};
+ghost use Rattle.network_laws.specs.Layering.{layer_of};
 ghost use Rattle.flow_dual.specs.State.{marked};
 ghost use Rattle.flow_dual.specs.Searching.{IsSettled, RiseFits, IsEarlier};
 

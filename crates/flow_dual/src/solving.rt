@@ -1,17 +1,17 @@
 //! Layerings of least cost: the start, the augmentations, and each part lowered to begin at layer 0.
 
 ghost use Rattle.std.specs.Prelude.{◌≡◌, ◌≤◌, ◌<◌, ◌^◌, ℕ, pos, ◌≤ℤ◌, ◌<ℤ◌, length, OnOk, IfOk, slice_index};
-ghost use Rattle.layering_laws.specs.Network.{EndsBelow, IsNetwork};
-ghost use Rattle.layering_laws.specs.Layering.{IsLayering, layer_of, IsSolution};
-ghost use Rattle.layering_laws.specs.Parts.{ArePartNumbers};
-ghost use Rattle.layering_laws.specs.Tight.{IsDone};
+ghost use Rattle.network_laws.specs.Network.{EndsBelow, IsNetwork};
+ghost use Rattle.network_laws.specs.Layering.{IsLayering, layer_of, IsSolution};
+ghost use Rattle.network_laws.specs.Parts.{ArePartNumbers};
+ghost use Rattle.network_laws.specs.Tight.{IsDone};
 ghost use Rattle.flow_dual.specs.Searching.{IsBetween, IsCleared};
 ghost use Rattle.flow_dual.specs.Augmented.{AreDrained};
 
 use crate::augment::drain_all;
 use crate::start::{as_layers, begin};
 use crate::{Label, finish};
-use layering_laws::{
+use network_laws::{
     End, NetEdge, Network, Solution, begin_at_zero, greatest_sums, link_edges, part_numbers,
 };
 use std::alloc::{AllocError, Global};

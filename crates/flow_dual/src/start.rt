@@ -3,12 +3,12 @@
 
 ghost use Rattle.std.specs.Prelude.{◌≡◌, ◌+◌, ◌*◌, ◌≤◌, ◌<◌, ◌^◌, ℕ, pos, ◌≤ℤ◌, ◌<ℤ◌, ◌+ℤ◌, map, List, length, slice_index, IfOk};
 ghost use Rattle.std.specs.List.{All};
-ghost use Rattle.layering_laws.specs.Network.{EndsBelow};
-ghost use Rattle.layering_laws.specs.Layering.{layer_of, IsLayering};
+ghost use Rattle.network_laws.specs.Network.{EndsBelow};
+ghost use Rattle.network_laws.specs.Layering.{layer_of, IsLayering};
 ghost use Rattle.flow_dual.specs.Start.{TalliesEdge, BeginsEdge, HasBegun};
 
 use crate::steps::slack_of;
-use layering_laws::NetEdge;
+use network_laws::NetEdge;
 use std::alloc::{AllocError, Global};
 
 /// The sums as layers.

@@ -3,15 +3,15 @@
 ghost use Rattle.std.specs.Prelude.{◌≡◌, ◌+◌, ◌≤◌, ◌<◌, ◌^◌, ℕ, pos, ◌≤ℤ◌, ◌+ℤ◌, length, slice_index, slice_index_or, IsTrue, ◌↔◌, IfSome, IfNone, OnOk};
 ghost use Rattle.std.specs.BinaryHeap.{IsHeap, heap_items};
 ghost use Rattle.std.specs.List.{All};
-ghost use Rattle.layering_laws.specs.Network.{EndsBelow, edge_at};
-ghost use Rattle.layering_laws.specs.Layering.{IsLayering, layer_of};
-ghost use Rattle.layering_laws.specs.Links.{AreLinks};
-ghost use Rattle.layering_laws.specs.declared.links.End.TheVariants.{Head};
+ghost use Rattle.network_laws.specs.Network.{EndsBelow, edge_at};
+ghost use Rattle.network_laws.specs.Layering.{IsLayering, layer_of};
+ghost use Rattle.network_laws.specs.Links.{AreLinks};
+ghost use Rattle.network_laws.specs.declared.links.End.TheVariants.{Head};
 ghost use Rattle.flow_dual.specs.State.{marked};
 ghost use Rattle.flow_dual.specs.Queue.{step_order, Crosses, IsOpen, IsStepFrom, Offers, TakesStep, HasNoStep, IsBack};
 
 use crate::queue::{Step, add_step, take_nearest};
-use layering_laws::{End, Links, NetEdge, first_of, next_of};
+use network_laws::{End, Links, NetEdge, first_of, next_of};
 use std::alloc::AllocError;
 use std::collections::BinaryHeap;
 

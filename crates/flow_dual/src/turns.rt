@@ -2,11 +2,11 @@
 
 ghost use Rattle.std.specs.Prelude.{◌≡◌, ◌+◌, ◌*◌, ◌≤◌, ◌<◌, ◌^◌, ℕ, pos, ◌≤ℤ◌, ◌+ℤ◌, [], ◌∷◌, ◌++◌, length, slice_index, set, IfOk, OnOk};
 ghost use Rattle.std.specs.BinaryHeap.{IsHeap, heap_items};
-ghost use Rattle.layering_laws.specs.Network.{EndsBelow, edge_at};
-ghost use Rattle.layering_laws.specs.Layering.{IsLayering, layer_of};
-ghost use Rattle.layering_laws.specs.Links.{AreLinks};
-ghost use Rattle.layering_laws.specs.declared.links.End.TheVariants.{Tail, Head};
-ghost use Rattle.layering_laws.specs.Tight.{given, asked};
+ghost use Rattle.network_laws.specs.Network.{EndsBelow, edge_at};
+ghost use Rattle.network_laws.specs.Layering.{IsLayering, layer_of};
+ghost use Rattle.network_laws.specs.Links.{AreLinks};
+ghost use Rattle.network_laws.specs.declared.links.End.TheVariants.{Tail, Head};
+ghost use Rattle.network_laws.specs.Tight.{given, asked};
 ghost use Rattle.flow_dual.specs.State.{marked};
 ghost use Rattle.flow_dual.specs.Queue.{step_order, OffersBoth};
 ghost use Rattle.flow_dual.specs.Rounds.{all_least, IsRound, unreached};
@@ -16,7 +16,7 @@ ghost use Rattle.flow_dual.specs.Searching.{IsSearching, IsSearched, TellsExcess
 use crate::Label;
 use crate::queue::Step;
 use crate::steps::{next_step, offer};
-use layering_laws::{End, Links, NetEdge};
+use network_laws::{End, Links, NetEdge};
 use std::alloc::{AllocError, Global};
 use std::collections::BinaryHeap;
 

@@ -14,8 +14,8 @@ use Rattle.elk_doc.specs.Sharing as sharing
 use Rattle.elk_doc.specs.Reversed as reversed
 use Rattle.elk_doc.specs.Layering as layering
 use Rattle.elk_doc.specs.FlowProof as flow
-use Rattle.drawing_faults.specs.declared.fault.Fault.{Fault}
-use Rattle.drawing_faults.specs.Levels.{IsLevel}
+use Rattle.check_faults.specs.declared.fault.Fault.{Fault}
+use Rattle.check_faults.specs.Levels.{IsLevel}
 use Rattle.check_apart.specs.FirstApart.{FirstApart}
 use Rattle.check_inside.specs.FirstInside.{FirstInside}
 use Rattle.check_ports.specs.FirstPorts.{FirstPorts}

@@ -4,8 +4,8 @@ use Rattle.elk_doc.specs.declared.document.LevelOptions.{LevelOptions}
 use Rattle.elk_doc.specs.declared.drawing.Certificate.{Certificate}
 use Rattle.elk_doc.specs.declared.drawing.Placed.{Placed}
 use Rattle.elk_doc.specs.Document.{Document}
-use Rattle.drawing_faults.specs.declared.fault.Fault.{Fault}
-use Rattle.drawing_faults.specs.Shapes.{AreOutlines, AreSides, AreDocks}
+use Rattle.check_faults.specs.declared.fault.Fault.{Fault}
+use Rattle.check_faults.specs.Shapes.{AreOutlines, AreSides, AreDocks}
 use Rattle.check_levels.specs.FirstLevels.{AreHeads, AreTails, AreWeights}
 use Rattle.check_routes.specs.Bounds.{AreRouteBounds}
 use Rattle.check_routes.specs.Ends.{AreEnds}

@@ -7,7 +7,7 @@ ghost use Rattle.layout_check.specs.Judged.{AreShapes, Needs};
 use crate::definition::Definition;
 use crate::judge::judge;
 use crate::shapes::Shapes;
-use drawing_faults::Fault;
+use check_faults::Fault;
 use elk_doc::document::Doc;
 use elk_doc::drawing::Placed;
 use std::alloc::{AllocError, Global};

@@ -7,6 +7,6 @@ mod levels;
 mod shapes;
 mod verdict;
 
+pub use check_faults::Place;
 pub use definition::Definition;
-pub use drawing_faults::Place;
 pub use verdict::{Verdict, check};

@@ -3,9 +3,9 @@ ghost use Rattle.std.specs.Prelude.{IfOk, false, true};
 ghost use Rattle.elk_doc.specs.Fits.{Fits};
 ghost use Rattle.layout_check.specs.Judged.{AreShapes};
 
+use check_faults::{docks, listed, outlines, sides};
 use check_levels::{heads, tails, weights};
 use check_routes::{OutlineEnds, RouteBounds, outline_ends, route_bounds};
-use drawing_faults::{docks, listed, outlines, sides};
 use elk_doc::document::Doc;
 use elk_doc::drawing::Placed;
 use elk_doc::shape::{Dock, Rect, Side};

@@ -10,7 +10,7 @@ ghost use Rattle.layout_check.specs.declared.verdict.Verdict.TheVariants.{No, Ye
 use crate::definition::Definition;
 use crate::levels::first_fault;
 use crate::shapes::{Shapes, shapes_of};
-use drawing_faults::{Fault, Place};
+use check_faults::{Fault, Place};
 use elk_doc::document::Doc;
 use elk_doc::drawing::Placed;
 use std::alloc::{AllocError, Global};

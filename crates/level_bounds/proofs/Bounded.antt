@@ -12,7 +12,7 @@ use Rattle.elk_doc.specs.Sound.{IsWithin}
 use Rattle.elk_doc.specs.Shapes.{bottom_of, hull, moved_by, rect_at, right_of}
 use Rattle.port_order.specs.Child.{port_at}
 use Rattle.route_lines.specs.Points.{gap_in}
-use Rattle.block_lines.specs.Constraints.{EndsWithinStack, greatest_spacing, stacked_height}
+use Rattle.row_blocks.specs.Constraints.{EndsWithinStack, greatest_spacing, stacked_height}
 use Rattle.level_plan.specs.Conditions.{plain_level, sum_of_ints}
 use Rattle.level_plan.specs.declared.level.LevelIn.{LevelIn}
 use Rattle.level_plan.specs.Drawing.{outline_at, stage}

@@ -8,7 +8,7 @@ use Rattle.std.specs.List.{filter, range_with_len}
 use Rattle.elk_doc.specs.declared.shape.Side.TheVariants.{North, South}
 use Rattle.elk_layers.specs.declared.units.Unit.{Unit as LayerUnit}
 use Rattle.elk_layers.specs.Layered.{link_at, total_height, unit_at}
-use Rattle.block_lines.specs.Constraints.{stacked_height}
+use Rattle.row_blocks.specs.Constraints.{stacked_height}
 use Rattle.level_plan.specs.Level.{End, Orders, PlainLevel, PlainPlan, all_ends, edge_at, outline, spoke}
 use Rattle.level_plan.specs.Lanes.{lanes, unit_height}
 use Rattle.level_plan.specs.Nets.{is_number, unit_of}

@@ -11,7 +11,7 @@ use Rattle.elk_doc.specs.declared.document.Direction.TheVariants.{Right, Left, D
 use Rattle.elk_doc.specs.Drawing.{no_rect}
 use Rattle.elk_doc.specs.Sound.{IsDistance, IsPlaceWithin, IsWithin}
 use Rattle.level_shift.specs.Ranges.{IsFar}
-use Rattle.turned_levels.specs.Turned.{turned_place}
+use Rattle.level_frame.specs.Turned.{turned_place}
 use Rattle.level_ends.specs.Narrow.{IsNearRect}
 use Rattle.box_pack.specs.declared.packing.Rows.{Rows}
 use Rattle.box_pack.specs.Boxes.{AreSizes, IsGreatest, IsSize, point_at, right_of, bottom_of, size_at}

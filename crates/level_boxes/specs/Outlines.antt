@@ -14,7 +14,7 @@ use Rattle.port_order.specs.declared.children.Child.{Child}
 use Rattle.port_order.specs.Child.{port_at}
 use Rattle.level_plan.specs.FromPlan.{point_or}
 use Rattle.level_ends.specs.Narrow.{IsNearRect}
-use Rattle.turned_levels.specs.Turned.{turned_size}
+use Rattle.level_frame.specs.Turned.{turned_size}
 
 -- the box of a port at its place
 abbrev pub port_rect : Child → List Point → ℕ → Rect

@@ -10,8 +10,8 @@ use Rattle.box_pack.specs.Boxes.{point_at}
 use Rattle.level_ends.specs.Narrow.{IsNearRect}
 use Rattle.level_plan.specs.FromPlan.{point_or}
 use Rattle.level_shift.specs.Ranges.{IsFarPoint}
-use Rattle.turned_levels.specs.Drawing.{plus}
-use Rattle.turned_levels.specs.Turned.{turned_place}
+use Rattle.level_frame.specs.Drawing.{plus}
+use Rattle.level_frame.specs.Turned.{turned_place}
 use Rattle.level_boxes.specs.Outlines.{outline_size, rect_in}
 
 -- from 0 to 2^59 each way

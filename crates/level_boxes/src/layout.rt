@@ -13,10 +13,10 @@ use box_pack::{Squarest, best};
 use elk_doc::document::Direction;
 use elk_doc::list::Items;
 use elk_doc::shape::{Point, Rect, Size};
+use level_frame::turned_size;
 use level_layout::layout_level;
 use level_plan::LevelIn;
 use std::alloc::{AllocError, Global};
-use turned_levels::turned_size;
 
 /// A level of boxes as it is drawn: boxes and ports by child, ports as places in their child's box.
 #[derive(Drop)]

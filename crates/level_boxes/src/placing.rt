@@ -2,15 +2,15 @@
 ghost use Rattle.std.specs.Prelude.{◌≡◌, ◌+◌, ◌-◌, ◌^◌, map, length, pos, neg_ℤ, ◌+ℤ◌, ◌-ℤ◌, IfOk};
 ghost use Rattle.elk_doc.specs.Sound.{IsPlaceWithin, IsWithin};
 ghost use Rattle.level_ends.specs.Narrow.{IsNearRect};
-ghost use Rattle.turned_levels.specs.Turned as turned;
+ghost use Rattle.level_frame.specs.Turned as turned;
 ghost use Rattle.level_boxes.specs.Outlines.{outline_size};
 ghost use Rattle.level_boxes.specs.Placing.{StandInRows, AreRoomy, IsBroad, IsBoxAt, IsNearSize, IsRoomyPlace};
 
 use box_pack::Rows;
 use elk_doc::document::Direction;
 use elk_doc::shape::{Point, Rect, Size};
+use level_frame::turned_size;
 use std::alloc::{AllocError, Global};
-use turned_levels::turned_size;
 
 // Where a stretch begins that lies at `low` in one of this length, when both are mirrored.
 fn mirrored(length: i64, low: i64, size: i64) -> i64

@@ -4,14 +4,14 @@ use Rattle.std.proofs.lemmas.Int.{ints}
 use Rattle.std.proofs.lemmas.Bool.{cases_lt}
 use Rattle.std.proofs.lemmas.List.{get_or_append_left, get_or_push, length_push, map_push, take_all, take_more}
 use Rattle.std.proofs.Math.Nat.{mul-le-mul_left}
-use Rattle.layering_laws.specs.declared.network.NetEdge.{NetEdge}
-use Rattle.layering_laws.specs.Network.{edge_at as net_at}
-use Rattle.layering_laws.specs.Layering.{layer_of, natural, rise, weighed, weights, IsSolution}
+use Rattle.network_laws.specs.declared.network.NetEdge.{NetEdge}
+use Rattle.network_laws.specs.Network.{edge_at as net_at}
+use Rattle.network_laws.specs.Layering.{layer_of, natural, rise, weighed, weights, IsSolution}
 use Rattle.level_plan.specs.Conditions.{IsLevel}
 use Rattle.level_plan.specs.Level.{PlainLevel, is_loop}
 use Rattle.level_layers.specs.Certificate.{flow_at, link_flows, links, links_to, network}
 use Rattle.level_layers.specs.Flows.{AreFlows}
-use Rattle.part_layers.proofs.RangeLemmas.{map_same, one_more}
+use Rattle.network_parts.proofs.RangeLemmas.{map_same, one_more}
 use Rattle.level_layers.proofs.LowLayers.{layers_low}
 use Rattle.level_layers.proofs.NetLemmas.{ends_below, few_net, is_plain, link_no, link_yes, weight_low}
 

@@ -6,10 +6,10 @@ use Rattle.std.proofs.lemmas.Int.{ints}
 use Rattle.std.proofs.lemmas.Bool.{cases_lt, cases_Bool}
 use Rattle.std.proofs.lemmas.Bool.Decides.{Decides-int_eq}
 use Rattle.std.proofs.lemmas.List.{get_or-map}
-use Rattle.layering_laws.specs.declared.network.NetEdge.{NetEdge}
-use Rattle.layering_laws.specs.Network.{edge_at, EndsBelow, Joined}
-use Rattle.layering_laws.specs.Layering.{layer_of, natural, rise, weighed, weights, IsLayering, IsSolution}
-use Rattle.layering_laws.proofs.Duality.{natural_is, weighed_sum}
+use Rattle.network_laws.specs.declared.network.NetEdge.{NetEdge}
+use Rattle.network_laws.specs.Network.{edge_at, EndsBelow, Joined}
+use Rattle.network_laws.specs.Layering.{layer_of, natural, rise, weighed, weights, IsLayering, IsSolution}
+use Rattle.network_laws.proofs.Duality.{natural_is, weighed_sum}
 use Rattle.level_layers.specs.Low.{IsPlainNetwork, LayersStayLow}
 
 -- a layer above j, lowered by one

@@ -3,8 +3,8 @@ use Rattle.std.proofs.Common.{◌≡◌, ℕ, ◌<◌, ℤ, pos, ◌<ℤ◌, Lis
 use Rattle.std.specs.List.{All}
 use Rattle.std.proofs.lemmas.Int.{ints}
 use Rattle.std.proofs.lemmas.List.{get_or-map, length-map}
-use Rattle.layering_laws.specs.Layering.{layer_of, IsSolution}
-use Rattle.part_layers.specs.Solved.{IsSolvedByParts}
+use Rattle.network_laws.specs.Layering.{layer_of, IsSolution}
+use Rattle.network_parts.specs.Solved.{IsSolvedByParts}
 use Rattle.level_plan.specs.Conditions.{IsLevel}
 use Rattle.level_plan.specs.Level.{PlainLevel, is_loop}
 use Rattle.level_layers.specs.Certificate.{AreReversed, IsCertificateOf, flow_at, link_flows, network}

@@ -4,15 +4,15 @@ use Rattle.std.specs.List.{sum_by}
 use Rattle.std.proofs.lemmas.List.{get_or-map, get_or_default, length-map, map_push}
 use Rattle.std.proofs.lemmas.List.Sums.{sum_by-le}
 use Rattle.elk_doc.specs.Paths.{Reaches, stay, go}
-use Rattle.layering_laws.specs.declared.network.NetEdge.{NetEdge}
-use Rattle.layering_laws.specs.Network.{edge_at as net_at, EndsBelow, HasEdge, IsAcyclic, IsNetwork, Walk}
+use Rattle.network_laws.specs.declared.network.NetEdge.{NetEdge}
+use Rattle.network_laws.specs.Network.{edge_at as net_at, EndsBelow, HasEdge, IsAcyclic, IsNetwork, Walk}
 use Rattle.level_plan.specs.declared.level.LevelEdge.{LevelEdge}
 use Rattle.level_plan.specs.Conditions.{IsLevel}
 use Rattle.level_plan.specs.Level.{PlainLevel, edge_at, holds, is_loop}
 use Rattle.level_layers.specs.Certificate.{AreReversed, UnlistedStep, links, links_to, net_edge, network, oriented, source_of, target_of}
 use Rattle.level_layers.specs.Marks.{is_marked, listed}
 use Rattle.level_layers.specs.Low.{IsPlainNetwork}
-use Rattle.part_layers.proofs.RangeLemmas.{few_picked, filter_no, filter_yes, pick}
+use Rattle.network_parts.proofs.RangeLemmas.{few_picked, filter_no, filter_yes, pick}
 use Rattle.level_layers.proofs.TurnLemmas.{listed_at}
 
 -- ---- one edge after the other

@@ -7,9 +7,9 @@ use Rattle.elk_doc.specs.Paths.{Reaches}
 use Rattle.elk_doc.specs.declared.drawing.Certificate.{Certificate}
 use Rattle.level_plan.specs.Level.{PlainLevel, edge_at, holds, is_loop}
 use Rattle.level_plan.specs.declared.level.LevelEdge.{LevelEdge}
-use Rattle.layering_laws.specs.declared.network.NetEdge.{NetEdge}
-use Rattle.layering_laws.specs.Layering.{IsSolution}
-use Rattle.part_layers.specs.Solved.{IsSolvedByParts}
+use Rattle.network_laws.specs.declared.network.NetEdge.{NetEdge}
+use Rattle.network_laws.specs.Layering.{IsSolution}
+use Rattle.network_parts.specs.Solved.{IsSolvedByParts}
 
 -- the children at which an edge begins and ends, as given
 abbrev pub source_of : PlainLevel → ℕ → ℕ

@@ -1,8 +1,8 @@
 -- How high a layering of least cost can be.
 use Rattle.std.specs.Prelude.{◌≡◌, ◌<◌, ◌≤◌, ℕ, ℤ, pos, ◌<ℤ◌, List, length}
-use Rattle.layering_laws.specs.declared.network.NetEdge.{NetEdge}
-use Rattle.layering_laws.specs.Network.{edge_at, EndsBelow}
-use Rattle.layering_laws.specs.Layering.{layer_of, IsSolution}
+use Rattle.network_laws.specs.declared.network.NetEdge.{NetEdge}
+use Rattle.network_laws.specs.Network.{edge_at, EndsBelow}
+use Rattle.network_laws.specs.Layering.{layer_of, IsSolution}
 
 -- each edge's length is 1, and each weight at least 1
 pub record IsPlainNetwork (edges : List NetEdge) : Type 0 where

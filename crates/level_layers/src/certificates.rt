@@ -1,7 +1,7 @@
 //! The certificate of a level.
 ghost use Rattle.std.specs.Prelude.{◌≡◌, ◌<◌, ◌<ℤ◌, ◌≤ℤ◌, ℕ, pos, map, length, IfOk, IsTrue};
-ghost use Rattle.layering_laws.specs.Layering.{IsSolution, layer_of};
-ghost use Rattle.part_layers.specs.Solved.{IsSolvedByParts};
+ghost use Rattle.network_laws.specs.Layering.{IsSolution, layer_of};
+ghost use Rattle.network_parts.specs.Solved.{IsSolvedByParts};
 ghost use Rattle.level_plan.specs.Conditions.{plain_level, IsLevel};
 ghost use Rattle.level_plan.specs.Level as plan;
 ghost use Rattle.level_layers.specs.Certificate.{AreReversed, IsCertificateOf, flow_at, link_flows, links, network};
@@ -12,7 +12,7 @@ use crate::orienting::orientation;
 use elk_doc::drawing::Certificate;
 use elk_doc::list::Items;
 use level_plan::LevelIn;
-use part_layers::{Solution, solve_parts};
+use network_parts::{Solution, solve_parts};
 use std::alloc::{AllocError, Global};
 
 // A layer that is low, as an unsigned number.

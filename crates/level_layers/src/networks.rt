@@ -1,12 +1,12 @@
 //! The network of a level's oriented edges.
 ghost use Rattle.std.specs.Prelude.{◌≡◌, ◌≤◌, ◌==◌, length, IfOk};
-ghost use Rattle.layering_laws.specs.Network.{IsNetwork};
+ghost use Rattle.network_laws.specs.Network.{IsNetwork};
 ghost use Rattle.level_plan.specs.Conditions.{plain_level, IsLevel};
 ghost use Rattle.level_layers.specs.Certificate.{AreReversed, network, oriented};
 ghost use Rattle.level_layers.specs.Marks.{listed};
 
 use level_plan::{LevelEdge, LevelIn};
-use part_layers::{NetEdge, Network};
+use network_parts::{NetEdge, Network};
 use std::alloc::{AllocError, Global};
 
 /// The numbers of the marked edges, in ascending order.

@@ -4,11 +4,11 @@ use Rattle.std.proofs.Common.{◌≡◌, ℕ, zero, suc, ◌+◌, ◌-◌, ◌*�
 use Rattle.std.specs.Prelude.{int_lt}
 use Rattle.std.proofs.lemmas.Int.{ints}
 use Rattle.std.proofs.lemmas.Bool.{cases_Bool}
-use Rattle.layering_laws.specs.declared.network.NetEdge.{NetEdge}
-use Rattle.layering_laws.specs.Network.{edge_at, EndsBelow}
-use Rattle.layering_laws.specs.Layering.{layer_of, natural, rise, weighed, weights, IsSolution}
-use Rattle.layering_laws.proofs.Duality.{carries, natural_is, same_cost, weighed_le, weighed_sum}
-use Rattle.layering_laws.proofs.Naming.{same_in_part}
+use Rattle.network_laws.specs.declared.network.NetEdge.{NetEdge}
+use Rattle.network_laws.specs.Network.{edge_at, EndsBelow}
+use Rattle.network_laws.specs.Layering.{layer_of, natural, rise, weighed, weights, IsSolution}
+use Rattle.network_laws.proofs.Duality.{carries, natural_is, same_cost, weighed_le, weighed_sum}
+use Rattle.network_laws.proofs.Naming.{same_in_part}
 use Rattle.level_layers.specs.Low.{IsPlainNetwork}
 
 -- 1 above layer j, else 0

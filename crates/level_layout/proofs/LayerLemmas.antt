@@ -5,8 +5,8 @@ use Rattle.std.proofs.lemmas.Int.{ints}
 use Rattle.std.specs.List.{range_with_len}
 use Rattle.std.specs.Prelude.{IsFalse}
 use Rattle.elk_doc.specs.declared.drawing.Certificate.{Certificate}
-use Rattle.layering_laws.specs.declared.network.NetEdge.{NetEdge}
-use Rattle.layering_laws.specs.Layering.{layer_of}
+use Rattle.network_laws.specs.declared.network.NetEdge.{NetEdge}
+use Rattle.network_laws.specs.Layering.{layer_of}
 use Rattle.level_plan.specs.Conditions.{IsLevel}
 use Rattle.level_plan.specs.Level.{PlainLevel, edge_at, holds, is_loop}
 use Rattle.level_stands.proofs.Lists.{Has, at_has, has_filter, has_map, has_range}

@@ -14,7 +14,7 @@ use Rattle.elk_layers.specs.declared.units.Order.{Order}
 use Rattle.elk_layers.specs.declared.units.Lines.{Lines}
 use Rattle.elk_layers.specs.Layered.{Plain, AreRows, IsSound, plain, rows_of, total_height, unit_at}
 use Rattle.elk_layers.specs.Lines.{top_of}
-use Rattle.block_lines.specs.Constraints.{EndsWithinStack, greatest_spacing, stacked_height}
+use Rattle.row_blocks.specs.Constraints.{EndsWithinStack, greatest_spacing, stacked_height}
 use Rattle.ns_place.specs.Heights.{pins_together}
 use Rattle.level_plan.specs.declared.level.LevelIn.{LevelIn}
 use Rattle.level_plan.specs.Conditions.{IsLevel, plain_level, plain_plan}

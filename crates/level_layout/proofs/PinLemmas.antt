@@ -6,7 +6,7 @@ use Rattle.std.specs.Prelude.{is_some}
 use Rattle.elk_layers.specs.declared.units.Unit.{Unit as LayerUnit}
 use Rattle.elk_layers.specs.declared.units.Link.{Link}
 use Rattle.elk_layers.specs.Layered.{IsSound, Plain, link_at, total_height, unit_at}
-use Rattle.block_lines.proofs.SumLemmas.{sum_to}
+use Rattle.row_blocks.proofs.SumLemmas.{sum_to}
 use Rattle.level_plan.specs.Level.{holds}
 use Rattle.level_units.specs.Layering.{Layering, head_child, layer_in, layering, tail_child}
 use Rattle.level_units.specs.Numbered.{AreNumberedUnits, first_lane, first_link, gaps_of, lanes_of, run_of, stop_of}

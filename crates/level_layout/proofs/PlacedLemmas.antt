@@ -6,7 +6,7 @@ use Rattle.elk_doc.specs.declared.document.Placing.TheVariants.{BrandesKoepf, Ne
 use Rattle.elk_doc.specs.declared.document.Sweep.{Sweep}
 use Rattle.elk_layers.specs.Layered.{Plain}
 use Rattle.elk_layers.specs.Lines.{AreApart}
-use Rattle.block_lines.specs.Constraints.{EndsWithinStack}
+use Rattle.row_blocks.specs.Constraints.{EndsWithinStack}
 use Rattle.bk_place.specs.Placement.{AreLinesOf}
 use Rattle.level_layout.specs.Chosen.{AreLeastHigh, AreChosenLines}
 

@@ -9,7 +9,7 @@ use Rattle.elk_layers.specs.Crossings.{crossings, HasSameRows, NoBetterSwap}
 use Rattle.elk_layers.specs.Lines.{AreApart}
 use Rattle.elk_layers.specs.Sweeps.{sweep_orders}
 use Rattle.cross_reduce.specs.Reduced.{IsExchangedFromFewest}
-use Rattle.block_lines.specs.Constraints.{EndsWithinStack}
+use Rattle.row_blocks.specs.Constraints.{EndsWithinStack}
 use Rattle.bk_place.specs.Placement.{AreLinesOf}
 use Rattle.ns_place.specs.declared.least.PairFlow.{PairFlow}
 use Rattle.ns_place.specs.Heights.{IsLeastPlacing}

@@ -19,16 +19,16 @@ use Rattle.elk_doc.specs.Fits.{KeepsSize}
 use Rattle.elk_doc.specs.PortsKept.{pins, size_along}
 use Rattle.elk_doc.specs.Sides.{given_side, side_by_place, side_from}
 use Rattle.elk_doc.specs.Sound.{IsOutside, IsPlaceWithin, IsSound, IsSoundPort, IsSoundSize, IsWithin, along}
-use Rattle.turning_laws.specs.Turning.{turned_side}
+use Rattle.drawing_turns.specs.Turning.{turned_side}
 use Rattle.port_order.specs.declared.children.ChildPort.{ChildPort}
 use Rattle.port_order.specs.declared.children.Child.{Child}
 use Rattle.port_order.specs.Child as laid
 use Rattle.port_order.specs.Conditions.{IsChildPort, IsSmall}
 use Rattle.port_order.specs.Sides as framed
 use Rattle.level_plan.specs.Conditions.{IsLevelChild, IsNear, IsNearPort}
-use Rattle.turned_levels.specs.Turned.{box_size, half_along, level_child, level_port, port_number, ports_of, turned_given, turned_place, turned_size}
-use Rattle.turned_levels.specs.Numbered.{IsPortOf}
-use Rattle.turned_levels.proofs.NumberedLemmas.{numbers_match}
+use Rattle.level_frame.specs.Turned.{box_size, half_along, level_child, level_port, port_number, ports_of, turned_given, turned_place, turned_size}
+use Rattle.level_frame.specs.Numbered.{IsPortOf}
+use Rattle.level_frame.proofs.NumberedLemmas.{numbers_match}
 use Rattle.level_reading.proofs.PortLemmas.{IsNearPlace, along_near, from_turned, given_and, half_within, near_along, outside_turned, place_far, place_near, place_turned}
 use Rattle.level_reading.proofs.ReadLemmas.{turned_sound}
 

@@ -23,9 +23,9 @@ use Rattle.port_order.specs.Conditions.{IsSmall}
 use Rattle.level_plan.specs.declared.level.LevelEdge.{LevelEdge}
 use Rattle.level_plan.specs.Conditions.{IsLevel, IsLevelChild, IsLevelEdge, IsSpoke, total_ports}
 use Rattle.level_plan.specs.Level as plan
-use Rattle.turned_levels.specs.Turned.{box_size, child_number, edge_number, level_child, level_edge, level_of, level_port, port_number, ports_of, spoke_of, turned_size}
-use Rattle.turned_levels.specs.Numbered.{IsPortOf}
-use Rattle.turned_levels.proofs.NumberedLemmas.{ends_match, levels_are_listed, numbers_match}
+use Rattle.level_frame.specs.Turned.{box_size, child_number, edge_number, level_child, level_edge, level_of, level_port, port_number, ports_of, spoke_of, turned_size}
+use Rattle.level_frame.specs.Numbered.{IsPortOf}
+use Rattle.level_frame.proofs.NumberedLemmas.{ends_match, levels_are_listed, numbers_match}
 use Rattle.level_reading.specs.Levels.{HasLeavesAlone, HasRoom, KeepsLeaves}
 use Rattle.level_reading.proofs.ChildLemmas.{child_sound, kept_size}
 use Rattle.level_reading.proofs.CountLemmas.{few_numbers, few_ports}

@@ -16,12 +16,12 @@ use Rattle.elk_doc.specs.Shapes.{half_of}
 use Rattle.elk_doc.specs.Sides.{side_by_place, side_from}
 use Rattle.elk_doc.specs.Sound.{IsOutside, IsPlaceWithin, IsSoundSize, IsWithin, along}
 use Rattle.elk_doc.proofs.ShapeLaws.{half_of-bounds}
-use Rattle.turning_laws.specs.Turning.{turned_side}
+use Rattle.drawing_turns.specs.Turning.{turned_side}
 use Rattle.port_order.specs.Conditions.{IsSmall}
 use Rattle.port_order.specs.Sides.{is_mirrored, side_of_place}
 use Rattle.port_order.proofs.TurnedLemmas.{directions_turn}
 use Rattle.level_plan.specs.Conditions.{IsNear}
-use Rattle.turned_levels.specs.Turned.{half_along, turned_given, turned_place, turned_size}
+use Rattle.level_frame.specs.Turned.{half_along, turned_given, turned_place, turned_size}
 
 -- ---- sides
 

@@ -13,8 +13,8 @@ use Rattle.port_order.specs.declared.children.Child.{Child}
 use Rattle.level_plan.specs.declared.level.LevelEdge.{LevelEdge}
 use Rattle.level_plan.specs.declared.level.Spoke.{Spoke}
 use Rattle.level_plan.specs.Level.{PlainLevel}
-use Rattle.turned_levels.specs.Turned.{level_child, level_edge, level_of, ports_of, spoke_of, turned_size}
-use Rattle.turned_levels.proofs.NumberedLemmas.{ends_match, numbers_match}
+use Rattle.level_frame.specs.Turned.{level_child, level_edge, level_of, ports_of, spoke_of, turned_size}
+use Rattle.level_frame.proofs.NumberedLemmas.{ends_match, numbers_match}
 use Rattle.level_reading.specs.Read.{HasSizes, child_with, sized_child}
 
 pub turned_sound : (way : Direction) (s : Size) → IsSoundSize s → IsSoundSize (turned_size way s)

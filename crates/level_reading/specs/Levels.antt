@@ -8,7 +8,7 @@ use Rattle.elk_doc.specs.Fits.{IsSolid, KeepsSize}
 use Rattle.elk_doc.specs.Level.{IsChild}
 use Rattle.elk_doc.specs.Sound.{IsSound, IsSoundSpacing}
 use Rattle.level_plan.specs.Conditions.{IsLevel, total_width, total_height}
-use Rattle.turned_levels.specs.Turned.{level_of}
+use Rattle.level_frame.specs.Turned.{level_of}
 
 -- The leaves among the children of n keep their sizes.
 abbrev pub KeepsLeaves : Document → Placed → ℕ → Type 0

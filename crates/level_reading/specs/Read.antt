@@ -7,7 +7,7 @@ use Rattle.elk_doc.specs.Document.{Document, node_at, no_size}
 use Rattle.elk_doc.specs.Level.{IsChild}
 use Rattle.port_order.specs.declared.children.Child.{Child}
 use Rattle.port_order.specs.Conditions.{IsSmall}
-use Rattle.turned_levels.specs.Turned.{box_size, level_port, ports_of, turned_size}
+use Rattle.level_frame.specs.Turned.{box_size, level_port, ports_of, turned_size}
 
 -- the size of a node's box, where they are given by node
 abbrev pub size_at : List Size → ℕ → Size

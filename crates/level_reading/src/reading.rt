@@ -5,7 +5,7 @@ ghost use Rattle.elk_doc.specs.Level.{IsChild, IsEdge, node_of_end};
 ghost use Rattle.elk_doc.specs.Sound.{IsEndIn};
 ghost use Rattle.port_order.specs.Conditions.{IsSmall};
 ghost use Rattle.level_plan.specs.Conditions.{plain_level};
-ghost use Rattle.turned_levels.specs.Turned.{level_edge, level_of, level_port, spoke_of};
+ghost use Rattle.level_frame.specs.Turned.{level_edge, level_of, level_port, spoke_of};
 ghost use Rattle.level_reading.specs.Indexed.{IsIndex};
 ghost use Rattle.level_reading.specs.Read.{AreSizes, HasSizes, child_with, size_at, sized_child};
 
@@ -15,10 +15,10 @@ use elk_doc::document::{Direction, Doc, End, LevelOptions};
 use elk_doc::list::Items;
 use elk_doc::shape::Size;
 use elk_doc::sides::given_side;
+use level_frame::turned_size;
 use level_plan::{LevelEdge, LevelIn, Spoke};
 use port_order::{Child, ChildPort};
 use std::alloc::{AllocError, Global};
-use turned_levels::turned_size;
 
 // A document with its index.
 #[derive(Clone, Copy)]

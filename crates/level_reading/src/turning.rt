@@ -4,10 +4,10 @@ ghost use Rattle.elk_doc.specs.Sound.{IsLength, IsPlaceWithin, IsSoundSize};
 ghost use Rattle.elk_doc.specs.declared.document.Direction.TheVariants.{Down, Left, Up};
 ghost use Rattle.elk_doc.specs.PortsKept.{size_along};
 ghost use Rattle.elk_doc.specs.Shapes.{half_of};
-ghost use Rattle.turning_laws.specs.Turning.{turned_side};
+ghost use Rattle.drawing_turns.specs.Turning.{turned_side};
 ghost use Rattle.port_order.specs.Conditions.{IsSmall};
 ghost use Rattle.port_order.specs.Sides.{is_mirrored, side_else};
-ghost use Rattle.turned_levels.specs.Turned.{half_along, turned_given, turned_place};
+ghost use Rattle.level_frame.specs.Turned.{half_along, turned_given, turned_place};
 
 use elk_doc::document::Direction;
 use elk_doc::shape::{Point, Side, Size};

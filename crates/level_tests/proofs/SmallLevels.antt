@@ -6,7 +6,7 @@ use Rattle.level_plan.specs.Conditions.{IsLevel, IsLevelChild, IsLevelEdge}
 use Rattle.level_plan.specs.Examples.{square}
 use Rattle.level_plan.specs.Level.{PlainLevel, child_at}
 use Rattle.level_layout.specs.Examples.{forked}
-use Rattle.part_levels.specs.Examples.{mixed}
+use Rattle.level_parts.specs.Examples.{mixed}
 
 -- what holds of the first numbers holds below the next
 below_two : (P : ℕ → Type 0) → P 0 → P 1 → (k : ℕ) → k < 2 → P k

@@ -15,7 +15,7 @@ use Rattle.elk_doc.specs.Sides.{given_side}
 use Rattle.elk_doc.specs.Sound.{HasParent, IsSound, IsSoundEdge, IsSoundLevel, IsSoundNode, IsSoundPort, ancestor}
 use Rattle.elk_doc.specs.Examples.{point}
 use Rattle.level_shift.specs.Ranges.{IsFarPoint, IsFarSection}
-use Rattle.turned_levels.specs.Turned.{ports_of}
+use Rattle.level_frame.specs.Turned.{ports_of}
 use Rattle.level_writing.specs.Canvas.{blank_drawing}
 use Rattle.level_writing.specs.Ranges.{IsLongBox}
 use Rattle.level_writing.specs.declared.figure.LevelFigure.{LevelFigure}

@@ -5,7 +5,7 @@ ghost use Rattle.elk_layers.specs.Layered.{plain};
 ghost use Rattle.level_nets.specs.Worked as worked;
 ghost use Rattle.level_plan.specs.Conditions.{plain_level};
 ghost use Rattle.level_plan.specs.Examples as examples;
-ghost use Rattle.part_levels.specs.Examples as parted;
+ghost use Rattle.level_parts.specs.Examples as parted;
 
 use elk_doc::document::{Direction, LevelOptions, Padding, Placing, PortRule, Spacing};
 use elk_doc::list::Items;

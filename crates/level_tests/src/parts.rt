@@ -1,6 +1,6 @@
 //! The parts of a level whose children and edges are mixed.
 use crate::fixtures::mixed;
-use part_levels::split;
+use level_parts::split;
 use std::test::Fail;
 
 #[test]

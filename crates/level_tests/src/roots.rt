@@ -1,13 +1,13 @@
 //! The ports of a root of 200 by 300 alone in its document, each 10 by 20.
 ghost use Rattle.std.specs.Prelude.{◌≡◌, IfOk};
-ghost use Rattle.root_ports.specs.Examples.{port_with, rooted};
+ghost use Rattle.document_root.specs.Examples.{port_with, rooted};
 
 use crate::fixtures::level_options;
+use document_root::place_root_ports;
 use elk_doc::document::{Direction, Doc, Id, Node, Port, PortRule};
 use elk_doc::shape::{Point, Rect, Side, Size};
 use level_reading::index_of;
 use level_writing::{Canvas, blank};
-use root_ports::place_root_ports;
 use std::alloc::{AllocError, Global};
 use std::test::Fail;
 

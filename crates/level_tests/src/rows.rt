@@ -1,6 +1,6 @@
 //! The parts of a level, laid out in rows.
 use crate::fixtures::mixed;
-use split_layout::layout_parts;
+use level_split::layout_parts;
 use std::test::Fail;
 
 // One edge of the second part is turned round; its places are those in the level.

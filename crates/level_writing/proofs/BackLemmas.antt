@@ -8,10 +8,10 @@ use Rattle.elk_doc.specs.declared.document.Direction.{Direction}
 use Rattle.elk_doc.specs.declared.document.Direction.TheVariants.{Right, Left, Down, Up}
 use Rattle.elk_doc.specs.declared.drawing.Section.{Section}
 use Rattle.elk_doc.specs.Shapes.{turned, rect_at}
-use Rattle.turning_laws.specs.Turning.{turned_point}
-use Rattle.turning_laws.proofs.FrameLaws.{backs}
-use Rattle.turned_levels.specs.Turned.{turned_place, turned_size}
-use Rattle.turned_levels.specs.Drawing.{IsTurnedSection, plus}
+use Rattle.drawing_turns.specs.Turning.{turned_point}
+use Rattle.drawing_turns.proofs.FrameLaws.{backs}
+use Rattle.level_frame.specs.Turned.{turned_place, turned_size}
+use Rattle.level_frame.specs.Drawing.{IsTurnedSection, plus}
 use Rattle.level_writing.specs.Back.{box_back, moved_back, place_back, section_back, size_of}
 
 pub box_there : (way : Direction) (at : Point) (r : Rect) → turned way (box_back way at r) ≡ rect_at at (turned_size way (size_of r))

@@ -19,9 +19,9 @@ use Rattle.elk_doc.specs.PortsKept.{is_pinned, pins}
 use Rattle.elk_doc.specs.Sides.{given_side, is_entered, is_leaf, is_left, side_by_place, side_from, side_of_port, side_or}
 use Rattle.elk_doc.specs.Sound.{along}
 use Rattle.level_plan.specs.FromPlan.{LevelDrawing}
-use Rattle.turned_levels.specs.Numbered.{IsPortOf}
-use Rattle.turned_levels.specs.Turned.{box_size, turned_size}
-use Rattle.turned_drawings.specs.Framed.{AsksHeight, AsksWidth, IsFramed, start_of}
+use Rattle.level_frame.specs.Numbered.{IsPortOf}
+use Rattle.level_frame.specs.Turned.{box_size, turned_size}
+use Rattle.level_turns.specs.Framed.{AsksHeight, AsksWidth, IsFramed, start_of}
 use Rattle.level_writing.specs.Sizes.{Asks, IsNodeFramed, IsSizeRound, KeepsPinned, end_across, end_down, end_of, padded_height, padded_width, pinned_side, pinned_under, resized}
 use Rattle.level_writing.specs.Canvas.{IsDrawingOf}
 

@@ -10,8 +10,8 @@ use Rattle.elk_doc.specs.Document.{Document}
 use Rattle.elk_doc.specs.Drawing.{box_of, no_rect, no_section}
 use Rattle.elk_doc.specs.Level.{children, IsChild}
 use Rattle.level_plan.specs.FromPlan.{point_or}
-use Rattle.turned_levels.specs.Drawing.{plus}
-use Rattle.turned_levels.proofs.NumberedLemmas.{numbers_match}
+use Rattle.level_frame.specs.Drawing.{plus}
+use Rattle.level_frame.proofs.NumberedLemmas.{numbers_match}
 use Rattle.level_writing.specs.Back.{box_back}
 use Rattle.level_writing.specs.Changed.{AreChanged, AreDistinct, number_at}
 use Rattle.level_writing.specs.Ranges.{IsLongBox}

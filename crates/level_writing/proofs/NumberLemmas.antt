@@ -4,9 +4,9 @@ use Rattle.std.proofs.lemmas.Bool.{cases_eq}
 use Rattle.elk_doc.specs.Document.{Document, node_at, node_of_port}
 use Rattle.elk_doc.specs.Level.{children, edges_of, is_number, IsChild, IsEdge}
 use Rattle.elk_doc.proofs.NumberLaws.{is_true}
-use Rattle.turned_levels.specs.Numbered.{AreNumbersOf, IsPortOf}
-use Rattle.turned_levels.specs.Turned.{ports_of}
-use Rattle.turned_levels.proofs.NumberedLemmas.{numbers_match}
+use Rattle.level_frame.specs.Numbered.{AreNumbersOf, IsPortOf}
+use Rattle.level_frame.specs.Turned.{ports_of}
+use Rattle.level_frame.proofs.NumberedLemmas.{numbers_match}
 use Rattle.level_writing.specs.Changed.{AreDistinct, number_at}
 
 distinct : (Meant : ℕ → Type 0) (place : ℕ → ℕ) (numbers : List ℕ) (bound : ℕ)

@@ -11,7 +11,7 @@ use Rattle.elk_doc.specs.declared.document.Direction.{Direction}
 use Rattle.elk_doc.specs.declared.drawing.Section.{Section}
 use Rattle.elk_doc.specs.Document.{Document, origin, node_of_port}
 use Rattle.elk_doc.specs.Drawing.{no_rect, no_section}
-use Rattle.turned_levels.specs.Turned.{ports_of}
+use Rattle.level_frame.specs.Turned.{ports_of}
 use Rattle.level_writing.specs.Back.{section_back}
 use Rattle.level_writing.specs.Changed.{AreChanged, AreChangedTo, AreDistinct, number_at}
 use Rattle.level_writing.specs.Written.{ArePortsByNode, ArePortsWritten, port_change, section_change}

@@ -26,12 +26,12 @@ use Rattle.level_extent.specs.Reach.{points_along, points_of}
 use Rattle.level_stands.specs.Apart.{drawn_box, drawn_outline, drawn_outline_from, drawn_port}
 use Rattle.level_stands.proofs.Lists.{Has, below_has, has_at, has_left, has_map, has_range, has_right, map_has}
 use Rattle.level_draw.specs.Drawing.{IsTight, outlines_in}
-use Rattle.turned_levels.specs.Turned.{box_size, child_number, level_of, port_number, ports_of, turned_size}
-use Rattle.turned_levels.proofs.NumberedLemmas.{levels_are_listed, numbers_match}
-use Rattle.turned_drawings.proofs.HullLemmas.{hulls}
-use Rattle.turned_drawings.proofs.OutlineLemmas.{drawn_listed, drawn_port_box}
-use Rattle.turned_drawings.proofs.ReachLemmas.{IsShape, Lies, lies}
-use Rattle.turned_drawings.proofs.ShapeLemmas.{hulls_solid}
+use Rattle.level_frame.specs.Turned.{box_size, child_number, level_of, port_number, ports_of, turned_size}
+use Rattle.level_frame.proofs.NumberedLemmas.{levels_are_listed, numbers_match}
+use Rattle.level_turns.proofs.HullLemmas.{hulls}
+use Rattle.level_turns.proofs.OutlineLemmas.{drawn_listed, drawn_port_box}
+use Rattle.level_turns.proofs.ReachLemmas.{IsShape, Lies, lies}
+use Rattle.level_turns.proofs.ShapeLemmas.{hulls_solid}
 use Rattle.level_writing.specs.declared.figure.LevelFigure.{LevelFigure}
 use Rattle.level_writing.specs.Figure.{figure_in}
 use Rattle.level_writing.specs.Ranges.{IsLong, IsLongBox, IsLongSize}

@@ -9,9 +9,9 @@ use Rattle.elk_doc.specs.declared.document.Direction.TheVariants.{Down, Left, Ri
 use Rattle.elk_doc.specs.declared.document.LevelOptions.{LevelOptions}
 use Rattle.elk_doc.specs.Document.{Document}
 use Rattle.elk_doc.specs.Fitted.{IsGreatestOf}
-use Rattle.turned_levels.specs.Numbered.{IsPortOf}
-use Rattle.turned_levels.specs.Turned.{place_of_port, ports_of, turned_size}
-use Rattle.turned_levels.proofs.NumberedLemmas.{numbers_match}
+use Rattle.level_frame.specs.Numbered.{IsPortOf}
+use Rattle.level_frame.specs.Turned.{place_of_port, ports_of, turned_size}
+use Rattle.level_frame.proofs.NumberedLemmas.{numbers_match}
 use Rattle.level_writing.specs.Changed.{number_at}
 use Rattle.level_writing.specs.Ranges.{IsLongSize}
 use Rattle.level_writing.specs.Sizes.{Asks, AsksListed, IsSizeListed, IsSizeRound, end_of, padded_height, padded_width, raised}

@@ -11,11 +11,11 @@ use Rattle.elk_doc.specs.Drawing.{box_of, no_rect, no_section, section_of}
 use Rattle.elk_doc.specs.Shapes.{turned, rect_at}
 use Rattle.route_lines.specs.Points.{PlainGap}
 use Rattle.level_plan.specs.FromPlan.{PlainTrace, point_or, section_at}
-use Rattle.turned_levels.specs.Turned.{box_size, child_number, edge_number, port_number, turned_place, turned_size}
-use Rattle.turned_levels.specs.Drawing.{IsTurnedChild, IsTurnedSection, plus}
-use Rattle.turned_levels.specs.Kept.{AgreeAt}
-use Rattle.turned_levels.proofs.NumberedLemmas.{numbers_match}
-use Rattle.turned_drawings.specs.Framed.{start_of}
+use Rattle.level_frame.specs.Turned.{box_size, child_number, edge_number, port_number, turned_place, turned_size}
+use Rattle.level_frame.specs.Drawing.{IsTurnedChild, IsTurnedSection, plus}
+use Rattle.level_frame.specs.Kept.{AgreeAt}
+use Rattle.level_frame.proofs.NumberedLemmas.{numbers_match}
+use Rattle.level_turns.specs.Framed.{start_of}
 use Rattle.level_writing.specs.declared.figure.LevelFigure.{LevelFigure}
 use Rattle.level_writing.specs.Back.{size_of}
 use Rattle.level_writing.specs.Changed.{AreChanged, number_at}

@@ -7,9 +7,9 @@ use Rattle.elk_doc.specs.declared.document.Direction.{Direction}
 use Rattle.elk_doc.specs.declared.document.Direction.TheVariants.{Right, Left, Down, Up}
 use Rattle.elk_doc.specs.declared.drawing.Section.{Section}
 use Rattle.elk_doc.specs.Shapes.{rect_at}
-use Rattle.turning_laws.specs.Frames.{point_back, rect_back}
-use Rattle.turned_levels.specs.Turned.{turned_size}
-use Rattle.turned_levels.specs.Drawing.{plus}
+use Rattle.drawing_turns.specs.Frames.{point_back, rect_back}
+use Rattle.level_frame.specs.Turned.{turned_size}
+use Rattle.level_frame.specs.Drawing.{plus}
 
 -- the size of a rectangle
 abbrev pub size_of : Rect → Size

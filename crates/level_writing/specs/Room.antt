@@ -11,7 +11,7 @@ use Rattle.route_lines.specs.Points.{PlainGap}
 use Rattle.level_plan.specs.Level.{PlainLevel, child_at}
 use Rattle.level_plan.specs.FromPlan.{LevelDrawing, PlainTrace}
 use Rattle.level_draw.specs.Drawing.{IsTight}
-use Rattle.turned_levels.specs.Turned.{level_of}
+use Rattle.level_frame.specs.Turned.{level_of}
 use Rattle.level_writing.specs.declared.figure.LevelFigure.{LevelFigure}
 use Rattle.level_writing.specs.Figure.{figure_in}
 use Rattle.level_writing.specs.Ranges.{IsLongBox, IsLongSize}

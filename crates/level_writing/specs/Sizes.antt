@@ -20,10 +20,10 @@ use Rattle.elk_doc.specs.Shapes.{rect_at}
 use Rattle.elk_doc.specs.Sides.{side_of_port}
 use Rattle.elk_doc.specs.Sound.{along}
 use Rattle.level_plan.specs.FromPlan.{LevelDrawing}
-use Rattle.turned_levels.specs.Kept.{AgreeAt}
-use Rattle.turned_levels.specs.Numbered.{IsPortOf}
-use Rattle.turned_levels.specs.Turned.{box_size, turned_size}
-use Rattle.turned_drawings.specs.Framed.{IsFramed, start_of}
+use Rattle.level_frame.specs.Kept.{AgreeAt}
+use Rattle.level_frame.specs.Numbered.{IsPortOf}
+use Rattle.level_frame.specs.Turned.{box_size, turned_size}
+use Rattle.level_turns.specs.Framed.{IsFramed, start_of}
 use Rattle.level_writing.specs.Changed.{number_at}
 use Rattle.level_writing.specs.Canvas.{IsDrawingOf}
 

@@ -15,10 +15,10 @@ use Rattle.elk_doc.specs.Drawing.{box_of, certificate_of, no_rect, no_section, p
 use Rattle.route_lines.specs.Points.{PlainGap}
 use Rattle.level_plan.specs.FromPlan.{PlainTrace, point_or}
 use Rattle.level_shift.specs.Ranges.{IsFarPoint, IsFarSection}
-use Rattle.turned_levels.specs.Turned.{box_size, port_number, ports_of}
-use Rattle.turned_levels.specs.Drawing.{IsNumberedAs, IsTurnedDrawing, plus}
-use Rattle.turned_levels.specs.Kept.{AgreeAt}
-use Rattle.turned_drawings.specs.Framed.{start_of}
+use Rattle.level_frame.specs.Turned.{box_size, port_number, ports_of}
+use Rattle.level_frame.specs.Drawing.{IsNumberedAs, IsTurnedDrawing, plus}
+use Rattle.level_frame.specs.Kept.{AgreeAt}
+use Rattle.level_turns.specs.Framed.{start_of}
 use Rattle.level_writing.specs.declared.figure.LevelFigure.{LevelFigure}
 use Rattle.level_writing.specs.declared.writing.LevelNumbers.{LevelNumbers}
 use Rattle.level_writing.specs.Canvas.{IsDrawingOf}

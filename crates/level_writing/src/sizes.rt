@@ -3,7 +3,7 @@ ghost use Rattle.std.specs.Prelude.{◌≡◌, ◌+ℤ◌, ◌<◌, ◌^◌, IfS
 ghost use Rattle.elk_doc.specs.Document.{node_at};
 ghost use Rattle.elk_doc.specs.Fitted.{IsGreatestOf};
 ghost use Rattle.elk_doc.specs.Sound.{IsLength, IsPlaceWithin, IsSoundPadding, IsSoundSize};
-ghost use Rattle.turned_levels.specs.Turned as turned;
+ghost use Rattle.level_frame.specs.Turned as turned;
 ghost use Rattle.level_writing.specs.Canvas.{IsDrawingOf, drawing_of};
 ghost use Rattle.level_writing.specs.Changed.{AreDistinct};
 ghost use Rattle.level_writing.specs.Ranges.{IsLong, IsLongSize};
@@ -15,7 +15,7 @@ use crate::canvas::Canvas;
 use crate::writing::LevelNumbers;
 use elk_doc::document::{Direction, Doc, LevelOptions, PortRule};
 use elk_doc::shape::{Point, Rect, Side, Size};
-use turned_levels::turned_size;
+use level_frame::turned_size;
 
 // The size in the document of content of this extent in the frame.
 fn content_size(way: Direction, extent: Size) -> Size

@@ -2,7 +2,7 @@
 ghost use Rattle.std.specs.Prelude.{◌≡◌, ◌+ℤ◌, neg_ℤ};
 ghost use Rattle.elk_doc.specs.Sound.{IsLength, IsSoundPadding};
 ghost use Rattle.level_shift.specs.Ranges.{IsFar, IsFarPoint};
-ghost use Rattle.turned_drawings.specs.Framed as framed;
+ghost use Rattle.level_turns.specs.Framed as framed;
 ghost use Rattle.level_writing.specs.Ranges.{IsLong, IsLongSize};
 
 use elk_doc::document::{Direction, Padding};

@@ -1,7 +1,7 @@
 //! Points, boxes, ports and routes, turned back from the frame of a direction.
 ghost use Rattle.std.specs.Prelude.{◌≡◌, ◌+ℤ◌, ◌-ℤ◌, map, neg_ℤ};
 ghost use Rattle.std.specs.List.{All};
-ghost use Rattle.turned_levels.specs.Drawing.{plus};
+ghost use Rattle.level_frame.specs.Drawing.{plus};
 ghost use Rattle.level_shift.specs.Ranges.{IsFar, IsFarPoint, IsFarSection};
 ghost use Rattle.elk_doc.specs.Sound.{IsLength, IsSoundSize};
 ghost use Rattle.level_writing.specs.Back as back;

@@ -5,11 +5,11 @@ use Rattle.std.proofs.lemmas.Bool.{cases_eq}
 use Rattle.std.proofs.lemmas.Int.{ints}
 use Rattle.std.proofs.lemmas.List.{get_or-set_same, get_or-set_other, length-set, ext_get_or}
 use Rattle.std.proofs.lemmas.List.FromFn.{get_or-map-range_with_len, length-map-range_with_len}
-use Rattle.layering_laws.specs.declared.network.NetEdge.{NetEdge}
-use Rattle.layering_laws.specs.Network.{EndsBelow, IsNetwork}
-use Rattle.layering_laws.specs.Layering.{layer_of, natural}
-use Rattle.layering_laws.specs.Linked.{is_marked}
-use Rattle.layering_laws.specs.Paths.{AreGreatestSums}
+use Rattle.network_laws.specs.declared.network.NetEdge.{NetEdge}
+use Rattle.network_laws.specs.Network.{EndsBelow, IsNetwork}
+use Rattle.network_laws.specs.Layering.{layer_of, natural}
+use Rattle.network_laws.specs.Linked.{is_marked}
+use Rattle.network_laws.specs.Paths.{AreGreatestSums}
 use Rattle.net_simplex.specs.Tree.{State, IsState, cut_value}
 use Rattle.net_simplex.specs.Pivots.{is_negative, leaving_edge, first_state, Pivots, NoneNegative, HasNegative, flow_at, flow_of, lowered}
 use Rattle.net_simplex.specs.Answer.{RunsOut}

@@ -3,10 +3,10 @@ use Rattle.std.proofs.Common.{◌≡◌, ℕ, ◌<◌, cond, not, Bool, true, fa
 use Rattle.std.proofs.lemmas.Bool.{cases_lt, cases_Bool}
 use Rattle.std.proofs.lemmas.Int.{ints}
 use Rattle.std.proofs.lemmas.List.{ext_get_or}
-use Rattle.layering_laws.specs.declared.network.NetEdge.{NetEdge}
-use Rattle.layering_laws.specs.Network.{edge_at, EndsBelow}
-use Rattle.layering_laws.specs.Layering.{layer_of, natural}
-use Rattle.layering_laws.specs.Paths.{AreGreatestSums}
+use Rattle.network_laws.specs.declared.network.NetEdge.{NetEdge}
+use Rattle.network_laws.specs.Network.{edge_at, EndsBelow}
+use Rattle.network_laws.specs.Layering.{layer_of, natural}
+use Rattle.network_laws.specs.Paths.{AreGreatestSums}
 use Rattle.net_simplex.specs.Tree.{State, tail_part}
 use Rattle.net_simplex.specs.Pivots.{slack, first_state, shifted, is_negative, least_of, least_slack_edge, leaving_edge, leads_back, entering_edge, exchanged, pivot_at, pivot, Pivots, NoneNegative, flow_of, lowered}
 use Rattle.net_simplex.specs.Answer.{OneWay}

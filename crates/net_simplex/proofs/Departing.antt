@@ -2,10 +2,10 @@
 use Rattle.std.proofs.Common.{◌≡◌, ◌≢◌, ℕ, ◌+◌, ◌<◌, ◌≤◌, ◌&&◌, cond, Bool, true, false, ltb, ℤ, pos, List, length, get_or, Option, Some, None, arith, refl, sym, ap, subst, ◌∙◌, inl, inr}
 use Rattle.std.specs.Prelude.{int_lt}
 use Rattle.std.proofs.lemmas.Bool.{cases_eq, cases_Bool, ltb-true, ltb-false}
-use Rattle.layering_laws.specs.declared.network.NetEdge.{NetEdge}
-use Rattle.layering_laws.specs.Network.{EndsBelow}
-use Rattle.layering_laws.specs.Layering.{layer_of}
-use Rattle.layering_laws.specs.Linked.{is_marked}
+use Rattle.network_laws.specs.declared.network.NetEdge.{NetEdge}
+use Rattle.network_laws.specs.Network.{EndsBelow}
+use Rattle.network_laws.specs.Layering.{layer_of}
+use Rattle.network_laws.specs.Linked.{is_marked}
 use Rattle.net_simplex.specs.Tree.{IsSpanningTree}
 use Rattle.net_simplex.specs.Pivots.{least_of}
 use Rattle.net_simplex.specs.Rooted.{IsRooted}

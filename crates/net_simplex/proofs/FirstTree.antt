@@ -3,13 +3,13 @@ use Rattle.std.proofs.Common.{◌≡◌, ◌≢◌, ℕ, zero, suc, ◌+◌, ◌
 use Rattle.std.proofs.lemmas.Int.{ints}
 use Rattle.std.proofs.lemmas.Bool.{cases_eq, cases_lt, cases_Bool}
 use Rattle.std.proofs.lemmas.List.{get_or-set_same, get_or-set_other, get_or-replicate, get_or_past, length-set, length-replicate, ext_get_or}
-use Rattle.layering_laws.specs.declared.network.NetEdge.{NetEdge}
-use Rattle.layering_laws.specs.Network.{edge_at, IsNetwork, Joined}
-use Rattle.layering_laws.specs.Layering.{layer_of, IsLayering}
-use Rattle.layering_laws.specs.Linked.{is_marked, Linked}
-use Rattle.layering_laws.specs.Paths.{AreGreatestSums, marked_sum}
-use Rattle.layering_laws.proofs.Linking.{link_stay}
-use Rattle.layering_laws.proofs.PathSums.{marked_le, marked_more, least_le}
+use Rattle.network_laws.specs.declared.network.NetEdge.{NetEdge}
+use Rattle.network_laws.specs.Network.{edge_at, IsNetwork, Joined}
+use Rattle.network_laws.specs.Layering.{layer_of, IsLayering}
+use Rattle.network_laws.specs.Linked.{is_marked, Linked}
+use Rattle.network_laws.specs.Paths.{AreGreatestSums, marked_sum}
+use Rattle.network_laws.proofs.Linking.{link_stay}
+use Rattle.network_laws.proofs.PathSums.{marked_le, marked_more, least_le}
 use Rattle.flow_dual.specs.Rounds.{all_least}
 use Rattle.flow_dual.proofs.Starting.{first_low}
 use Rattle.net_simplex.specs.declared.choice.Choice.{Choice}

@@ -3,10 +3,10 @@ use Rattle.std.proofs.Common.{◌≡◌, ◌≢◌, ℕ, zero, suc, ◌<◌, eqb
 use Rattle.std.proofs.lemmas.Bool.{cases_eq, cases_Bool}
 use Rattle.std.proofs.lemmas.Bool.Decides.{nat_tests}
 use Rattle.std.proofs.lemmas.List.{get_or-set_other}
-use Rattle.layering_laws.specs.declared.network.NetEdge.{NetEdge}
-use Rattle.layering_laws.specs.Network.{edge_at, EndsBelow}
-use Rattle.layering_laws.specs.Linked.{is_marked, Linked}
-use Rattle.layering_laws.proofs.Linking.{link_stay, link_back, link_join, link_one}
+use Rattle.network_laws.specs.declared.network.NetEdge.{NetEdge}
+use Rattle.network_laws.specs.Network.{edge_at, EndsBelow}
+use Rattle.network_laws.specs.Linked.{is_marked, Linked}
+use Rattle.network_laws.proofs.Linking.{link_stay, link_back, link_join, link_one}
 use Rattle.net_simplex.specs.Tree.{IsSpanningTree, IsCut}
 use Rattle.net_simplex.specs.Rooted.{beyond, above, HangsBy, IsRooted, all_held}
 

@@ -3,9 +3,9 @@ use Rattle.std.proofs.Common.{◌≡◌, ℕ, suc, ◌+◌, ◌<◌, cond, Bool,
 use Rattle.std.specs.Prelude.{int_lt}
 use Rattle.std.proofs.lemmas.Bool.{cases_Bool, ltb-true, ltb-false}
 use Rattle.std.proofs.lemmas.Int.{ints}
-use Rattle.layering_laws.specs.declared.network.NetEdge.{NetEdge}
-use Rattle.layering_laws.specs.Layering.{layer_of}
-use Rattle.layering_laws.proofs.Duality.{natural_is}
+use Rattle.network_laws.specs.declared.network.NetEdge.{NetEdge}
+use Rattle.network_laws.specs.Layering.{layer_of}
+use Rattle.network_laws.proofs.Duality.{natural_is}
 use Rattle.net_simplex.specs.declared.choice.Choice.{Choice}
 use Rattle.net_simplex.specs.Pivots.{slack, shifted, lesser, least_of}
 use Rattle.net_simplex.proofs.Pivoting.{shifted_at}

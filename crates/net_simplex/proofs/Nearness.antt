@@ -3,10 +3,10 @@ use Rattle.std.proofs.Common.{◌≡◌, ℕ, ◌<◌, ◌≤◌, cond, not, Boo
 use Rattle.std.specs.Prelude.{int_lt}
 use Rattle.std.proofs.lemmas.Bool.{cases_Bool, ltb-true, ltb-false}
 use Rattle.std.proofs.lemmas.Int.{ints}
-use Rattle.layering_laws.specs.declared.network.NetEdge.{NetEdge}
-use Rattle.layering_laws.specs.declared.links.End.TheVariants.{Tail, Head}
-use Rattle.layering_laws.specs.Network.{edge_at, EndsBelow}
-use Rattle.layering_laws.specs.Layering.{layer_of, IsLayering}
+use Rattle.network_laws.specs.declared.network.NetEdge.{NetEdge}
+use Rattle.network_laws.specs.declared.links.End.TheVariants.{Tail, Head}
+use Rattle.network_laws.specs.Network.{edge_at, EndsBelow}
+use Rattle.network_laws.specs.Layering.{layer_of, IsLayering}
 use Rattle.net_simplex.specs.declared.choice.Choice.{Choice}
 use Rattle.net_simplex.specs.Pivots.{slack, shifted, is_in, borders, least_slack_edge}
 use Rattle.net_simplex.specs.Outward.{rise_of, ComesFirst, LeadsOut, IsNearest, nearer_of}

@@ -5,12 +5,12 @@ use Rattle.std.specs.List.{Contains}
 use Rattle.std.specs.List.Sorted.{IsPermutation}
 use Rattle.std.proofs.lemmas.Bool.{cases_eq, cases_lt}
 use Rattle.std.proofs.lemmas.List.Sorted.{Contains-permutation, IsPermutation-sym, length_permutation}
-use Rattle.layering_laws.specs.declared.network.NetEdge.{NetEdge}
-use Rattle.layering_laws.specs.declared.links.End.{End}
-use Rattle.layering_laws.specs.declared.links.End.TheVariants.{Tail, Head}
-use Rattle.layering_laws.specs.Network.{edge_at, EndsBelow}
-use Rattle.layering_laws.specs.Links.{end_of, far_of, IsNextAt}
-use Rattle.layering_laws.specs.Layering.{layer_of}
+use Rattle.network_laws.specs.declared.network.NetEdge.{NetEdge}
+use Rattle.network_laws.specs.declared.links.End.{End}
+use Rattle.network_laws.specs.declared.links.End.TheVariants.{Tail, Head}
+use Rattle.network_laws.specs.Network.{edge_at, EndsBelow}
+use Rattle.network_laws.specs.Links.{end_of, far_of, IsNextAt}
+use Rattle.network_laws.specs.Layering.{layer_of}
 use Rattle.flow_dual.proofs.Offering.{in_first, first_in, rest_in}
 use Rattle.net_simplex.specs.declared.waiting.Waiting.{Waiting}
 use Rattle.net_simplex.specs.Pivots.{is_in}

@@ -4,12 +4,12 @@ use Rattle.std.specs.Prelude.{int_lt}
 use Rattle.std.proofs.lemmas.List.Sums.{sum_by-cons}
 use Rattle.std.proofs.lemmas.Bool.{cases_eq, cases_Bool}
 use Rattle.std.proofs.lemmas.Int.{ints}
-use Rattle.layering_laws.specs.declared.network.NetEdge.{NetEdge}
-use Rattle.layering_laws.specs.Network.{edge_at, EndsBelow}
-use Rattle.layering_laws.specs.Layering.{layer_of, IsLayering}
-use Rattle.layering_laws.specs.Tight.{IsTightEdge}
-use Rattle.layering_laws.specs.Linked.{is_marked}
-use Rattle.layering_laws.proofs.Duality.{natural_is}
+use Rattle.network_laws.specs.declared.network.NetEdge.{NetEdge}
+use Rattle.network_laws.specs.Network.{edge_at, EndsBelow}
+use Rattle.network_laws.specs.Layering.{layer_of, IsLayering}
+use Rattle.network_laws.specs.Tight.{IsTightEdge}
+use Rattle.network_laws.specs.Linked.{is_marked}
+use Rattle.network_laws.proofs.Duality.{natural_is}
 use Rattle.net_simplex.specs.Tree.{State, IsState, IsCut, tail_part, cut_value, entering_weight}
 use Rattle.net_simplex.specs.Pivots.{slack, shifted, is_negative, leaving_edge, leads_back, entering_edge, exchanged, pivot_at, pivot, Pivots, HasNegative}
 use Rattle.net_simplex.specs.Answer.{PivotKeeps, PivotGoesOn, PivotEnds}

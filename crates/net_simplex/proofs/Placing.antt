@@ -2,8 +2,8 @@
 use Rattle.std.proofs.Common.{◌≡◌, ◌≢◌, ℕ, zero, suc, ◌+◌, ◌-◌, ◌<◌, ◌≤◌, eqb, eq-eqb, cond, Bool, true, false, ◌||◌, ◌⊎◌, List, length, set, get_or, arith, refl, sym, ap, subst, ◌∙◌, inl, inr}
 use Rattle.std.proofs.lemmas.Bool.{cases_eq, cases_lt, cases_Bool}
 use Rattle.std.proofs.lemmas.List.{get_or-set_same, get_or-set_other, length-set}
-use Rattle.layering_laws.specs.declared.network.NetEdge.{NetEdge}
-use Rattle.layering_laws.specs.Network.{EndsBelow}
+use Rattle.network_laws.specs.declared.network.NetEdge.{NetEdge}
+use Rattle.network_laws.specs.Network.{EndsBelow}
 use Rattle.net_simplex.specs.Rooted.{above, holding, IsRooted, all_held}
 use Rattle.net_simplex.specs.Walks.{part, between, hung_size, IsWalk, AreSizes, ArePlacedTo, AreWalkPlaces, TakesPlace}
 use Rattle.net_simplex.proofs.Hanging.{ne_eqb, root_place, is_root, not_root, same_place, above_there, above_earlier}

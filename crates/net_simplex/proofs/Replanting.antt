@@ -1,9 +1,9 @@
 -- After an exchange the new numbers are a walk over the tree that hangs anew.
 use Rattle.std.proofs.Common.{◌≡◌, ◌≢◌, ℕ, ◌+◌, ◌-◌, ◌<◌, ◌≤◌, cond, not, Bool, true, false, ◌⊎◌, List, length, get_or, arith, refl, sym, ap, subst, ◌∙◌, inl, inr}
 use Rattle.std.proofs.lemmas.Bool.{cases_eq, cases_lt, cases_Bool}
-use Rattle.layering_laws.specs.declared.network.NetEdge.{NetEdge}
-use Rattle.layering_laws.specs.Network.{edge_at, EndsBelow}
-use Rattle.layering_laws.specs.Linked.{is_marked}
+use Rattle.network_laws.specs.declared.network.NetEdge.{NetEdge}
+use Rattle.network_laws.specs.Network.{edge_at, EndsBelow}
+use Rattle.network_laws.specs.Linked.{is_marked}
 use Rattle.net_simplex.specs.Rooted.{beyond, above, HangsBy, IsRooted, all_held}
 use Rattle.net_simplex.specs.Walks.{part, IsWalk, moved, first_place}
 use Rattle.net_simplex.specs.Turning.{Exchanges, AreResized, AreDistinct, IsTurned, IsTurnedTo, IsWayUp, Settles}

@@ -2,7 +2,7 @@
 use Rattle.std.proofs.Common.{◌≡◌, ◌≢◌, ℕ, ◌+◌, ◌-◌, ◌<◌, ◌≤◌, Bool, true, false, ◌⊎◌, List, length, set, get_or, arith, refl, sym, ap, subst, ◌∙◌, inl, inr}
 use Rattle.std.proofs.lemmas.Bool.{cases_eq, cases_lt, cases_Bool}
 use Rattle.std.proofs.lemmas.List.{get_or-set_same, get_or-set_other, length-set}
-use Rattle.layering_laws.specs.declared.network.NetEdge.{NetEdge}
+use Rattle.network_laws.specs.declared.network.NetEdge.{NetEdge}
 use Rattle.net_simplex.specs.Rooted.{above}
 use Rattle.net_simplex.specs.Walks.{part, IsWalk}
 use Rattle.net_simplex.specs.Turning.{AreDistinct, Plants, IsTurned, IsTurnedTo, IsWayUp, TurnsNext}

@@ -2,10 +2,10 @@
 use Rattle.std.proofs.Common.{◌≡◌, ◌≢◌, ℕ, zero, suc, ◌+◌, ◌<◌, ◌≤◌, ◌&&◌, cond, Bool, true, false, ◌⊎◌, ℤ, pos, ◌+ℤ◌, ◌≤ℤ◌, List, [], ◌∷◌, length, arith, refl, sym, ap, ◌∙◌, inl, inr}
 use Rattle.std.proofs.lemmas.Int.{ints}
 use Rattle.std.proofs.lemmas.List.Sums.{sum_by-cons}
-use Rattle.layering_laws.specs.declared.network.NetEdge.{NetEdge}
-use Rattle.layering_laws.specs.Network.{edge_at, EndsBelow}
-use Rattle.layering_laws.specs.Layering.{layer_of}
-use Rattle.layering_laws.specs.Linked.{is_marked, HasMarked, LinkedBy}
+use Rattle.network_laws.specs.declared.network.NetEdge.{NetEdge}
+use Rattle.network_laws.specs.Network.{edge_at, EndsBelow}
+use Rattle.network_laws.specs.Layering.{layer_of}
+use Rattle.network_laws.specs.Linked.{is_marked, HasMarked, LinkedBy}
 use Rattle.flow_dual.specs.Rounds.{all_least}
 use Rattle.net_simplex.specs.Tree.{State, IsState, IsCut, tail_part}
 use Rattle.net_simplex.proofs.Cutting.{tail_parts_cut}

@@ -4,10 +4,10 @@ use Rattle.std.specs.Prelude.{int_lt}
 use Rattle.std.proofs.lemmas.Int.{ints}
 use Rattle.std.proofs.lemmas.Bool.{cases_eq, cases_Bool}
 use Rattle.std.proofs.lemmas.List.{get_or-set_same, get_or-set_other, length-set, ext_get_or}
-use Rattle.layering_laws.specs.declared.network.NetEdge.{NetEdge}
-use Rattle.layering_laws.specs.Network.{edge_at, EndsBelow, IsNetwork}
-use Rattle.layering_laws.specs.Layering.{layer_of}
-use Rattle.layering_laws.specs.Linked.{is_marked}
+use Rattle.network_laws.specs.declared.network.NetEdge.{NetEdge}
+use Rattle.network_laws.specs.Network.{edge_at, EndsBelow, IsNetwork}
+use Rattle.network_laws.specs.Layering.{layer_of}
+use Rattle.network_laws.specs.Linked.{is_marked}
 use Rattle.net_simplex.specs.Tree.{State, IsState, IsSpanningTree, IsCut, tail_part, cut_value}
 use Rattle.net_simplex.specs.Pivots.{slack, shifted, lesser, least_of, least_slack_edge, is_negative, leaving_edge, leads_back, entering_edge, exchanged, pivot_at, pivot}
 use Rattle.net_simplex.specs.Rooted.{beyond, above, IsRooted, IsBelow, part_from}

@@ -1,11 +1,11 @@
 -- What the last state of a chain gives, and how a chain ends.
 use Rattle.std.specs.Prelude.{◌≡◌, ℕ, ◌<◌, ◌≤◌, ℤ, List, length, Some, None, Bool, true}
-use Rattle.layering_laws.specs.declared.network.NetEdge.{NetEdge}
-use Rattle.layering_laws.specs.Network.{edge_at, EndsBelow}
-use Rattle.layering_laws.specs.Layering.{IsLayering}
-use Rattle.layering_laws.specs.Tight.{IsDone, IsTightEdge}
-use Rattle.layering_laws.specs.Paths.{AreGreatestSums}
-use Rattle.layering_laws.specs.Linked.{is_marked, Linked}
+use Rattle.network_laws.specs.declared.network.NetEdge.{NetEdge}
+use Rattle.network_laws.specs.Network.{edge_at, EndsBelow}
+use Rattle.network_laws.specs.Layering.{IsLayering}
+use Rattle.network_laws.specs.Tight.{IsDone, IsTightEdge}
+use Rattle.network_laws.specs.Paths.{AreGreatestSums}
+use Rattle.network_laws.specs.Linked.{is_marked, Linked}
 use Rattle.net_simplex.specs.Tree.{State, IsState, IsCut}
 use Rattle.net_simplex.specs.Pivots.{Growing, is_in, grown_once, first_state, pivot, Pivots, NoneNegative, HasNegative, flow_of, lowered}
 

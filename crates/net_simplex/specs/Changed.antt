@@ -1,10 +1,10 @@
 -- How the cut values change where one tree edge is exchanged for another.
 -- (Gansner, Koutsofios, North, Vo 1993.)
 use Rattle.std.specs.Prelude.{◌≡◌, ℕ, ◌+◌, ◌<◌, ◌≤◌, ◌^◌, ◌==◌, ◌⊎◌, cond, Bool, true, ℤ, pos, ◌+ℤ◌, ◌-ℤ◌, List, length, set, slice_index}
-use Rattle.layering_laws.specs.declared.network.NetEdge.{NetEdge}
-use Rattle.layering_laws.specs.Network.{edge_at}
-use Rattle.layering_laws.specs.Layering.{layer_of}
-use Rattle.layering_laws.specs.Linked.{is_marked}
+use Rattle.network_laws.specs.declared.network.NetEdge.{NetEdge}
+use Rattle.network_laws.specs.Network.{edge_at}
+use Rattle.network_laws.specs.Layering.{layer_of}
+use Rattle.network_laws.specs.Linked.{is_marked}
 use Rattle.net_simplex.specs.Tree.{tail_part}
 use Rattle.net_simplex.specs.Rooted.{above}
 use Rattle.net_simplex.specs.Cuts.{size_of}

@@ -1,9 +1,9 @@
 -- Cut values as sums over the nodes of a part.
 use Rattle.std.specs.Prelude.{◌≡◌, ℕ, suc, ◌+◌, ◌*◌, ◌<◌, ◌≤◌, cond, Bool, true, ◌==◌, ℤ, pos, negsuc, ◌+ℤ◌, ◌-ℤ◌, List, [], ◌∷◌, length, set, take, slice_index}
 use Rattle.std.specs.List.{sum_by}
-use Rattle.layering_laws.specs.declared.network.NetEdge.{NetEdge}
-use Rattle.layering_laws.specs.Layering.{layer_of}
-use Rattle.layering_laws.specs.Linked.{is_marked}
+use Rattle.network_laws.specs.declared.network.NetEdge.{NetEdge}
+use Rattle.network_laws.specs.Layering.{layer_of}
+use Rattle.network_laws.specs.Linked.{is_marked}
 use Rattle.net_simplex.specs.Tree.{cut_of, cut_value}
 use Rattle.net_simplex.specs.Rooted.{above}
 

@@ -1,10 +1,10 @@
 -- The first tree while it grows, as the code keeps it: the nodes of the tree stand at layers counted from node 0, and a
 -- number tells how much higher they stand.
 use Rattle.std.specs.Prelude.{◌≡◌, ◌≢◌, slice_index, ℕ, ◌<◌, Bool, true, false, ℤ, pos, ◌+ℤ◌, ◌-ℤ◌, ◌≤ℤ◌, ◌<ℤ◌, ◌^◌, List, length, set}
-use Rattle.layering_laws.specs.declared.network.NetEdge.{NetEdge}
-use Rattle.layering_laws.specs.Network.{InOnePart}
-use Rattle.layering_laws.specs.Layering.{layer_of}
-use Rattle.layering_laws.specs.Paths.{marked_sum}
+use Rattle.network_laws.specs.declared.network.NetEdge.{NetEdge}
+use Rattle.network_laws.specs.Network.{InOnePart}
+use Rattle.network_laws.specs.Layering.{layer_of}
+use Rattle.network_laws.specs.Paths.{marked_sum}
 use Rattle.flow_dual.specs.Rounds.{all_least}
 use Rattle.net_simplex.specs.Pivots.{Growing, is_in, shifted}
 use Rattle.net_simplex.specs.Answer.{IsGrowing}

@@ -1,7 +1,7 @@
 -- What the code keeps of a state of the chain.
 use Rattle.std.specs.Prelude.{◌≡◌, ℕ, ◌<◌, Bool, ℤ, pos, ◌+ℤ◌, List, length, Some}
-use Rattle.layering_laws.specs.declared.network.NetEdge.{NetEdge}
-use Rattle.layering_laws.specs.Layering.{layer_of}
+use Rattle.network_laws.specs.declared.network.NetEdge.{NetEdge}
+use Rattle.network_laws.specs.Layering.{layer_of}
 use Rattle.net_simplex.specs.Tree.{State, IsState}
 use Rattle.net_simplex.specs.Pivots.{pivot}
 use Rattle.net_simplex.specs.Rooted.{IsRooted}

@@ -1,7 +1,7 @@
 -- What a chain of pivots leads to.
 use Rattle.std.specs.Prelude.{ℕ, ◌≤◌, Bool, ℤ, List, Option, Some, None}
-use Rattle.layering_laws.specs.declared.network.NetEdge.{NetEdge}
-use Rattle.layering_laws.specs.Tight.{IsDone}
+use Rattle.network_laws.specs.declared.network.NetEdge.{NetEdge}
+use Rattle.network_laws.specs.Tight.{IsDone}
 use Rattle.net_simplex.specs.Tree.{State}
 use Rattle.net_simplex.specs.Pivots.{Pivots, NoneNegative, HasNegative}
 use Rattle.net_simplex.specs.Answer.{EndsInTime, RunsOut}

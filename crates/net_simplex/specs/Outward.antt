@@ -5,12 +5,12 @@ use Rattle.std.specs.Ordering.{ordering_then, nat_cmp, int_cmp}
 use Rattle.std.specs.List.{Contains}
 use Rattle.std.specs.BinaryHeap.{IsHeap}
 use Rattle.std.specs.List.Sorted.{IsPermutation}
-use Rattle.layering_laws.specs.declared.network.NetEdge.{NetEdge}
-use Rattle.layering_laws.specs.declared.links.End.{End}
-use Rattle.layering_laws.specs.declared.links.End.TheVariants.{Tail, Head}
-use Rattle.layering_laws.specs.Network.{edge_at}
-use Rattle.layering_laws.specs.Layering.{layer_of}
-use Rattle.layering_laws.specs.Links.{end_of, far_of}
+use Rattle.network_laws.specs.declared.network.NetEdge.{NetEdge}
+use Rattle.network_laws.specs.declared.links.End.{End}
+use Rattle.network_laws.specs.declared.links.End.TheVariants.{Tail, Head}
+use Rattle.network_laws.specs.Network.{edge_at}
+use Rattle.network_laws.specs.Layering.{layer_of}
+use Rattle.network_laws.specs.Links.{end_of, far_of}
 use Rattle.net_simplex.specs.declared.waiting.Waiting.{Waiting}
 use Rattle.net_simplex.specs.declared.choice.Choice.{Choice}
 use Rattle.net_simplex.specs.Pivots.{is_in}

@@ -1,8 +1,8 @@
 -- A tree that hangs from node 0: the nodes in an order in which each comes after the one that it hangs on.
 use Rattle.std.specs.Prelude.{◌≡◌, ◌≢◌, ℕ, zero, suc, ◌+◌, ◌<◌, ◌==◌, ◌⊎◌, cond, not, Bool, true, false, List, length, slice_index}
-use Rattle.layering_laws.specs.declared.network.NetEdge.{NetEdge}
-use Rattle.layering_laws.specs.Network.{edge_at}
-use Rattle.layering_laws.specs.Linked.{is_marked}
+use Rattle.network_laws.specs.declared.network.NetEdge.{NetEdge}
+use Rattle.network_laws.specs.Network.{edge_at}
+use Rattle.network_laws.specs.Linked.{is_marked}
 
 -- the end of an edge that is not v
 abbrev pub beyond : NetEdge → ℕ → ℕ

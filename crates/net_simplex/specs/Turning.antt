@@ -1,9 +1,9 @@
 -- How a tree hangs anew when one edge is exchanged for another: the edges on the way up from the new edge to the old one
 -- turn round, and the block of places of the part goes to behind the node on which it hangs then.
 use Rattle.std.specs.Prelude.{◌≡◌, ◌≢◌, ℕ, ◌+◌, ◌-◌, ◌<◌, ◌≤◌, cond, Bool, true, false, ◌⊎◌, List, length, set, slice_index}
-use Rattle.layering_laws.specs.declared.network.NetEdge.{NetEdge}
-use Rattle.layering_laws.specs.Network.{edge_at}
-use Rattle.layering_laws.specs.Linked.{is_marked}
+use Rattle.network_laws.specs.declared.network.NetEdge.{NetEdge}
+use Rattle.network_laws.specs.Network.{edge_at}
+use Rattle.network_laws.specs.Linked.{is_marked}
 use Rattle.net_simplex.specs.Rooted.{beyond, above, IsRooted}
 use Rattle.net_simplex.specs.Walks.{part, IsWalk, moved, first_place}
 

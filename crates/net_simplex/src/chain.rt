@@ -1,9 +1,9 @@
 //! The chain of pivots: a tree edge of negative cut value leaves, and the edge of least slack that leads back enters.
 
 ghost use Rattle.std.specs.Prelude.{◌≡◌, ◌≢◌, ◌+◌, ◌<◌, ◌≤◌, ◌^◌, ℕ, pos, ◌≤ℤ◌, ◌<ℤ◌, ◌+ℤ◌, ◌-ℤ◌, true, false, ◌&&◌, int_lt, Some, None, length, set};
-ghost use Rattle.layering_laws.specs.Network.{EndsBelow, IsNetwork};
-ghost use Rattle.layering_laws.specs.Layering.{layer_of};
-ghost use Rattle.layering_laws.specs.Linked.{is_marked};
+ghost use Rattle.network_laws.specs.Network.{EndsBelow, IsNetwork};
+ghost use Rattle.network_laws.specs.Layering.{layer_of};
+ghost use Rattle.network_laws.specs.Linked.{is_marked};
 ghost use Rattle.net_simplex.specs.Pivots.{shifted, least_of, leaving_edge};
 ghost use Rattle.net_simplex.specs.Tree.{IsSpanningTree};
 ghost use Rattle.net_simplex.specs.Rooted.{above, IsRooted};
@@ -17,7 +17,7 @@ use crate::entering::entering;
 use crate::passing::change_cuts;
 use crate::rooted::child_of;
 use crate::turning::turn;
-use layering_laws::NetEdge;
+use network_laws::NetEdge;
 
 fn is_negative(cut: i64) -> bool
     ensures { result ≡ int_lt cut (pos 0) }

@@ -3,15 +3,15 @@
 
 ghost use Rattle.std.specs.Prelude.{◌≡◌, ◌≢◌, ◌+◌, ◌*◌, ◌<◌, ◌≤◌, ◌^◌, ℕ, pos, ◌+ℤ◌, ◌-ℤ◌, length, set, slice_index, Bool, List, true, false};
 ghost use Rattle.std.specs.List.{sum_by};
-ghost use Rattle.layering_laws.specs.declared.network.NetEdge.{NetEdge as EdgeOf};
-ghost use Rattle.layering_laws.specs.Network.{EndsBelow, edge_at};
-ghost use Rattle.layering_laws.specs.Layering.{layer_of};
+ghost use Rattle.network_laws.specs.declared.network.NetEdge.{NetEdge as EdgeOf};
+ghost use Rattle.network_laws.specs.Network.{EndsBelow, edge_at};
+ghost use Rattle.network_laws.specs.Layering.{layer_of};
 ghost use Rattle.net_simplex.specs.Tree.{IsSpanningTree};
 ghost use Rattle.net_simplex.specs.Rooted.{beyond, IsRooted};
 ghost use Rattle.net_simplex.specs.Cuts.{size_of, sizes, tallied, TellsWeights, Lifts, AreCutValues};
 
 use crate::rooted::other_end;
-use layering_laws::NetEdge;
+use network_laws::NetEdge;
 
 /// Writes one number.
 pub fn put(numbers: &mut [i64], at: u32, number: i64)

@@ -1,20 +1,20 @@
 //! The edge that enters the tree, and the one that joins it while it grows.
 
 ghost use Rattle.std.specs.Prelude.{◌≡◌, ◌+◌, ◌<◌, ◌≤◌, ◌^◌, ℕ, pos, ◌+ℤ◌, ◌-ℤ◌, ◌≤ℤ◌, length, slice_index, true, false};
-ghost use Rattle.layering_laws.specs.Network.{EndsBelow, edge_at};
-ghost use Rattle.layering_laws.specs.Layering.{layer_of, IsLayering};
+ghost use Rattle.network_laws.specs.Network.{EndsBelow, edge_at};
+ghost use Rattle.network_laws.specs.Layering.{layer_of, IsLayering};
 ghost use Rattle.net_simplex.specs.Pivots.{slack, is_in, borders, leads_back, least_slack_edge, shifted};
 ghost use Rattle.net_simplex.specs.Rooted.{part_from};
 ghost use Rattle.net_simplex.specs.Walks.{between, part};
 ghost use Rattle.net_simplex.specs.Chosen.{Tells};
 ghost use Rattle.net_simplex.specs.Outward.{IsNearest, AreQueues, nearer_of};
 ghost use Rattle.std.specs.BinaryHeap.{heap_items};
-ghost use Rattle.layering_laws.specs.declared.links.End.TheVariants.{Tail, Head};
+ghost use Rattle.network_laws.specs.declared.links.End.TheVariants.{Tail, Head};
 
 use crate::choice::{Choice, better};
 use crate::rooted::is_between;
 use crate::waiting::{Waiting, nearest};
-use layering_laws::{End, NetEdge};
+use network_laws::{End, NetEdge};
 use std::collections::BinaryHeap;
 
 fn slack_between(low: i128, high: i128, least: u64) -> i128

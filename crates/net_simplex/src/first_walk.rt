@@ -2,12 +2,12 @@
 //! the last node to the first, and places are given from the first to the last.
 
 ghost use Rattle.std.specs.Prelude.{◌≡◌, ◌≢◌, ◌+◌, ◌<◌, ◌≤◌, ◌^◌, ℕ, length, set, slice_index};
-ghost use Rattle.layering_laws.specs.Network.{EndsBelow};
+ghost use Rattle.network_laws.specs.Network.{EndsBelow};
 ghost use Rattle.net_simplex.specs.Rooted.{above, IsRooted};
 ghost use Rattle.net_simplex.specs.Walks.{IsWalk, AreSizes, AreWalkPlaces, TakesPlace};
 
 use crate::rooted::upper;
-use layering_laws::NetEdge;
+use network_laws::NetEdge;
 
 /// Each node is its own part.
 fn set_ones(size: &mut [u32])

@@ -3,11 +3,11 @@
 
 ghost use Rattle.std.specs.Prelude.{◌≡◌, ◌≢◌, ◌+◌, ◌-◌, ◌<◌, ◌≤◌, ◌^◌, ℕ, pos, ◌≤ℤ◌, ◌<ℤ◌, ◌+ℤ◌, ◌-ℤ◌, true, false, length, replicate, slice_index, IfOk, OnOk};
 ghost use Rattle.std.specs.BinaryHeap.{heap_items};
-ghost use Rattle.layering_laws.specs.Links.{AreLinks};
-ghost use Rattle.layering_laws.specs.declared.links.End.TheVariants.{Tail, Head};
-ghost use Rattle.layering_laws.specs.Network.{IsNetwork, IsAcyclic, EndsBelow};
-ghost use Rattle.layering_laws.specs.Layering.{layer_of, IsLayering};
-ghost use Rattle.layering_laws.specs.Paths.{AreGreatestSums};
+ghost use Rattle.network_laws.specs.Links.{AreLinks};
+ghost use Rattle.network_laws.specs.declared.links.End.TheVariants.{Tail, Head};
+ghost use Rattle.network_laws.specs.Network.{IsNetwork, IsAcyclic, EndsBelow};
+ghost use Rattle.network_laws.specs.Layering.{layer_of, IsLayering};
+ghost use Rattle.network_laws.specs.Paths.{AreGreatestSums};
 ghost use Rattle.net_simplex.specs.Pivots.{is_in, shifted, borders, least_slack_edge, first_state, grown_once as once};
 ghost use Rattle.net_simplex.specs.Grown.{IsConnected, Joins, Attaches, IsSmall, IsGrown, IsJoined, growing_of};
 ghost use Rattle.net_simplex.specs.Outward.{AreQueues, AreQueuesBut, IsEmptyHeap};
@@ -17,7 +17,7 @@ use crate::cuts::{number_at, put};
 use crate::entering::joining;
 use crate::rooted::plant;
 use crate::waiting::{Waiting, add_edges};
-use layering_laws::{End, Links, NetEdge, link_edges};
+use network_laws::{End, Links, NetEdge, link_edges};
 use std::alloc::{AllocError, Global};
 use std::collections::BinaryHeap;
 

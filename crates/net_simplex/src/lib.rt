@@ -18,5 +18,5 @@ pub use laws::{
     growth_keeps, last_is_best, one_way, parts_cut, pivot_ends, pivot_goes_on, pivot_keeps,
     six_nodes,
 };
-pub use layering_laws::{NetEdge, Network, Solution};
+pub use network_laws::{NetEdge, Network, Solution};
 pub use solving::{Solved, Way, solve};

@@ -3,10 +3,10 @@
 
 ghost use Rattle.std.specs.Prelude.{◌≡◌, ◌+◌, ◌<◌, ◌≤◌, ◌^◌, ℕ, cond, pos, ◌+ℤ◌, ◌-ℤ◌, length, set, slice_index, true, false};
 ghost use Rattle.std.specs.List.{sum_by};
-ghost use Rattle.layering_laws.specs.declared.network.NetEdge.{NetEdge as EdgeOf};
-ghost use Rattle.layering_laws.specs.Network.{EndsBelow, edge_at};
-ghost use Rattle.layering_laws.specs.Layering.{layer_of};
-ghost use Rattle.layering_laws.specs.Linked.{is_marked};
+ghost use Rattle.network_laws.specs.declared.network.NetEdge.{NetEdge as EdgeOf};
+ghost use Rattle.network_laws.specs.Network.{EndsBelow, edge_at};
+ghost use Rattle.network_laws.specs.Layering.{layer_of};
+ghost use Rattle.network_laws.specs.Linked.{is_marked};
 ghost use Rattle.net_simplex.specs.Tree.{IsSpanningTree, tail_part};
 ghost use Rattle.net_simplex.specs.Rooted.{above, IsRooted};
 ghost use Rattle.net_simplex.specs.Cuts.{size_of, AreCutValues};
@@ -14,7 +14,7 @@ ghost use Rattle.net_simplex.specs.Changed.{gained, passed, CanPass, PassesLater
 
 use crate::cuts::{number_at, opposite, put};
 use crate::rooted::other_end;
-use layering_laws::NetEdge;
+use network_laws::NetEdge;
 
 fn changed(number: i64, from_tail: bool, by: i64) -> i64
     requires { size_of number + size_of by < 2 ^ 63 }

@@ -2,11 +2,11 @@
 //! which what hangs on a node has the places behind the node's own.
 
 ghost use Rattle.std.specs.Prelude.{◌≡◌, ◌≢◌, ◌+◌, ◌<◌, ◌^◌, ℕ, length, set, slice_index};
-ghost use Rattle.layering_laws.specs.Network.{edge_at};
+ghost use Rattle.network_laws.specs.Network.{edge_at};
 ghost use Rattle.net_simplex.specs.Rooted.{above, beyond};
 ghost use Rattle.net_simplex.specs.Walks.{between};
 
-use layering_laws::NetEdge;
+use network_laws::NetEdge;
 
 /// The end of the edge that is not `v`.
 pub fn other_end(e: NetEdge, v: u32) -> u32

@@ -1,10 +1,10 @@
 //! Layerings of least cost: the first tree, the chain of pivots up to the budget, and each layer lowered by the least.
 
 ghost use Rattle.std.specs.Prelude.{◌≡◌, ◌↔◌, false, replicate, ◌+◌, ◌<◌, ◌≤◌, ◌^◌, ℕ, cond, pos, ◌≤ℤ◌, ◌<ℤ◌, ◌+ℤ◌, ◌-ℤ◌, true, map, length, slice_index, IfOk, OnOk, IfSome, IfNone};
-ghost use Rattle.layering_laws.specs.Network.{IsNetwork};
-ghost use Rattle.layering_laws.specs.Layering.{layer_of, natural, IsLayering, IsSolution};
-ghost use Rattle.layering_laws.specs.Linked.{is_marked};
-ghost use Rattle.layering_laws.specs.Paths.{AreGreatestSums};
+ghost use Rattle.network_laws.specs.Network.{IsNetwork};
+ghost use Rattle.network_laws.specs.Layering.{layer_of, natural, IsLayering, IsSolution};
+ghost use Rattle.network_laws.specs.Linked.{is_marked};
+ghost use Rattle.network_laws.specs.Paths.{AreGreatestSums};
 ghost use Rattle.net_simplex.specs.Pivots.{lowered};
 ghost use Rattle.net_simplex.specs.Answer.{EndsInTime, RunsOut};
 ghost use Rattle.net_simplex.specs.Grown.{IsConnected, IsSmall};
@@ -19,7 +19,7 @@ use crate::cuts::sum_cuts;
 use crate::first_walk::walk_tree;
 use crate::growing::grow;
 use flow_dual::finish;
-use layering_laws::{NetEdge, Network, Solution, greatest_sums};
+use network_laws::{NetEdge, Network, Solution, greatest_sums};
 use std::alloc::{AllocError, Global};
 
 /// How a layering was found: by pivots alone, or by the flow after the budget of pivots was spent.

@@ -3,13 +3,13 @@
 //! which it hangs then, and the nodes on the two ways up from there and from where it was count it, or count it no more.
 
 ghost use Rattle.std.specs.Prelude.{◌≡◌, ◌≢◌, ◌+◌, ◌-◌, ◌<◌, ◌≤◌, ◌^◌, ℕ, true, ◌⊎◌, length, slice_index, Bool, List};
-ghost use Rattle.layering_laws.specs.Network.{EndsBelow};
+ghost use Rattle.network_laws.specs.Network.{EndsBelow};
 ghost use Rattle.net_simplex.specs.Rooted.{above, IsRooted};
 ghost use Rattle.net_simplex.specs.Walks.{part, IsWalk, first_place};
 ghost use Rattle.net_simplex.specs.Turning.{Exchanges, AreResized, AreDistinct, IsTurnedTo, IsWayUp, Plants, ResizesLater, Settles, TurnsNext};
 
 use crate::rooted::{far_end, plant, upper};
-use layering_laws::NetEdge;
+use network_laws::NetEdge;
 
 /// Of two nodes the later one goes up; `low` loses the block of `many` nodes, and `high` gains it.
 fn resize_later(

@@ -2,12 +2,12 @@
 
 ghost use Rattle.std.specs.Prelude.{◌≡◌, ◌+◌, ◌<◌, ◌≤◌, ◌^◌, ℕ, pos, ◌-ℤ◌, [], length, IfSome, IfNone, OnOk, true, false, slice_index_or};
 ghost use Rattle.std.specs.BinaryHeap.{IsHeap, heap_items};
-ghost use Rattle.layering_laws.specs.Network.{EndsBelow, edge_at};
-ghost use Rattle.layering_laws.specs.Links.{AreLinks, far_of};
+ghost use Rattle.network_laws.specs.Network.{EndsBelow, edge_at};
+ghost use Rattle.network_laws.specs.Links.{AreLinks, far_of};
 ghost use Rattle.net_simplex.specs.Pivots.{is_in};
 ghost use Rattle.net_simplex.specs.Outward.{waiting_order, rise_of as rise, Adds, IsFirst, Loses, AreWaiting, IsNearest};
 
-use layering_laws::{End, Links, NetEdge, far_node, first_of, next_of};
+use network_laws::{End, Links, NetEdge, far_node, first_of, next_of};
 use std::alloc::AllocError;
 use std::cmp::Reverse;
 use std::collections::BinaryHeap;

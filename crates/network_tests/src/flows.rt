@@ -1,7 +1,7 @@
 //! Worked networks, whose answers were found by hand.
 use crate::networks::{has_flow, has_layers, is_sound, network, six_nodes};
 use flow_dual::{parts, solve};
-use layering_laws::{Network, Solution};
+use network_laws::{Network, Solution};
 use std::alloc::{AllocError, Global};
 use std::test::Fail;
 

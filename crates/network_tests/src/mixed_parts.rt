@@ -1,7 +1,7 @@
 //! A network of three parts whose nodes and edges are mixed, and one without nodes.
 use crate::networks::{even_network, has_flow, has_layers, is_sound};
-use layering_laws::{Network, Solution};
-use part_layers::solve_parts;
+use network_laws::{Network, Solution};
+use network_parts::solve_parts;
 use std::alloc::{AllocError, Global};
 use std::test::Fail;
 

@@ -1,8 +1,8 @@
 //! Networks for tests, a check of what solvers ask of one, and the answer that is wanted.
 ghost use Rattle.std.specs.Prelude.{IsTrue};
-ghost use Rattle.layering_laws.specs.Network.{IsNetwork};
+ghost use Rattle.network_laws.specs.Network.{IsNetwork};
 
-use layering_laws::{NetEdge, Network, Solution, is_sorted_network};
+use network_laws::{NetEdge, Network, Solution, is_sorted_network};
 use std::alloc::{AllocError, Global};
 
 /// A network of edges that are given by tail, head, least and weight.

@@ -1,14 +1,14 @@
 //! Worked networks, whose answers were found by hand, and the costs of both solvers on random networks.
 
 ghost use Rattle.std.specs.Prelude.{◌≡◌, ◌<◌, ℕ, IsTrue, IfOk, length, slice_index};
-ghost use Rattle.layering_laws.specs.Network.{IsNetwork};
+ghost use Rattle.network_laws.specs.Network.{IsNetwork};
 ghost use Rattle.net_simplex.specs.Grown.{IsConnected};
 
 use crate::flows;
 use crate::networks::{has_flow, has_layers, is_sound, network, six_nodes};
 use flow_dual::parts;
-use layering_laws::{NetEdge, Network};
 use net_simplex::{Solved, Way, solve};
+use network_laws::{NetEdge, Network};
 use std::alloc::{AllocError, Global};
 use std::test::Fail;
 

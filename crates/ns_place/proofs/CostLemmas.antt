@@ -10,8 +10,8 @@ use Rattle.std.proofs.lemmas.List.Elements.{All-nil, All-cons, All-head, All-tai
 use Rattle.elk_layers.specs.declared.units.Link.{Link}
 use Rattle.elk_layers.specs.Layered.{Plain, link_at}
 use Rattle.elk_layers.specs.Lines.{top_of}
-use Rattle.layering_laws.specs.declared.network.NetEdge.{NetEdge}
-use Rattle.layering_laws.specs.Layering.{layer_of, IsLayering, natural, rise, weighed, weights, cost}
+use Rattle.network_laws.specs.declared.network.NetEdge.{NetEdge}
+use Rattle.network_laws.specs.Layering.{layer_of, IsLayering, natural, rise, weighed, weights, cost}
 use Rattle.ns_place.specs.declared.least.PairFlow.{PairFlow}
 use Rattle.ns_place.specs.Pairs.{distance, IsPair}
 use Rattle.ns_place.specs.Heights.{size, link_height, heights_together, pins_together}

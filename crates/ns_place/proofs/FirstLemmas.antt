@@ -10,8 +10,8 @@ use Rattle.elk_layers.specs.declared.units.Link.{Link}
 use Rattle.elk_layers.specs.Layered.{Plain, IsSound, AreRows, IsFromZero, link_at}
 use Rattle.elk_layers.proofs.HeightLemmas.{height_below}
 use Rattle.elk_layers.specs.Lines.{top_of, AreApart}
-use Rattle.layering_laws.specs.Layering.{layer_of}
-use Rattle.block_lines.specs.Constraints.{EndsWithinStack}
+use Rattle.network_laws.specs.Layering.{layer_of}
+use Rattle.row_blocks.specs.Constraints.{EndsWithinStack}
 use Rattle.ns_place.specs.declared.least.PairFlow.{PairFlow}
 use Rattle.ns_place.specs.Pairs.{all_pairs}
 use Rattle.ns_place.specs.Heights.{IsNearLink}

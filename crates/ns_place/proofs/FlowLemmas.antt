@@ -6,8 +6,8 @@ use Rattle.std.specs.List.{All}
 use Rattle.std.proofs.lemmas.List.Elements.{All-nil, All-cons, All-head, All-tail, All-append}
 use Rattle.elk_layers.specs.declared.units.Link.{Link}
 use Rattle.elk_layers.specs.Layered.{Plain, link_at}
-use Rattle.layering_laws.specs.declared.network.NetEdge.{NetEdge}
-use Rattle.layering_laws.specs.Layering.{natural, weighed, weights, at_node, Balances, flow_value}
+use Rattle.network_laws.specs.declared.network.NetEdge.{NetEdge}
+use Rattle.network_laws.specs.Layering.{natural, weighed, weights, at_node, Balances, flow_value}
 use Rattle.ns_place.specs.declared.least.PairFlow.{PairFlow}
 use Rattle.ns_place.specs.Pairs.{distance, IsPair}
 use Rattle.ns_place.specs.Heights.{of_links, of_pairs, links_value, pairs_value, pins_together}

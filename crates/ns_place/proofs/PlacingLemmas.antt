@@ -7,10 +7,10 @@ use Rattle.std.proofs.lemmas.List.Elements.{All-nil, All-cons, All-head, All-tai
 use Rattle.elk_layers.specs.declared.units.Link.{Link}
 use Rattle.elk_layers.specs.Layered.{Plain, IsSound, IsSoundLink, AreRows, unit_at}
 use Rattle.elk_layers.specs.Lines.{lane_below, lane_above}
-use Rattle.layering_laws.specs.declared.network.NetEdge.{NetEdge}
-use Rattle.layering_laws.specs.Layering.{Balances, flow_value, IsSolution}
-use Rattle.block_lines.specs.Constraints.{greatest_spacing}
-use Rattle.block_lines.proofs.StackLemmas.{facing_within}
+use Rattle.network_laws.specs.declared.network.NetEdge.{NetEdge}
+use Rattle.network_laws.specs.Layering.{Balances, flow_value, IsSolution}
+use Rattle.row_blocks.specs.Constraints.{greatest_spacing}
+use Rattle.row_blocks.proofs.StackLemmas.{facing_within}
 use Rattle.ns_place.specs.declared.least.PairFlow.{PairFlow}
 use Rattle.ns_place.specs.Pairs.{all_pairs, distance, IsPair}
 use Rattle.ns_place.specs.Heights.{heights_together, pins_together, without_flow, IsUnitFlow, KeepDistances, IsLeastPlacing}

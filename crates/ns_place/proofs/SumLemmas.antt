@@ -8,8 +8,8 @@ use Rattle.std.proofs.lemmas.List.Sums.{sum_by-cons, sum_by-append}
 use Rattle.elk_layers.specs.declared.units.Unit.{Unit as LayerUnit}
 use Rattle.elk_layers.specs.Layered.{Plain, IsSound, AreRows, unit_at, row_at, layer_of, place_in, is_child, total_height}
 use Rattle.elk_layers.specs.Lines.{facing, lane_below, lane_above}
-use Rattle.layering_laws.specs.Layering.{natural}
-use Rattle.layering_laws.proofs.Duality.{over_nodes, over_same, over_sum, over_one}
+use Rattle.network_laws.specs.Layering.{natural}
+use Rattle.network_laws.proofs.Duality.{over_nodes, over_same, over_sum, over_one}
 use Rattle.elk_layers.specs.Occurring.{occurs, HasNoRepeat}
 use Rattle.elk_layers.proofs.OccursLemmas.{occurs-append, no_repeat_from}
 use Rattle.elk_layers.proofs.PlaceLemmas.{place_below, place_reads}

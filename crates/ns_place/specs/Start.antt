@@ -4,7 +4,7 @@ use Rattle.std.specs.Int.{int_min}
 use Rattle.elk_layers.specs.declared.units.Link.{Link}
 use Rattle.elk_layers.specs.Layered.{Plain}
 use Rattle.elk_layers.specs.Lines.{top_of}
-use Rattle.layering_laws.specs.Layering.{layer_of, IsLayering}
+use Rattle.network_laws.specs.Layering.{layer_of, IsLayering}
 use Rattle.ns_place.specs.Pairs.{all_pairs}
 use Rattle.ns_place.specs.Network.{alone_of, edges_of}
 

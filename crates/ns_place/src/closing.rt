@@ -4,7 +4,7 @@ ghost use Rattle.std.specs.Prelude.{◌≡◌, ◌≢◌, ℕ, ◌+◌, ◌<◌,
 ghost use Rattle.std.specs.List.{All, sum_by};
 ghost use Rattle.std.specs.List.Sorted.{IsNonDecreasingBy};
 ghost use Rattle.elk_layers.specs.Layered.{unit_at};
-ghost use Rattle.layering_laws.specs.Layering.{layer_of};
+ghost use Rattle.network_laws.specs.Layering.{layer_of};
 ghost use Rattle.ns_place.specs.Closing.{standing_at, IsClosedTo, IsClosedUp, AreStandings, StandByNumber};
 ghost use Rattle.ns_place.specs.declared.closing.Standing.{Standing};
 

@@ -1,6 +1,6 @@
 //! The places of the fork with one link level.
 use crate::forks::{forked, forked_rows};
-use block_lines::place_links;
+use row_blocks::place_links;
 use std::test::Fail;
 
 #[test]

@@ -1,5 +1,5 @@
 //! Small graphs.
-use cycle_cuts::{Link, cut_cycles};
+use gap_cycles::{Link, cut_cycles};
 use std::test::Fail;
 
 #[test]

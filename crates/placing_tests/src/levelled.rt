@@ -1,7 +1,7 @@
 //! The links of the fork that each sweep makes level.
 use crate::forks::{forked, forked_rows};
-use alignment::align;
 use elk_doc::document::Sweep;
+use row_alignment::align;
 use std::test::Fail;
 
 #[test]

@@ -1,6 +1,6 @@
 //! Runs of the top call: statuses and texts, with and without faults.
 use compound::lay_out;
-use demo_document::demo;
+use elk_demo::demo;
 use elk_engine::run;
 use elk_outer::{MemSink, MemSource};
 use std::test::Fail;

@@ -3,8 +3,8 @@ use Rattle.std.proofs.Common.{◌≡◌, ◌≢◌, ◌∙◌, ◌⊎◌, ⊎_el
 use Rattle.std.specs.Prelude.{unwrap_or, IsSome}
 use Rattle.std.specs.Ordering.{int_cmp}
 use Rattle.std.specs.BTreeMap.{BTreeMap, get}
-use Rattle.cycle_cuts.specs.declared.Link.{Link}
-use Rattle.cycle_cuts.specs.Links.{link_at, Leads, ClosesCycle, CutsOnCycles, LeadsLessDeep, number_at}
+use Rattle.gap_cycles.specs.declared.Link.{Link}
+use Rattle.gap_cycles.specs.Links.{link_at, Leads, ClosesCycle, CutsOnCycles, LeadsLessDeep, number_at}
 use Rattle.route_slots.specs.declared.Pin.{Pin}
 use Rattle.route_slots.specs.declared.Net.{Net}
 use Rattle.route_slots.specs.declared.heights.Heights.{Heights}

@@ -2,8 +2,8 @@
 use Rattle.std.specs.Prelude.{◌≡◌, ℕ, ◌+◌, ◌<◌, ◌≤◌, true, false, List, ℤ, length, Some, IsSome, unwrap_or}
 use Rattle.std.specs.Ordering.{int_cmp}
 use Rattle.std.specs.BTreeMap.{BTreeMap, get}
-use Rattle.cycle_cuts.specs.declared.Link.{Link}
-use Rattle.cycle_cuts.specs.Links.{link_at}
+use Rattle.gap_cycles.specs.declared.Link.{Link}
+use Rattle.gap_cycles.specs.Links.{link_at}
 use Rattle.route_slots.specs.declared.Pin.{Pin}
 use Rattle.route_slots.specs.declared.Net.{Net}
 use Rattle.route_slots.specs.declared.heights.Heights.{Heights}

@@ -9,7 +9,7 @@ ghost use Rattle.route_slots.specs.Depths.{depth, is_split, AreDepths, AreHeld, 
 use crate::heights::{Heights, heights_of};
 use crate::marks::is_level;
 use crate::{Net, Pin};
-use cycle_cuts::{Link, cut_cycles};
+use gap_cycles::{Link, cut_cycles};
 use std::alloc::{AllocError, Global};
 use std::collections::BTreeMap;
 

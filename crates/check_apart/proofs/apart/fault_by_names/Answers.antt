@@ -1,5 +1,5 @@
 use Rattle.std.proofs.Common.{ℕ, Option, Some, None, MatchOption, inl, inr}
-use Rattle.drawing_faults.specs.declared.fault.Fault.{Fault}
+use Rattle.check_faults.specs.declared.fault.Fault.{Fault}
 use Rattle.elk_doc.specs.Apart.{Apart}
 use Rattle.check_apart.specs.FirstApart.{FirstApart, PartHolds, LayersHold, PartsHold}
 use Rattle.check_apart.proofs.PartLaws.{apart_by_sentences}

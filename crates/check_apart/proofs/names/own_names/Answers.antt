@@ -1,5 +1,5 @@
 use Rattle.std.proofs.Common.{◌≡◌, length, ap, arith}
-use Rattle.drawing_faults.proofs.ListLaws.{Lists-all}
+use Rattle.check_faults.proofs.ListLaws.{Lists-all}
 use Rattle.check_apart.proofs.NameLaws.{own_are}
 use Rattle.check_apart.proofs.names.own_names.Goals as goal
 

@@ -1,4 +1,4 @@
-use Rattle.drawing_faults.specs.Shapes.{Lists}
+use Rattle.check_faults.specs.Shapes.{Lists}
 use Rattle.check_apart.proofs.names.own_names.Given as goal
 
 abbrev pub invariant-loop-node : goal.invariant-loop-node

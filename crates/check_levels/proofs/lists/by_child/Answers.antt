@@ -1,7 +1,7 @@
 use Rattle.std.proofs.Common.{◌≡◌, sym, ap, ◌∙◌, arith, slice_index, ℕ}
 use Rattle.elk_doc.specs.Level.{is_child, place_of_child}
 use Rattle.elk_doc.proofs.NumberLaws.{count_below-zero, count_below-more, count_below-same}
-use Rattle.drawing_faults.proofs.ListLaws.{Lists-none, Lists-push}
+use Rattle.check_faults.proofs.ListLaws.{Lists-none, Lists-push}
 use Rattle.check_levels.proofs.lists.by_child.Goals as goal
 use Rattle.check_levels.proofs.lists.by_child.Goals.{then-is_child, else-is_child}
 

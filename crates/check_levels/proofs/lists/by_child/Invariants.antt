@@ -1,7 +1,7 @@
 use Rattle.std.proofs.Common.{◌≡◌, ◌≤◌, slice_index}
 use Rattle.elk_doc.specs.Level.{is_child, place_of_child}
 use Rattle.elk_doc.specs.Numbers.{count_below}
-use Rattle.drawing_faults.specs.Shapes.{Lists}
+use Rattle.check_faults.specs.Shapes.{Lists}
 use Rattle.check_levels.proofs.lists.by_child.Given as goal
 
 abbrev pub invariant-loop-child : goal.invariant-loop-child

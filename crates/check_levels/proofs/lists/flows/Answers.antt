@@ -2,7 +2,7 @@ use Rattle.std.proofs.Common.{◌≡◌, sym, ap, ◌∙◌, arith, slice_index,
 use Rattle.elk_doc.specs.Drawing.{flow_in}
 use Rattle.elk_doc.specs.Level.{is_edge_of}
 use Rattle.elk_doc.proofs.NumberLaws.{count_below-zero, count_below-more, count_below-same}
-use Rattle.drawing_faults.proofs.ListLaws.{Lists-none, Lists-push}
+use Rattle.check_faults.proofs.ListLaws.{Lists-none, Lists-push}
 use Rattle.check_levels.proofs.lists.flows.Goals as goal
 use Rattle.check_levels.proofs.lists.flows.Goals.{then-is_edge_of, else-is_edge_of}
 

@@ -2,7 +2,7 @@ use Rattle.std.proofs.Common.{◌≡◌, ◌≤◌}
 use Rattle.elk_doc.specs.Level.{is_edge_of}
 use Rattle.elk_doc.specs.Numbers.{count_below}
 use Rattle.elk_doc.specs.Drawing.{flow_in}
-use Rattle.drawing_faults.specs.Shapes.{Lists}
+use Rattle.check_faults.specs.Shapes.{Lists}
 use Rattle.check_levels.proofs.lists.flows.Given as goal
 
 abbrev pub invariant-loop-edge : goal.invariant-loop-edge

@@ -1,4 +1,4 @@
-use Rattle.drawing_faults.proofs.ListLaws.{Lists-push}
+use Rattle.check_faults.proofs.ListLaws.{Lists-push}
 use Rattle.check_levels.proofs.lists.tails.Goals as goal
 
 pub loop-edge-preserved : goal.loop-edge-preserved

@@ -1,5 +1,5 @@
 use Rattle.elk_doc.specs.Drawing.{tail_node}
-use Rattle.drawing_faults.specs.Shapes.{Lists}
+use Rattle.check_faults.specs.Shapes.{Lists}
 use Rattle.check_levels.proofs.lists.tails.Given as goal
 
 abbrev pub invariant-loop-edge : goal.invariant-loop-edge

@@ -1,5 +1,5 @@
 use Rattle.elk_doc.specs.FlowProof.{weight_at}
-use Rattle.drawing_faults.specs.Shapes.{Lists}
+use Rattle.check_faults.specs.Shapes.{Lists}
 use Rattle.check_levels.proofs.lists.weights.Given as goal
 
 abbrev pub invariant-loop-edge : goal.invariant-loop-edge

@@ -1,7 +1,7 @@
 use Rattle.std.proofs.Common.{◌↔◌, List, IsTrue, subst, inr}
 use Rattle.std.proofs.lemmas.Bool.{both_ways}
 use Rattle.std.proofs.lemmas.List.Elements.{Contains-get_or}
-use Rattle.drawing_faults.specs.Faults.{IsFirst}
+use Rattle.check_faults.specs.Faults.{IsFirst}
 use Rattle.check_levels.specs.declared.paths.Step.{Step}
 use Rattle.check_levels.specs.FirstLevels.{AreSteps, ClosesAt, NeverRound}
 use Rattle.check_levels.proofs.ListedLaws.{acyclic_by_steps, steps_by_acyclic}

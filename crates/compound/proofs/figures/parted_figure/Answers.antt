@@ -1,6 +1,6 @@
 use Rattle.std.proofs.Common.{FitsSigned, w64, arith, refl, to_z-of_z, subst}
 use Rattle.std.proofs.lemmas.Int.{ints}
-use Rattle.split_layout.specs.Parts.{IsPartsLayout}
+use Rattle.level_split.specs.Parts.{IsPartsLayout}
 use Rattle.compound.proofs.figures.parted_figure.Goals as goal
 
 pub returns : goal.returns

@@ -1,6 +1,6 @@
 use Rattle.std.proofs.Common.{◌<◌, pos, ◌+ℤ◌, ◌≤ℤ◌, FitsSigned, w64, length, arith, rules, subst}
 use Rattle.std.proofs.lemmas.Int.{ints}
-use Rattle.layering_laws.specs.Layering.{layer_of}
+use Rattle.network_laws.specs.Layering.{layer_of}
 use Rattle.flow_dual.specs.Searching.{IsSettled}
 use Rattle.flow_dual.proofs.Draining.{augmented, label_way, pushed, flow_fits, rise_fits, has_room}
 use Rattle.flow_dual.proofs.augment.augment.Goals as goal

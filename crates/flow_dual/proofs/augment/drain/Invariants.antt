@@ -1,5 +1,5 @@
 use Rattle.std.proofs.Common.{length}
-use Rattle.layering_laws.specs.Layering.{layer_of, natural}
+use Rattle.network_laws.specs.Layering.{layer_of, natural}
 use Rattle.flow_dual.specs.Augmented.{IsDraining}
 use Rattle.flow_dual.proofs.augment.drain.Given as goal
 

@@ -2,7 +2,7 @@ use Rattle.std.specs.Prelude.{FitsSigned}
 use Rattle.std.proofs.Common.{◌≡◌, pos, ◌+ℤ◌, w64, set, arith, rules, sym}
 use Rattle.std.proofs.lemmas.Int.{ints, to_z-of_z}
 use Rattle.std.proofs.lemmas.List.{get_or-set_other}
-use Rattle.layering_laws.specs.Layering.{layer_of}
+use Rattle.network_laws.specs.Layering.{layer_of}
 use Rattle.flow_dual.proofs.Draining.{moves}
 use Rattle.flow_dual.proofs.augment.move_excess.Goals as goal
 

@@ -1,7 +1,7 @@
 use Rattle.std.specs.Prelude.{FitsSigned}
 use Rattle.std.proofs.Common.{◌≡◌, ◌+◌, pos, ◌+ℤ◌, false, w64, get_or, set, arith, rules, refl, sym, subst}
 use Rattle.std.proofs.lemmas.Int.{ints, to_z-of_z}
-use Rattle.layering_laws.specs.Layering.{layer_of}
+use Rattle.network_laws.specs.Layering.{layer_of}
 use Rattle.flow_dual.specs.Searching.{IsSettled}
 use Rattle.flow_dual.proofs.Settling.{fits_from, settle_start, settle_past, settle_node}
 use Rattle.flow_dual.proofs.settle.settle.Goals as goal

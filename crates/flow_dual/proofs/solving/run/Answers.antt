@@ -1,5 +1,5 @@
 use Rattle.std.proofs.Common.{◌≡◌, length, arith, subst, refl}
-use Rattle.layering_laws.specs.Layering.{PartsBeginAtZero}
+use Rattle.network_laws.specs.Layering.{PartsBeginAtZero}
 use Rattle.flow_dual.proofs.Starting.{first_between}
 use Rattle.flow_dual.proofs.Finishing.{done}
 use Rattle.flow_dual.proofs.solving.run.Goals as goal

@@ -1,8 +1,8 @@
 use Rattle.std.proofs.Common.{◌≡◌, ◌<◌, ◌^◌, pos, map, subst, sym, ◌∙◌, ap}
 use Rattle.std.specs.List.{All}
-use Rattle.layering_laws.specs.Network.{IsNetwork}
-use Rattle.layering_laws.specs.Layering.{IsLayering}
-use Rattle.layering_laws.specs.Paths.{AreGreatestSums}
+use Rattle.network_laws.specs.Network.{IsNetwork}
+use Rattle.network_laws.specs.Layering.{IsLayering}
+use Rattle.network_laws.specs.Paths.{AreGreatestSums}
 use Rattle.flow_dual.proofs.Finishing.{sums_fit, sum_layers}
 use Rattle.flow_dual.proofs.solving.solve.Goals as goal
 

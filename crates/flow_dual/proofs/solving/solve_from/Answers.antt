@@ -1,8 +1,8 @@
 use Rattle.std.proofs.Common.{◌≡◌, ◌^◌, ◌≤ℤ◌, ◌<ℤ◌, ◌++◌, pos, length, take, drop, arith, subst, sym, ◌∙◌, ap}
 use Rattle.std.proofs.lemmas.List.{length-replicate, take_at}
-use Rattle.layering_laws.specs.Network.{IsNetwork}
-use Rattle.layering_laws.specs.Layering.{layer_of, IsLayering}
-use Rattle.layering_laws.specs.Tight.{IsDone}
+use Rattle.network_laws.specs.Network.{IsNetwork}
+use Rattle.network_laws.specs.Layering.{layer_of, IsLayering}
+use Rattle.network_laws.specs.Tight.{IsDone}
 use Rattle.flow_dual.proofs.Finishing.{same_everywhere}
 use Rattle.flow_dual.proofs.solving.solve_from.Goals as goal
 

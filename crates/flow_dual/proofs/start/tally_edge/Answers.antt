@@ -1,7 +1,7 @@
 use Rattle.std.specs.Prelude.{FitsSigned}
 use Rattle.std.proofs.Common.{◌≡◌, ◌<◌, ◌^◌, pos, ◌+ℤ◌, w64, set, arith, rules}
 use Rattle.std.proofs.lemmas.Int.{ints, to_z-of_z}
-use Rattle.layering_laws.specs.Layering.{layer_of}
+use Rattle.network_laws.specs.Layering.{layer_of}
 use Rattle.flow_dual.proofs.Starting.{tallies, head_low, fits_within}
 use Rattle.flow_dual.proofs.start.tally_edge.Goals as goal
 

@@ -1,7 +1,7 @@
 use Rattle.std.proofs.Common.{◌≡◌, suc, length, get_or, arith, sym, subst}
 use Rattle.std.specs.BinaryHeap.{IsHeap, heap_items}
-use Rattle.layering_laws.specs.Network.{edge_at}
-use Rattle.layering_laws.specs.Links.{IsNextAt}
+use Rattle.network_laws.specs.Network.{edge_at}
+use Rattle.network_laws.specs.Links.{IsNextAt}
 use Rattle.flow_dual.specs.State.{marked}
 use Rattle.flow_dual.specs.Queue.{step_order, Offers}
 use Rattle.flow_dual.proofs.Offering.{offers_none, offers_past, offers_more, back_used}

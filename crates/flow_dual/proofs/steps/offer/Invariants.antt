@@ -1,7 +1,7 @@
 use Rattle.std.proofs.Common.{◌≡◌, ◌<◌, ◌≤◌, ◌-◌, length}
 use Rattle.std.specs.BinaryHeap.{IsHeap, heap_items}
-use Rattle.layering_laws.specs.Network.{edge_at}
-use Rattle.layering_laws.specs.Links.{end_of}
+use Rattle.network_laws.specs.Network.{edge_at}
+use Rattle.network_laws.specs.Links.{end_of}
 use Rattle.flow_dual.specs.State.{marked}
 use Rattle.flow_dual.specs.Queue.{step_order, Offers}
 use Rattle.flow_dual.proofs.steps.offer.Given as goal

@@ -1,6 +1,6 @@
 use Rattle.std.proofs.Common.{◌≡◌, ◌<◌, ◌∙◌, IsTrue, List, ap, arith, length, map, pos, subst, sym, ℕ, ℤ}
 use Rattle.std.proofs.lemmas.Int.{ints}
-use Rattle.layering_laws.specs.Layering.{layer_of}
+use Rattle.network_laws.specs.Layering.{layer_of}
 use Rattle.level_plan.specs.Conditions.{plain_level}
 use Rattle.level_plan.specs.Level.{is_loop}
 use Rattle.level_layers.specs.Certificate.{flow_at, link_flows}

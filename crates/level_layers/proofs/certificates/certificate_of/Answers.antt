@@ -1,7 +1,7 @@
 use Rattle.std.proofs.Common.{◌≡◌, Bool, List, ◌∙◌, ap, length, subst, sym, ℕ}
-use Rattle.layering_laws.specs.declared.network.NetEdge.{NetEdge}
-use Rattle.layering_laws.specs.Layering.{IsSolution}
-use Rattle.part_layers.specs.Solved.{IsSolvedByParts}
+use Rattle.network_laws.specs.declared.network.NetEdge.{NetEdge}
+use Rattle.network_laws.specs.Layering.{IsSolution}
+use Rattle.network_parts.specs.Solved.{IsSolvedByParts}
 use Rattle.level_plan.specs.Conditions.{plain_level}
 use Rattle.level_plan.specs.Level.{PlainLevel}
 use Rattle.level_layers.specs.Certificate.{network}

@@ -1,6 +1,6 @@
 use Rattle.std.proofs.Common.{◌++◌, ◌∷◌, [], ◌∙◌, ap, sym}
 use Rattle.level_layers.specs.Marks.{is_marked}
-use Rattle.part_layers.proofs.RangeLemmas.{filter_no, filter_yes}
+use Rattle.network_parts.proofs.RangeLemmas.{filter_no, filter_yes}
 use Rattle.level_layers.proofs.networks.list_marked.Goals as goal
 use Rattle.level_layers.proofs.networks.list_marked.Goals.{then-mark+in_ok-push, else-mark}
 

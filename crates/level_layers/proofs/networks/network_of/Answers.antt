@@ -1,6 +1,6 @@
 use Rattle.std.proofs.Common.{List, subst, sym}
-use Rattle.layering_laws.specs.declared.network.NetEdge.{NetEdge}
-use Rattle.layering_laws.specs.Network.{IsNetwork}
+use Rattle.network_laws.specs.declared.network.NetEdge.{NetEdge}
+use Rattle.network_laws.specs.Network.{IsNetwork}
 use Rattle.level_plan.specs.Conditions.{plain_level}
 use Rattle.level_layers.specs.Certificate.{network}
 use Rattle.level_layers.specs.Marks.{listed}

@@ -1,6 +1,6 @@
 use Rattle.std.proofs.Common.{◌≡◌, ◌<◌, ℕ, length, map, take, slice_index}
 use Rattle.elk_doc.specs.Level.{IsEdge}
-use Rattle.turned_levels.specs.Turned.{level_edge}
+use Rattle.level_frame.specs.Turned.{level_edge}
 use Rattle.level_reading.proofs.reading.read_edges.Given as goal
 
 abbrev pub invariant-loop-edge : goal.invariant-loop-edge

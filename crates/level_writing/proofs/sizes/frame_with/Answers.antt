@@ -1,7 +1,7 @@
 use Rattle.std.proofs.Common.{◌≡◌, ◌∙◌, ap, length, refl, sym}
 use Rattle.std.specs.Vec.{with_items}
 use Rattle.std.proofs.lemmas.List.{length-set, with_items_is}
-use Rattle.turned_levels.specs.Turned.{ports_of}
+use Rattle.level_frame.specs.Turned.{ports_of}
 use Rattle.level_writing.specs.Canvas.{drawing_of}
 use Rattle.level_writing.specs.Sizes.{resized}
 use Rattle.level_writing.proofs.FramedLemmas.{resized_node}

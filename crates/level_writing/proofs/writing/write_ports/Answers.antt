@@ -2,7 +2,7 @@ use Rattle.std.proofs.Common.{◌≡◌, ◌∙◌, [], ℕ, List, length, get_o
 use Rattle.elk_doc.specs.declared.shape.Point.{Point}
 use Rattle.elk_doc.specs.Document.{origin}
 use Rattle.elk_doc.specs.Drawing.{no_rect}
-use Rattle.turned_levels.specs.Turned.{ports_of}
+use Rattle.level_frame.specs.Turned.{ports_of}
 use Rattle.level_writing.specs.Changed.{AreChangedTo, AreDistinct, number_at}
 use Rattle.level_writing.specs.Written.{port_change}
 use Rattle.level_writing.proofs.NumberLemmas.{distinct_ports}

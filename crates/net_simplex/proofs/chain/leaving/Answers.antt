@@ -1,6 +1,6 @@
 use Rattle.std.proofs.Common.{rules, ◌∙◌, ◌+◌, FitsSigned, w64, length, get_or, arith, subst, sym, ap}
 use Rattle.std.proofs.lemmas.Int.{to_z-of_z}
-use Rattle.layering_laws.specs.Layering.{layer_of}
+use Rattle.network_laws.specs.Layering.{layer_of}
 use Rattle.net_simplex.specs.Chosen.{lower_of, IsLowest}
 use Rattle.net_simplex.proofs.Departing.{lowest_start, lowest_more, lowest_end, there}
 use Rattle.net_simplex.proofs.chain.leaving.Goals as goal

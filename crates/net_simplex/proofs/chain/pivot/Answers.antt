@@ -1,8 +1,8 @@
 use Rattle.std.proofs.Common.{rules, ◌≡◌, ◌∙◌, eqb, not, pos, false, true, FitsSigned, w64, length, set, arith, sym, subst, ap}
 use Rattle.std.specs.Int.{w128}
 use Rattle.std.proofs.lemmas.Int.{ints, to_z-of_z}
-use Rattle.layering_laws.specs.Network.{edge_at, EndsBelow}
-use Rattle.layering_laws.specs.Layering.{layer_of}
+use Rattle.network_laws.specs.Network.{edge_at, EndsBelow}
+use Rattle.network_laws.specs.Layering.{layer_of}
 use Rattle.net_simplex.specs.Tree.{State, IsState, IsSpanningTree, tail_part}
 use Rattle.net_simplex.specs.Pivots.{slack, shifted, leads_back, least_slack_edge}
 use Rattle.net_simplex.specs.Rooted.{above, part_from, IsRooted}

@@ -1,6 +1,6 @@
 use Rattle.std.proofs.Common.{rules, ◌+◌, ◌+ℤ◌, set, get_or, FitsSigned, w64, to_z, of_z, arith, sym, subst, inr}
 use Rattle.std.proofs.lemmas.Int.{to_z-of_z}
-use Rattle.layering_laws.specs.Layering.{layer_of}
+use Rattle.network_laws.specs.Layering.{layer_of}
 use Rattle.net_simplex.specs.Grown.{IsSmall}
 use Rattle.net_simplex.proofs.Walking.{is_between}
 use Rattle.net_simplex.proofs.Stepping.{IsShifted, shift_start, shift_more, shift_end}

@@ -1,5 +1,5 @@
 use Rattle.std.proofs.Common.{◌≡◌, ◌+◌, ◌-◌, ◌<◌, length, arith, sym, subst, ◌∙◌}
-use Rattle.layering_laws.specs.Network.{EndsBelow}
+use Rattle.network_laws.specs.Network.{EndsBelow}
 use Rattle.net_simplex.specs.Cuts.{AreLifted}
 use Rattle.net_simplex.proofs.Folding.{lift_start, lv, other, k_there, lifted_more, lifted_all}
 use Rattle.net_simplex.proofs.cuts.lift_all.Goals as goal

@@ -1,7 +1,7 @@
 use Rattle.std.proofs.Common.{◌≡◌, ◌+◌, length, take, arith, sym, subst}
 use Rattle.std.proofs.lemmas.List.{take_all}
 use Rattle.std.proofs.lemmas.List.Sums.{sum_by-take-le, sum_by_more_le}
-use Rattle.layering_laws.specs.declared.network.NetEdge.{NetEdge}
+use Rattle.network_laws.specs.declared.network.NetEdge.{NetEdge}
 use Rattle.net_simplex.specs.Cuts.{IsTallied, TellsWeights}
 use Rattle.net_simplex.proofs.Lifting.{tallied_start, tallied_more}
 use Rattle.net_simplex.proofs.cuts.tally.Goals as goal

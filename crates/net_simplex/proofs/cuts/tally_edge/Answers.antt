@@ -1,7 +1,7 @@
 use Rattle.std.proofs.Common.{rules, ◌≡◌, pos, ◌+ℤ◌, ◌-ℤ◌, length, set, FitsSigned, w64, arith, ap, ◌∙◌}
 use Rattle.std.proofs.lemmas.Int.{ints, to_z-of_z}
 use Rattle.std.proofs.lemmas.List.{length-set}
-use Rattle.layering_laws.specs.Layering.{layer_of}
+use Rattle.network_laws.specs.Layering.{layer_of}
 use Rattle.net_simplex.specs.Cuts.{size_of, sizes}
 use Rattle.net_simplex.proofs.Lifting.{size_plus, size_opposite, size_le_all, sizes_set}
 use Rattle.net_simplex.proofs.cuts.tally_edge.Goals as goal

@@ -1,8 +1,8 @@
 use Rattle.std.proofs.Common.{◌≡◌, ◌+◌, ◌∙◌, length, arith, sym, subst, rules, FitsSigned, w64}
 use Rattle.std.specs.Int.{w128}
 use Rattle.std.proofs.lemmas.Int.{to_z-of_z}
-use Rattle.layering_laws.specs.Network.{edge_at}
-use Rattle.layering_laws.specs.Layering.{layer_of}
+use Rattle.network_laws.specs.Network.{edge_at}
+use Rattle.network_laws.specs.Layering.{layer_of}
 use Rattle.net_simplex.specs.Pivots.{slack, leads_back, least_of}
 use Rattle.net_simplex.specs.Rooted.{part_from}
 use Rattle.net_simplex.specs.Walks.{part}

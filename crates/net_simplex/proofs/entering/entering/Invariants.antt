@@ -1,4 +1,4 @@
-use Rattle.layering_laws.specs.Network.{edge_at}
+use Rattle.network_laws.specs.Network.{edge_at}
 use Rattle.net_simplex.specs.Pivots.{slack, leads_back, least_of}
 use Rattle.net_simplex.specs.Rooted.{part_from}
 use Rattle.net_simplex.specs.Walks.{part}

@@ -1,7 +1,7 @@
 use Rattle.std.proofs.Common.{◌≡◌, ◌∙◌, Some, ap, subst, rules, FitsSigned, w64, pos}
 use Rattle.std.proofs.lemmas.Int.{to_z-of_z}
-use Rattle.layering_laws.specs.Network.{edge_at}
-use Rattle.layering_laws.specs.declared.links.End.TheVariants.{Tail, Head}
+use Rattle.network_laws.specs.Network.{edge_at}
+use Rattle.network_laws.specs.declared.links.End.TheVariants.{Tail, Head}
 use Rattle.net_simplex.specs.Pivots.{is_in, shifted, slack}
 use Rattle.net_simplex.specs.Outward.{IsNearest}
 use Rattle.net_simplex.proofs.Nearness.{only_up, only_down, nearer_wins}

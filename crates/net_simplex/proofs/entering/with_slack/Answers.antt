@@ -1,8 +1,8 @@
 use Rattle.std.proofs.Common.{◌∙◌, rules, FitsSigned, w64}
 use Rattle.std.specs.Int.{w128}
 use Rattle.std.proofs.lemmas.Int.{to_z-of_z}
-use Rattle.layering_laws.specs.Network.{edge_at}
-use Rattle.layering_laws.specs.Layering.{layer_of}
+use Rattle.network_laws.specs.Network.{edge_at}
+use Rattle.network_laws.specs.Layering.{layer_of}
 use Rattle.net_simplex.specs.Pivots.{is_in, shifted}
 use Rattle.net_simplex.proofs.Looking.{slack_value, moved_layer}
 use Rattle.net_simplex.proofs.entering.with_slack.Goals as goal

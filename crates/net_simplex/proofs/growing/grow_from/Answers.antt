@@ -1,8 +1,8 @@
 use Rattle.std.proofs.Common.{◌≡◌, ◌+◌, ◌-◌, ◌∙◌, rules, FitsSigned, w64, to_z, of_z, length, arith, ap, sym, subst}
 use Rattle.std.proofs.lemmas.Int.{to_z-of_z}
-use Rattle.layering_laws.specs.Network.{IsNetwork}
-use Rattle.layering_laws.specs.Links.{AreLinks}
-use Rattle.layering_laws.specs.declared.links.End.TheVariants.{Tail, Head}
+use Rattle.network_laws.specs.Network.{IsNetwork}
+use Rattle.network_laws.specs.Links.{AreLinks}
+use Rattle.network_laws.specs.declared.links.End.TheVariants.{Tail, Head}
 use Rattle.net_simplex.specs.Pivots.{grown, seed}
 use Rattle.net_simplex.specs.Grown.{IsConnected, IsGrown, growing_of}
 use Rattle.net_simplex.proofs.FirstTree.{made_grown, made_seed, grown_step, grown_kept, grown_stands}

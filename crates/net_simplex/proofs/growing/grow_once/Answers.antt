@@ -1,6 +1,6 @@
 use Rattle.std.proofs.Common.{length}
 use Rattle.std.specs.BinaryHeap.{heap_items}
-use Rattle.layering_laws.specs.declared.links.End.TheVariants.{Tail, Head}
+use Rattle.network_laws.specs.declared.links.End.TheVariants.{Tail, Head}
 use Rattle.net_simplex.proofs.Outgoing.{queue_joined}
 use Rattle.net_simplex.proofs.growing.grow_once.Goals as goal
 

@@ -1,6 +1,6 @@
 use Rattle.std.proofs.Common.{rules, ◌≡◌, ◌∙◌, pos, ◌-ℤ◌, false, true, FitsSigned, w64, length, set, arith, ap, sym, subst}
 use Rattle.std.proofs.lemmas.Int.{to_z-of_z}
-use Rattle.layering_laws.specs.Layering.{layer_of}
+use Rattle.network_laws.specs.Layering.{layer_of}
 use Rattle.net_simplex.specs.Cuts.{size_of, AreCutValues}
 use Rattle.net_simplex.proofs.Exchanged.{value_small, values_after}
 use Rattle.net_simplex.proofs.passing.change_cuts.Goals as goal

@@ -1,5 +1,5 @@
 use Rattle.std.proofs.Common.{◌≡◌, ℕ, ◌<◌, pos, length, get_or}
-use Rattle.layering_laws.specs.Layering.{layer_of}
+use Rattle.network_laws.specs.Layering.{layer_of}
 use Rattle.net_simplex.proofs.solving.as_layers.Given as goal
 
 abbrev pub invariant-loop-v : goal.invariant-loop-v

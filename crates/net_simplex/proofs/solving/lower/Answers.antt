@@ -1,6 +1,6 @@
 use Rattle.std.proofs.Common.{rules, FitsSigned, w64, to_z, of_z, arith, sym, subst}
 use Rattle.std.proofs.lemmas.Int.{to_z-of_z}
-use Rattle.layering_laws.specs.Layering.{layer_of}
+use Rattle.network_laws.specs.Layering.{layer_of}
 use Rattle.net_simplex.specs.Grown.{IsSmall}
 use Rattle.net_simplex.proofs.AtEnd.{least_is, IsLoweredTo, lower_start, lower_more, lower_end}
 use Rattle.net_simplex.proofs.solving.lower.Goals as goal

@@ -1,5 +1,5 @@
 use Rattle.std.proofs.Common.{◌≡◌, ◌∙◌, Some, length, arith, sym, subst}
-use Rattle.layering_laws.specs.Network.{EndsBelow, IsNetwork}
+use Rattle.network_laws.specs.Network.{EndsBelow, IsNetwork}
 use Rattle.net_simplex.specs.Tree.{IsSpanningTree}
 use Rattle.net_simplex.specs.Rooted.{above, IsRooted}
 use Rattle.net_simplex.specs.Walks.{IsWalk}

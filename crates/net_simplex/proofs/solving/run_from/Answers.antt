@@ -1,9 +1,9 @@
 use Rattle.std.proofs.Common.{◌≡◌, ◌∙◌, ◌<◌, ◌^◌, pos, length, IfOk, replicate, false, arith, subst, sym, ap}
 use Rattle.std.proofs.lemmas.List.{length-replicate}
 use Rattle.std.proofs.lemmas.List.Elements.{All-get_or}
-use Rattle.layering_laws.specs.Network.{IsNetwork}
-use Rattle.layering_laws.specs.Layering.{IsLayering}
-use Rattle.layering_laws.specs.Paths.{AreGreatestSums}
+use Rattle.network_laws.specs.Network.{IsNetwork}
+use Rattle.network_laws.specs.Layering.{IsLayering}
+use Rattle.network_laws.specs.Paths.{AreGreatestSums}
 use Rattle.flow_dual.proofs.Finishing.{sums_fit}
 use Rattle.net_simplex.specs.Grown.{IsConnected}
 use Rattle.net_simplex.specs.Outcome.{Outcome}

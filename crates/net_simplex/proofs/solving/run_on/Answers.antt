@@ -1,5 +1,5 @@
 use Rattle.std.proofs.Common.{◌∙◌, Some, None, refl, length, arith, sym, subst}
-use Rattle.layering_laws.specs.Network.{EndsBelow, IsNetwork}
+use Rattle.network_laws.specs.Network.{EndsBelow, IsNetwork}
 use Rattle.net_simplex.specs.Rooted.{above, IsRooted}
 use Rattle.net_simplex.specs.Walks.{IsWalk}
 use Rattle.net_simplex.specs.Pivots.{first_state, lowered}

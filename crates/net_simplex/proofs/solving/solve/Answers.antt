@@ -1,9 +1,9 @@
 use Rattle.std.proofs.Common.{◌≡◌, ◌++◌, ◌∙◌, pos, length, take, drop, map, arith, subst, sym, ap}
 use Rattle.std.proofs.lemmas.List.{length-replicate, length-map, take_at}
-use Rattle.layering_laws.specs.Network.{IsNetwork}
-use Rattle.layering_laws.specs.Layering.{IsLayering}
-use Rattle.layering_laws.specs.Paths.{AreGreatestSums}
-use Rattle.layering_laws.specs.Tight.{IsDone}
+use Rattle.network_laws.specs.Network.{IsNetwork}
+use Rattle.network_laws.specs.Layering.{IsLayering}
+use Rattle.network_laws.specs.Paths.{AreGreatestSums}
+use Rattle.network_laws.specs.Tight.{IsDone}
 use Rattle.net_simplex.specs.Answer.{EndsInTime}
 use Rattle.net_simplex.specs.Grown.{IsConnected}
 use Rattle.net_simplex.specs.Outcome.{Outcome}

@@ -1,6 +1,6 @@
 use Rattle.std.proofs.Common.{◌≡◌, ℕ, ◌<◌, cond, length, get_or}
-use Rattle.layering_laws.specs.Layering.{layer_of, natural}
-use Rattle.layering_laws.specs.Linked.{is_marked}
+use Rattle.network_laws.specs.Layering.{layer_of, natural}
+use Rattle.network_laws.specs.Linked.{is_marked}
 use Rattle.net_simplex.proofs.solving.write_flow.Given as goal
 
 abbrev pub invariant-loop-k : goal.invariant-loop-k

@@ -1,6 +1,6 @@
 use Rattle.std.proofs.Common.{◌≡◌, ◌<◌, ◌≤◌, ℕ, true, List, ◌+◌, ◌∙◌, length, get_or, arith, refl, ap, sym, subst, inl, inr}
-use Rattle.layering_laws.specs.declared.network.NetEdge.{NetEdge}
-use Rattle.layering_laws.specs.Network.{edge_at}
+use Rattle.network_laws.specs.declared.network.NetEdge.{NetEdge}
+use Rattle.network_laws.specs.Network.{edge_at}
 use Rattle.net_simplex.specs.Rooted.{above, beyond}
 use Rattle.net_simplex.specs.Walks.{part, first_place}
 use Rattle.net_simplex.specs.Turning.{AreDistinct, AreResized, IsTurnedTo, Settles}

@@ -1,5 +1,5 @@
 use Rattle.std.proofs.Common.{◌≡◌, ◌∙◌, refl, length, get_or, arith, ap, sym, subst}
-use Rattle.layering_laws.specs.Network.{edge_at}
+use Rattle.network_laws.specs.Network.{edge_at}
 use Rattle.net_simplex.specs.Rooted.{above, beyond}
 use Rattle.net_simplex.specs.Turning.{AreDistinct, IsTurnedTo}
 use Rattle.net_simplex.proofs.Rewalking.{own_child, way_distinct, way_small, way_begins, up_there, up_earlier, up_wide, up_small, up_within, up_place, up_size, up_parent, edge_there, way_goes_on}

@@ -2,8 +2,8 @@ use Rattle.std.proofs.Common.{◌≡◌, ◌∙◌, suc, length, get_or, arith, 
 use Rattle.std.specs.Int.{w128}
 use Rattle.std.proofs.lemmas.Int.{to_z-of_z}
 use Rattle.std.specs.BinaryHeap.{IsHeap, heap_items}
-use Rattle.layering_laws.specs.Network.{edge_at}
-use Rattle.layering_laws.specs.Links.{IsNextAt}
+use Rattle.network_laws.specs.Network.{edge_at}
+use Rattle.network_laws.specs.Links.{IsNextAt}
 use Rattle.net_simplex.specs.Pivots.{is_in}
 use Rattle.net_simplex.specs.Outward.{waiting_order, rise_of as rise, Adds, AreWaiting}
 use Rattle.net_simplex.proofs.Outgoing.{waiting_begun, waiting_past, waiting_more}

@@ -1,7 +1,7 @@
 use Rattle.std.proofs.Common.{◌≡◌, ◌<◌, ◌≤◌, ◌-◌, length}
 use Rattle.std.specs.BinaryHeap.{IsHeap, heap_items}
-use Rattle.layering_laws.specs.Network.{edge_at}
-use Rattle.layering_laws.specs.Links.{end_of}
+use Rattle.network_laws.specs.Network.{edge_at}
+use Rattle.network_laws.specs.Links.{end_of}
 use Rattle.net_simplex.specs.Outward.{waiting_order, AreWaiting}
 use Rattle.net_simplex.proofs.waiting.add_edges.Given as goal
 

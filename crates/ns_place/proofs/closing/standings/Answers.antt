@@ -1,7 +1,7 @@
 use Rattle.std.proofs.Common.{◌<◌, length, arith, rules, w64, FitsSigned, to_z-of_z}
 use Rattle.std.proofs.lemmas.Int.{ints}
 use Rattle.elk_layers.specs.Layered.{unit_at}
-use Rattle.layering_laws.specs.Layering.{layer_of}
+use Rattle.network_laws.specs.Layering.{layer_of}
 use Rattle.elk_layers.proofs.FillLemmas.{push_more}
 use Rattle.ns_place.specs.Closing.{StandsFor}
 use Rattle.ns_place.proofs.closing.standings.Goals as goal

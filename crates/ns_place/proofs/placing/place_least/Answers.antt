@@ -1,8 +1,8 @@
 use Rattle.std.proofs.Common.{ℕ, ◌*◌, ◌<◌, ◌≤◌, length, get_or, arith, subst, sym, ap, ◌∙◌}
 use Rattle.std.specs.List.{All}
 use Rattle.elk_layers.specs.Layered.{plain, rows_of}
-use Rattle.layering_laws.specs.Network.{IsNetwork}
-use Rattle.layering_laws.specs.Layering.{IsLayering}
+use Rattle.network_laws.specs.Network.{IsNetwork}
+use Rattle.network_laws.specs.Layering.{IsLayering}
 use Rattle.ns_place.specs.Pairs.{all_pairs, IsPair}
 use Rattle.ns_place.specs.Network.{edges_of}
 use Rattle.ns_place.specs.Heights.{heights_together, IsNearLink}

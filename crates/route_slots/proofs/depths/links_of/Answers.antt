@@ -1,5 +1,5 @@
 use Rattle.std.proofs.Common.{◌≡◌, ◌++◌, ◌∷◌, [], rules}
-use Rattle.cycle_cuts.specs.declared.Link.{Link}
+use Rattle.gap_cycles.specs.declared.Link.{Link}
 use Rattle.route_slots.specs.Pieces.{net_at}
 use Rattle.route_slots.specs.Numbers.{IsLinkOf}
 use Rattle.route_slots.proofs.Lists.{each_pushed}

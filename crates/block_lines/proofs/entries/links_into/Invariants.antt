@@ -1,6 +1,0 @@
-use Rattle.elk_layers.specs.Layered.{plain}
-use Rattle.block_lines.specs.Entries.{AreLinksInto}
-use Rattle.block_lines.proofs.entries.links_into.Given as goal
-
-abbrev pub invariant-loop-k : goal.invariant-loop-k
-invariant-loop-k l = AreLinksInto (plain l.layered) l.chosen l.k-index l.into.items

@@ -1,9 +1,0 @@
-use Rattle.block_lines.proofs.JoinLemmas.{names_from, level_from}
-use Rattle.block_lines.proofs.laws.joined_units_are_named.Goals as goal
-
-pub returns : goal.returns
-returns c = λ l rows chosen into names offsets sound straight are long all.
-    record {
-      named = names_from l rows chosen into names offsets sound straight are long all;
-      level = level_from l rows chosen into names offsets sound straight are all;
-    }

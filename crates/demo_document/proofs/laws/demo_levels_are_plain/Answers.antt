@@ -1,5 +1,0 @@
-use Rattle.demo_document.proofs.DemoLaws.{levels_plain}
-use Rattle.demo_document.proofs.laws.demo_levels_are_plain.Goals as goal
-
-pub returns : goal.returns
-returns c = levels_plain c.args._nodes

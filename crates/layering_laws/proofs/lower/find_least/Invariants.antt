@@ -1,5 +1,0 @@
-use Rattle.layering_laws.specs.Lowering.{AreLeast}
-use Rattle.layering_laws.proofs.lower.find_least.Given as goal
-
-abbrev pub invariant-loop-v : goal.invariant-loop-v
-invariant-loop-v l = AreLeast l.parts l.layers l.v l.least

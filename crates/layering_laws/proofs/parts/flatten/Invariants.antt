@@ -1,7 +1,0 @@
-use Rattle.std.proofs.Common.{◌≤◌, length}
-use Rattle.std.specs.List.{sum}
-use Rattle.layering_laws.specs.Parts.{AreNames}
-use Rattle.layering_laws.proofs.parts.flatten.Given as goal
-
-abbrev pub invariant-loop-v : goal.invariant-loop-v
-invariant-loop-v l = AreNames (length l.initial.names) l.edges l.names × (sum l.names ≤ sum l.initial.names)

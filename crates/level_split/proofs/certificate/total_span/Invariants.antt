@@ -1,0 +1,7 @@
+use Rattle.std.proofs.Common.{◌≡◌}
+use Rattle.level_joined.specs.CertificateJoined.{spans_to}
+use Rattle.level_split.specs.Gathered.{certificate_at}
+use Rattle.level_split.proofs.certificate.total_span.Given as goal
+
+abbrev pub invariant-loop-i : goal.invariant-loop-i
+invariant-loop-i l = l.total ≡ spans_to (certificate_at l.outs) l.i

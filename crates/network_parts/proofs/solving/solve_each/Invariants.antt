@@ -1,0 +1,6 @@
+use Rattle.network_parts.specs.Answers.{AreSolved}
+use Rattle.network_parts.specs.Dividing.{rows_of, sizes_of}
+use Rattle.network_parts.proofs.solving.solve_each.Given as goal
+
+abbrev pub invariant-loop-net : goal.invariant-loop-net
+invariant-loop-net l = AreSolved (sizes_of l.nets) (rows_of l.nets) l.net-index l.solutions.items

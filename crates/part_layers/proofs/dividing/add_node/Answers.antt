@@ -1,8 +1,0 @@
-use Rattle.part_layers.proofs.FillLemmas.{rows_kept, size_written}
-use Rattle.part_layers.proofs.dividing.add_node.Goals as goal
-
-pub returns-clause-sizes : goal.returns-clause-sizes
-returns-clause-sizes c = size_written c.args.nets.now c.args.part c.index-nets-part.result _ c.requires.there
-
-pub returns-clause-edges : goal.returns-clause-edges
-returns-clause-edges c = rows_kept c.args.nets.now c.args.part _ c.index-nets-part-2.result c.requires.there

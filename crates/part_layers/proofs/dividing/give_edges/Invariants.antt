@@ -1,6 +1,0 @@
-use Rattle.std.proofs.Common.{◌≡◌}
-use Rattle.part_layers.specs.Dividing.{HoldEdges, rows_of, sizes_of}
-use Rattle.part_layers.proofs.dividing.give_edges.Given as goal
-
-abbrev pub invariant-loop-edge : goal.invariant-loop-edge
-invariant-loop-edge l = HoldEdges l.numbers l.edges l.edge-index (rows_of l.nets) × (sizes_of l.nets ≡ sizes_of l.initial.nets)

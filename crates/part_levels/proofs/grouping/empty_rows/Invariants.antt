@@ -1,6 +1,0 @@
-use Rattle.std.proofs.Common.{◌≡◌, ℕ, [], length}
-use Rattle.part_levels.specs.Groups.{lists_of, row_at}
-use Rattle.part_levels.proofs.grouping.empty_rows.Given as goal
-
-abbrev pub invariant-loop : goal.invariant-loop
-invariant-loop l = (length l.rows.items ≡ l.counter) × ((k : ℕ) → row_at (lists_of l.rows.items) k ≡ [])

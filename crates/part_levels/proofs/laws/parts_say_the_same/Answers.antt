@@ -1,5 +1,0 @@
-use Rattle.part_levels.proofs.SameLemmas.{says_the_same}
-use Rattle.part_levels.proofs.laws.parts_say_the_same.Goals as goal
-
-pub returns : goal.returns
-returns c = says_the_same

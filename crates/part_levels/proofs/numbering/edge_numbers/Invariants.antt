@@ -1,6 +1,0 @@
-use Rattle.std.proofs.Common.{◌≡◌, map, take}
-use Rattle.part_levels.specs.Divided.{part_of_edge}
-use Rattle.part_levels.proofs.numbering.edge_numbers.Given as goal
-
-abbrev pub invariant-loop-edge : goal.invariant-loop-edge
-invariant-loop-edge l = l.found.items ≡ map (part_of_edge l.numbers) (take l.edge-index l.level.edges)

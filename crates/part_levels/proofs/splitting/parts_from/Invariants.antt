@@ -1,5 +1,0 @@
-use Rattle.part_levels.specs.Split.{ArePartLevels}
-use Rattle.part_levels.proofs.splitting.parts_from.Given as goal
-
-abbrev pub invariant-loop-k : goal.invariant-loop-k
-invariant-loop-k l = ArePartLevels l.level l.children.keys.items l.k l.parts.items

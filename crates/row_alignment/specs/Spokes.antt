@@ -1,0 +1,40 @@
+-- The links of all units, by unit, then by the key of the far end, then by number.
+use Rattle.std.specs.Prelude.{◌≡◌, ℕ, ◌+◌, ◌*◌, ◌^◌, ◌<◌, ◌≤◌, List, map, length, slice_index, slice_index_or, Bool, ◌&&◌, nat_le, nat_lt}
+use Rattle.std.specs.List.{range_with_len}
+use Rattle.std.specs.List.Sorted.{IsNonDecreasingBy, IsPermutation}
+use Rattle.elk_doc.specs.declared.document.Sweep.{Sweep}
+use Rattle.elk_layers.specs.Layered.{Plain, link_at}
+use Rattle.elk_layers.specs.Alignment.{near_end}
+use Rattle.row_alignment.specs.declared.spokes.Spoke.{Spoke}
+use Rattle.row_alignment.specs.Keys.{far_key_at}
+
+-- a link as it is sorted
+abbrev pub spoke_of : Plain → Sweep → List ℕ → ℕ → Spoke
+spoke_of l sweep place k =
+    record {
+      key = near_end sweep (link_at l.links k) * 2 ^ 80 + (far_key_at place sweep (link_at l.links k) * 2 ^ 32 + k);
+      number = k;
+    }
+
+abbrev pub numbers_of : List Spoke → List ℕ
+numbers_of spokes = map (λ (s : Spoke). s.number) spokes
+
+-- all links, sorted
+pub record AreSpokes (l : Plain) (sweep : Sweep) (place : List ℕ) (spokes : List Spoke) : Type 0 where
+  pub same : IsPermutation (map (spoke_of l sweep place) (range_with_len 0 (length l.links))) spokes
+  pub sorted : IsNonDecreasingBy (λ (s : Spoke). s.key) spokes
+
+-- a link of this unit
+abbrev pub is_of : ℕ → Spoke → Bool
+is_of unit spoke = nat_le (unit * 2 ^ 80) spoke.key && nat_lt spoke.key ((unit + 1) * 2 ^ 80)
+
+-- all links of earlier units stand before this place, and no others
+pub record IsFirst (spokes : List Spoke) (unit at : ℕ) : Type 0 where
+  pub bound : at ≤ length spokes
+  pub before : (j : ℕ) (d : Spoke) → j < at → (slice_index_or spokes j d).key < unit * 2 ^ 80
+  pub behind : (j : ℕ) (d : Spoke) → at ≤ j → j < length spokes → unit * 2 ^ 80 ≤ (slice_index_or spokes j d).key
+
+-- by unit the place of its first link, and at the end the number of links
+pub record AreFirsts (spokes : List Spoke) (units : ℕ) (firsts : List ℕ) : Type 0 where
+  pub as_many : length firsts ≡ units + 1
+  pub first_is : (u : ℕ) → u < length firsts → IsFirst spokes u (slice_index firsts u)

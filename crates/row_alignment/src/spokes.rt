@@ -1,0 +1,111 @@
+//! The links of each unit to the layer that the sweep looks to.
+ghost use Rattle.std.specs.Prelude.{◌≡◌, ℕ, ◌+◌, ◌-◌, ◌≤◌, ◌<◌, ◌*◌, ◌^◌, length, slice_index, slice_index_or, take, drop, IfOk};
+ghost use Rattle.std.specs.List.{filter};
+ghost use Rattle.std.specs.List.Sorted.{IsNonDecreasingBy};
+ghost use Rattle.elk_layers.specs.Layered.{plain, link_at, IsSound, IsSoundLink};
+ghost use Rattle.row_alignment.specs.Spokes.{spoke_of, AreSpokes, AreFirsts, IsFirst, is_of};
+
+use crate::ends::{far_key, near_end};
+use elk_doc::document::Sweep;
+use elk_layers::{Layered, Link};
+use std::alloc::{AllocError, Global};
+
+/// A link's number under the key by which it is sorted.
+#[derive(Clone, Copy)]
+pub(crate) struct Spoke {
+    pub(crate) key: u128,
+    pub(crate) number: u32,
+}
+
+/// A link as it is sorted: by its near unit, then by the key of its far end, then by number.
+fn spoke_for(layered: &Layered, sweep: Sweep, place: &[u32], number: u32) -> Spoke
+    requires sound { IsSound (plain layered.now) }
+    requires places { length place.now ≡ length (plain layered.now).units }
+    requires number { number < length (plain layered.now).links }
+    ensures { result ≡ spoke_of (plain layered.now) sweep place.now number }
+{
+    let links = layered.links.as_slice();
+    let link = links[number as usize];
+    let far = far_key(sweep, place, link) * 4294967296 + number as u128;
+    Spoke {
+        key: near_end(sweep, link) as u128 * 1208925819614629174706176 + far,
+        number,
+    }
+}
+
+/// All links, sorted.
+pub(crate) fn spokes_of(
+    alloc: Global,
+    layered: &Layered,
+    sweep: Sweep,
+    place: &[u32],
+) -> Result<Vec<Spoke>, AllocError>
+    requires sound { IsSound (plain layered.now) }
+    requires places { length place.now ≡ length (plain layered.now).units }
+    ensures { IfOk result (λ v. AreSpokes (plain layered.now) sweep place.now v.items) }
+{
+    let count = layered.links.as_slice().len();
+    let mut spokes = Vec::with_capacity(alloc, count)?;
+    for k in 0..count {
+        spokes.push(spoke_for(layered, sweep, place, k as u32))?;
+    }
+    spokes.sort_by_key(|s| s.key)?;
+    Ok(spokes)
+}
+
+/// The first place, from one on, that links of earlier units don't have.
+fn first_from(spokes: &[Spoke], from: usize, unit: u64) -> usize
+    requires sorted { IsNonDecreasingBy (λ (s : Spoke). s.key) spokes.now }
+    requires unit { unit ≤ 2 ^ 32 }
+    requires bound { from ≤ length spokes.now }
+    requires before { (j : ℕ) (d : Spoke) → j < from → (slice_index_or spokes.now j d).key < unit * 2 ^ 80 }
+    ensures { IsFirst spokes.now unit result }
+{
+    let key = unit as u128 * 1208925819614629174706176;
+    for at in from..spokes.len() {
+        if spokes[at].key >= key {
+            return at;
+        }
+    }
+    spokes.len()
+}
+
+/// By unit, the place of its first link among all links, and the number of links last.
+pub(crate) fn firsts_of(
+    alloc: Global,
+    spokes: &[Spoke],
+    units: usize,
+) -> Result<Vec<u32>, AllocError>
+    requires sorted { IsNonDecreasingBy (λ (s : Spoke). s.key) spokes.now }
+    requires few { length spokes.now ≤ 2 ^ 24 }
+    requires few_units { units ≤ 2 ^ 24 }
+    ensures { IfOk result (λ v. AreFirsts spokes.now units v.items) }
+{
+    let mut firsts = Vec::with_capacity(alloc, units + 1)?;
+    let mut at = 0;
+    for unit in 0..units + 1 {
+        at = first_from(spokes, at, unit as u64);
+        firsts.push(at as u32)?;
+    }
+    Ok(firsts)
+}
+
+/// The links from one place to below another.
+fn window(spokes: &[Spoke], begin: usize, end: usize) -> &[Spoke]
+    requires order { begin ≤ end }
+    requires bound { end ≤ length spokes.now }
+    ensures { result.now ≡ take (end - begin) (drop begin spokes.now) }
+{
+    &spokes[begin..end]
+}
+
+/// The links of a unit.
+pub(crate) fn fan<'a>(spokes: &'a [Spoke], firsts: &[u32], unit: u32) -> &'a [Spoke]
+    requires unit { unit + 1 < length firsts.now }
+    requires firsts { (u : ℕ) → u < length firsts.now → IsFirst spokes.now u (slice_index firsts.now u) }
+    ensures { result.now ≡ filter (is_of unit) spokes.now }
+{
+    let begin = firsts[unit as usize] as usize;
+    let end = firsts[unit as usize + 1] as usize;
+    window(spokes, begin, end)
+}

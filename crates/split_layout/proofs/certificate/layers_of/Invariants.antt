@@ -1,5 +1,0 @@
-use Rattle.split_layout.specs.Gathered.{AreLayers}
-use Rattle.split_layout.proofs.certificate.layers_of.Given as goal
-
-abbrev pub invariant-loop-i : goal.invariant-loop-i
-invariant-loop-i l = AreLayers l.outs l.parts l.places l.i l.layers.items

@@ -1,7 +1,0 @@
-use Rattle.std.proofs.Common.{◌≡◌}
-use Rattle.std.specs.List.{filter, range_with_len}
-use Rattle.split_layout.specs.Gathered.{is_marked, marks_in}
-use Rattle.split_layout.proofs.certificate.reversed_of.Given as goal
-
-abbrev pub invariant-loop-i : goal.invariant-loop-i
-invariant-loop-i l = l.found.items ≡ filter (is_marked (marks_in l.marks) l.parts l.places) (range_with_len 0 l.i)

@@ -1,6 +1,0 @@
-use Rattle.std.proofs.Common.{◌≡◌, map, take}
-use Rattle.turned_levels.specs.Drawing.{plus}
-use Rattle.split_layout.proofs.drawing.moved_points.Given as goal
-
-abbrev pub invariant-loop-point : goal.invariant-loop-point
-invariant-loop-point l = l.found.items ≡ map (plus l.by) (take l.point-index l.points)

@@ -1,5 +1,0 @@
-use Rattle.split_layout.specs.Gathered.{ArePorts}
-use Rattle.split_layout.proofs.drawing.ports_of.Given as goal
-
-abbrev pub invariant-loop-i : goal.invariant-loop-i
-invariant-loop-i l = ArePorts l.outs l.parts l.places l.i l.ports.items

@@ -1,6 +1,0 @@
-use Rattle.std.proofs.Common.{◌≡◌, ◌≤◌, ◌*◌, ◌^◌}
-use Rattle.split_layout.specs.Limits.{area_to}
-use Rattle.split_layout.proofs.limit.total_area.Given as goal
-
-abbrev pub invariant-loop-size : goal.invariant-loop-size
-invariant-loop-size l = (l.total ≡ area_to l.sizes l.gap l.size-index) × (l.total ≤ l.size-index * 2 ^ 98)
