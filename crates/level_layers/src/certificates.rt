@@ -88,7 +88,7 @@ fn certificate_from(
 /// the primal-dual flow where these don't suffice. Parts are left empty.
 ///
 /// The only error is want of memory.
-pub fn certificate_of(alloc: Global, level: &LevelIn) -> Result<Certificate, AllocError>
+pub fn certificate_for(alloc: Global, level: &LevelIn) -> Result<Certificate, AllocError>
     requires { IsLevel (plain_level level.now) }
     ensures { IfOk result (IsCertificateOf (plain_level level.now)) }
 {

@@ -6,5 +6,5 @@ mod laws;
 mod networks;
 mod orienting;
 
-pub use certificates::certificate_of;
+pub use certificates::certificate_for;
 pub use laws::layers_stay_low;

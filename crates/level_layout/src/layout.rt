@@ -6,7 +6,7 @@ ghost use Rattle.level_layout.specs.Layout.{IsLaidOut};
 use crate::lines::lines_for;
 use crate::phases::{order_for, start_for};
 use level_draw::{LevelOut, draw};
-use level_layers::certificate_of;
+use level_layers::certificate_for;
 use level_pins::pinned;
 use level_plan::LevelIn;
 use std::alloc::{AllocError, Global};
@@ -21,7 +21,7 @@ pub fn layout_level(alloc: Global, level: &LevelIn) -> Result<LevelOut, AllocErr
     requires { IsLevel (plain_level level.now) }
     ensures { IfOk result (IsLaidOut level.now) }
 {
-    let certificate = certificate_of(alloc, level)?;
+    let certificate = certificate_for(alloc, level)?;
     let reversed = certificate.reversed.as_slice();
     let start = start_for(alloc, level, &certificate)?;
     let order = order_for(alloc, &start.layered, &start.rows)?;

@@ -80,7 +80,7 @@ fn drawing_of(
 }
 
 // The certificate of the whole.
-fn certificate_of(
+fn joined_certificate(
     alloc: Global,
     split: &PartLevels,
     outs: &[LevelOut],
@@ -119,7 +119,7 @@ pub fn layout_parts(alloc: Global, level: &LevelIn, component: i64) -> Result<Pa
     let outs = layouts_of(alloc, split.parts.as_slice())?;
     let rows = rows_of(alloc, outs.as_slice(), component)?;
     let drawing = drawing_of(alloc, &split, outs.as_slice(), rows.at.as_slice())?;
-    let certificate = certificate_of(alloc, &split, outs.as_slice())?;
+    let certificate = joined_certificate(alloc, &split, outs.as_slice())?;
     let numbers = split.children;
     Ok(PartsOut {
         parts: numbers.parts,

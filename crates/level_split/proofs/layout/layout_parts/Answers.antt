@@ -70,8 +70,8 @@ drawing_of-requires-clause-sections c =
     subst (λ (os : List LevelOut). AreSeated split.edges.parts split.edges.places (length os) (λ k. length (drawing_at os k).sections)) (sym c.as_slice-3.ensures.value)
     (section_seats level split outs c.requires.level is laid)
 
-pub certificate_of-requires : goal.certificate_of-requires
-certificate_of-requires c =
+pub joined_certificate-requires : goal.joined_certificate-requires
+joined_certificate-requires c =
     let level = c.args.level.now in
     let split = c.in_ok-split.split in
     let outs = c.in_ok-outs.outs.items in

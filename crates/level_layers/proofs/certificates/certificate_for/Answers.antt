@@ -6,7 +6,7 @@ use Rattle.level_plan.specs.Conditions.{plain_level}
 use Rattle.level_plan.specs.Level.{PlainLevel}
 use Rattle.level_layers.specs.Certificate.{network}
 use Rattle.level_layers.specs.Marks.{listed}
-use Rattle.level_layers.proofs.certificates.certificate_of.Goals as goal
+use Rattle.level_layers.proofs.certificates.certificate_for.Goals as goal
 
 -- the network that is solved, by the list of the edges that are turned round
 same_network : (l : PlainLevel) (edges : List NetEdge) (marks one other : List Bool) (rs : List ℕ) → edges ≡ network l (listed one) → one ≡ marks → other ≡ marks → rs ≡ listed other → edges ≡ network l rs

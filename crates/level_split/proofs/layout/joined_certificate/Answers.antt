@@ -5,7 +5,7 @@ use Rattle.level_parts.specs.declared.levels.PartLevel.{PartLevel}
 use Rattle.level_parts.specs.Split.{part_at}
 use Rattle.level_split.specs.Gathered.{AreFlows, AreLayers, AreTurned, is_marked, marks_in}
 use Rattle.level_split.proofs.StepLemmas.{certificate_in}
-use Rattle.level_split.proofs.layout.certificate_of.Goals as goal
+use Rattle.level_split.proofs.layout.joined_certificate.Goals as goal
 
 pub returns : goal.returns
 returns c =
