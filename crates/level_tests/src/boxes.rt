@@ -7,7 +7,7 @@ use crate::fixtures::level_of;
 use elk_doc::document::{Direction, Placing, PortRule};
 use elk_doc::list::Items;
 use elk_doc::shape::{Point, Size};
-use level_boxes::layout_boxes;
+use level_boxes::{BoxesOut, layout_boxes};
 use level_plan::LevelIn;
 use port_order::Child;
 use std::alloc::{AllocError, Global};
@@ -40,12 +40,15 @@ fn boxes_level(alloc: Global, way: Direction) -> Result<LevelIn, AllocError>
     Ok(level_of(children, Vec::new(alloc), Placing::BrandesKoepf))
 }
 
+fn boxes_drawn(alloc: Global, way: Direction) -> Result<BoxesOut, AllocError> {
+    let level = boxes_level(alloc, way)?;
+    layout_boxes(alloc, level, way)
+}
+
 // Rows at the limit 80: the wide box, the two squares side by side, and the flat one.
 #[test]
 fn four_boxes_stand_in_three_rows(rt: HostRuntime) -> Result<(), Fail> {
-    let alloc = rt.alloc();
-    let level = boxes_level(alloc, Direction::Right)?;
-    let drawn = layout_boxes(alloc, level, Direction::Right)?;
+    let drawn = boxes_drawn(rt.alloc(), Direction::Right)?;
     let places = [
         Point { x: 0, y: 0 },
         Point { x: 0, y: 40 },
@@ -60,9 +63,7 @@ fn four_boxes_stand_in_three_rows(rt: HostRuntime) -> Result<(), Fail> {
 // The same rows in a document whose level runs to the left: mirrored in the frame.
 #[test]
 fn rows_are_mirrored_under_left(rt: HostRuntime) -> Result<(), Fail> {
-    let alloc = rt.alloc();
-    let level = boxes_level(alloc, Direction::Left)?;
-    let drawn = layout_boxes(alloc, level, Direction::Left)?;
+    let drawn = boxes_drawn(rt.alloc(), Direction::Left)?;
     let places = [
         Point { x: 0, y: 0 },
         Point { x: 70, y: 40 },

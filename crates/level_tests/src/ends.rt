@@ -10,7 +10,7 @@ use elk_doc::list::Items;
 use elk_doc::shape::{Dock, Point, Rect, Side, Size};
 use elk_layers::{Layered, Order};
 use level_ends::table_of;
-use level_plan::{LevelEdge, LevelIn, Spoke};
+use level_plan::{LevelEdge, LevelIn, Spoke, Table};
 use port_order::{Child, ChildPort};
 use std::alloc::{AllocError, Global};
 use std::test::Fail;
@@ -76,13 +76,16 @@ fn west_rows(alloc: Global) -> Result<Order, AllocError>
     Ok(Order { rows })
 }
 
-#[test]
-fn a_port_in_the_west_that_an_edge_leaves(rt: HostRuntime) -> Result<(), Fail> {
-    let alloc = rt.alloc();
+fn west_table(alloc: Global) -> Result<Table, AllocError> {
     let level = west_level(alloc)?;
     let layered = west_layered(alloc)?;
     let order = west_rows(alloc)?;
-    let table = table_of(alloc, &level, &layered, &order, &[])?;
+    table_of(alloc, &level, &layered, &order, &[])
+}
+
+#[test]
+fn a_port_in_the_west_that_an_edge_leaves(rt: HostRuntime) -> Result<(), Fail> {
+    let table = west_table(rt.alloc())?;
     let ends = table.ends.as_slice();
     assert_eq!(rt; ends.len(), 2);
     for (end, (node, x)) in ends.iter().zip([(0, -10), (1, 0)].iter()) {

@@ -1,18 +1,23 @@
 //! The gaps of two children that two parallel edges join.
 use crate::fixtures::{parallel, parallel_layered, parallel_table};
 use elk_layers::Lines;
-use level_nets::gaps_of;
+use level_nets::{Routing, gaps_of};
+use std::alloc::{AllocError, Global};
 use std::test::Fail;
+
+fn routing(alloc: Global) -> Result<Routing, AllocError> {
+    let level = parallel(alloc)?;
+    let layered = parallel_layered(alloc)?;
+    let table = parallel_table(alloc)?;
+    let lines = Lines {
+        top: vec![in alloc; 0, 0]?,
+    };
+    gaps_of(alloc, &level, &layered, &lines, &[], &table)
+}
 
 #[test]
 fn parallel_edges_run_straight_through_one_gap(rt: HostRuntime) -> Result<(), Fail> {
-    let level = parallel(rt.alloc())?;
-    let layered = parallel_layered(rt.alloc())?;
-    let table = parallel_table(rt.alloc())?;
-    let lines = Lines {
-        top: vec![in rt.alloc(); 0, 0]?,
-    };
-    let routing = gaps_of(rt.alloc(), &level, &layered, &lines, &[], &table)?;
+    let routing = routing(rt.alloc())?;
     assert_eq!(rt; routing.gaps.len(), 3);
     let gap = routing.gaps.at(1);
     assert_eq!(rt; (gap.left, gap.right), (30, 50));

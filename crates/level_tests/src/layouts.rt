@@ -7,6 +7,7 @@ ghost use Rattle.level_layout.specs.Examples.{forked};
 
 use crate::fixtures::{edge, level_of, parallel, square};
 use elk_doc::document::Placing;
+use level_draw::LevelOut;
 use level_layout::layout_level;
 use level_plan::LevelIn;
 use std::alloc::{AllocError, Global};
@@ -28,13 +29,26 @@ fn forked_level(alloc: Global) -> Result<LevelIn, AllocError>
     Ok(level_of(children, edges, Placing::NetworkSimplex))
 }
 
+fn parallel_drawn(alloc: Global) -> Result<LevelOut, AllocError> {
+    let level = parallel(alloc)?;
+    layout_level(alloc, &level)
+}
+
+fn chained_drawn(alloc: Global) -> Result<LevelOut, AllocError> {
+    let level = chained_level(alloc)?;
+    layout_level(alloc, &level)
+}
+
+fn forked_drawn(alloc: Global) -> Result<LevelOut, AllocError> {
+    let level = forked_level(alloc)?;
+    layout_level(alloc, &level)
+}
+
 // Both edges run straight, at a third and at two thirds of the children's height; the first is in the tree of pivots, so it
 // has the flow of both.
 #[test]
 fn two_parallel_edges_are_laid_out(rt: HostRuntime) -> Result<(), Fail> {
-    let alloc = rt.alloc();
-    let level = parallel(alloc)?;
-    let drawn = layout_level(alloc, &level)?;
+    let drawn = parallel_drawn(rt.alloc())?;
     assert_eq!(rt; (drawn.extent.width, drawn.extent.height), (80, 30));
     for (place, x) in drawn.boxes.as_slice().iter().zip([0, 50].iter()) {
         assert_eq!(rt; (place.x, place.y), (*x, 0));
@@ -56,9 +70,7 @@ fn two_parallel_edges_are_laid_out(rt: HostRuntime) -> Result<(), Fail> {
 // The long edge has a lane in the layer of the middle child, and costs two layers.
 #[test]
 fn a_long_edge_passes_a_child(rt: HostRuntime) -> Result<(), Fail> {
-    let alloc = rt.alloc();
-    let level = chained_level(alloc)?;
-    let drawn = layout_level(alloc, &level)?;
+    let drawn = chained_drawn(rt.alloc())?;
     let layers = [0, 1, 2];
     for (found, wanted) in drawn
         .certificate
@@ -84,9 +96,7 @@ fn a_long_edge_passes_a_child(rt: HostRuntime) -> Result<(), Fail> {
 // Wherever the first child stands between the two others, the links are together equally high.
 #[test]
 fn one_child_stands_beside_two(rt: HostRuntime) -> Result<(), Fail> {
-    let alloc = rt.alloc();
-    let level = forked_level(alloc)?;
-    let drawn = layout_level(alloc, &level)?;
+    let drawn = forked_drawn(rt.alloc())?;
     let boxes = drawn.boxes.as_slice();
     assert_eq!(rt; boxes.len(), 3);
     assert_eq!(rt; boxes[0].x, 0);

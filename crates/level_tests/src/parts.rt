@@ -1,13 +1,17 @@
 //! The parts of a level whose children and edges are mixed.
 use crate::fixtures::mixed;
-use level_parts::split;
+use level_parts::{PartLevels, split};
+use std::alloc::{AllocError, Global};
 use std::test::Fail;
+
+fn parts_of_mixed(alloc: Global) -> Result<PartLevels, AllocError> {
+    let level = mixed(alloc)?;
+    split(alloc, &level)
+}
 
 #[test]
 fn three_parts(rt: HostRuntime) -> Result<(), Fail> {
-    let alloc = rt.alloc();
-    let level = mixed(alloc)?;
-    let parts = split(alloc, &level)?;
+    let parts = parts_of_mixed(rt.alloc())?;
     assert_eq!(rt; parts.children.parts.as_slice(), [0, 1, 2, 1, 0].as_slice());
     assert_eq!(rt;
         parts.children.places.as_slice(),

@@ -1,14 +1,18 @@
 //! The parts of a level, laid out in rows.
 use crate::fixtures::mixed;
-use level_split::layout_parts;
+use level_split::{PartsOut, layout_parts};
+use std::alloc::{AllocError, Global};
 use std::test::Fail;
+
+fn parts_drawn(alloc: Global) -> Result<PartsOut, AllocError> {
+    let level = mixed(alloc)?;
+    layout_parts(alloc, &level, 20)
+}
 
 // One edge of the second part is turned round; its places are those in the level.
 #[test]
 fn parts_keep_their_edges(rt: HostRuntime) -> Result<(), Fail> {
-    let alloc = rt.alloc();
-    let level = mixed(alloc)?;
-    let drawn = layout_parts(alloc, &level, 20)?;
+    let drawn = parts_drawn(rt.alloc())?;
     assert_eq!(rt; drawn.parts.as_slice(), [0, 1, 2, 1, 0].as_slice());
     let certificate = &drawn.certificate;
     assert_eq!(rt; certificate.layers.as_slice(), [1, 0, 0, 1, 0].as_slice());

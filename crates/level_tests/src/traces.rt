@@ -3,20 +3,25 @@ use crate::fixtures::{parallel, parallel_layered, parallel_table};
 use elk_doc::shape::Point;
 use elk_layers::Lines;
 use level_nets::gaps_of;
-use level_traces::routes_of;
+use level_traces::{Routes, routes_of};
 use route_lines::Step;
+use std::alloc::{AllocError, Global};
 use std::test::Fail;
+
+fn routes(alloc: Global) -> Result<Routes, AllocError> {
+    let level = parallel(alloc)?;
+    let layered = parallel_layered(alloc)?;
+    let table = parallel_table(alloc)?;
+    let lines = Lines {
+        top: vec![in alloc; 0, 0]?,
+    };
+    let routing = gaps_of(alloc, &level, &layered, &lines, &[], &table)?;
+    routes_of(alloc, &level, &layered, &lines, &[], &table, &routing)
+}
 
 #[test]
 fn parallel_edges_lead_through_one_gap(rt: HostRuntime) -> Result<(), Fail> {
-    let level = parallel(rt.alloc())?;
-    let layered = parallel_layered(rt.alloc())?;
-    let table = parallel_table(rt.alloc())?;
-    let lines = Lines {
-        top: vec![in rt.alloc(); 0, 0]?,
-    };
-    let routing = gaps_of(rt.alloc(), &level, &layered, &lines, &[], &table)?;
-    let routes = routes_of(rt.alloc(), &level, &layered, &lines, &[], &table, &routing)?;
+    let routes = routes(rt.alloc())?;
     assert_eq!(rt;
         routes.boxes.as_slice(),
         [Point { x: 0, y: 0 }, Point { x: 50, y: 0 }].as_slice()

@@ -184,11 +184,16 @@ fn a_route_comes_back_from_a_level_that_runs_up(rt: HostRuntime) -> Result<(), F
     Ok(())
 }
 
+// The drawing of the document before anything is placed.
+fn unplaced(alloc: Global) -> Result<Placed, AllocError> {
+    let doc = make_document(alloc, Direction::Right)?;
+    let canvas = blank(alloc, &doc)?;
+    Ok(placed(canvas))
+}
+
 #[test]
 fn nothing_is_placed_at_first(rt: HostRuntime) -> Result<(), Fail> {
-    let alloc = rt.alloc();
-    let doc = make_document(alloc, Direction::Right)?;
-    let drawing = placed(blank(alloc, &doc)?);
+    let drawing = unplaced(rt.alloc())?;
     let boxes = drawing.boxes.as_slice();
     let sizes = [
         boxes.len(),
@@ -204,9 +209,8 @@ fn nothing_is_placed_at_first(rt: HostRuntime) -> Result<(), Fail> {
     Ok(())
 }
 
-#[test]
-fn a_node_gets_the_size_of_its_content(rt: HostRuntime) -> Result<(), Fail> {
-    let alloc = rt.alloc();
+// The drawing in which the root alone is framed, round a level of 80 by 30.
+fn framed(alloc: Global) -> Result<Placed, AllocError> {
     let doc = make_document(alloc, Direction::Right)?;
     let mut canvas = blank(alloc, &doc)?;
     let ports = port_numbers(alloc)?;
@@ -220,8 +224,13 @@ fn a_node_gets_the_size_of_its_content(rt: HostRuntime) -> Result<(), Fail> {
         height: 30,
     };
     frame_node(&doc, 0, &numbers, extent, &mut canvas);
-    let framed = placed(canvas);
-    let found = framed.boxes.as_slice().first();
+    Ok(placed(canvas))
+}
+
+#[test]
+fn a_node_gets_the_size_of_its_content(rt: HostRuntime) -> Result<(), Fail> {
+    let drawing = framed(rt.alloc())?;
+    let found = drawing.boxes.as_slice().first();
     assert_eq!(rt;
         found.map(|r| (r.x, r.y, r.width, r.height)),
         Some((0, 0, 86, 34))

@@ -3,7 +3,7 @@ use Rattle.level_plan.specs.Conditions.{plain_level}
 use Rattle.level_stands.specs.Examples.{chained, chained_plan}
 use Rattle.level_pins.proofs.BlankLemmas.{level_is}
 use Rattle.level_pins.proofs.WorkedLevels.{chained_worked}
-use Rattle.level_tests.proofs.layouts.a_long_edge_passes_a_child.Goals as goal
+use Rattle.level_tests.proofs.layouts.chained_drawn.Goals as goal
 
 pub layout_level-requires : goal.layout_level-requires
-layout_level-requires g c = level_is chained chained_plan (0 ∷ 1 ∷ 2 ∷ []) chained_worked (plain_level c.in_ok-level.level) c.in_ok-level.ensures
+layout_level-requires c = level_is chained chained_plan (0 ∷ 1 ∷ 2 ∷ []) chained_worked (plain_level c.in_ok-level.level) c.in_ok-level.ensures

@@ -3,7 +3,7 @@ use Rattle.level_plan.specs.Conditions.{plain_level}
 use Rattle.level_plan.specs.Examples.{parallel, parallel_plan}
 use Rattle.level_pins.proofs.BlankLemmas.{level_is}
 use Rattle.level_pins.proofs.WorkedLevels.{parallel_worked}
-use Rattle.level_tests.proofs.layouts.two_parallel_edges_are_laid_out.Goals as goal
+use Rattle.level_tests.proofs.layouts.parallel_drawn.Goals as goal
 
 pub layout_level-requires : goal.layout_level-requires
-layout_level-requires g c = level_is parallel parallel_plan (0 ∷ 1 ∷ []) parallel_worked (plain_level c.in_ok-level.level) c.in_ok-level.ensures
+layout_level-requires c = level_is parallel parallel_plan (0 ∷ 1 ∷ []) parallel_worked (plain_level c.in_ok-level.level) c.in_ok-level.ensures

@@ -3,9 +3,9 @@ use Rattle.elk_doc.specs.declared.document.Direction.TheVariants.{Right}
 use Rattle.level_writing.specs.Written.{rows_in}
 use Rattle.level_tests.specs.Turning.{port_rows}
 use Rattle.level_tests.proofs.TurningLemmas.{are_numbers}
-use Rattle.level_tests.proofs.writing.a_node_gets_the_size_of_its_content.Goals as goal
+use Rattle.level_tests.proofs.writing.framed.Goals as goal
 
 pub frame_node-requires-clause-numbers : goal.frame_node-requires-clause-numbers
-frame_node-requires-clause-numbers c = λ k.
-    let rows : rows_in k.as_slice.result.now ≡ port_rows = search rules in
-    are_numbers Right k.in_ok-doc.doc _ k.in_ok-doc.ensures refl refl rows
+frame_node-requires-clause-numbers c =
+    let rows : rows_in c.as_slice.result.now ≡ port_rows = search rules in
+    are_numbers Right c.in_ok-doc.doc _ c.in_ok-doc.ensures refl refl rows

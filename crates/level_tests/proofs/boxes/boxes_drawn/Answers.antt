@@ -1,0 +1,6 @@
+use Rattle.level_plan.specs.Conditions.{plain_level}
+use Rattle.level_boxes.proofs.ExampleLemmas.{level_is}
+use Rattle.level_tests.proofs.boxes.boxes_drawn.Goals as goal
+
+pub layout_boxes-requires : goal.layout_boxes-requires
+layout_boxes-requires c = level_is c.args.way (plain_level c.in_ok-level.level) c.in_ok-level.ensures

@@ -1,0 +1,16 @@
+use Rattle.elk_layers.specs.Layered.{plain, rows_of}
+use Rattle.level_plan.specs.Conditions.{plain_level}
+use Rattle.level_ends.proofs.WestLemmas.{level_is, linked_is, rows_are, sound_is}
+use Rattle.level_tests.proofs.ends.west_table.Goals as goal
+
+pub table_of-requires-clause-level : goal.table_of-requires-clause-level
+table_of-requires-clause-level c = level_is (plain_level c.in_ok-level.level) c.in_ok-level.ensures
+
+pub table_of-requires-clause-sound : goal.table_of-requires-clause-sound
+table_of-requires-clause-sound c = sound_is (plain c.in_ok-layered.layered) c.in_ok-layered.ensures
+
+pub table_of-requires-clause-rows : goal.table_of-requires-clause-rows
+table_of-requires-clause-rows c = rows_are (plain c.in_ok-layered.layered) (rows_of c.in_ok-order.order) c.in_ok-layered.ensures c.in_ok-order.ensures
+
+pub table_of-requires-clause-linked : goal.table_of-requires-clause-linked
+table_of-requires-clause-linked c = linked_is (plain_level c.in_ok-level.level) (plain c.in_ok-layered.layered) (rows_of c.in_ok-order.order) c.in_ok-level.ensures c.in_ok-layered.ensures c.in_ok-order.ensures
