@@ -1,6 +1,6 @@
 //! Small documents, how they are drawn, and what the judge says of the drawings.
 use elk_engine::run;
-use elk_outer::{MemSink, MemSource};
+use elk_outer::{MemSink, MemSource, Sink, Source};
 use std::alloc::{AllocError, Global};
 use std::test::Fail;
 
@@ -100,19 +100,37 @@ const DRAWINGS: [Drawing; 14] = [
     RAISED, LEAST_HIGH, APART, DIAGRAM,
 ];
 
-// Runs a command on an input without faults: its status and what it wrote.
+/// The words of a command line.
+pub(crate) fn words_of(alloc: Global, words: &[&str]) -> Result<Vec<String>, AllocError> {
+    let mut list = Vec::new(alloc);
+    for word in words {
+        list.push(String::from_str(alloc, word)?)?;
+    }
+    Ok(list)
+}
+
+/// A run on these words: its status alone, of all that is promised of it.
+pub(crate) fn status_of<S: Source, K: Sink, N: Sink>(
+    alloc: Global,
+    words: &[&str],
+    source: &mut S,
+    out: &mut K,
+    notes: &mut N,
+) -> Result<u8, AllocError> {
+    let list = words_of(alloc, words)?;
+    Ok(run(alloc, &list, source, out, notes))
+}
+
+/// Runs a command on an input without faults: its status and what it wrote.
 pub(crate) fn run_on(
     alloc: Global,
     command: &str,
     input: &[u8],
 ) -> Result<(u8, MemSink), AllocError> {
-    let mut words = Vec::new(alloc);
-    words.push(String::from_str(alloc, command)?)?;
-    let bytes = input.to_vec(alloc)?;
-    let mut source = MemSource::new(bytes, 4096, Vec::new(alloc));
+    let mut source = MemSource::new(input.to_vec(alloc)?, 4096, Vec::new(alloc));
     let mut out = MemSink::new(alloc, 4096, 4096, Vec::new(alloc))?;
     let mut notes = MemSink::new(alloc, 64, 64, Vec::new(alloc))?;
-    let status = run(alloc, &words, &mut source, &mut out, &mut notes);
+    let status = status_of(alloc, &[command], &mut source, &mut out, &mut notes)?;
     Ok((status, out))
 }
 

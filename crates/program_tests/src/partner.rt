@@ -1,7 +1,7 @@
 //! A partner of `batch` that waits for each reply before it writes the next line.
 ghost use Rattle.std.specs.Prelude.{None};
 
-use elk_engine::run;
+use crate::drawings::status_of;
 use elk_outer::{Failed, MemSink, Sink, Source};
 use std::cell::Cell;
 use std::rc::Rc;
@@ -65,8 +65,6 @@ impl Sink for Reader {
 fn each_reply_comes_before_the_next_line(rt: HostRuntime) -> Result<(), Fail> {
     let alloc = rt.alloc();
     let replies = Rc::new(alloc, Cell::new(0))?;
-    let mut words = Vec::new(alloc);
-    words.push(String::from_str(alloc, "batch")?)?;
     let mut source = Writer {
         lines: &["{\"id\":\"r\"}\n", "{\"id\":\n", "{\"id\":\"r\"}\n"],
         written: 0,
@@ -74,7 +72,8 @@ fn each_reply_comes_before_the_next_line(rt: HostRuntime) -> Result<(), Fail> {
     };
     let mut out = Reader { replies };
     let mut notes = MemSink::new(alloc, 64, 64, Vec::new(alloc))?;
-    assert_eq!(rt; run(alloc, &words, &mut source, &mut out, &mut notes), 0);
+    let status = status_of(alloc, &["batch"], &mut source, &mut out, &mut notes)?;
+    assert_eq!(rt; status, 0);
     assert_eq!(rt; source.written, 3);
     assert_eq!(rt; source.replies.get(), 3);
     Ok(())

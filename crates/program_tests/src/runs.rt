@@ -1,8 +1,9 @@
 //! Runs of the top call: statuses and texts, with and without faults.
+use crate::drawings::status_of;
 use compound::lay_out;
 use elk_demo::demo;
-use elk_engine::run;
 use elk_outer::{MemSink, MemSource};
+use std::alloc::{AllocError, Global};
 use std::test::Fail;
 
 const ROOT: &str = r#"{"id":"r"}"#;
@@ -446,22 +447,37 @@ const ROWS: [Row; 32] = [
     },
 ];
 
+// The status of a run, and what it wrote.
+#[derive(Drop)]
+struct Ran {
+    status: u8,
+    out: MemSink,
+    notes: MemSink,
+}
+
+fn ran(alloc: Global, row: &Row) -> Result<Ran, AllocError> {
+    let input = row.input.as_bytes().to_vec(alloc)?;
+    let mut source = MemSource::new(input, 10, [row.read_fails].to_vec(alloc)?);
+    let mut out = MemSink::new(alloc, row.room, 10, [row.out_fails].to_vec(alloc)?)?;
+    let mut notes = MemSink::new(alloc, 512, 10, [row.notes_fail].to_vec(alloc)?)?;
+    let status = status_of(alloc, row.words, &mut source, &mut out, &mut notes)?;
+    Ok(Ran { status, out, notes })
+}
+
+// Whether a run has the status that is wanted and wrote what is wanted.
+fn is_as_wanted(ran: &Ran, row: &Row) -> bool {
+    if ran.status != row.status || ran.out.taken() != row.out.as_bytes() {
+        return false;
+    }
+    ran.notes.taken() == row.notes.as_bytes()
+}
+
 #[test]
 fn rows(rt: HostRuntime) -> Result<(), Fail> {
     let alloc = rt.alloc();
-    for row in ROWS.iter() {
-        let mut words = Vec::new(alloc);
-        for word in row.words {
-            words.push(String::from_str(alloc, word)?)?;
-        }
-        let input = row.input.as_bytes().to_vec(alloc)?;
-        let mut source = MemSource::new(input, 10, [row.read_fails].to_vec(alloc)?);
-        let mut out = MemSink::new(alloc, row.room, 10, [row.out_fails].to_vec(alloc)?)?;
-        let mut notes = MemSink::new(alloc, 512, 10, [row.notes_fail].to_vec(alloc)?)?;
-        let status = run(alloc, &words, &mut source, &mut out, &mut notes);
-        assert_eq!(rt; status, row.status);
-        assert_eq!(rt; out.taken(), row.out.as_bytes());
-        assert_eq!(rt; notes.taken(), row.notes.as_bytes());
+    for (i, row) in ROWS.iter().enumerate() {
+        let found = ran(alloc, row)?;
+        assert!(rt; is_as_wanted(&found, row), "row {i}");
     }
     Ok(())
 }
@@ -469,27 +485,39 @@ fn rows(rt: HostRuntime) -> Result<(), Fail> {
 #[test]
 fn other_words(rt: HostRuntime) -> Result<(), Fail> {
     let alloc = rt.alloc();
-    let cases: [&[&str]; 5] = [
+    let cases: [&'static [&'static str]; 5] = [
         &["demo"],
         &["demo", "0"],
         &["demo", "1025"],
         &["demo", "1", "2"],
         &["layout", "1"],
     ];
-    for case in cases.iter() {
-        let mut words = Vec::new(alloc);
-        for word in case.iter() {
-            words.push(String::from_str(alloc, word)?)?;
-        }
-        let mut source = MemSource::new(Vec::new(alloc), 10, [0].to_vec(alloc)?);
-        let mut out = MemSink::new(alloc, 512, 10, Vec::new(alloc))?;
-        let mut notes = MemSink::new(alloc, 512, 10, Vec::new(alloc))?;
-        let status = run(alloc, &words, &mut source, &mut out, &mut notes);
-        assert_eq!(rt; status, 5);
-        assert_eq!(rt; out.taken().len(), 0);
-        assert_eq!(rt; notes.taken(), USAGE_NOTE.as_bytes());
+    for words in cases {
+        let row = Row {
+            words,
+            input: "",
+            read_fails: 0,
+            out_fails: NEVER,
+            notes_fail: NEVER,
+            room: 512,
+            status: 5,
+            out: "",
+            notes: USAGE_NOTE,
+        };
+        let found = ran(alloc, &row)?;
+        assert!(rt; is_as_wanted(&found, &row));
     }
     Ok(())
+}
+
+// A run of `batch` on an input in pieces of this size.
+fn replied(alloc: Global, input: &str, piece: usize) -> Result<Ran, AllocError> {
+    let bytes = input.as_bytes().to_vec(alloc)?;
+    let mut source = MemSource::new(bytes, piece.max(1), Vec::new(alloc));
+    let mut out = MemSink::new(alloc, 512, 512, Vec::new(alloc))?;
+    let mut notes = MemSink::new(alloc, 64, 64, Vec::new(alloc))?;
+    let status = status_of(alloc, &["batch"], &mut source, &mut out, &mut notes)?;
+    Ok(Ran { status, out, notes })
 }
 
 #[test]
@@ -503,38 +531,34 @@ fn lines_end_in_each_way(rt: HostRuntime) -> Result<(), Fail> {
     ];
     for (input, replies) in &cases {
         for piece in [1, 4096] {
-            let mut words = Vec::new(alloc);
-            words.push(String::from_str(alloc, "batch")?)?;
-            let bytes = input.as_bytes().to_vec(alloc)?;
-            let mut source = MemSource::new(bytes, piece, Vec::new(alloc));
-            let mut out = MemSink::new(alloc, 512, 512, Vec::new(alloc))?;
-            let mut notes = MemSink::new(alloc, 64, 64, Vec::new(alloc))?;
-            let status = run(alloc, &words, &mut source, &mut out, &mut notes);
-            assert_eq!(rt; status, 0);
-            assert_eq!(rt; out.taken(), replies.as_bytes());
-            assert_eq!(rt; notes.taken().len(), 0);
+            let found = replied(alloc, input, piece)?;
+            assert_eq!(rt; found.status, 0);
+            assert_eq!(rt; found.out.taken(), replies.as_bytes());
+            assert_eq!(rt; found.notes.taken().len(), 0);
         }
     }
     Ok(())
 }
 
+// The span of the drawing of the document of `demo 5`.
+fn demo_span(alloc: Global) -> Result<u64, AllocError> {
+    let doc = demo(alloc, 5)?;
+    let placed = lay_out(alloc, &doc)?;
+    match placed.levels.as_slice().first() {
+        Some(Some(certificate)) => Ok(certificate.span),
+        _ => Ok(0),
+    }
+}
+
 #[test]
 fn a_demo_has_the_span_of_its_drawing(rt: HostRuntime) -> Result<(), Fail> {
     let alloc = rt.alloc();
-    let doc = demo(alloc, 5)?;
-    let placed = lay_out(alloc, &doc)?;
-    let span = match placed.levels.as_slice().first() {
-        Some(Some(certificate)) => certificate.span,
-        _ => 0,
-    };
-    assert_eq!(rt; span, 6);
-    let mut words = Vec::new(alloc);
-    words.push(String::from_str(alloc, "demo")?)?;
-    words.push(String::from_str(alloc, "5")?)?;
+    assert_eq!(rt; demo_span(alloc)?, 6);
     let mut source = MemSource::new(Vec::new(alloc), 1, Vec::new(alloc));
     let mut out = MemSink::new(alloc, 64, 64, Vec::new(alloc))?;
     let mut notes = MemSink::new(alloc, 64, 64, Vec::new(alloc))?;
-    assert_eq!(rt; run(alloc, &words, &mut source, &mut out, &mut notes), 0);
+    let status = status_of(alloc, &["demo", "5"], &mut source, &mut out, &mut notes)?;
+    assert_eq!(rt; status, 0);
     assert_eq!(rt; out.taken(), "nodes 5 edges 5 weight 6 span 6\n".as_bytes());
     Ok(())
 }

@@ -1,4 +1,5 @@
 //! Words as a shell hands them in.
+use crate::drawings::words_of;
 use elk_words::{Command, command_of};
 use std::test::Fail;
 
@@ -39,10 +40,7 @@ fn words(rt: HostRuntime) -> Result<(), Fail> {
         (&["1", "demo"], None),
     ];
     for (words, want) in cases.iter() {
-        let mut list = Vec::new(alloc);
-        for word in words.iter() {
-            list.push(String::from_str(alloc, word)?)?;
-        }
+        let list = words_of(alloc, words)?;
         assert_eq!(rt; command_of(alloc, &list)?, *want);
     }
     Ok(())
