@@ -11,7 +11,7 @@ child_clear-requires c =
       child_in = search rules;
       fits = c.requires.fits;
       outlines = c.requires.outlines;
-      parallel = route_parallel _ _ _ c.requires.route;
+      parallel = route_parallel c.args.doc.now c.args.placed.now c.args.edge c.requires.route;
       bounds = subst (λ s. HoldsRoute c.bounds_of-bounds.result s) c.section.ensures c.bounds_of-bounds.ensures;
     }
 

@@ -9,8 +9,8 @@ use Rattle.check_routes.proofs.sharing.is_sharing.Goals as goal
 pub are_free-requires : goal.are_free-requires
 are_free-requires c =
     record {
-      one = subst AreParallel (sym c.section.ensures) (route_parallel _ _ _ c.requires.edge_route);
-      other = subst AreParallel (sym c.section-2.ensures) (route_parallel _ _ _ c.requires.other_route);
+      one = subst AreParallel (sym c.section.ensures) (route_parallel c.args.doc.now c.args.placed.now c.args.edge c.requires.edge_route);
+      other = subst AreParallel (sym c.section-2.ensures) (route_parallel c.args.doc.now c.args.placed.now c.args.other c.requires.other_route);
     }
 
 pub returns-then-are_free : goal.returns-then-are_free
