@@ -488,7 +488,7 @@ round_trip_is_spoilt =
     record {
       narrow = λ h. let w = (h.outlines 2 child2 tt).right in omega (arith, ints, w);
       standing_off = λ h. let k = ((h.children 1 child1).ports 0 (omega arith) refl).flush_outside (search rules) in omega (arith, ints, k);
-      slanting = λ h. ⊎_elim (λ q. omega (arith, ints, q.0)) (λ q. omega (arith, ints, q.1)) ((h.orthogonal (λ l. let t = l.0 in search rules)).steps 0 (omega arith));
+      slanting = λ h. ⊎_elim (λ q. omega (arith, ints, q.0)) (λ q. omega (arith, ints, q.1)) ((h.orthogonal (λ l. let t = ap (λ (k : Dock). k.node) l in search rules)).steps 0 (omega arith));
       entering = λ h. h.own (inr refl) 0 (omega arith) (record { k = 1; k_above = omega arith; point = at_xy 77 27; on_segment = omega (arith, ints, clamps); inside = omega (arith, ints) });
       unlisted = λ h.
           h.acyclic 1 2 (step_there (record one_back { reversed = [] }) (λ n. absurd (search rules)))
