@@ -118,30 +118,39 @@ fn before_and_after(
     Ok((before, after))
 }
 
-#[test]
-fn two_beside_two(rt: HostRuntime) -> Result<(), Fail> {
-    let alloc = rt.alloc();
+// The crossings of two links that cross.
+fn of_two_that_cross(alloc: Global) -> Result<(u64, u64), AllocError> {
     let crossing = two_by_two(alloc, 3, 2)?;
     let crossing_rows = two_rows(alloc)?;
-    let (before, after) = before_and_after(alloc, &crossing, crossing_rows)?;
-    assert_eq!(rt; before, 1);
-    assert_eq!(rt; after, 0);
+    before_and_after(alloc, &crossing, crossing_rows)
+}
+
+// The order of two links that don't cross.
+fn kept_order(alloc: Global) -> Result<Order, AllocError> {
     let straight = two_by_two(alloc, 2, 3)?;
     let straight_rows = two_rows(alloc)?;
-    let kept = reduce(alloc, &straight, straight_rows)?;
+    reduce(alloc, &straight, straight_rows)
+}
+
+#[test]
+fn two_beside_two(rt: HostRuntime) -> Result<(), Fail> {
+    assert_eq!(rt; of_two_that_cross(rt.alloc())?, (1, 0));
+    let kept = kept_order(rt.alloc())?;
     assert_eq!(rt; kept.rows.len(), 2);
     assert_eq!(rt; kept.rows[0].as_slice(), [0, 1].as_slice());
     assert_eq!(rt; kept.rows[1].as_slice(), [2, 3].as_slice());
     Ok(())
 }
 
-#[test]
-fn five_beside_five(rt: HostRuntime) -> Result<(), Fail> {
-    let alloc = rt.alloc();
+// The crossings of five units beside five.
+fn of_five_beside_five(alloc: Global) -> Result<(u64, u64), AllocError> {
     let layered = five_by_five(alloc)?;
     let rows = five_rows(alloc)?;
-    let (before, after) = before_and_after(alloc, &layered, rows)?;
-    assert_eq!(rt; before, 7);
-    assert_eq!(rt; after, 0);
+    before_and_after(alloc, &layered, rows)
+}
+
+#[test]
+fn five_beside_five(rt: HostRuntime) -> Result<(), Fail> {
+    assert_eq!(rt; of_five_beside_five(rt.alloc())?, (7, 0));
     Ok(())
 }

@@ -1,14 +1,18 @@
 //! The least heights of the fork.
 use crate::forks::{forked, forked_rows};
-use ns_place::place_least;
+use ns_place::{LeastPlacing, place_least};
+use std::alloc::{AllocError, Global};
 use std::test::Fail;
+
+fn placing(alloc: Global) -> Result<LeastPlacing, AllocError> {
+    let layered = forked(alloc)?;
+    let rows = forked_rows(alloc)?;
+    place_least(alloc, &layered, &rows)
+}
 
 #[test]
 fn one_beside_two(rt: HostRuntime) -> Result<(), Fail> {
-    let alloc = rt.alloc();
-    let layered = forked(alloc)?;
-    let rows = forked_rows(alloc)?;
-    let placing = place_least(alloc, &layered, &rows)?;
+    let placing = placing(rt.alloc())?;
     assert_eq!(rt; placing.height, 40);
     assert_eq!(rt; placing.link_flow.as_slice(), [-1, 1].as_slice());
     let pairs = placing.pairs.as_slice();

@@ -2,20 +2,26 @@
 use crate::forks::{forked, forked_rows};
 use elk_doc::document::Sweep;
 use row_alignment::align;
+use std::alloc::{AllocError, Global};
 use std::test::Fail;
+
+fn level_links(alloc: Global, sweep: Sweep) -> Result<Vec<u32>, AllocError> {
+    let layered = forked(alloc)?;
+    let rows = forked_rows(alloc)?;
+    let chosen = align(alloc, &layered, &rows, sweep)?;
+    Ok(chosen.links)
+}
 
 #[test]
 fn one_beside_two(rt: HostRuntime) -> Result<(), Fail> {
-    let alloc = rt.alloc();
-    let layered = forked(alloc)?;
-    let rows = forked_rows(alloc)?;
-    let left_up = align(alloc, &layered, &rows, Sweep::LeftUp)?;
-    assert_eq!(rt; left_up.links.as_slice(), [0].as_slice());
-    let left_down = align(alloc, &layered, &rows, Sweep::LeftDown)?;
-    assert_eq!(rt; left_down.links.as_slice(), [1].as_slice());
-    let right_up = align(alloc, &layered, &rows, Sweep::RightUp)?;
-    assert_eq!(rt; right_up.links.as_slice(), [0].as_slice());
-    let right_down = align(alloc, &layered, &rows, Sweep::RightDown)?;
-    assert_eq!(rt; right_down.links.as_slice(), [1].as_slice());
+    for (sweep, link) in [
+        (Sweep::LeftUp, 0),
+        (Sweep::LeftDown, 1),
+        (Sweep::RightUp, 0),
+        (Sweep::RightDown, 1),
+    ] {
+        let links = level_links(rt.alloc(), sweep)?;
+        assert_eq!(rt; links.as_slice(), [link].as_slice());
+    }
     Ok(())
 }

@@ -2,6 +2,7 @@
 ghost use Rattle.std.specs.Prelude.{◌≡◌, [], ◌∷◌, pos, IfOk};
 ghost use Rattle.route_lines.specs.Points.{plain_gap};
 
+use elk_doc::drawing::Section;
 use elk_doc::shape::Point;
 use route_lines::{Gap, Step, Trace, join, tidy};
 use route_slots::{Net, NetRoute, Pin, Slots};
@@ -69,8 +70,8 @@ fn pin(on_left: bool, height: i64) -> Pin
     Pin { on_left, height }
 }
 
-#[test]
-fn a_route_passes_gaps_and_a_lane(rt: HostRuntime) -> Result<(), Fail> {
+// A route through two gaps and a lane.
+fn section(alloc: Global) -> Result<Section, AllocError> {
     let near = Borders {
         left: 10,
         first: 20,
@@ -95,10 +96,10 @@ fn a_route_passes_gaps_and_a_lane(rt: HostRuntime) -> Result<(), Fail> {
         second: 1,
     };
     let gaps = [
-        gap_of(rt.alloc(), near, up, NetRoute::One { slot: 0 })?,
-        gap_of(rt.alloc(), far, back, split)?,
+        gap_of(alloc, near, up, NetRoute::One { slot: 0 })?,
+        gap_of(alloc, far, back, split)?,
     ];
-    let steps = vec![in rt.alloc();
+    let steps = vec![in alloc;
         Step::Leg {
             gap: 0,
             net: 0,
@@ -116,7 +117,12 @@ fn a_route_passes_gaps_and_a_lane(rt: HostRuntime) -> Result<(), Fail> {
         steps,
         end: Point { x: 200, y: 90 },
     };
-    let section = join(rt.alloc(), &gaps, &trace)?;
+    join(alloc, &gaps, &trace)
+}
+
+#[test]
+fn a_route_passes_gaps_and_a_lane(rt: HostRuntime) -> Result<(), Fail> {
+    let section = section(rt.alloc())?;
     assert_eq!(rt; section.start, Point { x: 0, y: 5 });
     assert_eq!(rt; section.end, Point { x: 200, y: 90 });
     let bends = [

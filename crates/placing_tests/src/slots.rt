@@ -1,7 +1,10 @@
 //! Small gaps.
+ghost use Rattle.std.specs.Prelude.{◌≤◌, ◌^◌, length};
+ghost use Rattle.std.specs.List.{All};
 ghost use Rattle.route_slots.specs.GapFree.{IsNet, AreHeights};
 
-use route_slots::{Net, NetRoute, Pin, assign};
+use route_slots::{Net, NetRoute, Pin, Slots, assign};
+use std::alloc::{AllocError, Global};
 use std::test::Fail;
 
 // A net from the left to the right.
@@ -21,9 +24,18 @@ fn net(left: u32, right: u32) -> Net
     }
 }
 
+// The slots of nets, of which nothing more is known.
+fn assigned(alloc: Global, nets: &[Net]) -> Result<Slots, AllocError>
+    requires few { length nets.now ≤ 2 ^ 24 }
+    requires pins { All IsNet nets.now }
+    requires heights { All AreHeights nets.now }
+{
+    assign(alloc, nets)
+}
+
 #[test]
 fn pins_at_one_height_are_joined_straight(rt: HostRuntime) -> Result<(), Fail> {
-    let slots = assign(rt.alloc(), &[net(5, 5)])?;
+    let slots = assigned(rt.alloc(), &[net(5, 5)])?;
     assert_eq!(rt; slots.count, 0);
     assert_eq!(rt; slots.routes.len(), 1);
     assert!(rt; matches!(slots.routes[0], NetRoute::Straight));
@@ -32,7 +44,7 @@ fn pins_at_one_height_are_joined_straight(rt: HostRuntime) -> Result<(), Fail> {
 
 #[test]
 fn pieces_that_do_not_meet_share_a_slot(rt: HostRuntime) -> Result<(), Fail> {
-    let slots = assign(rt.alloc(), &[net(0, 10), net(20, 30)])?;
+    let slots = assigned(rt.alloc(), &[net(0, 10), net(20, 30)])?;
     assert_eq!(rt; slots.count, 1);
     assert_eq!(rt; slots.routes.len(), 2);
     assert!(rt; matches!(slots.routes[0], NetRoute::One { slot: 0 }));
@@ -42,7 +54,7 @@ fn pieces_that_do_not_meet_share_a_slot(rt: HostRuntime) -> Result<(), Fail> {
 
 #[test]
 fn there_are_as_many_slots_as_pieces_meet(rt: HostRuntime) -> Result<(), Fail> {
-    let slots = assign(rt.alloc(), &[net(0, 10), net(5, 15), net(20, 30)])?;
+    let slots = assigned(rt.alloc(), &[net(0, 10), net(5, 15), net(20, 30)])?;
     assert_eq!(rt; slots.count, 2);
     assert_eq!(rt; slots.routes.len(), 3);
     for route in &slots.routes {
@@ -53,7 +65,7 @@ fn there_are_as_many_slots_as_pieces_meet(rt: HostRuntime) -> Result<(), Fail> {
 
 #[test]
 fn a_chain_of_conflicts_is_not_cut(rt: HostRuntime) -> Result<(), Fail> {
-    let slots = assign(rt.alloc(), &[net(0, 10), net(10, 20)])?;
+    let slots = assigned(rt.alloc(), &[net(0, 10), net(10, 20)])?;
     assert_eq!(rt; slots.routes.len(), 2);
     match slots.routes[0] {
         NetRoute::One { slot: later } => match slots.routes[1] {
@@ -67,7 +79,7 @@ fn a_chain_of_conflicts_is_not_cut(rt: HostRuntime) -> Result<(), Fail> {
 
 #[test]
 fn a_cycle_of_conflicts_is_cut(rt: HostRuntime) -> Result<(), Fail> {
-    let slots = assign(rt.alloc(), &[net(1, 2), net(2, 1)])?;
+    let slots = assigned(rt.alloc(), &[net(1, 2), net(2, 1)])?;
     assert_eq!(rt; slots.routes.len(), 2);
     let mut split = false;
     for route in &slots.routes {
@@ -82,7 +94,7 @@ fn a_cycle_of_conflicts_is_cut(rt: HostRuntime) -> Result<(), Fail> {
 
 #[test]
 fn of_two_nets_that_exchange_heights_one_turns_between(rt: HostRuntime) -> Result<(), Fail> {
-    let slots = assign(rt.alloc(), &[net(0, 20), net(20, 0)])?;
+    let slots = assigned(rt.alloc(), &[net(0, 20), net(20, 0)])?;
     assert_eq!(rt; slots.count, 3);
     assert_eq!(rt; slots.routes.len(), 2);
     assert!(rt; matches!(slots.routes[0], NetRoute::One { slot: 1 }));
@@ -101,7 +113,7 @@ fn of_two_nets_that_exchange_heights_one_turns_between(rt: HostRuntime) -> Resul
 
 #[test]
 fn of_three_nets_on_a_cycle_one_is_split(rt: HostRuntime) -> Result<(), Fail> {
-    let slots = assign(rt.alloc(), &[net(0, 10), net(10, 20), net(20, 0)])?;
+    let slots = assigned(rt.alloc(), &[net(0, 10), net(10, 20), net(20, 0)])?;
     assert_eq!(rt; slots.count, 4);
     assert_eq!(rt; slots.routes.len(), 3);
     assert!(rt; matches!(slots.routes[0], NetRoute::One { slot: 2 }));
@@ -122,7 +134,7 @@ fn of_three_nets_on_a_cycle_one_is_split(rt: HostRuntime) -> Result<(), Fail> {
 #[test]
 fn nets_of_a_hub_do_not_cross(rt: HostRuntime) -> Result<(), Fail> {
     let nets = [net(100, 1), net(102, 51), net(104, 151), net(106, 201)];
-    let slots = assign(rt.alloc(), &nets)?;
+    let slots = assigned(rt.alloc(), &nets)?;
     assert_eq!(rt; slots.count, 2);
     assert_eq!(rt; slots.routes.len(), 4);
     assert!(rt; matches!(slots.routes[0], NetRoute::One { slot: 0 }));

@@ -1,4 +1,6 @@
 //! Fifty long edges drawn by lot: the lanes of each stand at one height.
+ghost use Rattle.elk_layers.specs.Layered.{plain, rows_of, IsSound, AreRows};
+
 use crate::checks::{are_rows, is_sound};
 use bk_place::place;
 use elk_doc::document::Sweep;
@@ -152,6 +154,19 @@ fn level_lanes(layered: &Layered, lines: &Lines) -> (usize, usize) {
     (inner, level)
 }
 
+// The lines of a sweep, of which nothing more is known.
+fn placed(
+    alloc: Global,
+    layered: &Layered,
+    order: &Order,
+    fixed: Option<Sweep>,
+) -> Result<Lines, AllocError>
+    requires sound { IsSound (plain layered.now) }
+    requires rows { AreRows (plain layered.now) (rows_of order.now) }
+{
+    place(alloc, layered, order, fixed)
+}
+
 #[test]
 fn long_edges_come_out_straight(rt: HostRuntime) -> Result<(), Fail> {
     let alloc = rt.alloc();
@@ -167,7 +182,7 @@ fn long_edges_come_out_straight(rt: HostRuntime) -> Result<(), Fail> {
         Some(Sweep::RightUp),
         Some(Sweep::RightDown),
     ] {
-        let lines = place(alloc, &layered, &order, fixed)?;
+        let lines = placed(alloc, &layered, &order, fixed)?;
         let (inner, level) = level_lanes(&layered, &lines);
         assert!(rt; inner > 100);
         assert_eq!(rt; level, inner);

@@ -2,16 +2,21 @@
 use crate::forks::{forked, forked_rows};
 use bk_place::place;
 use elk_doc::document::Sweep;
+use elk_layers::Lines;
+use std::alloc::{AllocError, Global};
 use std::test::Fail;
+
+fn placed(alloc: Global, fixed: Option<Sweep>) -> Result<Lines, AllocError> {
+    let layered = forked(alloc)?;
+    let rows = forked_rows(alloc)?;
+    place(alloc, &layered, &rows, fixed)
+}
 
 #[test]
 fn one_beside_two(rt: HostRuntime) -> Result<(), Fail> {
-    let alloc = rt.alloc();
-    let layered = forked(alloc)?;
-    let rows = forked_rows(alloc)?;
-    let lowest = place(alloc, &layered, &rows, None)?;
-    assert_eq!(rt; lowest.top.as_slice(), [5, 0, 50].as_slice());
-    let fixed = place(alloc, &layered, &rows, Some(Sweep::LeftUp))?;
-    assert_eq!(rt; fixed.top.as_slice(), [5, 0, 50].as_slice());
+    for fixed in [None, Some(Sweep::LeftUp)] {
+        let lines = placed(rt.alloc(), fixed)?;
+        assert_eq!(rt; lines.top.as_slice(), [5, 0, 50].as_slice());
+    }
     Ok(())
 }
