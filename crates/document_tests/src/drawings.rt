@@ -4,9 +4,7 @@ ghost use Rattle.elk_doc.specs.declared.document.Direction.TheVariants.{Right};
 ghost use Rattle.elk_doc.specs.declared.document.PortRule.TheVariants.{Free};
 ghost use Rattle.elk_doc.specs.Examples.{root, leaf_named, two_nodes};
 
-use elk_doc::document::{
-    Direction, Doc, Edge, End, Id, LevelOptions, Node, Padding, Placing, PortRule, Spacing,
-};
+use elk_doc::document::{Direction, Doc, Edge, End, Id, Node, PortRule, default_options};
 use elk_doc::drawing::{Certificate, Placed, Section};
 use elk_doc::form::fits;
 use elk_doc::list::Items;
@@ -27,28 +25,7 @@ fn make_root() -> Node
             height: 0,
         },
         rule: PortRule::Free,
-        level: Some(LevelOptions {
-            direction: Direction::Right,
-            spacing: Spacing {
-                node_node: 20,
-                edge_node: 10,
-                edge_edge: 10,
-                node_layers: 20,
-                edge_node_layers: 10,
-                edge_edge_layers: 10,
-            },
-            padding: Padding {
-                top: 12,
-                left: 12,
-                bottom: 12,
-                right: 12,
-            },
-            fixed: None,
-            split: false,
-            component: 20,
-            placing: Placing::BrandesKoepf,
-            boxes: false,
-        }),
+        level: Some(default_options(Direction::Right)),
     }
 }
 

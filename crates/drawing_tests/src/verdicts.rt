@@ -2,9 +2,7 @@
 ghost use Rattle.std.specs.Prelude.{◌≡◌, IfOk, Some};
 ghost use Rattle.drawing_tests.specs.Example.{nested, compound, leaf_of, west_port, plain_edge};
 
-use elk_doc::document::{
-    Direction, Doc, Edge, End, Id, LevelOptions, Node, Padding, Placing, Port, PortRule, Spacing,
-};
+use elk_doc::document::{Direction, Doc, Edge, End, Id, Node, Port, PortRule, default_options};
 use elk_doc::drawing::{Certificate, Placed, Section};
 use elk_doc::form::fits;
 use elk_doc::list::Items;
@@ -25,28 +23,7 @@ fn make_compound(id: Option<Id>, parent: Option<u32>) -> Node
             height: 0,
         },
         rule: PortRule::Free,
-        level: Some(LevelOptions {
-            direction: Direction::Right,
-            spacing: Spacing {
-                node_node: 20,
-                edge_node: 10,
-                edge_edge: 10,
-                node_layers: 20,
-                edge_node_layers: 10,
-                edge_edge_layers: 10,
-            },
-            padding: Padding {
-                top: 12,
-                left: 12,
-                bottom: 12,
-                right: 12,
-            },
-            fixed: None,
-            split: false,
-            component: 20,
-            placing: Placing::BrandesKoepf,
-            boxes: false,
-        }),
+        level: Some(default_options(Direction::Right)),
     }
 }
 

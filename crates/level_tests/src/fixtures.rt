@@ -1,13 +1,12 @@
 //! Children, distances and small levels that several tests draw.
 ghost use Rattle.std.specs.Prelude.{◌≡◌, [], None, IfOk};
-ghost use Rattle.elk_doc.specs.Examples.{options};
 ghost use Rattle.elk_layers.specs.Layered.{plain};
 ghost use Rattle.level_nets.specs.Worked as worked;
 ghost use Rattle.level_plan.specs.Conditions.{plain_level};
 ghost use Rattle.level_plan.specs.Examples as examples;
 ghost use Rattle.level_parts.specs.Examples as parted;
 
-use elk_doc::document::{Direction, LevelOptions, Padding, Placing, PortRule, Spacing};
+use elk_doc::document::{Direction, Placing, PortRule, Spacing, default_options};
 use elk_doc::list::Items;
 use elk_doc::shape::{Dock, Point, Rect, Side, Size};
 use elk_layers::{Layered, Link, Unit};
@@ -19,35 +18,7 @@ use std::alloc::{AllocError, Global};
 pub(crate) fn distances() -> Spacing
     ensures { result ≡ examples.spacing }
 {
-    Spacing {
-        node_node: 20,
-        edge_node: 10,
-        edge_edge: 10,
-        node_layers: 20,
-        edge_node_layers: 10,
-        edge_edge_layers: 10,
-    }
-}
-
-/// The default options, with this direction.
-pub(crate) fn level_options(way: Direction) -> LevelOptions
-    ensures { result ≡ options way }
-{
-    LevelOptions {
-        direction: way,
-        spacing: distances(),
-        padding: Padding {
-            top: 12,
-            left: 12,
-            bottom: 12,
-            right: 12,
-        },
-        fixed: None,
-        split: false,
-        component: 20,
-        placing: Placing::BrandesKoepf,
-        boxes: false,
-    }
+    default_options(Direction::Right).spacing
 }
 
 /// A child of 30 by 30 without ports.

@@ -2,9 +2,8 @@
 ghost use Rattle.std.specs.Prelude.{◌≡◌, IfOk};
 ghost use Rattle.document_root.specs.Examples.{port_with, rooted};
 
-use crate::fixtures::level_options;
 use document_root::place_root_ports;
-use elk_doc::document::{Direction, Doc, Id, Node, Port, PortRule};
+use elk_doc::document::{Direction, Doc, Id, Node, Port, PortRule, default_options};
 use elk_doc::shape::{Point, Rect, Side, Size};
 use level_reading::index_of;
 use level_writing::{Canvas, blank};
@@ -44,7 +43,7 @@ fn make_document(
             height: 0,
         },
         rule,
-        level: Some(level_options(way)),
+        level: Some(default_options(way)),
     };
     let mut nodes = Vec::new(alloc);
     nodes.push(root)?;

@@ -4,9 +4,8 @@ ghost use Rattle.std.specs.Prelude.{◌≡◌, IfOk};
 ghost use Rattle.level_writing.specs.Written.{rows_in};
 ghost use Rattle.level_tests.specs.Turning as turning;
 
-use crate::fixtures::level_options;
 use elk_doc::document::{
-    Direction, Doc, Edge, End, Id, LevelOptions, Node, Padding, Port, PortRule,
+    Direction, Doc, Edge, End, Id, LevelOptions, Node, Padding, Port, PortRule, default_options,
 };
 use elk_doc::drawing::{Certificate, Placed, Section};
 use elk_doc::list::Items;
@@ -35,7 +34,7 @@ fn make_root(way: Direction) -> Node
         rule: PortRule::Free,
         level: Some(LevelOptions {
             padding,
-            ..level_options(way)
+            ..default_options(way)
         }),
     }
 }
