@@ -4,6 +4,7 @@ use Rattle.std.specs.List.{range_with_len}
 use Rattle.elk_doc.specs.declared.document.Id.TheVariants.{Whole}
 use Rattle.elk_doc.specs.declared.document.PortRule.TheVariants.{Free}
 use Rattle.elk_doc.specs.declared.document.Direction.TheVariants.{Right}
+use Rattle.elk_doc.specs.declared.document.Placing.TheVariants.{BrandesKoepf}
 use Rattle.elk_doc.specs.declared.document.LevelOptions.{LevelOptions}
 use Rattle.elk_doc.specs.declared.document.Node.{Node}
 use Rattle.elk_doc.specs.declared.document.Edge.{Edge}

@@ -80,6 +80,7 @@ ref"#;
 const NEVER: u64 = 99;
 
 // A run: the words, the input in pieces of ten bytes, the calls that fail, the room of `out`, and what is wanted.
+#[derive(Clone, Copy)]
 struct Row {
     words: &'static [&'static str],
     input: &'static str,
@@ -455,7 +456,7 @@ struct Ran {
     notes: MemSink,
 }
 
-fn ran(alloc: Global, row: &Row) -> Result<Ran, AllocError> {
+fn run_row(alloc: Global, row: &Row) -> Result<Ran, AllocError> {
     let input = row.input.as_bytes().to_vec(alloc)?;
     let mut source = MemSource::new(input, 10, [row.read_fails].to_vec(alloc)?);
     let mut out = MemSink::new(alloc, row.room, 10, [row.out_fails].to_vec(alloc)?)?;
@@ -476,7 +477,7 @@ fn is_as_wanted(ran: &Ran, row: &Row) -> bool {
 fn rows(rt: HostRuntime) -> Result<(), Fail> {
     let alloc = rt.alloc();
     for (i, row) in ROWS.iter().enumerate() {
-        let found = ran(alloc, row)?;
+        let found = run_row(alloc, row)?;
         assert!(rt; is_as_wanted(&found, row), "row {i}");
     }
     Ok(())
@@ -504,7 +505,7 @@ fn other_words(rt: HostRuntime) -> Result<(), Fail> {
             out: "",
             notes: USAGE_NOTE,
         };
-        let found = ran(alloc, &row)?;
+        let found = run_row(alloc, &row)?;
         assert!(rt; is_as_wanted(&found, &row));
     }
     Ok(())
