@@ -10,6 +10,7 @@ pub mod StateLemmas
 pub mod SettledLemmas
 pub mod MeanLemmas
 pub mod SweepLemmas
+pub mod MeanOrder
 pub mod SweepLaws
 pub mod LoweringLemmas
 pub mod CopyLemmas
