@@ -1,5 +1,5 @@
 -- The visits with a last place for each layer are those of the definition.
-use Rattle.std.proofs.Common.{◌≡◌, ℕ, zero, suc, ◌+◌, ◌-◌, ◌/◌, ◌<◌, ◌==◌, ◌&&◌, ◌||◌, not, cond, List, [], ◌∷◌, ◌++◌, length, map, take, drop, reverse, get_or, set, Bool, true, false, Option, Some, None, arith, refl, sym, ◌∙◌, ap, subst, inl, inr, eq-eqb, ne_eqb, eqb-true, lt-ltb, le-ltb, append-nil, true≢false, replicate}
+use Rattle.std.proofs.Common.{◌≡◌, ℕ, zero, suc, ◌+◌, ◌-◌, ◌/◌, ◌<◌, ◌==◌, ◌&&◌, ◌||◌, not, List, [], ◌∷◌, ◌++◌, length, map, take, drop, reverse, get_or, set, Bool, true, false, Option, Some, None, arith, refl, sym, ◌∙◌, ap, subst, inl, inr, eq-eqb, ne_eqb, lt-ltb, le-ltb, append-nil, true≢false, replicate}
 use Rattle.std.proofs.lemmas.Bool.{cases_eq, cases_Bool, and_parts, ltb-true}
 use Rattle.std.specs.List.{All, list_all, concat, filter}
 use Rattle.std.proofs.lemmas.List.{length-map, get_or-map, get_or-set_same, get_or-set_other, length-set, take_more, get_or-reverse, length-reverse, get_or-drop, length-drop}
@@ -26,31 +26,6 @@ pub number_in : (n : ℕ) (fan : List Spoke) (i : ℕ) → All (λ k. k < n) (nu
 number_in n fan i all h =
     let at : get_or (numbers_of fan) i 0 ≡ (get_or fan i none).number = get_or-map (λ (s : Spoke). s.number) fan i none 0 h in
     subst (λ k. k < n) at (All-get_or (λ k. k < n) (numbers_of fan) i 0 (let long = length-map fan (λ (s : Spoke). s.number) in omega (arith, h, long)) all)
-
-pub choice_none : (sweep : Sweep) (links : List Link) (place : List ℕ) (marked : List Bool) (last : Option ℕ) (fan : List Spoke) → (length fan == 0) ≡ true → [] ≡ choice sweep links place marked last (numbers_of fan)
-choice_none sweep links place marked last [] e = refl
-choice_none sweep links place marked last (s ∷ fan) e = let z : length (s ∷ fan) ≡ 0 = eqb-true (length (s ∷ fan)) 0 e in absurd (omega (arith, z))
-
-medians_are : (up : Bool) (fan : List Spoke) → 0 < length fan
-    → medians_in up (numbers_of fan) ≡ cond up ((get_or fan ((length fan - 1) / 2) none).number ∷ (get_or fan (length fan / 2) none).number ∷ []) ((get_or fan (length fan / 2) none).number ∷ (get_or fan ((length fan - 1) / 2) none).number ∷ [])
-medians_are up [] h = absurd (omega (arith, h))
-medians_are up (s ∷ fan) h =
-    let long : length (numbers_of (s ∷ fan)) ≡ length (s ∷ fan) = length-map (s ∷ fan) (λ (s : Spoke). s.number) in
-    let low : get_or (numbers_of (s ∷ fan)) ((length (s ∷ fan) - 1) / 2) 0 ≡ (get_or (s ∷ fan) ((length (s ∷ fan) - 1) / 2) none).number = get_or-map (λ (s : Spoke). s.number) (s ∷ fan) ((length (s ∷ fan) - 1) / 2) none 0 (omega arith) in
-    let high : get_or (numbers_of (s ∷ fan)) (length (s ∷ fan) / 2) 0 ≡ (get_or (s ∷ fan) (length (s ∷ fan) / 2) none).number = get_or-map (λ (s : Spoke). s.number) (s ∷ fan) (length (s ∷ fan) / 2) none 0 (omega arith) in
-    let at : (n : ℕ) → n ≡ length (s ∷ fan)
-    → cond up (get_or (numbers_of (s ∷ fan)) ((n - 1) / 2) 0 ∷ get_or (numbers_of (s ∷ fan)) (n / 2) 0 ∷ []) (get_or (numbers_of (s ∷ fan)) (n / 2) 0 ∷ get_or (numbers_of (s ∷ fan)) ((n - 1) / 2) 0 ∷ [])
-    ≡ cond up ((get_or (s ∷ fan) ((length (s ∷ fan) - 1) / 2) none).number ∷ (get_or (s ∷ fan) (length (s ∷ fan) / 2) none).number ∷ []) ((get_or (s ∷ fan) (length (s ∷ fan) / 2) none).number ∷ (get_or (s ∷ fan) ((length (s ∷ fan) - 1) / 2) none).number ∷ []) =
-    λ n e. rw (e, low, high) refl in
-    at (length (numbers_of (s ∷ fan))) long
-
-pub choice_up : (sweep : Sweep) (links : List Link) (place : List ℕ) (marked : List Bool) (last : Option ℕ) (fan : List Spoke) → (length fan == 0) ≡ false → goes_up sweep ≡ true
-    → first_of (can_choose sweep links place marked last) ((get_or fan ((length fan - 1) / 2) none).number ∷ (get_or fan (length fan / 2) none).number ∷ []) ≡ choice sweep links place marked last (numbers_of fan)
-choice_up sweep links place marked last fan some up = sym (ap (first_of (can_choose sweep links place marked last)) (medians_are (goes_up sweep) fan (some_in fan some) ∙ ap (λ b. cond b ((get_or fan ((length fan - 1) / 2) none).number ∷ (get_or fan (length fan / 2) none).number ∷ []) ((get_or fan (length fan / 2) none).number ∷ (get_or fan ((length fan - 1) / 2) none).number ∷ [])) up))
-
-pub choice_down : (sweep : Sweep) (links : List Link) (place : List ℕ) (marked : List Bool) (last : Option ℕ) (fan : List Spoke) → (length fan == 0) ≡ false → goes_up sweep ≡ false
-    → first_of (can_choose sweep links place marked last) ((get_or fan (length fan / 2) none).number ∷ (get_or fan ((length fan - 1) / 2) none).number ∷ []) ≡ choice sweep links place marked last (numbers_of fan)
-choice_down sweep links place marked last fan some up = sym (ap (first_of (can_choose sweep links place marked last)) (medians_are (goes_up sweep) fan (some_in fan some) ∙ ap (λ b. cond b ((get_or fan ((length fan - 1) / 2) none).number ∷ (get_or fan (length fan / 2) none).number ∷ []) ((get_or fan (length fan / 2) none).number ∷ (get_or fan ((length fan - 1) / 2) none).number ∷ [])) up))
 
 -- tests that agree on the elements of a list
 

@@ -4,5 +4,6 @@ pub mod MarkLemmas
 pub mod SpokeLemmas
 pub mod VisitLemmas
 pub mod ChoosingLemmas
+pub mod MedianLemmas
 pub mod StraightLemmas
 pub mod LaneLemmas

@@ -1,20 +1,19 @@
 //! The visits: at each unit, the first of its medians that is free.
-ghost use Rattle.std.specs.Prelude.{◌≡◌, ℕ, ◌<◌, List, [], ◌∷◌, length, slice_index, IfOk, IfSome, OnOk};
-ghost use Rattle.std.specs.List.{All};
-ghost use Rattle.elk_layers.specs.Layered.{plain, rows_of, layer_of, link_at, IsSound, AreRows};
+ghost use Rattle.std.specs.Prelude.{◌≡◌, ◌<◌, [], length, IfOk, OnOk};
+ghost use Rattle.elk_layers.specs.Layered.{plain, rows_of, IsSound, AreRows};
 ghost use Rattle.elk_layers.specs.Alignment as spec;
 ghost use Rattle.elk_layers.specs.Straight.{AreStraight};
 ghost use Rattle.row_alignment.specs.Choosing as choosing;
-ghost use Rattle.row_alignment.specs.Choosing.{as_list, choice, last_at, AreLast, CanVisit, VisitsTo, IsMarked};
-ghost use Rattle.row_alignment.specs.Spokes.{numbers_of, AreFirsts, is_of};
-ghost use Rattle.std.specs.List.{filter};
+ghost use Rattle.row_alignment.specs.Choosing.{AreLast, IsMarked};
+ghost use Rattle.row_alignment.specs.Medians as spec_medians;
+ghost use Rattle.row_alignment.specs.Medians.{CanTake, Takes};
 
-use crate::ends::{far_end, goes_up};
+use crate::ends::goes_up;
 use crate::marking::marks;
-use crate::spokes::{Spoke, fan, firsts_of, spokes_of};
+use crate::medians::{Median, Medians, medians_by_unit};
 use crate::visiting::visits;
 use elk_doc::document::Sweep;
-use elk_layers::{Layered, Link, Order, places};
+use elk_layers::{Layered, Order, places};
 use std::alloc::{AllocError, Global};
 
 /// Links by number, in the order in which a sweep chose them.
@@ -44,121 +43,59 @@ fn is_past(sweep: Sweep, last: Option<u32>, here: u32) -> bool
     }
 }
 
-/// The place of a link's far end.
-fn far_place(sweep: Sweep, links: &[Link], place: &[u32], k: u32) -> u32
-    requires link { k < length links.now }
-    requires far { spec.far_end sweep (link_at links.now k) < length place.now }
-    ensures { result ≡ slice_index place.now (spec.far_end sweep (link_at links.now k)) }
+/// Whether a median's far end lies beyond the last one, if there is one.
+fn is_open(sweep: Sweep, last: Option<u32>, median: Option<Median>) -> bool
+    ensures { result ≡ spec_medians.is_open sweep last median }
 {
-    let link = links[k as usize];
-    place[far_end(sweep, link) as usize]
+    match median {
+        None => false,
+        Some(median) => is_past(sweep, last, median.place),
+    }
 }
 
-/// Whether the link is not marked, and its far end lies beyond the last one.
-fn can_choose(
+/// The first of two medians whose far end lies beyond the last one.
+fn first_open(
     sweep: Sweep,
-    links: &[Link],
-    place: &[u32],
-    marked: &[bool],
     last: Option<u32>,
-    k: u32,
-) -> bool
-    requires link { k < length links.now }
-    requires marked { length marked.now ≡ length links.now }
-    requires far { spec.far_end sweep (link_at links.now k) < length place.now }
-    ensures { result ≡ choosing.can_choose sweep links.now place.now marked.now last k }
+    first: Option<Median>,
+    second: Option<Median>,
+) -> Option<Median>
+    ensures { result ≡ spec_medians.first_open sweep last first second }
 {
-    if marked[k as usize] {
-        return false;
+    if is_open(sweep, last, first) {
+        return first;
     }
-    is_past(sweep, last, far_place(sweep, links, place, k))
-}
-
-/// The first of two links that can be chosen.
-fn first_of_two(
-    sweep: Sweep,
-    links: &[Link],
-    place: &[u32],
-    marked: &[bool],
-    last: Option<u32>,
-    first: u32,
-    second: u32,
-) -> Option<u32>
-    requires first { first < length links.now }
-    requires second { second < length links.now }
-    requires marked { length marked.now ≡ length links.now }
-    requires far { (k : ℕ) → k < length links.now → spec.far_end sweep (link_at links.now k) < length place.now }
-    ensures known { IfSome result (λ k. k < length links.now) }
-    ensures first { as_list result ≡ spec.first_of (choosing.can_choose sweep links.now place.now marked.now last) (first ∷ second ∷ []) }
-{
-    if can_choose(sweep, links, place, marked, last, first) {
-        return Some(first);
-    }
-    if can_choose(sweep, links, place, marked, last, second) {
-        return Some(second);
+    if is_open(sweep, last, second) {
+        return second;
     }
     None
 }
 
-/// The first of the medians of these links that can be chosen.
-fn choose(
-    sweep: Sweep,
-    links: &[Link],
-    place: &[u32],
-    marked: &[bool],
-    last: Option<u32>,
-    fan: &[Spoke],
-) -> Option<u32>
-    requires fan { All (λ k. k < length links.now) (numbers_of fan.now) }
-    requires marked { length marked.now ≡ length links.now }
-    requires far { (k : ℕ) → k < length links.now → spec.far_end sweep (link_at links.now k) < length place.now }
-    ensures known { IfSome result (λ k. k < length links.now) }
-    ensures choice { as_list result ≡ choice sweep links.now place.now marked.now last (numbers_of fan.now) }
+/// The first of a unit's medians that can be chosen.
+fn taken(sweep: Sweep, last: Option<u32>, medians: Medians) -> Option<Median>
+    ensures { result ≡ spec_medians.taken sweep last medians }
 {
-    if fan.is_empty() {
-        return None;
-    }
-    let low = fan[(fan.len() - 1) / 2].number;
-    let high = fan[fan.len() / 2].number;
     if goes_up(sweep) {
-        first_of_two(sweep, links, place, marked, last, low, high)
+        first_open(sweep, last, medians.low, medians.high)
     } else {
-        first_of_two(sweep, links, place, marked, last, high, low)
+        first_open(sweep, last, medians.high, medians.low)
     }
 }
 
-/// Visits a unit: adds the link that it chooses, and notes the place of its far end.
+/// Visits a unit with these medians: adds the link that it chooses, and notes the place of its far end.
 fn visit(
-    layered: &Layered,
     sweep: Sweep,
-    place: &[u32],
-    marked: &[bool],
-    spokes: &[Spoke],
-    firsts: &[u32],
+    medians: Medians,
     last: &mut [Option<u32>],
     chosen: &mut Vec<u32>,
-    unit: u32,
 ) -> Result<(), AllocError>
-    requires can { (rows : List (List ℕ)) × CanVisit (plain layered.now) rows sweep place.now marked.now spokes.now }
-    requires firsts { AreFirsts spokes.now (length (plain layered.now).units) firsts.now }
-    requires unit { unit < length (plain layered.now).units }
-    requires last { length last.old ≡ (plain layered.now).layers }
-    ensures { OnOk result (VisitsTo (plain layered.now) sweep place.now marked.now (numbers_of (filter (is_of unit) spokes.now)) (layer_of (plain layered.now) unit) chosen.old.items chosen.new.items last.old last.new) }
+    requires layer { medians.layer < length last.old }
+    ensures { OnOk result (Takes sweep medians chosen.old.items chosen.new.items last.old last.new) }
 {
-    let units = layered.units.as_slice();
-    let links = layered.links.as_slice();
-    let layer = units[unit as usize].layer as usize;
-    let found = choose(
-        sweep,
-        links,
-        place,
-        marked,
-        last[layer],
-        fan(spokes, firsts, unit),
-    );
-    if let Some(k) = found {
-        chosen.push(k)?;
-        last[layer] = Some(far_place(sweep, links, place, k));
+    let layer = medians.layer as usize;
+    if let Some(median) = taken(sweep, last[layer], medians) {
+        chosen.push(median.number)?;
+        last[layer] = Some(median.place);
     }
     Ok(())
 }
@@ -169,31 +106,17 @@ fn visit_all(
     layered: &Layered,
     order: &Order,
     sweep: Sweep,
-    place: &[u32],
-    marked: &[bool],
-    spokes: &[Spoke],
-    firsts: &[u32],
+    table: &[Medians],
     last: &mut [Option<u32>],
 ) -> Result<Vec<u32>, AllocError>
-    requires can { CanVisit (plain layered.now) (rows_of order.now) sweep place.now marked.now spokes.now }
-    requires firsts { AreFirsts spokes.now (length (plain layered.now).units) firsts.now }
+    requires can { CanTake (plain layered.now) (rows_of order.now) sweep table.now }
     requires last { AreLast (plain layered.now) (rows_of order.now) sweep [] last.old }
     ensures { IfOk result (λ v. v.items ≡ spec.aligned (plain layered.now) (rows_of order.now) sweep) }
 {
-    let mut chosen: Vec<u32> = Vec::new(alloc);
     let visited = visits(alloc, order, sweep)?;
+    let mut chosen: Vec<u32> = Vec::with_capacity(alloc, visited.len())?;
     for unit in visited.as_slice() {
-        visit(
-            layered,
-            sweep,
-            place,
-            marked,
-            spokes,
-            firsts,
-            last,
-            &mut chosen,
-            *unit,
-        )?;
+        visit(sweep, table[*unit as usize], last, &mut chosen)?;
     }
     Ok(chosen)
 }
@@ -236,19 +159,14 @@ pub fn align_marked(
     ensures chosen { IfOk result (λ a. a.links.items ≡ spec.aligned (plain layered.now) (rows_of order.now) sweep) }
     ensures straight { IfOk result (λ a. AreStraight (plain layered.now) (rows_of order.now) a.links.items) }
 {
-    let place = known.place.as_slice();
-    let spokes = spokes_of(alloc, layered, sweep, place)?;
-    let firsts = firsts_of(alloc, spokes.as_slice(), layered.units.as_slice().len())?;
+    let table = medians_by_unit(alloc, layered, known, sweep)?;
     let mut last: Vec<Option<u32>> = vec![in alloc; None; order.rows.as_slice().len()]?;
     let links = visit_all(
         alloc,
         layered,
         order,
         sweep,
-        place,
-        known.marked.as_slice(),
-        spokes.as_slice(),
-        firsts.as_slice(),
+        table.as_slice(),
         last.as_mut_slice(),
     )?;
     Ok(Alignment { links })

@@ -9,6 +9,7 @@ mod choosing;
 mod ends;
 pub mod laws;
 mod marking;
+mod medians;
 mod reaching;
 mod spokes;
 mod visiting;

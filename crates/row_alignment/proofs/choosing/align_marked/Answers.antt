@@ -4,32 +4,22 @@ use Rattle.elk_layers.specs.Layered.{plain, rows_of}
 use Rattle.row_alignment.proofs.ChoosingLemmas.{last_start, nothing_noted}
 use Rattle.elk_layers.specs.Straight.{AreStraight}
 use Rattle.row_alignment.proofs.StraightLemmas.{aligned_straight}
-use Rattle.row_alignment.proofs.SpokeLemmas.{spokes_few}
 use Rattle.row_alignment.proofs.choosing.align_marked.Goals as goal
 
+pub medians_by_unit-requires-clause-known : goal.medians_by_unit-requires-clause-known
+medians_by_unit-requires-clause-known c = (rows_of c.args.order.now, c.requires.rows, c.requires.known)
+
 pub visit_all-requires-clause-can : goal.visit_all-requires-clause-can
-visit_all-requires-clause-can c =
-    rw (c.as_slice-place.ensures.value, c.as_slice-4.ensures.value, c.as_slice-5.ensures.value)
-    (record {
-      sound = c.requires.sound;
-      are_rows = c.requires.rows;
-      places = c.requires.known.places;
-      marks = c.requires.known.marks;
-      spokes_are = rw c.as_slice-place.ensures.value at c.in_ok-spokes.ensures;
-    })
+visit_all-requires-clause-can c = rw c.as_slice-2.ensures.value (c.in_ok-table.ensures (rows_of c.args.order.now) c.requires.rows c.requires.known)
 
 pub visit_all-requires-clause-last : goal.visit_all-requires-clause-last
 visit_all-requires-clause-last c =
     let items = c.in_ok-last.ensures.items_if_clones_equal (λ y e. search rules) in
     let long = length-map c.args.order.now.rows.items (λ v. v.items) in
-    let same = ap length c.as_slice-3.ensures.value in
+    let same = ap length c.as_slice.ensures.value in
     let many = c.requires.rows.as_many in
     rw (c.as_mut_slice.ensures.value, items)
     (last_start (plain c.args.layered.now) (rows_of c.args.order.now) c.args.sweep _ (length-replicate _ _ ∙ omega (arith, long, same, many)) (nothing_noted _))
-
-pub firsts_of-requires-clause-few : goal.firsts_of-requires-clause-few
-firsts_of-requires-clause-few c =
-    rw c.as_slice.ensures.value (spokes_few (plain c.args.layered.now) c.args.sweep c.as_slice-place.result.now c.in_ok-spokes.spokes.items c.requires.sound c.in_ok-spokes.ensures)
 
 pub returns-clause-straight : goal.returns-clause-straight
 returns-clause-straight c =
