@@ -1,7 +1,8 @@
 -- Bounds that grow, and parts that stand apart where their bounds do.
-use Rattle.std.proofs.Common.{◌≡◌, ℕ, ◌<◌, ◌≤◌, ◌≤ℤ◌, Bool, ℤ, List, length, set, get_or-set_same, get_or-set_other, arith, sym, subst, inl, inr, true, false, ⊎_elim}
+use Rattle.std.proofs.Common.{SFits, of_z, to_z, ◌≡◌, ℕ, ◌<◌, ◌≤◌, ◌≤ℤ◌, Bool, ℤ, List, length, set, get_or-set_same, get_or-set_other, arith, sym, subst, inl, inr, true, false, ⊎_elim}
 use Rattle.std.proofs.lemmas.Bool.{cases_eq, cases_lt}
-use Rattle.std.proofs.lemmas.Int.{ints}
+use Rattle.std.proofs.lemmas.Int.{ints, to_z-of_z}
+use Rattle.std.specs.Int.{w128}
 use Rattle.std.proofs.Math.ListN.{length-set}
 use Rattle.elk_doc.specs.declared.shape.Rect.{Rect}
 use Rattle.elk_doc.specs.declared.document.Direction.{Direction}
@@ -94,3 +95,10 @@ all_apart d p n o c xs outs routes far a b split one other less =
                 ⊎_elim inr inl (parts_apart d p n o c xs j i outs routes (far j i behind (outs a one.child).0))
           ]
     ]
+
+-- numbers that go into a call and come out of it
+pub below : (x y : ℤ) → SFits w128 x → SFits w128 y → x ≤ℤ to_z w128 (of_z w128 y) → to_z w128 (of_z w128 x) ≤ℤ y
+below x y f g h = rw (to_z-of_z w128 x f) (subst (λ z. x ≤ℤ z) (to_z-of_z w128 y g) h)
+
+pub above : (x y : ℤ) → SFits w128 x → SFits w128 y → to_z w128 (of_z w128 y) ≤ℤ x → y ≤ℤ to_z w128 (of_z w128 x)
+above x y f g h = rw (to_z-of_z w128 x f) (subst (λ z. z ≤ℤ x) (to_z-of_z w128 y g) h)

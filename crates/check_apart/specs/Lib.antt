@@ -1,3 +1,4 @@
 pub mod Bounds
+pub mod Framed
 pub mod Names
 pub mod FirstApart

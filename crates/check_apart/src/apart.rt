@@ -4,11 +4,12 @@ ghost use Rattle.elk_doc.specs.Apart.{Apart};
 ghost use Rattle.elk_doc.specs.Fits.{Fits};
 ghost use Rattle.elk_doc.specs.Sound.{IsSound};
 ghost use Rattle.check_faults.specs.Shapes.{AreOutlines};
-ghost use Rattle.check_apart.specs.FirstApart.{AreLayers, AreParts, FirstApart, FirstPair, PartHolds, PartsHold};
+ghost use Rattle.check_apart.specs.FirstApart.{AreLayers, AreParts, FirstApart, FirstPair, LayersHold, PartHolds, PartsHold};
 ghost use Rattle.check_apart.specs.Names.{AreNames};
 
 use crate::beyond::part_fault;
 use crate::bounds::quickly_apart;
+use crate::framed::quickly_spaced;
 use crate::names::part_names;
 use crate::pairs::{box_fault, near_fault};
 use crate::parts::first_part;
@@ -17,6 +18,41 @@ use elk_doc::document::{Doc, LevelOptions};
 use elk_doc::drawing::{Certificate, Placed};
 use elk_doc::shape::Rect;
 use std::alloc::{AllocError, Global};
+
+// The first two children of one part that are too near, if they are not known to keep their distances.
+fn near_fault_unless(
+    doc: &Doc,
+    placed: &Placed,
+    outlines: &[Rect],
+    layers: &[u32],
+    parts: &[u32],
+    node: u32,
+    options: &LevelOptions,
+    certificate: &Certificate,
+    spaced: bool,
+) -> Option<Fault>
+    requires outlines { AreOutlines doc.now placed.now outlines.now }
+    requires layers { AreLayers doc.now node certificate.now layers.now }
+    requires parts { AreParts doc.now node certificate.now parts.now }
+    requires spaced { IsTrue spaced → (a b : ℕ) → LayersHold doc.now placed.now node options.now certificate.now a b }
+    ensures { MatchOption result
+        ((a b : ℕ) → LayersHold doc.now placed.now node options.now certificate.now a b)
+        (FirstPair (LayersHold doc.now placed.now node options.now certificate.now)) }
+{
+    if spaced {
+        return None;
+    }
+    near_fault(
+        doc,
+        placed,
+        outlines,
+        layers,
+        parts,
+        node,
+        options,
+        certificate,
+    )
+}
 
 // The least children of the first two parts that are too near, if the parts are not known to be apart.
 fn part_fault_unless(
@@ -66,6 +102,7 @@ fn fault_by_names(
     node: u32,
     options: &LevelOptions,
     certificate: &Certificate,
+    spaced: bool,
     apart: bool,
 ) -> Option<Fault>
     requires sound { IsSound doc.now }
@@ -74,6 +111,7 @@ fn fault_by_names(
     requires layers { AreLayers doc.now node certificate.now layers.now }
     requires parts { AreParts doc.now node certificate.now parts.now }
     requires names { AreNames doc.now node names.now }
+    requires spaced { IsTrue spaced → (a b : ℕ) → LayersHold doc.now placed.now node options.now certificate.now a b }
     requires apart { IsTrue apart → (a b : ℕ) → PartsHold doc.now placed.now node options.now certificate.now a b }
     ensures { MatchOption result
         (Apart doc.now placed.now node options.now certificate.now)
@@ -82,7 +120,7 @@ fn fault_by_names(
     if let Some(child) = first_part(doc, node, options, certificate, names, parts) {
         return Some(Fault::lone(Place::Node(child)));
     }
-    if let Some(fault) = near_fault(
+    if let Some(fault) = near_fault_unless(
         doc,
         placed,
         outlines,
@@ -91,6 +129,7 @@ fn fault_by_names(
         node,
         options,
         certificate,
+        spaced,
     ) {
         return Some(fault);
     }
@@ -136,6 +175,17 @@ pub fn apart_fault(
 {
     let _node = doc.node(node);
     let names = part_names(alloc, doc, node)?;
+    let spaced = quickly_spaced(
+        alloc,
+        doc,
+        placed,
+        outlines,
+        layers,
+        parts,
+        node,
+        options,
+        certificate,
+    )?;
     let apart = quickly_apart(
         alloc,
         doc,
@@ -156,6 +206,7 @@ pub fn apart_fault(
         node,
         options,
         certificate,
+        spaced,
         apart,
     );
     Ok(fault)

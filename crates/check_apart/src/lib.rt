@@ -6,6 +6,7 @@ mod apart;
 mod beyond;
 mod bounds;
 mod distances;
+mod framed;
 mod laws;
 mod names;
 mod pairs;

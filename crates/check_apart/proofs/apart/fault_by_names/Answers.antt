@@ -12,7 +12,7 @@ weaker (Some x) P Q R S f g h = g x h
 pub returns-in-Some-part_fault_unless : goal.returns-in-Some-part_fault_unless
 returns-in-Some-part_fault_unless c =
     let right : (a : ℕ) → PartHolds c.args.doc.now c.args.node c.args.options.now c.args.certificate.now a = c.in_default.ensures in
-    let near : (a b : ℕ) → LayersHold c.args.doc.now c.args.placed.now c.args.node c.args.options.now c.args.certificate.now a b = c.in_default-near_fault.ensures in
+    let near : (a b : ℕ) → LayersHold c.args.doc.now c.args.placed.now c.args.node c.args.options.now c.args.certificate.now a b = c.in_default-near_fault_unless.ensures in
     inr (right, inr (near, inl c.in-Some-part_fault_unless.ensures))
 
 pub returns : goal.returns
@@ -23,7 +23,7 @@ returns c =
     let o = c.args.options.now in
     let x = c.args.certificate.now in
     let right : (a : ℕ) → PartHolds d n o x a = c.in_default.ensures in
-    let near : (a b : ℕ) → LayersHold d p n o x a b = c.in_default-near_fault.ensures in
+    let near : (a b : ℕ) → LayersHold d p n o x a b = c.in_default-near_fault_unless.ensures in
     let far : (a b : ℕ) → PartsHold d p n o x a b = c.in_default-part_fault_unless.ensures in
     weaker c.box_fault.result _ (Apart d p n o x) _ (FirstApart d p n o x)
     (λ boxes. apart_by_sentences d p n o x c.args.names.now c.requires.sound c.requires.names right near far boxes)

@@ -1,14 +1,6 @@
-use Rattle.std.proofs.Common.{ℤ, ◌≤ℤ◌, SFits, of_z, rules, subst, to_z}
-use Rattle.std.proofs.lemmas.Int.{to_z-of_z}
-use Rattle.std.specs.Int.{w128}
+use Rattle.std.proofs.Common.{rules}
+use Rattle.check_apart.proofs.BoundsLaws.{above, below}
 use Rattle.check_apart.proofs.bounds.join.Goals as goal
-
--- numbers that go into a call and come out of it
-below : (x y : ℤ) → SFits w128 x → SFits w128 y → x ≤ℤ to_z w128 (of_z w128 y) → to_z w128 (of_z w128 x) ≤ℤ y
-below x y f g h = rw (to_z-of_z w128 x f) (subst (λ z. x ≤ℤ z) (to_z-of_z w128 y g) h)
-
-above : (x y : ℤ) → SFits w128 x → SFits w128 y → to_z w128 (of_z w128 y) ≤ℤ x → y ≤ℤ to_z w128 (of_z w128 x)
-above x y f g h = rw (to_z-of_z w128 x f) (subst (λ z. z ≤ℤ x) (to_z-of_z w128 y g) h)
 
 pub returns-clause-one : goal.returns-clause-one
 returns-clause-one c =
