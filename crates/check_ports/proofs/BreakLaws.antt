@@ -63,9 +63,12 @@ module _ (d : Document) (p : Placed) (m : ℕ) (keeps : KeepsPorts d p m) where
   end_right e t l at =
       record {
         alone = keeps.ends e t l at;
-        ports = λ k _ _. spots_right (a_port k) (an_end e t) (λ same. absurd cc);
-        lower = λ f u below. spots_right (an_end f u) (an_end e t) (other_edge f e u t below);
-        other = λ u differ. spots_right (an_end e u) (an_end e t) (other_side e u t differ);
+        apart =
+            record {
+              ports = λ k _ _. spots_right (a_port k) (an_end e t) (λ same. absurd cc);
+              lower = λ f u below. spots_right (an_end f u) (an_end e t) (other_edge f e u t below);
+              other = λ u differ. spots_right (an_end e u) (an_end e t) (other_side e u t differ);
+            };
       }
 
 counted_right : (d : Document) (p : Placed) (n m : ℕ) → PortsKept d p n → CountsWith d n m → KeepsPorts d p m

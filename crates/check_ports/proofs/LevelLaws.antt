@@ -82,18 +82,18 @@ module _ (d : Document) (p : Placed) (n : ℕ) (sound : IsSound d) (ports : (k :
         | inr (inr l) ↦ swap_differ d p m (a_port k) (a_port j) (pair_kept k j l sx.0 at_k at_j).differ
       ]
   spots_differ s (a_port j) (an_end e t) sx sy other =
-      (end_kept e t sy.0 (end_at_node s e t sy)).ports j sx.0 (port_at_node s j sx)
+      (end_kept e t sy.0 (end_at_node s e t sy)).apart.ports j sx.0 (port_at_node s j sx)
   spots_differ s (an_end e t) (a_port k) sx sy other =
-      swap_differ d p m (a_port k) (an_end e t) ((end_kept e t sx.0 (end_at_node s e t sx)).ports k sy.0 (port_at_node s k sy))
+      swap_differ d p m (a_port k) (an_end e t) ((end_kept e t sx.0 (end_at_node s e t sx)).apart.ports k sy.0 (port_at_node s k sy))
   spots_differ s (an_end e t) (an_end f u) sx sy other =
       let kept_e = end_kept e t sx.0 (end_at_node s e t sx) in
       let kept_f = end_kept f u sy.0 (end_at_node s f u sy) in
       elim (cases_order e f) [
         | inl same ↦
             let differ : t ≢ u = λ both. other (ap (λ x. an_end x t) same ∙ ap (an_end f) both) in
-            subst (λ x. SpotsDiffer d p m (an_end x t) (an_end f u)) (sym same) (kept_f.other t differ)
-        | inr (inl l) ↦ kept_f.lower e t l
-        | inr (inr l) ↦ swap_differ d p m (an_end f u) (an_end e t) (kept_e.lower f u l)
+            subst (λ x. SpotsDiffer d p m (an_end x t) (an_end f u)) (sym same) (kept_f.apart.other t differ)
+        | inr (inl l) ↦ kept_f.apart.lower e t l
+        | inr (inr l) ↦ swap_differ d p m (an_end f u) (an_end e t) (kept_e.apart.lower f u l)
       ]
 
   pub keeps_ports : KeepsPorts d p m

@@ -120,29 +120,22 @@ is_spread d p m s (an_end e t) l free node side =
     let here : is_at_node (end_of d e t) m ≡ true = ap (λ x. is_at_node x m) at ∙ eq-eqb m m refl in
     (l, and_from _ _ here (is_side-equal _ _ side))
 
--- the test of two spots, the second one at m
-pub apart_differ : (d : Document) (p : Placed) (m : ℕ) (roomy : Bool) (x y : Spot) → IsSpotIn d x → IsSpotIn d y → (spot_of d p y).node ≡ m → (IsTrue roomy ↔ IsRoomy d p m (spot_of d p y).side) → KeepApart roomy (spot_of d p x) (spot_of d p y) ↔ SpotsDiffer d p m x y
-apart_differ d p m roomy x y lx ly at room = (
-  λ apart s wide sx sy same.
-      let fx = spread_facts d p m s x sx in
-      let fy = spread_facts d p m s y sy in
-      let here : IsRoomy d p m (spot_of d p y).side = subst (IsRoomy d p m) (sym fy.side) wide in
-      apart (room.1 here) fx.spread fy.spread (fx.node ∙ sym fy.node) (fx.side ∙ sym fy.side) (fx.offset ∙ same ∙ sym fy.offset),
-  λ differ wide ax ay node side same.
-      let s = (spot_of d p y).side in
-      let sx = is_spread d p m s x lx ax (node ∙ at) side in
-      let sy = is_spread d p m s y ly ay at refl in
-      let fx = spread_facts d p m s x sx in
-      let fy = spread_facts d p m s y sy in
-      differ s (room.0 wide) sx sy (sym fx.offset ∙ same ∙ fy.offset),
-)
-
--- two spots that are apart however much room there is
-pub differ_if_apart : (d : Document) (p : Placed) (m : ℕ) (x y : Spot) → KeepApart true (spot_of d p x) (spot_of d p y) → SpotsDiffer d p m x y
-differ_if_apart d p m x y apart s wide sx sy same =
+-- the test of two spots, the second one at m: as if there were room it tells enough, and where there is, no more
+pub differ_if : (d : Document) (p : Placed) (m : ℕ) (roomy : Bool) (x y : Spot) → (IsRoomy d p m (spot_of d p y).side → IsTrue roomy) → KeepApart roomy (spot_of d p x) (spot_of d p y) → SpotsDiffer d p m x y
+differ_if d p m roomy x y room apart s wide sx sy same =
     let fx = spread_facts d p m s x sx in
     let fy = spread_facts d p m s y sy in
-    apart refl fx.spread fy.spread (fx.node ∙ sym fy.node) (fx.side ∙ sym fy.side) (fx.offset ∙ same ∙ sym fy.offset)
+    let here : IsRoomy d p m (spot_of d p y).side = subst (IsRoomy d p m) (sym fy.side) wide in
+    apart (room here) fx.spread fy.spread (fx.node ∙ sym fy.node) (fx.side ∙ sym fy.side) (fx.offset ∙ same ∙ sym fy.offset)
+
+pub apart_if : (d : Document) (p : Placed) (m : ℕ) (roomy : Bool) (x y : Spot) → IsSpotIn d x → IsSpotIn d y → (spot_of d p y).node ≡ m → (IsTrue roomy → IsRoomy d p m (spot_of d p y).side) → SpotsDiffer d p m x y → KeepApart roomy (spot_of d p x) (spot_of d p y)
+apart_if d p m roomy x y lx ly at room differ wide ax ay node side same =
+    let s = (spot_of d p y).side in
+    let sx = is_spread d p m s x lx ax (node ∙ at) side in
+    let sy = is_spread d p m s y ly ay at refl in
+    let fx = spread_facts d p m s x sx in
+    let fy = spread_facts d p m s y sy in
+    differ s (room wide) sx sy (sym fx.offset ∙ same ∙ fy.offset)
 
 -- facts of four values move along equations of each
 pub subst4 : {A B C D : Type 0} (P : A → B → C → D → Type 0) (a a2 : A) (b b2 : B) (c c2 : C) (d d2 : D) → a ≡ a2 → b ≡ b2 → c ≡ c2 → d ≡ d2 → P a b c d → P a2 b2 c2 d2

@@ -1,5 +1,5 @@
 -- The faults of ports and of ends at nodes: which comes first at a level.
-use Rattle.std.specs.Prelude.{◌≡◌, ◌≢◌, ◌⊎◌, ℕ, ◌<◌, Bool, pos, ◌≤ℤ◌, ◌<ℤ◌, length}
+use Rattle.std.specs.Prelude.{◌≡◌, ◌≢◌, ◌⊎◌, ℕ, ◌<◌, Bool, pos, ◌≤ℤ◌, ◌<ℤ◌, IsTrue, length}
 use Rattle.elk_doc.specs.declared.shape.Side.{Side}
 use Rattle.elk_doc.specs.declared.document.PortRule.TheVariants.{FixedOrder}
 use Rattle.elk_doc.specs.declared.document.End.TheVariants.{Node as AtNode}
@@ -7,12 +7,13 @@ use Rattle.elk_doc.specs.declared.drawing.Placed.{Placed}
 use Rattle.elk_doc.specs.Document.{Document, node_at, node_of_port}
 use Rattle.elk_doc.specs.Drawing.{box_of}
 use Rattle.elk_doc.specs.Level.{IsChild, IsEdge}
-use Rattle.elk_doc.specs.Sides.{side_of_port, end_of}
+use Rattle.elk_doc.specs.Sides.{side_of_end, side_of_port, end_of}
 use Rattle.elk_doc.specs.Sound.{IsSound}
 use Rattle.elk_doc.specs.PortsKept.{KeepsPort, KeepsEnd, ComesBefore, clockwise, port_offset, side_length, Spot, a_port, an_end, IsSpread, spread_count, spot_offset, PortsKept}
 use Rattle.check_faults.specs.declared.fault.Fault.{Fault}
 use Rattle.check_faults.specs.declared.fault.Place.TheVariants.{Port, Edge}
 use Rattle.check_faults.specs.Faults.{lone_fault, FailsFirst}
+use Rattle.check_ports.specs.Spots.{IsRoomy}
 
 -- the ports of m count with the level of n: m is a child of n, or both are the root
 abbrev pub CountsWith : Document → ℕ → ℕ → Type 0
@@ -49,18 +50,16 @@ LowerHold d p k = (j : ℕ) → j < k → PairHolds d p (node_of_port d k) j k
 abbrev pub PortHolds : Document → Placed → ℕ → ℕ → Type 0
 PortHolds d p n k = k < length d.ports → CountsWith d n (node_of_port d k) → PortKept d p k
 
--- an end of an edge at the node m alone, with each port of m, each end of an edge of lower number, and the edge's other end
-pub record EndKept (d : Document) (p : Placed) (m e : ℕ) (at_source : Bool) : Type 0 where
-  pub alone : KeepsEnd d p m e at_source
-  pub ports : (k : ℕ) → k < length d.ports → node_of_port d k ≡ m → SpotsDiffer d p m (a_port k) (an_end e at_source)
-  pub lower : (f : ℕ) (t : Bool) → f < e → SpotsDiffer d p m (an_end f t) (an_end e at_source)
-  pub other : (t : Bool) → t ≢ at_source → SpotsDiffer d p m (an_end e t) (an_end e at_source)
-
--- an end at the node m has another offset than each port of m, each end of an edge of lower number, and the edge's other end
+-- an end at the node m with each port of m, each end of an edge of lower number, and the edge's other end
 pub record EndApart (d : Document) (p : Placed) (m e : ℕ) (at_source : Bool) : Type 0 where
   pub ports : (k : ℕ) → k < length d.ports → node_of_port d k ≡ m → SpotsDiffer d p m (a_port k) (an_end e at_source)
   pub lower : (f : ℕ) (t : Bool) → f < e → SpotsDiffer d p m (an_end f t) (an_end e at_source)
   pub other : (t : Bool) → t ≢ at_source → SpotsDiffer d p m (an_end e t) (an_end e at_source)
+
+-- an end of an edge at the node m alone, and with all of these
+pub record EndKept (d : Document) (p : Placed) (m e : ℕ) (at_source : Bool) : Type 0 where
+  pub alone : KeepsEnd d p m e at_source
+  pub apart : EndApart d p m e at_source
 
 -- what an end at the node m owes to each port, to all of them, to each edge, and to the edges of lower numbers
 abbrev pub PortClear : Document → Placed → ℕ → ℕ → Bool → ℕ → Type 0
@@ -74,6 +73,16 @@ EdgeClear d p m e at_source f = (t : Bool) → SpotsDiffer d p m (an_end f t) (a
 
 abbrev pub EdgesClear : Document → Placed → ℕ → ℕ → Bool → Type 0
 EdgesClear d p m e at_source = (f : ℕ) → f < e → EdgeClear d p m e at_source f
+
+-- the side of an end at the node m has room for its spread spots
+abbrev pub HasRoom : Document → Placed → ℕ → ℕ → Bool → Type 0
+HasRoom d p m e at_source = IsRoomy d p m (side_of_end d p e at_source)
+
+-- what an answer tells of a fact that was asked for as if there were room: yes that it holds, and no, where there is, that it
+-- does not
+pub record Tells (roomy : Bool) (Room Fact : Type 0) (answer : Bool) : Type 0 where
+  pub holds : IsTrue answer → Fact
+  pub fails : (IsTrue roomy → Room) → Fact → IsTrue answer
 
 -- what one end of an edge owes if it stands at a node
 abbrev pub EndHolds : Document → Placed → ℕ → Bool → Type 0

@@ -3,11 +3,10 @@ ghost use Rattle.std.specs.Prelude.{◌≡◌, ◌↔◌, ◌<◌, IsTrue, false
 ghost use Rattle.elk_doc.specs.declared.document.End.TheVariants.{Node as AtNode};
 ghost use Rattle.elk_doc.specs.Fits.{Fits};
 ghost use Rattle.elk_doc.specs.PortsKept.{KeepsEnd, an_end};
-ghost use Rattle.elk_doc.specs.Sides.{end_of, side_of_end};
+ghost use Rattle.elk_doc.specs.Sides.{end_of};
 ghost use Rattle.check_faults.specs.Faults.{IsFirst};
 ghost use Rattle.check_faults.specs.Shapes.{AreDocks, AreSides};
-ghost use Rattle.check_ports.specs.FirstPorts.{EdgeClear, EdgesClear, EndApart, EndHolds, EndKept, EndsHold, PortClear, PortsClear, SpotsDiffer};
-ghost use Rattle.check_ports.specs.Spots.{IsRoomy};
+ghost use Rattle.check_ports.specs.FirstPorts.{EdgeClear, EdgesClear, EndApart, EndHolds, EndKept, EndsHold, HasRoom, PortClear, PortsClear, SpotsDiffer, Tells};
 
 use crate::sides::is_on_side;
 use crate::spots::{are_apart, end_spot, is_roomy, lies_on, port_spot};
@@ -45,7 +44,8 @@ fn keeps_end(
     lies_on(true, outer, spot)
 }
 
-// Whether a port, if it is one of a node, keeps apart from an end at this node.
+// Whether a port, if it is one of a node, keeps apart from an end at this node: asked by the room of the end's side, or as
+// if the side had room. The tests below are asked in the same ways.
 fn port_clear(
     doc: &Doc,
     placed: &Placed,
@@ -65,8 +65,8 @@ fn port_clear(
     requires sides { AreSides doc.now placed.now sides.now }
     requires sources { AreDocks doc.now placed.now true sources.now }
     requires targets { AreDocks doc.now placed.now false targets.now }
-    requires roomy { IsTrue roomy ↔ IsRoomy doc.now placed.now node (side_of_end doc.now placed.now edge at_source) }
-    ensures { IsTrue result ↔ PortClear doc.now placed.now node edge at_source port }
+    requires roomy { HasRoom doc.now placed.now node edge at_source → IsTrue roomy }
+    ensures { Tells roomy (HasRoom doc.now placed.now node edge at_source) (PortClear doc.now placed.now node edge at_source port) result }
 {
     if doc.port(port).node != node {
         return true;
@@ -94,8 +94,8 @@ fn ports_clear(
     requires sides { AreSides doc.now placed.now sides.now }
     requires sources { AreDocks doc.now placed.now true sources.now }
     requires targets { AreDocks doc.now placed.now false targets.now }
-    requires roomy { IsTrue roomy ↔ IsRoomy doc.now placed.now node (side_of_end doc.now placed.now edge at_source) }
-    ensures { IsTrue result ↔ PortsClear doc.now placed.now node edge at_source }
+    requires roomy { HasRoom doc.now placed.now node edge at_source → IsTrue roomy }
+    ensures { Tells roomy (HasRoom doc.now placed.now node edge at_source) (PortsClear doc.now placed.now node edge at_source) result }
 {
     for port in 0..doc.ports().len() {
         let clear = port_clear(
@@ -135,8 +135,8 @@ fn end_clear(
     requires at_node { end_of doc.now edge at_source ≡ AtNode _node }
     requires sources { AreDocks doc.now placed.now true sources.now }
     requires targets { AreDocks doc.now placed.now false targets.now }
-    requires roomy { IsTrue roomy ↔ IsRoomy doc.now placed.now _node (side_of_end doc.now placed.now edge at_source) }
-    ensures { IsTrue result ↔ SpotsDiffer doc.now placed.now _node (an_end other other_source) (an_end edge at_source) }
+    requires roomy { HasRoom doc.now placed.now _node edge at_source → IsTrue roomy }
+    ensures { Tells roomy (HasRoom doc.now placed.now _node edge at_source) (SpotsDiffer doc.now placed.now _node (an_end other other_source) (an_end edge at_source)) result }
 {
     let first = end_spot(doc, placed, sources, targets, other, other_source);
     let second = end_spot(doc, placed, sources, targets, edge, at_source);
@@ -160,8 +160,8 @@ fn edge_clear(
     requires at_node { end_of doc.now edge at_source ≡ AtNode node }
     requires sources { AreDocks doc.now placed.now true sources.now }
     requires targets { AreDocks doc.now placed.now false targets.now }
-    requires roomy { IsTrue roomy ↔ IsRoomy doc.now placed.now node (side_of_end doc.now placed.now edge at_source) }
-    ensures { IsTrue result ↔ EdgeClear doc.now placed.now node edge at_source other }
+    requires roomy { HasRoom doc.now placed.now node edge at_source → IsTrue roomy }
+    ensures { Tells roomy (HasRoom doc.now placed.now node edge at_source) (EdgeClear doc.now placed.now node edge at_source other) result }
 {
     if !end_clear(
         doc, placed, sources, targets, roomy, node, edge, at_source, other, true,
@@ -188,8 +188,8 @@ fn edges_clear(
     requires at_node { end_of doc.now edge at_source ≡ AtNode node }
     requires sources { AreDocks doc.now placed.now true sources.now }
     requires targets { AreDocks doc.now placed.now false targets.now }
-    requires roomy { IsTrue roomy ↔ IsRoomy doc.now placed.now node (side_of_end doc.now placed.now edge at_source) }
-    ensures { IsTrue result ↔ EdgesClear doc.now placed.now node edge at_source }
+    requires roomy { HasRoom doc.now placed.now node edge at_source → IsTrue roomy }
+    ensures { Tells roomy (HasRoom doc.now placed.now node edge at_source) (EdgesClear doc.now placed.now node edge at_source) result }
 {
     for other in 0..edge {
         if !edge_clear(
@@ -201,135 +201,14 @@ fn edges_clear(
     true
 }
 
-// Whether an end keeps apart from an end at a node, however much room there is.
-fn end_differs(
-    doc: &Doc,
-    placed: &Placed,
-    sources: &[Dock],
-    targets: &[Dock],
-    _node: u32,
-    edge: u32,
-    at_source: bool,
-    other: u32,
-    other_source: bool,
-) -> bool
-    requires edge_in { edge < length doc.now.edges }
-    requires other_in { other < length doc.now.edges }
-    requires at_node { end_of doc.now edge at_source ≡ AtNode _node }
-    requires sources { AreDocks doc.now placed.now true sources.now }
-    requires targets { AreDocks doc.now placed.now false targets.now }
-    ensures { IsTrue result → SpotsDiffer doc.now placed.now _node (an_end other other_source) (an_end edge at_source) }
-{
-    let first = end_spot(doc, placed, sources, targets, other, other_source);
-    let second = end_spot(doc, placed, sources, targets, edge, at_source);
-    are_apart(true, first, second)
-}
-
-// Whether the ends of all edges of lower numbers, and the edge's other end, keep apart from an end at a node, however much
-// room there is.
-fn ends_differ(
-    doc: &Doc,
-    placed: &Placed,
-    sources: &[Dock],
-    targets: &[Dock],
-    node: u32,
-    edge: u32,
-    at_source: bool,
-) -> bool
-    requires edge_in { edge < length doc.now.edges }
-    requires at_node { end_of doc.now edge at_source ≡ AtNode node }
-    requires sources { AreDocks doc.now placed.now true sources.now }
-    requires targets { AreDocks doc.now placed.now false targets.now }
-    ensures { IsTrue result → EdgesClear doc.now placed.now node edge at_source }
-{
-    for other in 0..edge {
-        if !end_differs(
-            doc, placed, sources, targets, node, edge, at_source, other, true,
-        ) {
-            return false;
-        }
-        if !end_differs(
-            doc, placed, sources, targets, node, edge, at_source, other, false,
-        ) {
-            return false;
-        }
-    }
-    true
-}
-
-// Whether a port, if it is one of a node, keeps apart from an end at this node, however much room there is.
-fn port_differs(
-    doc: &Doc,
-    placed: &Placed,
-    sides: &[Side],
-    sources: &[Dock],
-    targets: &[Dock],
-    node: u32,
-    edge: u32,
-    at_source: bool,
-    port: u32,
-) -> bool
-    requires edge_in { edge < length doc.now.edges }
-    requires port_in { port < length doc.now.ports }
-    requires at_node { end_of doc.now edge at_source ≡ AtNode node }
-    requires fits { Fits doc.now placed.now }
-    requires sides { AreSides doc.now placed.now sides.now }
-    requires sources { AreDocks doc.now placed.now true sources.now }
-    requires targets { AreDocks doc.now placed.now false targets.now }
-    ensures { IsTrue result → PortClear doc.now placed.now node edge at_source port }
-{
-    if doc.port(port).node != node {
-        return true;
-    }
-    let first = port_spot(doc, placed, sides, port);
-    let second = end_spot(doc, placed, sources, targets, edge, at_source);
-    are_apart(true, first, second)
-}
-
-// Whether all ports of a node keep apart from an end at it, however much room there is.
-fn ports_differ(
-    doc: &Doc,
-    placed: &Placed,
-    sides: &[Side],
-    sources: &[Dock],
-    targets: &[Dock],
-    node: u32,
-    edge: u32,
-    at_source: bool,
-) -> bool
-    requires edge_in { edge < length doc.now.edges }
-    requires at_node { end_of doc.now edge at_source ≡ AtNode node }
-    requires fits { Fits doc.now placed.now }
-    requires sides { AreSides doc.now placed.now sides.now }
-    requires sources { AreDocks doc.now placed.now true sources.now }
-    requires targets { AreDocks doc.now placed.now false targets.now }
-    ensures { IsTrue result → PortsClear doc.now placed.now node edge at_source }
-{
-    for port in 0..doc.ports().len() {
-        if !port_differs(
-            doc,
-            placed,
-            sides,
-            sources,
-            targets,
-            node,
-            edge,
-            at_source,
-            port as u32,
-        ) {
-            return false;
-        }
-    }
-    true
-}
-
-// Whether an end at a node keeps apart from ports, lower edges and the edge's other end, however much room there is.
+// Whether an end at a node keeps apart from ports, lower edges and the edge's other end.
 fn is_apart(
     doc: &Doc,
     placed: &Placed,
     sides: &[Side],
     sources: &[Dock],
     targets: &[Dock],
+    roomy: bool,
     node: u32,
     edge: u32,
     at_source: bool,
@@ -340,20 +219,24 @@ fn is_apart(
     requires sides { AreSides doc.now placed.now sides.now }
     requires sources { AreDocks doc.now placed.now true sources.now }
     requires targets { AreDocks doc.now placed.now false targets.now }
-    ensures { IsTrue result → EndApart doc.now placed.now node edge at_source }
+    requires roomy { HasRoom doc.now placed.now node edge at_source → IsTrue roomy }
+    ensures { Tells roomy (HasRoom doc.now placed.now node edge at_source) (EndApart doc.now placed.now node edge at_source) result }
 {
-    if !ports_differ(doc, placed, sides, sources, targets, node, edge, at_source) {
+    if !ports_clear(
+        doc, placed, sides, sources, targets, roomy, node, edge, at_source,
+    ) {
         return false;
     }
-    if !ends_differ(doc, placed, sources, targets, node, edge, at_source) {
+    if !edges_clear(doc, placed, sources, targets, roomy, node, edge, at_source) {
         return false;
     }
-    end_differs(
-        doc, placed, sources, targets, node, edge, at_source, edge, !at_source,
+    end_clear(
+        doc, placed, sources, targets, roomy, node, edge, at_source, edge, !at_source,
     )
 }
 
 // Whether an end at a node obeys the constraints of the node, alone and with ports, lower edges and the edge's other end.
+// It is first asked as if the side had room: most ends keep apart even so, and counting the room takes long.
 fn end_kept(
     doc: &Doc,
     placed: &Placed,
@@ -376,21 +259,15 @@ fn end_kept(
     if !keeps_end(doc, placed, sources, targets, node, edge, at_source) {
         return false;
     }
-    if is_apart(doc, placed, sides, sources, targets, node, edge, at_source) {
+    if is_apart(
+        doc, placed, sides, sources, targets, true, node, edge, at_source,
+    ) {
         return true;
     }
     let spot = end_spot(doc, placed, sources, targets, edge, at_source);
     let roomy = is_roomy(doc, placed, sides, sources, targets, node, spot.side);
-    if !ports_clear(
+    is_apart(
         doc, placed, sides, sources, targets, roomy, node, edge, at_source,
-    ) {
-        return false;
-    }
-    if !edges_clear(doc, placed, sources, targets, roomy, node, edge, at_source) {
-        return false;
-    }
-    end_clear(
-        doc, placed, sources, targets, roomy, node, edge, at_source, edge, !at_source,
     )
 }
 

@@ -280,6 +280,9 @@ pub(crate) fn is_roomy(
 pub(crate) fn are_apart(roomy: bool, one: SideSpot, other: SideSpot) -> bool
     ensures { IsTrue result ↔ KeepApart roomy one other }
 {
+    if one.node != other.node {
+        return true;
+    }
     if !roomy {
         return true;
     }
@@ -287,9 +290,6 @@ pub(crate) fn are_apart(roomy: bool, one: SideSpot, other: SideSpot) -> bool
         return true;
     }
     if !other.spread {
-        return true;
-    }
-    if one.node != other.node {
         return true;
     }
     if !is_side(one.side, other.side) {

@@ -1,8 +1,15 @@
-use Rattle.std.proofs.Common.{rules, below_more, IsTrue}
+use Rattle.std.proofs.Common.{below_more, rules}
+use Rattle.std.proofs.lemmas.Bool.{both_ways}
 use Rattle.check_ports.specs.FirstPorts.{EdgeClear}
 use Rattle.check_ports.proofs.ends.edges_clear.Goals as goal
 
 pub loop-other-preserved : goal.loop-other-preserved
 loop-other-preserved c =
-    let t : IsTrue c.edge_clear.result = search rules in
-    below_more (EdgeClear c.args.doc.now c.args.placed.now c.args.node c.args.edge c.args.at_source) _ c.loop-other.invariant (c.edge_clear.ensures.0 t)
+    below_more (EdgeClear c.args.doc.now c.args.placed.now c.args.node c.args.edge c.args.at_source) _ c.loop-other.invariant (c.edge_clear.ensures.holds c.if-not-edge_clear.false)
+
+pub returns-then-not-edge_clear : goal.returns-then-not-edge_clear
+returns-then-not-edge_clear c =
+    record {
+      holds = λ t. absurd (search rules);
+      fails = λ room h. absurd (both_ways c.edge_clear.result c.if-not-edge_clear.true (c.edge_clear.ensures.fails room (h c.loop-other.other c.loop-other-test.true)));
+    }

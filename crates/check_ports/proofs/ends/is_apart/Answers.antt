@@ -1,13 +1,37 @@
+use Rattle.std.proofs.Common.{◌≢◌, Bool, true, false, not, rules}
+use Rattle.std.proofs.lemmas.Bool.{both_ways}
 use Rattle.elk_doc.specs.PortsKept.{an_end}
 use Rattle.check_ports.specs.FirstPorts.{SpotsDiffer}
 use Rattle.check_ports.proofs.SpotLaws.{the_other}
 use Rattle.check_ports.proofs.ends.is_apart.Goals as goal
 
+not_itself : (s : Bool) → not s ≢ s
+not_itself true e = cc
+not_itself false e = cc
+
+pub returns-then-not-ports_clear : goal.returns-then-not-ports_clear
+returns-then-not-ports_clear c =
+    record {
+      holds = λ t. absurd (search rules);
+      fails = λ room h. absurd (both_ways c.ports_clear.result c.if-not-ports_clear.true (c.ports_clear.ensures.fails room h.ports));
+    }
+
+pub returns-then-not-edges_clear : goal.returns-then-not-edges_clear
+returns-then-not-edges_clear c =
+    record {
+      holds = λ t. absurd (search rules);
+      fails = λ room h. absurd (both_ways c.edges_clear.result c.if-not-edges_clear.true (c.edges_clear.ensures.fails room (λ f l t. h.lower f t l)));
+    }
+
 pub returns : goal.returns
 returns c =
-    λ t.
+    let s = c.args.at_source in
     record {
-      ports = c.ports_differ.ensures c.if-not-ports_differ.false;
-      lower = λ f u l. c.ends_differ.ensures c.if-not-ends_differ.false f l u;
-      other = λ u n. the_other (λ x. SpotsDiffer c.args.doc.now c.args.placed.now c.args.node (an_end c.args.edge x) (an_end c.args.edge c.args.at_source)) c.args.at_source u (c.end_differs.ensures t) n;
+      holds = λ t.
+          record {
+            ports = c.ports_clear.ensures.holds c.if-not-ports_clear.false;
+            lower = λ f u l. c.edges_clear.ensures.holds c.if-not-edges_clear.false f l u;
+            other = λ u n. the_other (λ x. SpotsDiffer c.args.doc.now c.args.placed.now c.args.node (an_end c.args.edge x) (an_end c.args.edge s)) s u (c.end_clear.ensures.holds t) n;
+          };
+      fails = λ room h. c.end_clear.ensures.fails room (h.other (not s) (not_itself s));
     }

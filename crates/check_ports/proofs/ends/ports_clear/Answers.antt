@@ -1,8 +1,17 @@
-use Rattle.std.proofs.Common.{rules, below_more, IsTrue}
+use Rattle.std.proofs.Common.{ap, arith, below_more, length, rules}
+use Rattle.std.proofs.lemmas.Bool.{both_ways}
 use Rattle.check_ports.specs.FirstPorts.{PortClear}
 use Rattle.check_ports.proofs.ends.ports_clear.Goals as goal
 
 pub loop-port-preserved : goal.loop-port-preserved
 loop-port-preserved c =
-    let t : IsTrue c.port_clear-clear.result = search rules in
-    below_more (PortClear c.args.doc.now c.args.placed.now c.args.node c.args.edge c.args.at_source) _ c.loop-port.invariant (c.port_clear-clear.ensures.0 t)
+    below_more (PortClear c.args.doc.now c.args.placed.now c.args.node c.args.edge c.args.at_source) _ c.loop-port.invariant (c.port_clear-clear.ensures.holds c.if-not-clear.false)
+
+pub returns-then-not-clear : goal.returns-then-not-clear
+returns-then-not-clear c =
+    let end = ap length c.ports-port-end.ensures.value in
+    let inside = c.loop-port-test.true in
+    record {
+      holds = λ t. absurd (search rules);
+      fails = λ room h. absurd (both_ways c.port_clear-clear.result c.if-not-clear.true (c.port_clear-clear.ensures.fails room (h c.loop-port.port (omega (arith, end, inside)))));
+    }
