@@ -15,6 +15,7 @@ use Rattle.elk_doc.specs.FlowProof.{weight_at}
 use Rattle.elk_doc.proofs.SoundLaws.{node_of_end-in}
 use Rattle.drawing_laws.proofs.Sums.{sum_below-zero, sum_below-suc, sum_below-pass, sum_below-fail, total_below-zero, total_below-pass, total_below-fail}
 use Rattle.check_faults.specs.Shapes.{Lists}
+use Rattle.check_levels.specs.Sums.{AreSums, AreSumsAt}
 use Rattle.check_levels.specs.FirstLevels.{AreHeads, AreTails, AreLayers, EdgeRises, ends_at, end_layer, length_of, rise_of}
 
 -- one number more, which passes or fails
@@ -37,11 +38,16 @@ sum_below-same p q f g (suc m) tests values =
 ends_same : (d : Document) (n a : ℕ) (ends : List ℕ) (end : ℕ → ℕ) (e : ℕ) → e < length d.edges → Lists end (length d.edges) ends → ends_at d n ends a e ≡ (is_edge_of d n e && (eqb (end e) a && not (is_loop d e)))
 ends_same d n a ends end e l h = ap (λ v. is_edge_of d n e && (eqb v a && not (is_loop d e))) (h.each e 0 l)
 
-pub sum_by_ends : (d : Document) (n a : ℕ) (ends values : List ℕ) (end f : ℕ → ℕ) → Lists end (length d.edges) ends → Lists f (length d.edges) values → sum_below (ends_at d n ends a) (slice_index values) (length d.edges) ≡ sum_below (λ e. is_edge_of d n e && (eqb (end e) a && not (is_loop d e))) f (length d.edges)
+sum_by_ends : (d : Document) (n a : ℕ) (ends values : List ℕ) (end f : ℕ → ℕ) → Lists end (length d.edges) ends → Lists f (length d.edges) values → sum_below (ends_at d n ends a) (slice_index values) (length d.edges) ≡ sum_below (λ e. is_edge_of d n e && (eqb (end e) a && not (is_loop d e))) f (length d.edges)
 sum_by_ends d n a ends values end f hs vs =
     sum_below-same (ends_at d n ends a) (λ e. is_edge_of d n e && (eqb (end e) a && not (is_loop d e))) (slice_index values) f (length d.edges)
     (λ e l. ends_same d n a ends end e l hs)
     (λ e l. vs.each e 0 l)
+
+-- the sums by lists of what the edges have, as sums of what they have
+pub sums_by_ends : (d : Document) (n : ℕ) (ends values : List ℕ) (end f : ℕ → ℕ) (sums : List ℕ) → Lists end (length d.edges) ends → Lists f (length d.edges) values → AreSums d n ends values sums → AreSumsAt d (λ a e. is_edge_of d n e && (eqb (end e) a && not (is_loop d e))) f (length d.edges) sums
+sums_by_ends d n ends values end f sums hs vs h =
+    record { count = h.count; each = λ a other l. h.each a other l ∙ sum_by_ends d n a ends values end f hs vs; few = h.few }
 
 pub sum_of_level : (d : Document) (n : ℕ) (values : List ℕ) (f : ℕ → ℕ) → Lists f (length d.edges) values → sum_below (is_edge_of d n) (slice_index values) (length d.edges) ≡ sum_below (is_edge_of d n) f (length d.edges)
 sum_of_level d n values f vs =

@@ -13,4 +13,3 @@ pub use flow::flow_fault;
 pub use layering::layering_fault;
 pub use lists::{flows, heads, layers, parts, tails, weights};
 pub use reversed::reversed_fault;
-pub use sums::flow_fault_by_sums;

@@ -55,7 +55,7 @@ pub(crate) fn number_at(values: &[u32], place: usize) -> u32
     }
 }
 
-fn flow_at(values: &[u64], place: usize) -> u64
+pub(crate) fn flow_at(values: &[u64], place: usize) -> u64
     ensures { result ≡ slice_index values.now place }
 {
     if place < values.len() {

@@ -1,17 +1,45 @@
-//! A flow that shows that the span is least, with the sums at all nodes made in one pass over the edges.
-ghost use Rattle.std.specs.Prelude.{◌≡◌, ◌↔◌, ◌+◌, ◌*◌, ◌^◌, ℕ, ◌<◌, ◌≤◌, IfOk, IsTrue, MatchOption, length, slice_index};
-ghost use Rattle.elk_doc.specs.FlowProof.{FlowProof};
-ghost use Rattle.elk_doc.specs.Numbers.{sum_below};
+//! The sums of flow and of weight at all nodes, each kind made in one pass over the edges, and whether they balance.
+ghost use Rattle.std.specs.Prelude.{◌≡◌, ◌↔◌, ◌+◌, ◌^◌, ℕ, ◌<◌, IfOk, IsTrue, length, slice_index};
 ghost use Rattle.elk_doc.specs.Sound.{IsSound};
-ghost use Rattle.check_levels.specs.FirstLevels.{AreFlows, AreHeads, AreTails, AreWeights, FirstFlow, IsBalanced, ends_at};
-ghost use Rattle.check_levels.specs.Sums.{AreSums, AreSumsBelow};
+ghost use Rattle.check_levels.specs.FirstLevels.{AreFlows, AreHeads, AreTails, AreWeights, IsBalanced, ends_at};
+ghost use Rattle.check_levels.specs.Sums.{AreLevelSums, AreSums, AreSumsBelow};
 
-use crate::flow::{are_idle, ends_at, sum_of, value_at};
-use check_faults::{Fault, Place};
+use crate::lists::flow_at;
+use check_faults::is_edge_of;
 use elk_doc::document::Doc;
 use elk_doc::drawing::{Certificate, Placed};
 use elk_doc::form::is_child;
+use elk_doc::level::is_loop;
 use std::alloc::{AllocError, Global};
+
+// For each node, the sums of the flow and of the weights of the edges that enter there, and of those that leave.
+#[derive(Drop)]
+pub(crate) struct LevelSums {
+    pub flow_in: Vec<u128>,
+    pub flow_out: Vec<u128>,
+    pub weight_in: Vec<u128>,
+    pub weight_out: Vec<u128>,
+}
+
+// The number of an edge in a list, and 0 past its end.
+pub(crate) fn value_at(values: &[u64], edge: usize) -> u128
+    ensures value { result ≡ slice_index values.now edge }
+    ensures fits { result < 2 ^ 64 }
+{
+    u128::from(flow_at(values, edge))
+}
+
+// Whether an edge of the level that is no self-loop has its end at a child.
+fn ends_at(doc: &Doc, node: u32, ends: &[u32], child: u32, edge: u32) -> bool
+    requires edge_in { edge < length doc.now.edges }
+    requires ends { length ends.now ≡ length doc.now.edges }
+    ensures { result ≡ ends_at doc.now node ends.now child edge }
+{
+    if ends[edge as usize] != child {
+        return false;
+    }
+    is_edge_of(doc, node, edge) && !is_loop(doc, edge)
+}
 
 // Adds the number of an edge to the sum of the node at which it has its end, if it counts.
 fn add(doc: &Doc, node: u32, ends: &[u32], values: &[u64], sums: &mut [u128], edge: u32)
@@ -57,18 +85,9 @@ fn sums(
     Ok(sums)
 }
 
-// The sum at a node.
-fn sum_in(_doc: &Doc, _node: u32, _ends: &[u32], _values: &[u64], sums: &[u128], child: u32) -> u128
-    requires child_in { child < length _doc.now.nodes }
-    requires sums { AreSums _doc.now _node _ends.now _values.now sums.now }
-    ensures value { result ≡ sum_below (ends_at _doc.now _node _ends.now child) (slice_index _values.now) (length _doc.now.edges) }
-    ensures small { result ≤ length _doc.now.edges * 2 ^ 64 }
-{
-    sums[child as usize]
-}
-
-// Whether the flow in and the weight out at a child, if it is one, are the flow out and the weight in.
-fn balances(
+// The sums of the flow and of the weights of a level.
+fn level_sums(
+    alloc: Global,
     doc: &Doc,
     _placed: &Placed,
     node: u32,
@@ -77,31 +96,45 @@ fn balances(
     tails: &[u32],
     weights: &[u64],
     flows: &[u64],
-    flow_in: &[u128],
-    weight_out: &[u128],
-    flow_out: &[u128],
-    weight_in: &[u128],
-    child: u32,
-) -> bool
-    requires sound { IsSound doc.now }
-    requires child_in { child < length doc.now.nodes }
+) -> Result<LevelSums, AllocError>
     requires heads { AreHeads doc.now _placed.now heads.now }
     requires tails { AreTails doc.now _placed.now tails.now }
     requires weights { AreWeights doc.now weights.now }
     requires flows { AreFlows doc.now node _certificate.now flows.now }
-    requires flow_in { AreSums doc.now node heads.now flows.now flow_in.now }
-    requires weight_out { AreSums doc.now node tails.now weights.now weight_out.now }
-    requires flow_out { AreSums doc.now node tails.now flows.now flow_out.now }
-    requires weight_in { AreSums doc.now node heads.now weights.now weight_in.now }
+    ensures { IfOk result (AreLevelSums doc.now _placed.now node _certificate.now) }
+{
+    Ok(LevelSums {
+        flow_in: sums(alloc, doc, node, heads, flows)?,
+        flow_out: sums(alloc, doc, node, tails, flows)?,
+        weight_in: sums(alloc, doc, node, heads, weights)?,
+        weight_out: sums(alloc, doc, node, tails, weights)?,
+    })
+}
+
+// Whether the flow in and the weight out at a child, if it is one, are the flow out and the weight in.
+fn balances(
+    doc: &Doc,
+    _placed: &Placed,
+    node: u32,
+    _certificate: &Certificate,
+    sums: &LevelSums,
+    child: u32,
+) -> bool
+    requires sound { IsSound doc.now }
+    requires child_in { child < length doc.now.nodes }
+    requires sums { AreLevelSums doc.now _placed.now node _certificate.now sums.now }
     ensures { IsTrue result ↔ IsBalanced doc.now _placed.now node _certificate.now child }
 {
     if !is_child(doc, node, child) {
         return true;
     }
-    let given = sum_in(doc, node, heads, flows, flow_in, child)
-        + sum_in(doc, node, tails, weights, weight_out, child);
-    let asked = sum_in(doc, node, tails, flows, flow_out, child)
-        + sum_in(doc, node, heads, weights, weight_in, child);
+    let place = child as usize;
+    let flow_in = sums.flow_in.as_slice();
+    let flow_out = sums.flow_out.as_slice();
+    let weight_in = sums.weight_in.as_slice();
+    let weight_out = sums.weight_out.as_slice();
+    let given = flow_in[place] + weight_out[place];
+    let asked = flow_out[place] + weight_in[place];
     given == asked
 }
 
@@ -111,49 +144,20 @@ fn all_balance(
     placed: &Placed,
     node: u32,
     certificate: &Certificate,
-    heads: &[u32],
-    tails: &[u32],
-    weights: &[u64],
-    flows: &[u64],
-    flow_in: &[u128],
-    weight_out: &[u128],
-    flow_out: &[u128],
-    weight_in: &[u128],
+    sums: &LevelSums,
 ) -> bool
-    requires heads { AreHeads doc.now placed.now heads.now }
-    requires tails { AreTails doc.now placed.now tails.now }
-    requires weights { AreWeights doc.now weights.now }
-    requires flows { AreFlows doc.now node certificate.now flows.now }
-    requires flow_in { AreSums doc.now node heads.now flows.now flow_in.now }
-    requires weight_out { AreSums doc.now node tails.now weights.now weight_out.now }
-    requires flow_out { AreSums doc.now node tails.now flows.now flow_out.now }
-    requires weight_in { AreSums doc.now node heads.now weights.now weight_in.now }
+    requires { AreLevelSums doc.now placed.now node certificate.now sums.now }
     ensures { IsTrue result ↔ ((a : ℕ) → IsBalanced doc.now placed.now node certificate.now a) }
 {
     for child in 0..doc.nodes().len() {
-        let balanced = balances(
-            doc,
-            placed,
-            node,
-            certificate,
-            heads,
-            tails,
-            weights,
-            flows,
-            flow_in,
-            weight_out,
-            flow_out,
-            weight_in,
-            child as u32,
-        );
-        if !balanced {
+        if !balances(doc, placed, node, certificate, sums, child as u32) {
             return false;
         }
     }
     true
 }
 
-// Whether the flow balances at every child, in one pass over the edges for each kind of sum.
+// Whether the flow balances at every child.
 pub(crate) fn are_balanced(
     alloc: Global,
     doc: &Doc,
@@ -171,77 +175,7 @@ pub(crate) fn are_balanced(
     requires flows { AreFlows doc.now node certificate.now flows.now }
     ensures { IfOk result (λ balanced. IsTrue balanced ↔ ((a : ℕ) → IsBalanced doc.now placed.now node certificate.now a)) }
 {
-    let flow_in = sums(alloc, doc, node, heads, flows)?;
-    let weight_out = sums(alloc, doc, node, tails, weights)?;
-    let flow_out = sums(alloc, doc, node, tails, flows)?;
-    let weight_in = sums(alloc, doc, node, heads, weights)?;
-    let balanced = all_balance(
-        doc,
-        placed,
-        node,
-        certificate,
-        heads,
-        tails,
-        weights,
-        flows,
-        flow_in.as_slice(),
-        weight_out.as_slice(),
-        flow_out.as_slice(),
-        weight_in.as_slice(),
-    );
-    Ok(balanced)
-}
-
-// The fault of a flow of which it is known whether it balances at every child.
-fn fault_if(
-    doc: &Doc,
-    _placed: &Placed,
-    node: u32,
-    certificate: &Certificate,
-    flows: &[u64],
-    balanced: bool,
-) -> Option<Fault>
-    requires flows { AreFlows doc.now node certificate.now flows.now }
-    requires balanced { IsTrue balanced ↔ ((a : ℕ) → IsBalanced doc.now _placed.now node certificate.now a) }
-    ensures { MatchOption result
-        (FlowProof doc.now _placed.now node certificate.now)
-        (FirstFlow doc.now _placed.now node certificate.now) }
-{
-    let fault = Some(Fault::lone(Place::Node(node)));
-    if !are_idle(doc, node, certificate, flows) {
-        return fault;
-    }
-    if !balanced {
-        return fault;
-    }
-    if sum_of(doc, node, flows) != u128::from(certificate.span) {
-        return fault;
-    }
-    None
-}
-
-/// The fault that `flow_fault` answers, with the sums at all nodes made in one pass over the edges each.
-pub fn flow_fault_by_sums(
-    alloc: Global,
-    doc: &Doc,
-    placed: &Placed,
-    node: u32,
-    certificate: &Certificate,
-    heads: &[u32],
-    tails: &[u32],
-    weights: &[u64],
-    flows: &[u64],
-) -> Result<Option<Fault>, AllocError>
-    requires heads { AreHeads doc.now placed.now heads.now }
-    requires tails { AreTails doc.now placed.now tails.now }
-    requires weights { AreWeights doc.now weights.now }
-    requires flows { AreFlows doc.now node certificate.now flows.now }
-    ensures { IfOk result (λ fault.
-        MatchOption fault
-        (FlowProof doc.now placed.now node certificate.now)
-        (FirstFlow doc.now placed.now node certificate.now)) }
-{
-    let balanced = are_balanced(
+    let sums = level_sums(
         alloc,
         doc,
         placed,
@@ -252,5 +186,5 @@ pub fn flow_fault_by_sums(
         weights,
         flows,
     )?;
-    Ok(fault_if(doc, placed, node, certificate, flows, balanced))
+    Ok(all_balance(doc, placed, node, certificate, &sums))
 }

@@ -12,7 +12,7 @@ use crate::shapes::Shapes;
 use check_apart::apart_fault;
 use check_faults::Fault;
 use check_inside::inside_fault;
-use check_levels::{flow_fault_by_sums, flows, layering_fault, layers, parts, reversed_fault};
+use check_levels::{flow_fault, flows, layering_fault, layers, parts, reversed_fault};
 use check_ports::ports_fault;
 use check_routes::{clear_fault_by_ends, route_fault, sharing_fault_by_bounds};
 use elk_doc::document::{Doc, LevelOptions};
@@ -223,7 +223,7 @@ fn flow(
     ensures { IfOk result (Judges FlowProof doc.now placed.now node _options.now certificate.now) }
 {
     let flows = flows(alloc, doc, node, certificate)?;
-    flow_fault_by_sums(
+    flow_fault(
         alloc,
         doc,
         placed,

@@ -1,7 +1,7 @@
 use Rattle.std.proofs.Common.{sym, ◌∙◌}
 use Rattle.elk_doc.specs.Drawing.{flow_in}
 use Rattle.check_levels.proofs.SumLaws.{sum_of_level}
-use Rattle.check_levels.proofs.sums.fault_if.Goals as goal
+use Rattle.check_levels.proofs.flow.fault_if.Goals as goal
 
 pub returns-then-sum_of-from : goal.returns-then-sum_of-from
 returns-then-sum_of-from c =

@@ -1,6 +1,0 @@
-use Rattle.std.proofs.Common.{ℕ, ◌<◌}
-use Rattle.check_levels.specs.FirstLevels.{IsBalanced}
-use Rattle.check_levels.proofs.flow.are_balanced.Given as goal
-
-abbrev pub invariant-loop-child : goal.invariant-loop-child
-invariant-loop-child l = (k : ℕ) → k < l.child → IsBalanced l.doc l.placed l.node l.certificate k
