@@ -11,7 +11,7 @@ ghost use Rattle.check_routes.specs.FirstRoutes.{ChildClear, ClearHolds, FirstCl
 ghost use Rattle.check_routes.specs.Stretches.{AreParallel};
 
 use crate::bounds::{RouteBounds, bounds_of};
-use crate::clear::{child_clear, clear_fault};
+use crate::clear::{child_clear, clear_fault_by_pairs};
 use crate::stretches::{OutlineEnds, are_off};
 use check_faults::{Fault, is_edge_of};
 use elk_doc::document::Doc;
@@ -20,7 +20,7 @@ use elk_doc::level::node_of;
 use elk_doc::shape::Rect;
 
 // How many outlines are looked at together.
-const BLOCK: usize = 64;
+const BLOCK: usize = 16;
 
 // Whether the children with numbers from `from` and below `to` are clear of a route, by the bounds of the route first.
 fn some_clear(
@@ -85,7 +85,7 @@ fn block_end(from: usize, count: usize) -> usize
     requires { from ≤ count }
     ensures ordered { from ≤ result }
     ensures inside { result ≤ count }
-    ensures whole { (a : ℕ) → a < from + 64 → a < count → a < result }
+    ensures whole { (a : ℕ) → a < from + 16 → a < count → a < result }
 {
     if count - from < BLOCK {
         count
@@ -168,8 +168,9 @@ fn are_clear(doc: &Doc, placed: &Placed, outlines: &[Rect], ends: &OutlineEnds, 
     true
 }
 
-/// The fault that `clear_fault` answers, sooner where there is none. The ends are those of the outlines of all nodes.
-pub fn clear_fault_by_ends(
+/// The first edge of a node's level whose route meets the outline of a child that is no end node of it, or enters the box
+/// of one that is, with the first such child. The outlines are those of all nodes, and the ends those of the outlines.
+pub fn clear_fault(
     doc: &Doc,
     placed: &Placed,
     outlines: &[Rect],
@@ -187,5 +188,5 @@ pub fn clear_fault_by_ends(
     if are_clear(doc, placed, outlines, ends, node) {
         return None;
     }
-    clear_fault(doc, placed, outlines, node)
+    clear_fault_by_pairs(doc, placed, outlines, node)
 }

@@ -168,9 +168,14 @@ fn first_unclear(doc: &Doc, placed: &Placed, outlines: &[Rect], node: u32, edge:
     first_met(doc, placed, outlines, node, edge)
 }
 
-/// The first edge of a node's level whose route meets the outline of a child that is no end node of it, or enters the box
-/// of one that is, with the first such child. The outlines are those of all nodes.
-pub fn clear_fault(doc: &Doc, placed: &Placed, outlines: &[Rect], node: u32) -> Option<Fault>
+// The first edge of a node's level that is not clear of a child, with the first such child: each edge is compared with each
+// child.
+pub(crate) fn clear_fault_by_pairs(
+    doc: &Doc,
+    placed: &Placed,
+    outlines: &[Rect],
+    node: u32,
+) -> Option<Fault>
     requires fits { Fits doc.now placed.now }
     requires outlines { AreOutlines doc.now placed.now outlines.now }
     requires routes { (e : ℕ) → IsEdge doc.now node e → Route doc.now placed.now e }

@@ -10,10 +10,8 @@ mod route;
 mod sharing;
 mod stretches;
 
-pub use blocks::clear_fault_by_ends;
+pub use blocks::clear_fault;
 pub use bounds::{RouteBounds, route_bounds};
-pub use clear::clear_fault;
-pub use partners::sharing_fault_by_bounds;
+pub use partners::sharing_fault;
 pub use route::route_fault;
-pub use sharing::sharing_fault;
 pub use stretches::{OutlineEnds, outline_ends};

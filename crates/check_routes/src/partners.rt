@@ -8,7 +8,7 @@ ghost use Rattle.check_routes.specs.Bounds.{AreRouteBounds};
 ghost use Rattle.check_routes.specs.FirstRoutes.{FirstSharing, SharingHolds};
 
 use crate::bounds::{RouteBounds, lie_apart};
-use crate::sharing::{sharing_fault, sharing_holds};
+use crate::sharing::{sharing_fault_by_pairs, sharing_holds};
 use check_faults::{Fault, is_edge_of};
 use elk_doc::document::Doc;
 use elk_doc::drawing::Placed;
@@ -125,8 +125,9 @@ fn all_hold(
     true
 }
 
-/// The fault that `sharing_fault` answers, sooner where there is none. The bounds are those of the routes of all edges.
-pub fn sharing_fault_by_bounds(
+/// The first two edges of a node's level whose routes have a piece of positive length in common and whose docks are all
+/// different. The docks are those of all edges at their sources and at their targets, the bounds those of all routes.
+pub fn sharing_fault(
     doc: &Doc,
     placed: &Placed,
     sources: &[Dock],
@@ -146,5 +147,5 @@ pub fn sharing_fault_by_bounds(
     if all_hold(doc, placed, sources, targets, bounds, node) {
         return None;
     }
-    sharing_fault(doc, placed, sources, targets, node)
+    sharing_fault_by_pairs(doc, placed, sources, targets, node)
 }

@@ -181,9 +181,8 @@ fn first_sharing(
     first_partner(doc, placed, sources, targets, node, edge)
 }
 
-/// The first two edges of a node's level whose routes have a piece of positive length in common and whose docks are all
-/// different. The docks are those of all edges at their sources and at their targets.
-pub fn sharing_fault(
+// The first two edges of a node's level that share wrongly: each edge is compared with each of greater number.
+pub(crate) fn sharing_fault_by_pairs(
     doc: &Doc,
     placed: &Placed,
     sources: &[Dock],

@@ -14,7 +14,7 @@ use check_faults::Fault;
 use check_inside::inside_fault;
 use check_levels::{flow_fault, flows, layering_fault, layers, parts, reversed_fault};
 use check_ports::ports_fault;
-use check_routes::{clear_fault_by_ends, route_fault, sharing_fault_by_bounds};
+use check_routes::{clear_fault, route_fault, sharing_fault};
 use elk_doc::document::{Doc, LevelOptions};
 use elk_doc::drawing::{Certificate, Placed};
 use std::alloc::{AllocError, Global};
@@ -132,7 +132,7 @@ fn clear(
     requires routes { Holds Route doc.now placed.now node _options.now _certificate.now }
     ensures { Judges Clear doc.now placed.now node _options.now _certificate.now result }
 {
-    clear_fault_by_ends(doc, placed, shapes.outlines.as_slice(), &shapes.ends, node)
+    clear_fault(doc, placed, shapes.outlines.as_slice(), &shapes.ends, node)
 }
 
 // The first fault of shared pieces.
@@ -150,7 +150,7 @@ fn sharing(
     requires routes { Holds Route doc.now placed.now node _options.now _certificate.now }
     ensures { Judges Sharing doc.now placed.now node _options.now _certificate.now result }
 {
-    sharing_fault_by_bounds(
+    sharing_fault(
         doc,
         placed,
         shapes.sources.as_slice(),

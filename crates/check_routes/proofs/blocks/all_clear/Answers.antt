@@ -15,10 +15,10 @@ block_clear-requires-clause-parallel c = route_parallel c.args.doc.now c.args.pl
 pub loop-block-preserved : goal.loop-block-preserved
 loop-block-preserved c =
     λ k below inside.
-    elim (cases_lt k (c.loop-block.block * 64)) [
+    elim (cases_lt k (c.loop-block.block * 16)) [
       | inl before ↦ c.loop-block.invariant k before inside
       | inr after ↦
-          let first : c.loop-block.block * 64 ≤ k = omega (arith, after) in
-          let near : k < c.loop-block.block * 64 + 64 = omega (arith, below) in
+          let first : c.loop-block.block * 16 ≤ k = omega (arith, after) in
+          let near : k < c.loop-block.block * 16 + 16 = omega (arith, below) in
           c.block_clear.ensures c.if-not-block_clear.false k first (c.block_end-to.ensures.whole k near inside)
     ]

@@ -1,6 +1,6 @@
 use Rattle.std.proofs.Common.{below_more, ℕ, refl}
 use Rattle.check_routes.specs.FirstRoutes.{SharingHolds}
-use Rattle.check_routes.proofs.sharing.sharing_fault.Goals as goal
+use Rattle.check_routes.proofs.sharing.sharing_fault_by_pairs.Goals as goal
 
 pub loop-edge-preserved : goal.loop-edge-preserved
 loop-edge-preserved c =

@@ -1,6 +1,6 @@
 use Rattle.std.proofs.Common.{ℕ, ◌<◌}
 use Rattle.check_routes.specs.FirstRoutes.{ClearHolds}
-use Rattle.check_routes.proofs.clear.clear_fault.Given as goal
+use Rattle.check_routes.proofs.clear.clear_fault_by_pairs.Given as goal
 
 abbrev pub invariant-loop-edge : goal.invariant-loop-edge
 invariant-loop-edge l = (k : ℕ) → k < l.edge → (a : ℕ) → ClearHolds l.doc l.placed l.node k a
