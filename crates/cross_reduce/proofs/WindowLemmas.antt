@@ -3,14 +3,14 @@ use Rattle.std.proofs.Common.{◌≡◌, ◌≢◌, ℕ, ◌+◌, ◌-◌, ◌*�
 use Rattle.std.proofs.lemmas.Bool.{cases_eq, cases_lt}
 use Rattle.std.specs.List.{All, count_by}
 use Rattle.std.specs.List.Sorted.{IsPermutation, IsNonDecreasingBy}
-use Rattle.std.proofs.lemmas.List.{get_or_default, get_or-drop, get_or-take, length-drop, length-take, drop-map, take-map}
-use Rattle.std.proofs.lemmas.List.Elements.{All-get_or, All-map, All-weaker}
+use Rattle.std.proofs.lemmas.List.{drop_all, get_or_default, get_or-drop, get_or-take, length-drop, length-take, drop-map, take-map}
+use Rattle.std.proofs.lemmas.List.Elements.{All-get_or, All-from_get_or, All-map, All-weaker}
 use Rattle.std.proofs.lemmas.List.Sorted.{length_permutation, All-permutation}
 use Rattle.elk_layers.specs.Layered.{Plain, IsSound, IsSoundLink}
 use Rattle.elk_layers.specs.Crossings.{crossings}
 use Rattle.cross_reduce.specs.declared.counting.Pin.{Pin}
 use Rattle.cross_reduce.specs.Places.{ArePlaces, FitPlaces}
-use Rattle.cross_reduce.specs.Pins.{pin_at, pin_of, pin_from, pins_of, start_of, is_under, crossed, HasSmallTail, IsBegin}
+use Rattle.cross_reduce.specs.Pins.{pin_at, pin_of, pin_from, pins_of, start_of, is_under, crossed, HasSmallTail, IsBegin, EndsBelow}
 use Rattle.cross_reduce.proofs.ExchangeLemmas.{same_no}
 use Rattle.cross_reduce.proofs.CrossingLemmas.{count_drop, count_take, count_same, crossed_is, crossed_permuted}
 use Rattle.cross_reduce.proofs.PlaceLemmas.{map_same, links_sound}
@@ -139,3 +139,51 @@ pub window_order : (pins : List Pin) (i gap first end : ℕ) → gap ≡ (pin_at
 window_order pins i gap first end same begin start =
     first_below_end pins (pin_at pins i) first end begin.bound
     (subst (λ n. (j : ℕ) → j < first → start_of (pin_at pins j) < n) same begin.before) start.behind
+
+-- none of the heads was met yet
+pub ends_nowhere : (heads : List ℕ) (first top : ℕ) → EndsBelow heads first first top
+ends_nowhere heads first top = λ j low high. absurd (omega (arith, low, high))
+
+-- one more head
+pub ends_more : (heads : List ℕ) (first i top top' : ℕ) → top ≤ top' → get_or heads i 0 ≤ top' → EndsBelow heads first i top → EndsBelow heads first (i + 1) top'
+ends_more heads first i top top' up new so = λ j low high. elim (cases_eq j i) [
+  | inl is ↦ subst (λ k. get_or heads k 0 ≤ top') (sym is) new
+  | inr ne ↦ let old = so j low (omega (arith, high, ne)) in omega (arith, old, up)
+]
+
+ends_window : (heads : List ℕ) (first end j : ℕ) → first ≤ j → j < end → end ≤ length heads
+    → (j - first < length (take (end - first) (drop first heads))) × (get_or (take (end - first) (drop first heads)) (j - first) 0 ≡ get_or heads j 0)
+ends_window heads first end j low high bound =
+    let k : ℕ = j - first in
+    let same : first + (j - first) ≡ j = omega (arith, low) in
+    let short : j - first < end - first = omega (arith, low, high) in
+    let long = length-take (end - first) (drop first heads) in
+    let rest = length-drop first heads in
+    (omega (arith, long, rest, low, high, bound), get_or-take (end - first) (drop first heads) (j - first) 0 short ∙ get_or-drop first heads (j - first) 0 ∙ ap (λ n. get_or heads n 0) same)
+
+-- the greatest of a window of heads
+pub ends_from : (heads : List ℕ) (first end top : ℕ) → end ≤ length heads → ((j : ℕ) → j < length (take (end - first) (drop first heads)) → get_or (take (end - first) (drop first heads)) j 0 ≤ top) → EndsBelow heads first end top
+ends_from heads first end top bound all = λ j low high.
+    let at = ends_window heads first end j low high bound in
+    subst (λ n. n ≤ top) at.1 (all (j - first) at.0)
+
+pub ends_all : (heads : List ℕ) (first end i top : ℕ) → end ≤ i → end ≤ length heads → EndsBelow heads first i top → All (λ h. h ≤ top) (take (end - first) (drop first heads))
+ends_all heads first end i top short bound so =
+    All-from_get_or (λ h. h ≤ top) (take (end - first) (drop first heads)) 0
+    (λ j h.
+    let long = length-take (end - first) (drop first heads) in
+    let less : j < end - first = omega (arith, h, long) in
+    subst (λ n. n ≤ top) (sym (get_or-take (end - first) (drop first heads) j 0 less ∙ get_or-drop first heads j 0)) (so (first + j) (omega arith) (omega (arith, less, short))))
+
+pub count_none : (xs : List ℕ) (key top : ℕ) → top ≤ key → All (λ h. h ≤ top) xs → 0 ≡ count_by (λ x. ltb key x) xs
+count_none xs key top low all =
+    sym (count_drop (λ x. ltb key x) 0 (length xs) xs (λ j less l. less_no key (get_or xs j 0) (let h = All-get_or (λ h. h ≤ top) xs j 0 l all in omega (arith, h, low)))
+    ∙ ap (count_by (λ x. ltb key x)) (drop_all (length xs) xs (omega arith)))
+
+-- no link begins before itself
+pub begin_at_most : (pins : List Pin) (i place count : ℕ) → place ≤ start_of (pin_at pins i) → IsBegin pins place count → count ≤ i
+begin_at_most pins i place count reached begin =
+    elim (cases_lt i count) [
+      | inl less ↦ absurd (let a = begin.before i less in omega (arith, a, reached))
+      | inr more ↦ more
+    ]

@@ -40,3 +40,7 @@ pub record IsBegin (pins : List Pin) (place count : ℕ) : Type 0 where
   pub bound : count ≤ length pins
   pub before : (j : ℕ) → j < count → start_of (pin_at pins j) < place
   pub behind : (j : ℕ) → count ≤ j → j < length pins → place ≤ start_of (pin_at pins j)
+
+-- of the head keys from one place to before another, none is greater
+abbrev pub EndsBelow : List ℕ → ℕ → ℕ → ℕ → Type 0
+EndsBelow heads first end highest = (j : ℕ) → first ≤ j → j < end → slice_index heads j ≤ highest

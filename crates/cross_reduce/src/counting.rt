@@ -1,11 +1,11 @@
 //! The crossings of an order, counted gap by gap.
-ghost use Rattle.std.specs.Prelude.{◌≡◌, ◌<◌, ◌^◌, ◌≤◌, ◌+◌, ◌*◌, ℕ, length, map, IfOk, count_by};
+ghost use Rattle.std.specs.Prelude.{◌≡◌, ◌<◌, ◌^◌, ◌≤◌, ◌+◌, ◌*◌, ℕ, length, map, nat_lt, slice_index, IfOk, count_by};
 ghost use Rattle.std.specs.List.{All};
 ghost use Rattle.std.specs.List.Sorted.{IsNonDecreasingBy, IsPermutation};
 ghost use Rattle.elk_layers.specs.Layered.{plain, rows_of, IsSound, IsSoundLink, AreRows};
 ghost use Rattle.elk_layers.specs.Crossings as spec;
 ghost use Rattle.cross_reduce.specs.Places.{ArePlaces, FitPlaces};
-ghost use Rattle.cross_reduce.specs.Pins.{pin_of, pin_at, start_of, is_under, crossed, pin_from, HasSmallTail, IsBegin};
+ghost use Rattle.cross_reduce.specs.Pins.{pin_of, pin_at, start_of, is_under, crossed, pin_from, HasSmallTail, IsBegin, EndsBelow};
 
 use crate::places::places;
 use elk_layers::{Layered, Link, Order};
@@ -78,26 +78,54 @@ fn begin_before(pins: &[Pin], place: u64) -> usize
     pins.partition_point(|p| start(p) < place)
 }
 
-/// How many links begin before a place.
+/// How many links begin before a place, and the greatest head key among some that don't.
 #[derive(Clone, Copy)]
 struct Begin {
     place: u64,
     count: usize,
+    highest: u32,
 }
 
-/// How many links begin before a place, where it is known of one that may be the same.
-fn begin_again(pins: &[Pin], known: Begin, place: u64) -> Begin
+/// The greater of two keys.
+fn greater(one: u32, other: u32) -> u32
+    ensures first { one ≤ result }
+    ensures second { other ≤ result }
+{
+    if one < other { other } else { one }
+}
+
+/// The greatest of these keys, or 0 where there are none.
+fn highest(heads: &[u32]) -> u32
+    ensures { (j : ℕ) → j < length heads.now → slice_index heads.now j ≤ result }
+{
+    let mut top: u32 = 0;
+    for head in heads {
+        top = greater(top, *head);
+    }
+    top
+}
+
+/// How many links begin before a place, where it is known of one that may be the same, and how far those between it and a
+/// link end.
+fn begin_again(pins: &[Pin], heads: &[u32], known: Begin, place: u64, i: usize) -> Begin
     requires sorted { IsNonDecreasingBy start_of pins.now }
+    requires heads { length heads.now ≡ length pins.now }
+    requires pin { i < length pins.now }
+    requires reached { place ≤ start_of (pin_at pins.now i) }
     requires known { IsBegin pins.now known.place known.count }
+    requires highest { EndsBelow heads.now known.count i known.highest }
     ensures place { result.place ≡ place }
     ensures begin { IsBegin pins.now result.place result.count }
+    ensures highest { EndsBelow heads.now result.count i result.highest }
 {
     if known.place == place {
         return known;
     }
+    let count = begin_before(pins, place);
     Begin {
         place,
-        count: begin_before(pins, place),
+        count,
+        highest: highest(&heads[count..i]),
     }
 }
 
@@ -114,6 +142,17 @@ fn begin_before_pin(pins: &[Pin], i: usize) -> usize
     begin_before(pins, place)
 }
 
+/// How many keys are greater than a key, where none is greater than the greatest.
+fn count_over(heads: &[u32], key: u32, highest: u32) -> u64
+    requires { All (λ h. h ≤ highest) heads.now }
+    ensures { result ≡ count_by (λ x. nat_lt key x) heads.now }
+{
+    if highest <= key {
+        return 0;
+    }
+    count_above(heads, key)
+}
+
 /// How many links begin above a link of their gap and end below it, where it is known how many begin before the gap.
 fn crossed_by(pins: &[Pin], heads: &[u32], i: usize, gap: Begin) -> u64
     requires sorted { IsNonDecreasingBy start_of pins.now }
@@ -122,10 +161,25 @@ fn crossed_by(pins: &[Pin], heads: &[u32], i: usize, gap: Begin) -> u64
     requires pin { i < length pins.now }
     requires place { gap.place ≡ (pin_at pins.now i).gap * 4294967296 }
     requires gap { IsBegin pins.now gap.place gap.count }
+    requires highest { EndsBelow heads.now gap.count i gap.highest }
     ensures { result ≡ count_by (λ b. is_under b (pin_at pins.now i)) pins.now }
 {
     let end = begin_before_pin(pins, i);
-    count_above(&heads[gap.count..end], pins[i].head)
+    count_over(&heads[gap.count..end], pins[i].head, gap.highest)
+}
+
+/// The same, where one more link lies between them.
+fn with_head(known: Begin, head: u32) -> Begin
+    ensures place { result.place ≡ known.place }
+    ensures count { result.count ≡ known.count }
+    ensures kept { known.highest ≤ result.highest }
+    ensures new { head ≤ result.highest }
+{
+    Begin {
+        place: known.place,
+        count: known.count,
+        highest: greater(known.highest, head),
+    }
 }
 
 /// The crossings among these links.
@@ -136,11 +190,16 @@ fn crossed_links(pins: &[Pin], heads: &[u32]) -> u64
     requires few { length pins.now ≤ 2 ^ 24 }
     ensures { result ≡ crossed pins.now }
 {
-    let mut gap = Begin { place: 0, count: 0 };
+    let mut gap = Begin {
+        place: 0,
+        count: 0,
+        highest: 0,
+    };
     let mut total: u64 = 0;
     for i in 0..pins.len() {
-        gap = begin_again(pins, gap, pins[i].gap as u64 * 4294967296);
+        gap = begin_again(pins, heads, gap, pins[i].gap as u64 * 4294967296, i);
         total += crossed_by(pins, heads, i, gap);
+        gap = with_head(gap, heads[i]);
     }
     total
 }
