@@ -7,8 +7,8 @@ use Rattle.row_blocks.proofs.EntryLemmas.{own_heads}
 use Rattle.row_blocks.proofs.PosedLemmas.{heads_of, can_weave_rows, woven_from, roots_in_range, names_known, blocks_are, offsets_are, offsets_small, order_short}
 use Rattle.row_blocks.proofs.placing.blocks_of.Goals as goal
 
-pub links_into-requires : goal.links_into-requires
-links_into-requires c = own_heads (plain c.args.layered.now) (rows_of c.args.order.now) c.args.chosen.now c.requires.sound c.requires.straight
+pub links_into-requires-clause-own_heads : goal.links_into-requires-clause-own_heads
+links_into-requires-clause-own_heads c = own_heads (plain c.args.layered.now) (rows_of c.args.order.now) c.args.chosen.now c.requires.sound c.requires.straight
 
 pub join_blocks-requires-clause-heads : goal.join_blocks-requires-clause-heads
 join_blocks-requires-clause-heads c = rw c.as_slice.ensures.value (heads_of (plain c.args.layered.now) (rows_of c.args.order.now) c.args.chosen.now c.in_ok-into.into.items c.requires.straight c.in_ok-into.ensures)
