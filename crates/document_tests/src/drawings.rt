@@ -1,8 +1,7 @@
 //! A document built in code, and what the calls say of its drawing.
 ghost use Rattle.std.specs.Prelude.{◌≡◌, IfOk, Some, None};
-ghost use Rattle.elk_doc.specs.declared.document.Direction.TheVariants.{Right};
 ghost use Rattle.elk_doc.specs.declared.document.PortRule.TheVariants.{Free};
-ghost use Rattle.elk_doc.specs.Examples.{root, leaf_named, two_nodes};
+ghost use Rattle.elk_doc.specs.Examples.{leaf_named, two_nodes};
 
 use elk_doc::document::{Direction, Doc, Edge, End, Id, Node, PortRule, default_options};
 use elk_doc::drawing::{Certificate, Placed, Section};
@@ -12,22 +11,6 @@ use elk_doc::places::{dock_at, outline};
 use elk_doc::shape::{Point, Rect, Side, Size};
 use std::alloc::{AllocError, Global};
 use std::test::Fail;
-
-// The root, with the default options.
-fn make_root() -> Node
-    ensures { result ≡ root Right }
-{
-    Node {
-        id: None,
-        parent: None,
-        size: Size {
-            width: 0,
-            height: 0,
-        },
-        rule: PortRule::Free,
-        level: Some(default_options(Direction::Right)),
-    }
-}
 
 // A leaf of 30 by 30.
 fn make_leaf(name: i128) -> Node
@@ -50,7 +33,16 @@ fn make_two_nodes(alloc: Global) -> Result<Doc, AllocError>
     ensures { IfOk result (λ d. d ≡ two_nodes) }
 {
     let mut nodes = Vec::new(alloc);
-    nodes.push(make_root())?;
+    nodes.push(Node {
+        id: None,
+        parent: None,
+        size: Size {
+            width: 0,
+            height: 0,
+        },
+        rule: PortRule::Free,
+        level: Some(default_options(Direction::Right)),
+    })?;
     nodes.push(make_leaf(1))?;
     nodes.push(make_leaf(2))?;
     let mut edges = Vec::new(alloc);
