@@ -12,7 +12,7 @@ use Rattle.flow_dual.specs.State.{marked}
 use Rattle.flow_dual.specs.Labels.{label_at, at_one, PushedFrom, IsLabelled, IsPushed}
 use Rattle.flow_dual.specs.Rounds.{all_least, surplus, IsRound}
 use Rattle.flow_dual.specs.Searching.{IsSearched, TellsExcess, IsBetween, RiseFits, IsSettled}
-use Rattle.flow_dual.specs.Augmented.{MovesExcess, NoNewSurplus, IsAugmented, IsDrained, IsDraining, AreDrained}
+use Rattle.flow_dual.specs.Augmented.{MovesExcess, IsAugmented, AreDrained}
 use Rattle.flow_dual.proofs.Beginning.{search_ends}
 use Rattle.flow_dual.proofs.Augmenting.{push_keeps, no_surplus_balances}
 use Rattle.flow_dual.proofs.Settling.{all_out, settled_is}
@@ -48,25 +48,12 @@ one_here v d = let e : eqb v v ≡ true = eq-eqb v v refl in rw e (omega arith)
 none_there : (w v d : ℕ) → w ≢ v → at_one w v * d ≡ 0
 none_there w v d ne = let e : eqb w v ≡ false = ne_eqb w v ne in rw e (omega arith)
 
-pub excess_bound : (nodes : ℕ) (edges : List NetEdge) (flow : List ℕ) (excess : List ℤ) (v : ℕ) → TellsExcess nodes edges flow excess → v < nodes → surplus edges flow nodes ≤ 2 ^ 62 → layer_of excess v ≤ℤ pos (2 ^ 62)
-excess_bound nodes edges flow excess v t l s =
-    let a = t v l in
-    let b = surplus_at edges flow nodes v l in
-    omega (arith, ints, a, b, s)
-
--- the source has a surplus
-pub has_more : (nodes : ℕ) (edges : List NetEdge) (flow : List ℕ) (excess : List ℤ) (v : ℕ) → TellsExcess nodes edges flow excess → v < nodes → pos 0 <ℤ layer_of excess v → asked edges flow v < given edges flow v
-has_more nodes edges flow excess v t l more = let a = t v l in omega (arith, ints, a, more)
-
 module _ (nodes : ℕ) (edges : List NetEdge) (layers : List ℤ) (flow : List ℕ) (excess : List ℤ) (before : List Bool) (blanks : List Label) (old dist order : List ℕ) (source to now : ℕ) (reached : List Bool) (labels : List Label) (b : IsBetween nodes edges layers flow excess before blanks old) (f : IsSearched nodes edges layers flow source to now reached labels dist order) (there : source < nodes) (more : pos 0 <ℤ layer_of excess source) where
   pub lacks : layer_of excess to <ℤ pos 0
   lacks = let a = b.tells to f.found.is_node in let l = f.found.lacks in omega (arith, ints, a, l)
 
   pub other : source ≢ to
   other e = let a = ap (layer_of excess) e in let l = lacks in omega (arith, ints, a, l, more)
-
-  pub marks_long : length reached ≡ nodes → length labels ≡ nodes → (length reached ≡ length layers) × (length labels ≡ length layers)
-  marks_long m n = let l = b.round.layer_for_each in (omega (arith, m, l), omega (arith, n, l))
 
   pub has_room : 0 < (label_at labels to).room
   has_room = f.found.searched.room to f.found.reached_to
@@ -160,26 +147,11 @@ module _ (nodes : ℕ) (edges : List NetEdge) (layers : List ℤ) (flow : List �
           ];
         }
 
-pub drain_start : (nodes : ℕ) (edges : List NetEdge) (source : ℕ) (layers : List ℤ) (flow : List ℕ) (excess : List ℤ) (reached : List Bool) (labels : List Label) (dist : List ℕ) → IsBetween nodes edges layers flow excess reached labels dist → IsDraining nodes edges source excess layers flow excess reached labels dist
-drain_start nodes edges source layers flow excess reached labels dist b = record { between = b; others = λ v ne l. l }
-
-pub drain_more : (nodes : ℕ) (edges : List NetEdge) (source : ℕ) (first before excess : List ℤ) (layers : List ℤ) (flow : List ℕ) (reached : List Bool) (labels : List Label) (dist : List ℕ) → NoNewSurplus source first before → IsAugmented nodes edges source before layers flow excess reached labels dist → IsDraining nodes edges source first layers flow excess reached labels dist
-drain_more nodes edges source first before excess layers flow reached labels dist o a = record { between = a.between; others = λ v ne l. a.others v ne (o v ne l) }
-
-pub all_more : (nodes : ℕ) (edges : List NetEdge) (i : ℕ) (before excess : List ℤ) (layers : List ℤ) (flow : List ℕ) (reached : List Bool) (labels : List Label) (dist : List ℕ) → ((v : ℕ) → v < i → layer_of before v ≤ℤ pos 0) → IsDrained nodes edges i before layers flow excess reached labels dist → AreDrained nodes edges (i + 1) layers flow excess reached labels dist
-all_more nodes edges i before excess layers flow reached labels dist none d = record {
-  between = d.between;
-  none_left = λ v l. elim (cases_eq v i) [
-    | inl e ↦ let x = ap (layer_of excess) e in let w = d.none_left in omega (arith, ints, x, w)
-    | inr ne ↦ d.others v ne (none v (omega (arith, l, ne)))
-  ];
-}
-
 -- no node with a surplus, so the flow balances
 no_surplus : (edges : List NetEdge) (flow : List ℕ) (n : ℕ) → ((v : ℕ) → v < n → given edges flow v ≤ asked edges flow v) → surplus edges flow n ≡ 0
 no_surplus edges flow zero h = refl
 no_surplus edges flow (suc n) h = let r = no_surplus edges flow n (λ v l. h v (omega (arith, l))) in let a = h n (omega arith) in omega (arith, r, a)
 
-pub drained_balances : (nodes : ℕ) (edges : List NetEdge) (layers : List ℤ) (flow : List ℕ) (excess : List ℤ) (reached : List Bool) (labels : List Label) (dist : List ℕ) → EndsBelow nodes edges → AreDrained nodes edges nodes layers flow excess reached labels dist → Balances nodes edges flow
+pub drained_balances : (nodes : ℕ) (edges : List NetEdge) (layers : List ℤ) (flow : List ℕ) (excess : List ℤ) (reached : List Bool) (labels : List Label) (dist : List ℕ) → EndsBelow nodes edges → AreDrained nodes edges layers flow excess reached labels dist → Balances nodes edges flow
 drained_balances nodes edges layers flow excess reached labels dist ends d =
     no_surplus_balances nodes edges flow ends (no_surplus edges flow nodes (λ v l. let t = d.between.tells v l in let n = d.none_left v l in omega (arith, ints, t, n)))

@@ -1,5 +1,5 @@
 -- The last state, lowered to layer 0.
-use Rattle.std.proofs.Common.{◌≡◌, ℕ, ◌<◌, ◌^◌, ◌-◌, Bool, false, ℤ, pos, ◌≤ℤ◌, ◌<ℤ◌, List, length, get_or, replicate, map, arith, ap, ◌∙◌, inl, inr}
+use Rattle.std.proofs.Common.{◌≡◌, ℕ, ◌<◌, ◌^◌, Bool, false, ℤ, pos, ◌≤ℤ◌, ◌<ℤ◌, List, length, get_or, replicate, map, arith, ap, ◌∙◌, inl, inr}
 use Rattle.std.proofs.lemmas.Int.{ints}
 use Rattle.std.specs.List.{All}
 use Rattle.std.proofs.lemmas.Bool.{cases_lt}
@@ -12,13 +12,12 @@ use Rattle.network_laws.specs.Lowering.{KeepsRises}
 use Rattle.network_laws.specs.Paths.{AreGreatestSums}
 use Rattle.network_laws.specs.Tight.{IsDone}
 use Rattle.flow_dual.specs.declared.Label.{Label}
-use Rattle.flow_dual.specs.Rounds.{all_least}
 use Rattle.flow_dual.specs.Searching.{IsCleared}
 use Rattle.flow_dual.specs.Augmented.{AreDrained}
 use Rattle.flow_dual.proofs.Draining.{drained_balances}
 use Rattle.flow_dual.proofs.Starting.{first_low}
 
-pub done : (nodes : ℕ) (edges : List NetEdge) (layers : List ℤ) (flow : List ℕ) (excess : List ℤ) (reached : List Bool) (labels : List Label) (dist : List ℕ) (new : List ℤ) → EndsBelow nodes edges → AreDrained nodes edges nodes layers flow excess reached labels dist → length new ≡ nodes → KeepsRises edges layers new → PartsBeginAtZero nodes edges new → IsDone nodes edges new flow
+pub done : (nodes : ℕ) (edges : List NetEdge) (layers : List ℤ) (flow : List ℕ) (excess : List ℤ) (reached : List Bool) (labels : List Label) (dist : List ℕ) (new : List ℤ) → EndsBelow nodes edges → AreDrained nodes edges layers flow excess reached labels dist → length new ≡ nodes → KeepsRises edges layers new → PartsBeginAtZero nodes edges new → IsDone nodes edges new flow
 done nodes edges layers flow excess reached labels dist new ends d n rises zero_up = record {
   layer_for_each = n;
   flow_for_each = d.between.round.flow_for_each;
@@ -27,9 +26,6 @@ done nodes edges layers flow excess reached labels dist new ends d n rises zero_
   balances = drained_balances nodes edges layers flow excess reached labels dist ends d;
   from_zero = zero_up;
 }
-
-pub below_top : (nodes : ℕ) (edges : List NetEdge) (layers : List ℤ) (flow : List ℕ) (excess : List ℤ) (reached : List Bool) (labels : List Label) (dist : List ℕ) → all_least edges < 2 ^ 62 → AreDrained nodes edges nodes layers flow excess reached labels dist → (v : ℕ) → v < nodes → layer_of layers v <ℤ pos (2 ^ 63 - 1)
-below_top nodes edges layers flow excess reached labels dist small d v l = let a = d.between.round.low v l in omega (arith, ints, a, small)
 
 -- the sums fit
 pub sum_layers : (nodes : ℕ) (edges : List NetEdge) (layers : List ℤ) → IsNetwork nodes edges → AreGreatestSums nodes edges layers → (v : ℕ) → v < nodes → (pos 0 ≤ℤ layer_of layers v) × (layer_of layers v <ℤ pos (2 ^ 62))

@@ -1,7 +1,6 @@
 pub mod Cuts
 pub mod Raises
 pub mod Reaching
-pub mod Slacks
 pub mod Pushing
 pub mod Searching
 pub mod Augmenting
@@ -14,3 +13,4 @@ pub mod Settling
 pub mod Draining
 pub mod Starting
 pub mod Finishing
+pub mod Waiting

@@ -12,12 +12,13 @@ use Rattle.network_laws.specs.Network.{edge_at, EndsBelow}
 use Rattle.network_laws.specs.Layering.{layer_of, IsLayering}
 use Rattle.network_laws.specs.Links.{end_of}
 use Rattle.network_laws.specs.Tight.{given, asked}
+use Rattle.network_laws.proofs.PathSums.{marked_le}
 use Rattle.flow_dual.specs.declared.Label.{Label}
 use Rattle.flow_dual.specs.declared.queue.Step.{Step}
 use Rattle.flow_dual.specs.State.{marked, Leaves, LeadsOn, IsClosed, IsRaised, IsLeastSlack}
 use Rattle.flow_dual.specs.Search.{Reaches}
 use Rattle.flow_dual.specs.Rounds.{all_least, IsRound, IsWithin}
-use Rattle.flow_dual.specs.Queue.{nearness, Crosses, TakesStep, HasNoStep, IsOpen, IsStepFrom, Offers}
+use Rattle.flow_dual.specs.Queue.{nearness, Crosses, TakesStep, HasNoStep, IsOpen, IsStepFrom, Offers, OffersBoth}
 use Rattle.flow_dual.specs.Searching.{IsRisen, IsOffered, IsSearching, IsSearched, IsCleared, Begins, TellsExcess}
 use Rattle.flow_dual.proofs.Leading.{raised_layering, raised_from_zero}
 use Rattle.flow_dual.proofs.Beginning.{begun}
@@ -238,13 +239,6 @@ module _ (nodes : ℕ) (edges : List NetEdge) (layers : List ℤ) (flow : List �
               record { layers' = st.risen; within = st.within; rise = subst (λ x. IsRisen layers inside dist x st.risen) is st.rise }
         ]
 
-    pub small : all_least edges < 2 ^ 62 → source < nodes → pos 0 ≤ℤ low source → d < 2 ^ 70
-    small least_fits there zero_up =
-        let x = rises.rise.within source (below source there) rises.within.searched.source_in in
-        let y = rises.within.low.all source there in
-        let z = st.first in
-        omega (arith, ints, x, y, z, zero_up, least_fits)
-
     pub leads : LeadsOn rises.layers' inside e (get_or flow s.edge 0)
     leads =
         elim own [
@@ -327,6 +321,18 @@ module _ (nodes : ℕ) (edges : List NetEdge) (layers : List ℤ) (flow : List �
       new_range : All (λ u. u < nodes) (order ++ v ∷ [])
       new_range = All-push (λ u. u < nodes) order v st.in_range new_node.0
 
+      -- the source was raised as far, and the new node stands no further below it than the edges between ask
+      pub near_low : asked edges flow v ≤ given edges flow v → all_least edges < 2 ^ 62 → source < nodes → pos 0 ≤ℤ low source → pos d ≤ℤ (low v +ℤ pos (2 ^ 62))
+      near_low enough small there zero_up =
+          let tree = set st.tree s.edge true in
+          let w = turn_more nodes edges flow source turn rises.layers' reached labels st.tree ends rises.within s.edge v reached' labels' is_there leads g enough in
+          let c = w.searched.close source v (still_in source st.within.searched.source_in) new_mark in
+          let t = marked_le edges tree in
+          let x = rises.rise.within source (below source there) st.within.searched.source_in in
+          let y = rises.rise.outside v (below v new_node.0) new_node.1 in
+          let z = st.first in
+          omega (arith, ints, c, t, x, y, z, zero_up, small)
+
       pub found : given edges flow v < asked edges flow v → IsSearched nodes edges layers flow source v d reached' labels' dist' (order ++ v ∷ [])
       found lacks = record {
         risen = rises.layers';
@@ -358,7 +364,7 @@ module _ (nodes : ℕ) (edges : List NetEdge) (layers : List ℤ) (flow : List �
       not_open Tail amount o = clash (marked reached' e.head) ends_in.1 o
       not_open Head amount o = clash (marked reached' e.tail) ends_in.0 o.0
 
-      pub more : asked edges flow v ≤ given edges flow v → (q2 q3 : List Step) → Offers edges layers flow (marked reached') Tail v d (length edges) rest q2 → Offers edges layers flow (marked reached') Head v d (length edges) q2 q3 → IsSearching nodes edges layers flow source (turn + 1) d reached' labels' dist' (order ++ v ∷ []) q3
+      more : asked edges flow v ≤ given edges flow v → (q2 q3 : List Step) → Offers edges layers flow (marked reached') Tail v d (length edges) rest q2 → Offers edges layers flow (marked reached') Head v d (length edges) q2 q3 → IsSearching nodes edges layers flow source (turn + 1) d reached' labels' dist' (order ++ v ∷ []) q3
       more enough q2 q3 o1 o2 =
           let keep : (t : Step) → Contains rest t → Contains q3 t = λ t c. o2.kept t (o1.kept t c) in
           let sourced : source ≢ v = was_other source st.within.searched.source_in in
@@ -419,6 +425,15 @@ module _ (nodes : ℕ) (edges : List NetEdge) (layers : List ℤ) (flow : List �
           from_new o1 o2 k Tail l same o = let t = o1.offered k l same o in (t.0, o2.kept t.0 t.1, t.2)
           from_new o1 o2 k Head l same o = o2.offered k l same o
 
+      -- the search goes on from the steps as they are after the turn
+      pub turned : asked edges flow v ≤ given edges flow v → (m n : ℕ) (dists orders : List ℕ) (steps : List Step) → m ≡ d → n ≡ m → dists ≡ dist' → orders ≡ order ++ v ∷ [] → OffersBoth edges layers flow (marked reached') v m rest steps → IsSearching nodes edges layers flow source (turn + 1) n reached' labels' dists orders steps
+      turned enough m n dists orders steps at still is_dist is_order offers =
+          let o = subst (λ x. OffersBoth edges layers flow (marked reached') v x rest steps) at offers in
+          subst (λ x. IsSearching nodes edges layers flow source (turn + 1) x reached' labels' dists orders steps) (sym (still ∙ at))
+          (subst (λ xs. IsSearching nodes edges layers flow source (turn + 1) d reached' labels' xs orders steps) (sym is_dist)
+          (subst (λ xs. IsSearching nodes edges layers flow source (turn + 1) d reached' labels' dist' xs steps) (sym is_order)
+          (more enough o.0 steps o.1 o.2)))
+
 -- the search as it begins
 module _ (nodes : ℕ) (edges : List NetEdge) (layers : List ℤ) (flow : List ℕ) (source room : ℕ) (before reached : List Bool) (blanks labels : List Label) (old dist : List ℕ) (r : IsRound nodes edges layers flow (2 ^ 62)) (there : source < nodes) (some : 0 < room) (surplus : asked edges flow source < given edges flow source) (clear : IsCleared nodes before blanks) (long : length old ≡ nodes) (b : Begins before blanks old source room reached labels dist) where
   source_in : marked reached source ≡ true
@@ -434,8 +449,8 @@ module _ (nodes : ℕ) (edges : List NetEdge) (layers : List ℤ) (flow : List �
   at_source : get_or dist source 0 ≡ 0
   at_source = ap (λ xs. get_or xs source 0) b.first ∙ get_or-set_same old source 0 0 (omega (arith, long, there))
 
-  pub search_begun : (order : List ℕ) (q0 q1 q2 : List Step) → order ≡ source ∷ [] → q0 ≡ [] → Offers edges layers flow (marked reached) Tail source 0 (length edges) q0 q1 → Offers edges layers flow (marked reached) Head source 0 (length edges) q1 q2 → IsSearching nodes edges layers flow source 1 0 reached labels dist order q2
-  search_begun order q0 q1 q2 is none o1 o2 =
+  from_offers : (order : List ℕ) (q0 q1 q2 : List Step) → order ≡ source ∷ [] → q0 ≡ [] → Offers edges layers flow (marked reached) Tail source 0 (length edges) q0 q1 → Offers edges layers flow (marked reached) Head source 0 (length edges) q1 q2 → IsSearching nodes edges layers flow source 1 0 reached labels dist order q2
+  from_offers order q0 q1 q2 is none o1 o2 =
       let new_sound : (end : End) (t : Step) → t.edge < length edges → end_of end (edge_at edges t.edge) ≡ source → IsStepFrom layers (edge_at edges t.edge) (get_or flow t.edge 0) 0 end (nearness t) → IsOffered edges layers flow (marked reached) dist 0 t =
       λ end t l at step. record {
         is_there = l;
@@ -475,6 +490,11 @@ module _ (nodes : ℕ) (edges : List NetEdge) (layers : List ℤ) (flow : List �
       from_source : Offers edges layers flow (marked reached) Tail source 0 (length edges) q0 q1 → Offers edges layers flow (marked reached) Head source 0 (length edges) q1 q2 → (k : ℕ) (end : End) → k < length edges → end_of end (edge_at edges k) ≡ source → IsOpen (marked reached) end (edge_at edges k) (get_or flow k 0) → (t : Step) × Contains q2 t × (t.edge ≡ k)
       from_source o1 o2 k Tail l same o = let t = o1.offered k l same o in (t.0, o2.kept t.0 t.1, t.2)
       from_source o1 o2 k Head l same o = o2.offered k l same o
+
+  pub search_begun : (order : List ℕ) (none steps : List Step) (m n : ℕ) → order ≡ source ∷ [] → none ≡ [] → m ≡ 0 → n ≡ m → OffersBoth edges layers flow (marked reached) source m none steps → IsSearching nodes edges layers flow source 1 n reached labels dist order steps
+  search_begun order none steps m n is empty at still offers =
+      let o = subst (λ x. OffersBoth edges layers flow (marked reached) source x none steps) at offers in
+      subst (λ x. IsSearching nodes edges layers flow source 1 x reached labels dist order steps) (sym (still ∙ at)) (from_offers order none o.0 steps is empty o.1 o.2)
 
 pub tells_lack : (nodes : ℕ) (edges : List NetEdge) (flow : List ℕ) (excess : List ℤ) (v : ℕ) → TellsExcess nodes edges flow excess → v < nodes → layer_of excess v <ℤ pos 0 → given edges flow v < asked edges flow v
 tells_lack nodes edges flow excess v t l less = let e = t v l in omega (arith, ints, e, less)

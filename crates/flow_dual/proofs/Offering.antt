@@ -1,9 +1,10 @@
 -- The queue of a search's steps, as steps are added and taken.
-use Rattle.std.proofs.Common.{◌≡◌, ℕ, zero, suc, ◌<◌, Bool, ◌⊎◌, ℤ, List, [], ◌∷◌, length, get_or, arith, refl, sym, subst, ◌∙◌, inl, inr}
+use Rattle.std.proofs.Common.{◌≡◌, ℕ, zero, suc, ◌<◌, ◌≤◌, Bool, ◌⊎◌, ℤ, List, [], ◌∷◌, ◌++◌, length, get_or, arith, refl, sym, subst, ◌∙◌, inl, inr}
 use Rattle.std.specs.List.{All, Contains}
 use Rattle.std.proofs.lemmas.Bool.{cases_eq, cases_lt}
-use Rattle.std.proofs.lemmas.List.Sorted.{Contains-permutation, IsPermutation-sym, length_permutation}
-use Rattle.std.proofs.lemmas.List.Elements.{All-contains}
+use Rattle.std.proofs.lemmas.List.Sorted.{Contains-permutation, IsPermutation-refl, IsPermutation-sym, IsPermutation-trans, IsPermutation-to_front, IsPermutation-middle, IsPermutation-append_left, IsPermutation-append_right, length_permutation}
+use Rattle.std.specs.List.Sorted.{IsPermutation}
+use Rattle.std.proofs.lemmas.List.Elements.{All-contains, All-append, All-tail, All-weaker}
 use Rattle.network_laws.specs.declared.network.NetEdge.{NetEdge}
 use Rattle.network_laws.specs.declared.links.End.{End}
 use Rattle.network_laws.specs.declared.links.End.TheVariants.{Tail, Head}
@@ -22,6 +23,26 @@ first_in x xs = (0, omega arith, refl)
 
 pub rest_in : {X : Type 0} (x t : X) (xs : List X) → Contains xs t → Contains (x ∷ xs) t
 rest_in x t xs (k, l, e) = (suc k, omega (arith, l), e)
+
+-- a list of steps that are all as near as the one in front, beside a heap of steps that are no nearer
+pub takes_first : (now : ℕ) (old new further : List Step) (s : Step) → old ≡ s ∷ new → All (λ (t : Step). nearness t ≡ now) old → All (λ (t : Step). now ≤ nearness t) further → TakesNearest (old ++ further) s (new ++ further)
+takes_first now old new further s is same no_nearer =
+    let all : All (λ (t : Step). nearness t ≡ now) (s ∷ new) = subst (λ xs. All (λ (t : Step). nearness t ≡ now) xs) is same in
+    let at : nearness s ≡ now = all 0 s (omega arith) in
+    record {
+      moves = subst (λ xs. IsPermutation (xs ++ further) (s ∷ (new ++ further))) (sym is) (IsPermutation-refl (s ∷ (new ++ further)));
+      nearest = All-append (λ (t : Step). nearness s ≤ nearness t) new further
+          (All-weaker (λ (t : Step). nearness t ≡ now) (λ (t : Step). nearness s ≤ nearness t) (λ t e. omega (arith, e, at)) new (All-tail (λ (t : Step). nearness t ≡ now) s new all))
+          (All-weaker (λ (t : Step). now ≤ nearness t) (λ (t : Step). nearness s ≤ nearness t) (λ t l. omega (arith, l, at)) further no_nearer);
+    }
+
+pub adds_at_once : (old new further : List Step) (s : Step) → new ≡ old ++ s ∷ [] → IsPermutation (s ∷ (old ++ further)) (new ++ further)
+adds_at_once old new further s is =
+    subst (λ xs. IsPermutation (s ∷ (old ++ further)) (xs ++ further)) (sym is) (IsPermutation-sym ((old ++ s ∷ []) ++ further) (s ∷ (old ++ further)) (IsPermutation-append_left further (old ++ s ∷ []) (s ∷ old) (IsPermutation-to_front old s)))
+
+pub adds_further : (at_once old new : List Step) (s : Step) → IsPermutation (s ∷ old) new → IsPermutation (s ∷ (at_once ++ old)) (at_once ++ new)
+adds_further at_once old new s p =
+    IsPermutation-trans (s ∷ (at_once ++ old)) (at_once ++ s ∷ old) (at_once ++ new) (IsPermutation-sym (at_once ++ s ∷ old) (s ∷ (at_once ++ old)) (IsPermutation-middle at_once s old)) (IsPermutation-append_right at_once (s ∷ old) new p)
 
 pub taken_in : (old new : List Step) (s t : Step) → TakesNearest old s new → Contains old t → (t ≡ s) ⊎ Contains new t
 taken_in old new s t m c = in_first s t new (Contains-permutation old (s ∷ new) t m.moves c)
@@ -83,9 +104,9 @@ offers_past edges layers flow set end v near k k' old new n here o = record {
   only = o.only;
 }
 
-pub offers_more : (edges : List NetEdge) (layers : List ℤ) (flow : List ℕ) (set : ℕ → Bool) (end : End) (v near k d turn : ℕ) (old q new : List Step) → k < length edges → end_of end (edge_at edges k) ≡ v → IsStepFrom layers (edge_at edges k) (get_or flow k 0) near end d → Adds q d turn k new → Offers edges layers flow set end v near k old q → Offers edges layers flow set end v near k old new × ((t : Step) × Contains new t × (t.edge ≡ k))
-offers_more edges layers flow set end v near k d turn old q new l is step adds o =
-    let s : Step = record { near = record { 0 = d }; turn = turn; edge = k } in
+pub offers_more : (edges : List NetEdge) (layers : List ℤ) (flow : List ℕ) (set : ℕ → Bool) (end : End) (v near k d : ℕ) (old q new : List Step) → k < length edges → end_of end (edge_at edges k) ≡ v → IsStepFrom layers (edge_at edges k) (get_or flow k 0) near end d → Adds q d k new → Offers edges layers flow set end v near k old q → Offers edges layers flow set end v near k old new × ((t : Step) × Contains new t × (t.edge ≡ k))
+offers_more edges layers flow set end v near k d old q new l is step adds o =
+    let s : Step = record { near = record { 0 = d }; edge = k } in
     let in_new : (t : Step) → Contains q t → Contains new t = λ t c. Contains-permutation (s ∷ q) new t adds (rest_in s t q c) in (
       record {
         kept = λ t c. in_new t (o.kept t c);

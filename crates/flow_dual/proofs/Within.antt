@@ -1,8 +1,7 @@
 -- The turns of a search.
-use Rattle.std.proofs.Common.{◌≡◌, ℕ, ◌+◌, ◌<◌, ◌≤◌, ◌^◌, cond, Bool, true, false, ℤ, pos, ◌≤ℤ◌, List, length, get_or, set, arith, sym, ap, subst, ◌∙◌, inl, inr}
-use Rattle.std.proofs.lemmas.Int.{ints}
-use Rattle.std.proofs.lemmas.Bool.{cases_eq, cases_lt}
-use Rattle.std.proofs.lemmas.List.{get_or-set_same, get_or-set_other, get_or_past, length-set}
+use Rattle.std.proofs.Common.{◌≡◌, ℕ, ◌+◌, ◌<◌, ◌≤◌, cond, Bool, true, false, ℤ, pos, ◌≤ℤ◌, List, length, get_or, set, arith, sym, ap, subst, ◌∙◌, inl, inr}
+use Rattle.std.proofs.lemmas.Bool.{cases_eq}
+use Rattle.std.proofs.lemmas.List.{get_or-set_same, get_or-set_other, length-set}
 use Rattle.std.proofs.lemmas.List.Sums.{sum_by-set}
 use Rattle.network_laws.specs.declared.network.NetEdge.{NetEdge}
 use Rattle.network_laws.specs.Network.{edge_at, EndsBelow}
@@ -11,7 +10,7 @@ use Rattle.network_laws.specs.Tight.{given, asked}
 use Rattle.flow_dual.specs.declared.Label.{Label}
 use Rattle.flow_dual.specs.State.{marked, LeadsOn, IsClosed, SomeLeaves, IsLed}
 use Rattle.flow_dual.specs.Search.{IsSearch, Reaches}
-use Rattle.flow_dual.specs.Rounds.{all_least, unreached, IsWithin, IsFound}
+use Rattle.flow_dual.specs.Rounds.{unreached, IsWithin, IsFound}
 use Rattle.flow_dual.proofs.Raises.{raise_keeps_tight}
 use Rattle.flow_dual.proofs.Searching.{search_grows, raise_keeps_search}
 use Rattle.flow_dual.proofs.Augmenting.{raise_stays_low, found_is_low, some_edge_leaves}
@@ -20,13 +19,6 @@ clash : {P : Type 0} (b : Bool) → b ≡ true → b ≡ false → P
 clash b t f = let bad : true ≡ false = sym t ∙ f in absurd cc
 
 module _ (nodes : ℕ) (edges : List NetEdge) (flow : List ℕ) (source turn : ℕ) (layers : List ℤ) (reached : List Bool) (labels : List Label) (tree : List Bool) (ends : EndsBelow nodes edges) (w : IsWithin nodes edges flow source turn layers reached labels tree) where
-  pub within_low : all_least edges < 2 ^ 62 → (v : ℕ) → layer_of layers v ≤ℤ pos (2 ^ 64)
-  within_low l v =
-      elim (cases_lt v nodes) [
-        | inl a ↦ let b = w.low.all v a in omega (arith, ints, b, l)
-        | inr p ↦ let n = w.layer_for_each in rw (get_or_past layers v (pos 0) (omega (arith, n, p))) (omega (arith, ints))
-      ]
-
   pub within_leaves : source < nodes → asked edges flow source < given edges flow source → IsClosed edges layers flow (marked reached) → SomeLeaves edges (marked reached)
   within_leaves there more c = some_edge_leaves nodes edges layers flow source (marked reached) ends there w.searched.source_in more w.low.none_lacks c
 

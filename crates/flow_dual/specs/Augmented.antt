@@ -1,8 +1,10 @@
 -- One augmentation, and all of one node.
 use Rattle.std.specs.Prelude.{◌≡◌, ◌≢◌, ℕ, ◌<◌, Bool, ℤ, pos, ◌+ℤ◌, ◌≤ℤ◌, ◌<ℤ◌, List, length}
+use Rattle.std.specs.List.{Contains}
 use Rattle.network_laws.specs.declared.network.NetEdge.{NetEdge}
 use Rattle.network_laws.specs.Layering.{layer_of}
 use Rattle.flow_dual.specs.declared.Label.{Label}
+use Rattle.flow_dual.specs.declared.sources.Source.{Source}
 use Rattle.flow_dual.specs.Searching.{IsBetween}
 
 -- the amount is moved from one node's excess to another's
@@ -34,7 +36,17 @@ pub record IsDraining (nodes : ℕ) (edges : List NetEdge) (source : ℕ) (old :
   pub between : IsBetween nodes edges layers flow excess reached labels dist
   pub others : NoNewSurplus source old excess
 
--- the first nodes have no surplus
-pub record AreDrained (nodes : ℕ) (edges : List NetEdge) (i : ℕ) (layers : List ℤ) (flow : List ℕ) (excess : List ℤ) (reached : List Bool) (labels : List Label) (dist : List ℕ) : Type 0 where
+-- each node with a surplus waits in the list
+pub record AreWaiting (nodes : ℕ) (excess : List ℤ) (sources : List Source) : Type 0 where
+  pub in_range : (s : Source) → Contains sources s → s.node < nodes
+  pub waits : (v : ℕ) → v < nodes → pos 0 <ℤ layer_of excess v → (s : Source) × Contains sources s × (s.node ≡ v)
+
+-- between two nodes that are drained, while these sources wait
+pub record IsDrainingAll (nodes : ℕ) (edges : List NetEdge) (sources : List Source) (layers : List ℤ) (flow : List ℕ) (excess : List ℤ) (reached : List Bool) (labels : List Label) (dist : List ℕ) : Type 0 where
   pub between : IsBetween nodes edges layers flow excess reached labels dist
-  pub none_left : (v : ℕ) → v < i → layer_of excess v ≤ℤ pos 0
+  pub waiting : AreWaiting nodes excess sources
+
+-- no node has a surplus
+pub record AreDrained (nodes : ℕ) (edges : List NetEdge) (layers : List ℤ) (flow : List ℕ) (excess : List ℤ) (reached : List Bool) (labels : List Label) (dist : List ℕ) : Type 0 where
+  pub between : IsBetween nodes edges layers flow excess reached labels dist
+  pub none_left : (v : ℕ) → v < nodes → layer_of excess v ≤ℤ pos 0

@@ -1,8 +1,9 @@
 -- A queue of steps, of which the nearest is taken.
-use Rattle.std.specs.Prelude.{◌≡◌, ℕ, ◌<◌, ◌≤◌, Bool, true, false, ◌⊎◌, ℤ, pos, ◌+ℤ◌, List, ◌∷◌, length, slice_index}
+use Rattle.std.specs.Prelude.{◌≡◌, ℕ, ◌<◌, ◌≤◌, Bool, true, false, ◌⊎◌, ℤ, pos, ◌+ℤ◌, List, ◌∷◌, ◌++◌, length, slice_index}
 use Rattle.std.specs.declared.cmp.Ordering.{Ordering}
 use Rattle.std.specs.Ordering.{ordering_then, nat_cmp}
 use Rattle.std.specs.List.{All, Contains}
+use Rattle.std.specs.BinaryHeap.{IsHeap, heap_items}
 use Rattle.std.specs.List.Sorted.{IsPermutation}
 use Rattle.network_laws.specs.declared.network.NetEdge.{NetEdge}
 use Rattle.network_laws.specs.declared.links.End.{End}
@@ -11,22 +12,33 @@ use Rattle.network_laws.specs.Network.{edge_at}
 use Rattle.network_laws.specs.Layering.{layer_of}
 use Rattle.network_laws.specs.Links.{end_of}
 use Rattle.flow_dual.specs.declared.queue.Step.{Step}
+use Rattle.flow_dual.specs.declared.queue.Steps.{Steps}
 
 -- how far the reached nodes have to be raised for a step
 abbrev pub nearness : Step → ℕ
 nearness s = s.near.0
 
--- nearer steps are greater, then those found later
+-- nearer steps are greater, then those over edges of greater numbers
 abbrev pub step_order : Step → Step → Ordering
-step_order x y = ordering_then (nat_cmp (nearness y) (nearness x)) (ordering_then (nat_cmp x.turn y.turn) (nat_cmp x.edge y.edge))
+step_order x y = ordering_then (nat_cmp (nearness y) (nearness x)) (nat_cmp x.edge y.edge)
+
+-- the steps that wait
+abbrev pub waiting : Steps → List Step
+waiting q = q.at_once.items ++ heap_items q.further
+
+-- the steps of the list are as near as the one taken last, and none of the others is nearer
+pub record AreInOrder (q : Steps) : Type 0 where
+  pub at_once : All (λ s. nearness s ≡ q.now) q.at_once.items
+  pub further : All (λ s. q.now ≤ nearness s) (heap_items q.further)
+  pub heap : IsHeap step_order (heap_items q.further)
 
 -- a step is taken out, and none of the others is nearer
 pub record TakesNearest (old : List Step) (s : Step) (new : List Step) : Type 0 where
   pub moves : IsPermutation old (s ∷ new)
   pub nearest : All (λ t. nearness s ≤ nearness t) new
 
-abbrev pub Adds : List Step → ℕ → ℕ → ℕ → List Step → Type 0
-Adds old near turn edge new = IsPermutation ((record { near = record { 0 = near }; turn = turn; edge = edge }) ∷ old) new
+abbrev pub Adds : List Step → ℕ → ℕ → List Step → Type 0
+Adds old near edge new = IsPermutation ((record { near = record { 0 = near }; edge = edge }) ∷ old) new
 
 -- the edge has one end in the set, and the other outside
 abbrev pub Crosses : (ℕ → Bool) → NetEdge → Type 0

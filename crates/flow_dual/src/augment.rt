@@ -11,6 +11,7 @@ ghost use Rattle.flow_dual.specs.Searching.{IsBetween};
 ghost use Rattle.flow_dual.specs.Augmented.{MovesExcess, IsAugmented, IsDrained, IsDraining, AreDrained};
 
 use crate::settle::settle;
+use crate::sources::sources_of;
 use crate::turns::search;
 use crate::{Label, push};
 use network_laws::{Links, NetEdge};
@@ -66,7 +67,7 @@ fn augment(
     excess: &mut [i64],
     reached: &mut [bool],
     labels: &mut [Label],
-    dist: &mut [u128],
+    dist: &mut [u64],
 ) -> Result<(), AllocError>
     requires few { length layer.old ≤ 2 ^ 23 }
     requires few_edges { length edges.now ≤ 2 ^ 24 }
@@ -105,7 +106,7 @@ fn drain(
     excess: &mut [i64],
     reached: &mut [bool],
     labels: &mut [Label],
-    dist: &mut [u128],
+    dist: &mut [u64],
 ) -> Result<(), AllocError>
     requires few { length layer.old ≤ 2 ^ 23 }
     requires few_edges { length edges.now ≤ 2 ^ 24 }
@@ -125,7 +126,8 @@ fn drain(
     Ok(())
 }
 
-/// Drains one node after another. A surplus never comes back, so no node is looked at again.
+/// Drains one node after another, those in the greatest layers first: fewer nodes stand in the way of these, so that
+/// searches end sooner. A surplus never comes back, so no node is looked at again.
 pub fn drain_all(
     alloc: Global,
     edges: &[NetEdge],
@@ -136,7 +138,7 @@ pub fn drain_all(
     excess: &mut [i64],
     reached: &mut [bool],
     labels: &mut [Label],
-    dist: &mut [u128],
+    dist: &mut [u64],
 ) -> Result<(), AllocError>
     requires few { length layer.old ≤ 2 ^ 23 }
     requires few_edges { length edges.now ≤ 2 ^ 24 }
@@ -145,11 +147,22 @@ pub fn drain_all(
     requires tails { AreLinks (length layer.old) edges.now Tail tails.now.first.items tails.now.next.items }
     requires heads { AreLinks (length layer.old) edges.now Head heads.now.first.items heads.now.next.items }
     requires between { IsBetween (length layer.old) edges.now layer.old flow.old excess.old reached.old labels.old dist.old }
-    ensures { OnOk result (AreDrained (length layer.old) edges.now (length layer.old) layer.new flow.new excess.new reached.new labels.new dist.new) }
+    ensures { OnOk result (AreDrained (length layer.old) edges.now layer.new flow.new excess.new reached.new labels.new dist.new) }
 {
-    for v in 0..layer.len() {
+    let mut sources = sources_of(alloc, layer, excess)?;
+    'sources: while let Some(source) = sources.pop() {
         drain(
-            alloc, edges, tails, heads, v as u32, layer, flow, excess, reached, labels, dist,
+            alloc,
+            edges,
+            tails,
+            heads,
+            source.node,
+            layer,
+            flow,
+            excess,
+            reached,
+            labels,
+            dist,
         )?;
     }
     Ok(())

@@ -11,6 +11,7 @@ mod augment;
 mod queue;
 mod settle;
 mod solving;
+mod sources;
 mod start;
 mod steps;
 mod turns;

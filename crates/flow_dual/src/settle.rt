@@ -8,7 +8,7 @@ ghost use Rattle.flow_dual.specs.Searching.{IsSettled, RiseFits, IsEarlier};
 
 use crate::Label;
 
-fn lifted(layer: i64, now: u128, dist: u128) -> i64
+fn lifted(layer: i64, now: u64, dist: u64) -> i64
     requires from_zero { pos 0 ≤ℤ layer }
     requires later { dist ≤ now }
     requires fits { (layer +ℤ pos now) ≤ℤ (pos dist +ℤ pos (2 ^ 63 - 1)) }
@@ -20,8 +20,8 @@ fn lifted(layer: i64, now: u128, dist: u128) -> i64
 /// Raises the nodes of the list, and takes their marks and labels away.
 pub fn settle(
     order: &[u32],
-    now: u128,
-    dist: &[u128],
+    now: u64,
+    dist: &[u64],
     layer: &mut [i64],
     reached: &mut [bool],
     labels: &mut [Label],

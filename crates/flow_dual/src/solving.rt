@@ -33,7 +33,7 @@ fn run(
     excess: &mut [i64],
     reached: &mut [bool],
     labels: &mut [Label],
-    dist: &mut [u128],
+    dist: &mut [u64],
 ) -> Result<(), AllocError>
     requires network { IsNetwork (length layer.old) edges.now }
     requires layering { IsLayering edges.now layer.old }
@@ -81,7 +81,7 @@ fn run_from(
     let mut excess: Vec<i64> = vec![in alloc; 0; nodes]?;
     let mut reached: Vec<bool> = vec![in alloc; false; nodes]?;
     let mut labels: Vec<Label> = vec![in alloc; blank; nodes]?;
-    let mut dist: Vec<u128> = vec![in alloc; 0; nodes]?;
+    let mut dist: Vec<u64> = vec![in alloc; 0; nodes]?;
     run(
         alloc,
         edges,

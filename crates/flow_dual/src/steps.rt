@@ -1,19 +1,17 @@
 //! Steps from reached nodes to others: which an edge offers, and which is the nearest.
 
-ghost use Rattle.std.specs.Prelude.{◌≡◌, ◌+◌, ◌≤◌, ◌<◌, ◌^◌, ℕ, pos, ◌≤ℤ◌, ◌+ℤ◌, length, slice_index, slice_index_or, IsTrue, ◌↔◌, IfSome, IfNone, OnOk};
-ghost use Rattle.std.specs.BinaryHeap.{IsHeap, heap_items};
+ghost use Rattle.std.specs.Prelude.{◌≡◌, ◌+◌, ◌≤◌, ◌<◌, ◌^◌, ℕ, pos, ◌≤ℤ◌, ◌<ℤ◌, ◌+ℤ◌, length, slice_index, slice_index_or, IsTrue, ◌↔◌, IfSome, IfNone, OnOk};
 ghost use Rattle.std.specs.List.{All};
 ghost use Rattle.network_laws.specs.Network.{EndsBelow, edge_at};
 ghost use Rattle.network_laws.specs.Layering.{IsLayering, layer_of};
-ghost use Rattle.network_laws.specs.Links.{AreLinks};
+ghost use Rattle.network_laws.specs.Links.{AreLinks, end_of};
 ghost use Rattle.network_laws.specs.declared.links.End.TheVariants.{Head};
 ghost use Rattle.flow_dual.specs.State.{marked};
-ghost use Rattle.flow_dual.specs.Queue.{step_order, Crosses, IsOpen, IsStepFrom, Offers, TakesStep, HasNoStep, IsBack};
+ghost use Rattle.flow_dual.specs.Queue.{nearness, waiting, AreInOrder, Crosses, IsOpen, IsStepFrom, Offers, TakesStep, HasNoStep, IsBack};
 
-use crate::queue::{Step, add_step, take_nearest};
+use crate::queue::{Step, Steps, add_step, take_nearest};
 use network_laws::{End, Links, NetEdge, first_of, next_of};
 use std::alloc::AllocError;
-use std::collections::BinaryHeap;
 
 /// Whether a node that is not reached may be reached over the edge from this end.
 fn is_open(reached: &[bool], e: NetEdge, amount: u64, end: End) -> bool
@@ -38,34 +36,35 @@ fn is_open_back(reached: &[bool], e: NetEdge, amount: u64) -> bool
 }
 
 /// How much further down the head stands than it has to.
-pub fn slack_of(layer: &[i64], e: NetEdge) -> u128
+pub fn slack_of(layer: &[i64], e: NetEdge) -> u64
     requires tail { e.tail < length layer.now }
     requires head { e.head < length layer.now }
     requires from_zero { (v : ℕ) → v < length layer.now → pos 0 ≤ℤ layer_of layer.now v }
     requires up { (layer_of layer.now e.tail +ℤ pos e.least) ≤ℤ layer_of layer.now e.head }
     ensures value { layer_of layer.now e.tail +ℤ pos e.least +ℤ pos result ≡ layer_of layer.now e.head }
-    ensures small { result < 2 ^ 64 }
+    ensures small { (layer_of layer.now e.tail +ℤ pos result) <ℤ pos (2 ^ 63) }
 {
     rest_of(layer[e.tail as usize], layer[e.head as usize], e.least)
 }
 
-fn rest_of(low: i64, high: i64, least: u64) -> u128
+fn rest_of(low: i64, high: i64, least: u64) -> u64
     requires from_zero { pos 0 ≤ℤ low }
     requires up { (low +ℤ pos least) ≤ℤ high }
     ensures value { low +ℤ pos least +ℤ pos result ≡ high }
-    ensures small { result < 2 ^ 64 }
+    ensures small { (low +ℤ pos result) <ℤ pos (2 ^ 63) }
 {
-    u128::from((high - low) as u64) - u128::from(least)
+    (high - low) as u64 - least
 }
 
 /// How far all is raised when the edge can be stepped over from this end.
-fn step_near(layer: &[i64], e: NetEdge, amount: u64, end: End, near: u128) -> u128
+fn step_near(layer: &[i64], e: NetEdge, amount: u64, end: End, near: u64) -> u64
     requires tail { e.tail < length layer.now }
     requires head { e.head < length layer.now }
     requires from_zero { (v : ℕ) → v < length layer.now → pos 0 ≤ℤ layer_of layer.now v }
     requires up { (layer_of layer.now e.tail +ℤ pos e.least) ≤ℤ layer_of layer.now e.head }
-    requires low { near < 2 ^ 70 }
-    ensures { (IsBack end → 0 < amount) → IsStepFrom layer.now e amount near end result }
+    requires low { pos near ≤ℤ (layer_of layer.now (end_of end e) +ℤ pos (2 ^ 62)) }
+    ensures step { (IsBack end → 0 < amount) → IsStepFrom layer.now e amount near end result }
+    ensures later { near ≤ result }
 {
     let _amount = amount;
     match end {
@@ -83,9 +82,7 @@ pub fn offer(
     flow: &[u64],
     reached: &[bool],
     v: u32,
-    near: u128,
-    turn: u32,
-    queue: &mut BinaryHeap<Step>,
+    steps: &mut Steps,
 ) -> Result<(), AllocError>
     requires few { length edges.now ≤ 2 ^ 24 }
     requires ends { EndsBelow (length layer.now) edges.now }
@@ -95,17 +92,19 @@ pub fn offer(
     requires flow { length flow.now ≡ length edges.now }
     requires marks { length reached.now ≡ length layer.now }
     requires there { v < length layer.now }
-    requires low { near < 2 ^ 70 }
-    requires heap { IsHeap step_order (heap_items queue.old) }
-    ensures heap { IsHeap step_order (heap_items queue.new) }
-    ensures offers { OnOk result (Offers edges.now layer.now flow.now (marked reached.now) end v near (length edges.now) (heap_items queue.old) (heap_items queue.new)) }
+    requires low { pos steps.old.now ≤ℤ (layer_of layer.now v +ℤ pos (2 ^ 62)) }
+    requires order { AreInOrder steps.old }
+    ensures order { OnOk result (AreInOrder steps.new) }
+    ensures now { OnOk result (steps.new.now ≡ steps.old.now) }
+    ensures offers { OnOk result (Offers edges.now layer.now flow.now (marked reached.now) end v steps.old.now (length edges.now) (waiting steps.old) (waiting steps.new)) }
 {
+    let near = steps.now;
     let mut k = first_of(links, v);
     while (k as usize) < edges.len() {
         let e = edges[k as usize];
         let amount = flow[k as usize];
         if is_open(reached, e, amount, end) {
-            add_step(queue, step_near(layer, e, amount, end, near), turn, k)?;
+            add_step(steps, step_near(layer, e, amount, end, near), k)?;
         }
         k = next_of(links, k);
     }
@@ -121,15 +120,16 @@ fn crosses(reached: &[bool], e: NetEdge) -> bool
 }
 
 /// Takes out the nearest step over an edge of which one end is reached.
-pub fn next_step(edges: &[NetEdge], reached: &[bool], queue: &mut BinaryHeap<Step>) -> Option<Step>
+pub fn next_step(edges: &[NetEdge], reached: &[bool], steps: &mut Steps) -> Option<Step>
     requires ends { EndsBelow (length reached.now) edges.now }
-    requires in_range { All (λ t. t.edge < length edges.now) (heap_items queue.old) }
-    requires heap { IsHeap step_order (heap_items queue.old) }
-    ensures heap { IsHeap step_order (heap_items queue.new) }
-    ensures some { IfSome result (λ s. TakesStep edges.now (marked reached.now) (heap_items queue.old) s (heap_items queue.new)) }
-    ensures none { IfNone result (HasNoStep edges.now (marked reached.now) (heap_items queue.old)) }
+    requires in_range { All (λ t. t.edge < length edges.now) (waiting steps.old) }
+    requires order { AreInOrder steps.old }
+    ensures order { IfSome result (λ s. AreInOrder steps.new) }
+    ensures some { IfSome result (λ s. TakesStep edges.now (marked reached.now) (waiting steps.old) s (waiting steps.new)) }
+    ensures now { IfSome result (λ s. steps.new.now ≡ nearness s) }
+    ensures none { IfNone result (HasNoStep edges.now (marked reached.now) (waiting steps.old)) }
 {
-    while let Some(step) = take_nearest(queue) {
+    while let Some(step) = take_nearest(steps) {
         if crosses(reached, edges[step.edge as usize]) {
             return Some(step);
         }

@@ -1,30 +1,28 @@
 //! The search from a node with a surplus to one that asks for more, nearest steps first.
 
 ghost use Rattle.std.specs.Prelude.{◌≡◌, ◌+◌, ◌*◌, ◌≤◌, ◌<◌, ◌^◌, ℕ, pos, ◌≤ℤ◌, ◌+ℤ◌, [], ◌∷◌, ◌++◌, length, slice_index, set, IfOk, OnOk};
-ghost use Rattle.std.specs.BinaryHeap.{IsHeap, heap_items};
 ghost use Rattle.network_laws.specs.Network.{EndsBelow, edge_at};
 ghost use Rattle.network_laws.specs.Layering.{IsLayering, layer_of};
 ghost use Rattle.network_laws.specs.Links.{AreLinks};
 ghost use Rattle.network_laws.specs.declared.links.End.TheVariants.{Tail, Head};
 ghost use Rattle.network_laws.specs.Tight.{given, asked};
 ghost use Rattle.flow_dual.specs.State.{marked};
-ghost use Rattle.flow_dual.specs.Queue.{step_order, OffersBoth};
+ghost use Rattle.flow_dual.specs.Queue.{waiting, AreInOrder, OffersBoth};
 ghost use Rattle.flow_dual.specs.Rounds.{all_least, IsRound, unreached};
 ghost use Rattle.flow_dual.specs.Search.{Reaches};
 ghost use Rattle.flow_dual.specs.Searching.{IsSearching, IsSearched, TellsExcess, IsCleared, Begins};
 
 use crate::Label;
-use crate::queue::Step;
+use crate::queue::{Step, Steps, no_steps};
 use crate::steps::{next_step, offer};
 use network_laws::{End, Links, NetEdge};
 use std::alloc::{AllocError, Global};
-use std::collections::BinaryHeap;
 
 /// The node that asks for more, and how far the nodes reached first have to be raised for it.
 #[derive(Clone, Copy)]
 pub struct Found {
     pub to: u32,
-    pub now: u128,
+    pub now: u64,
 }
 
 /// Reaches a node over an edge that leads on, and gives the node.
@@ -62,7 +60,7 @@ fn reach(
 }
 
 /// Reaches the source first.
-fn begin(source: u32, room: u64, reached: &mut [bool], labels: &mut [Label], dist: &mut [u128])
+fn begin(source: u32, room: u64, reached: &mut [bool], labels: &mut [Label], dist: &mut [u64])
     requires marks { source < length reached.old }
     requires labels { source < length labels.old }
     requires dist { source < length dist.old }
@@ -86,9 +84,7 @@ fn offer_both(
     flow: &[u64],
     reached: &[bool],
     v: u32,
-    near: u128,
-    turn: u32,
-    queue: &mut BinaryHeap<Step>,
+    steps: &mut Steps,
 ) -> Result<(), AllocError>
     requires few { length edges.now ≤ 2 ^ 24 }
     requires ends { EndsBelow (length layer.now) edges.now }
@@ -99,36 +95,14 @@ fn offer_both(
     requires flow { length flow.now ≡ length edges.now }
     requires marks { length reached.now ≡ length layer.now }
     requires there { v < length layer.now }
-    requires low { near < 2 ^ 70 }
-    requires heap { IsHeap step_order (heap_items queue.old) }
-    ensures heap { IsHeap step_order (heap_items queue.new) }
-    ensures offers { OnOk result (OffersBoth edges.now layer.now flow.now (marked reached.now) v near (heap_items queue.old) (heap_items queue.new)) }
+    requires low { pos steps.old.now ≤ℤ (layer_of layer.now v +ℤ pos (2 ^ 62)) }
+    requires order { AreInOrder steps.old }
+    ensures order { OnOk result (AreInOrder steps.new) }
+    ensures now { OnOk result (steps.new.now ≡ steps.old.now) }
+    ensures offers { OnOk result (OffersBoth edges.now layer.now flow.now (marked reached.now) v steps.old.now (waiting steps.old) (waiting steps.new)) }
 {
-    offer(
-        edges,
-        tails,
-        End::Tail,
-        layer,
-        flow,
-        reached,
-        v,
-        near,
-        turn,
-        queue,
-    )?;
-    offer(
-        edges,
-        heads,
-        End::Head,
-        layer,
-        flow,
-        reached,
-        v,
-        near,
-        turn,
-        queue,
-    )?;
-    Ok(())
+    offer(edges, tails, End::Tail, layer, flow, reached, v, steps)?;
+    offer(edges, heads, End::Head, layer, flow, reached, v, steps)
 }
 
 /// Reaches a node by a step, and notes how far off it is.
@@ -139,7 +113,7 @@ fn take_step(
     turn: u32,
     reached: &mut [bool],
     labels: &mut [Label],
-    dist: &mut [u128],
+    dist: &mut [u64],
     order: &mut Vec<u32>,
 ) -> Result<u32, AllocError>
     requires there { step.edge < length edges.now }
@@ -178,7 +152,7 @@ pub fn search(
     room: u64,
     reached: &mut [bool],
     labels: &mut [Label],
-    dist: &mut [u128],
+    dist: &mut [u64],
     order: &mut Vec<u32>,
 ) -> Result<Found, AllocError>
     requires few { length layer.now ≤ 2 ^ 23 }
@@ -200,25 +174,27 @@ pub fn search(
 {
     begin(source, room, reached, labels, dist);
     order.push(source)?;
-    let mut queue: BinaryHeap<Step> = BinaryHeap::new(alloc);
+    let mut steps = no_steps(alloc);
     offer_both(
-        edges, tails, heads, layer, flow, reached, source, 0, 0, &mut queue,
+        edges, tails, heads, layer, flow, reached, source, &mut steps,
     )?;
-    let mut now: u128 = 0;
     let mut turn: u32 = 1;
     'turns: loop {
-        if let Some(step) = next_step(edges, reached, &mut queue) {
-            now = step.near.0;
+        if let Some(step) = next_step(edges, reached, &mut steps) {
             let v = take_step(edges, flow, step, turn, reached, labels, dist, order)?;
             if excess[v as usize] < 0 {
-                return Ok(Found { to: v, now });
+                return Ok(Found {
+                    to: v,
+                    now: step.near.0,
+                });
             }
-            offer_both(
-                edges, tails, heads, layer, flow, reached, v, now, turn, &mut queue,
-            )?;
+            offer_both(edges, tails, heads, layer, flow, reached, v, &mut steps)?;
             turn += 1;
         } else {
-            return Ok(Found { to: source, now });
+            return Ok(Found {
+                to: source,
+                now: steps.now,
+            });
         }
     }
 }

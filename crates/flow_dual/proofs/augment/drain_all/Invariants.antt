@@ -1,6 +1,9 @@
 use Rattle.std.proofs.Common.{length}
-use Rattle.flow_dual.specs.Augmented.{AreDrained}
+use Rattle.flow_dual.specs.Augmented.{IsDrainingAll}
 use Rattle.flow_dual.proofs.augment.drain_all.Given as goal
 
-abbrev pub invariant-loop-v : goal.invariant-loop-v
-invariant-loop-v l = AreDrained (length l.initial.layer) l.edges l.v l.layer l.flow l.excess l.reached l.labels l.dist
+abbrev pub invariant-sources : goal.invariant-sources
+invariant-sources l = IsDrainingAll (length l.initial.layer) l.edges l.sources.items l.layer l.flow l.excess l.reached l.labels l.dist
+
+abbrev pub decreases-sources : goal.decreases-sources
+decreases-sources l = length l.sources.items

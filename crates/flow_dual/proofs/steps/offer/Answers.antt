@@ -1,9 +1,8 @@
-use Rattle.std.proofs.Common.{◌≡◌, suc, length, get_or, arith, sym, subst}
-use Rattle.std.specs.BinaryHeap.{IsHeap, heap_items}
+use Rattle.std.proofs.Common.{◌≡◌, suc, length, get_or, arith, refl, sym, subst, ◌∙◌}
 use Rattle.network_laws.specs.Network.{edge_at}
 use Rattle.network_laws.specs.Links.{IsNextAt}
 use Rattle.flow_dual.specs.State.{marked}
-use Rattle.flow_dual.specs.Queue.{step_order, Offers}
+use Rattle.flow_dual.specs.Queue.{waiting, AreInOrder, Offers}
 use Rattle.flow_dual.proofs.Offering.{offers_none, offers_past, offers_more, back_used}
 use Rattle.flow_dual.proofs.steps.offer.Goals as goal
 use Rattle.flow_dual.proofs.steps.offer.Goals.{then-is_open+in_ok-add_step, else-is_open}
@@ -11,7 +10,7 @@ use Rattle.flow_dual.proofs.steps.offer.Goals.{then-is_open+in_ok-add_step, else
 pub loop-k-init : goal.loop-k-init
 loop-k-init c =
     let n : IsNextAt c.args.edges.now c.args.end c.args.v 0 c.first_of-k.result = subst (λ x. IsNextAt c.args.edges.now c.args.end c.args.v 0 x) (sym c.first_of-k.ensures) (c.requires.links.begins c.args.v c.requires.there) in
-    (n.in_range, n.here, c.requires.heap, offers_none c.args.edges.now c.args.layer.now c.args.flow.now (marked c.args.reached.now) c.args.end c.args.v c.args.near c.first_of-k.result (heap_items c.args.queue.now) n)
+    (n.in_range, n.here, c.requires.order, refl, offers_none c.args.edges.now c.args.layer.now c.args.flow.now (marked c.args.reached.now) c.args.end c.args.v c.args.steps.now.now c.first_of-k.result (waiting c.args.steps.now) n)
 
 pub loop-k-preserved : goal.loop-k-preserved
 loop-k-preserved c =
@@ -23,8 +22,8 @@ loop-k-preserved c =
     let v = c.args.v in
     let k = c.loop-k.k in
     let k' = c.next_of-k.result in
-    let first = heap_items c.args.queue.now in
-    let q = heap_items c.loop-k.queue in
+    let first = waiting c.args.steps.now in
+    let q = waiting c.loop-k.steps in
     let there = c.loop-k-test.true in
     let is = c.loop-k.invariant.1 there in
     let n : IsNextAt edges end v (suc k) k' =
@@ -33,19 +32,21 @@ loop-k-preserved c =
     elim c.if-is_open.branch [
       | then-is_open+in_ok-add_step w ↦
           let may = c.is_open.ensures.0 w.if-is_open.true in
-          let step = w.step_near.ensures (back_used set end (edge_at edges k) (get_or flow k 0) may) in
-          let more = offers_more edges layer flow set end v c.args.near k w.step_near.result c.args.turn first q (heap_items w.add_step.new.queue) there is step w.in_ok-add_step.ensures.adds c.loop-k.invariant.3 in (
+          let step = w.step_near.ensures.step (back_used set end (edge_at edges k) (get_or flow k 0) may) in
+          let more = offers_more edges layer flow set end v c.args.steps.now.now k w.step_near.result first q (waiting w.add_step.new.steps) there is step w.in_ok-add_step.ensures.adds c.loop-k.invariant.4 in (
             n.in_range,
             n.here,
-            subst (λ h. IsHeap step_order (heap_items h)) (sym w.queue-is) w.add_step.ensures.heap,
-            subst (λ h. Offers edges layer flow set end v c.args.near k' first (heap_items h)) (sym w.queue-is) (offers_past edges layer flow set end v c.args.near k k' first (heap_items w.add_step.new.queue) n (λ _. more.1) more.0),
+            subst AreInOrder (sym w.steps-is) w.in_ok-add_step.ensures.order,
+            subst (λ h. h.now ≡ c.args.steps.now.now) (sym w.steps-is) (w.add_step.ensures.now ∙ c.loop-k.invariant.3),
+            subst (λ h. Offers edges layer flow set end v c.args.steps.now.now k' first (waiting h)) (sym w.steps-is) (offers_past edges layer flow set end v c.args.steps.now.now k k' first (waiting w.add_step.new.steps) n (λ _. more.1) more.0),
           )
       | else-is_open w ↦ (
         n.in_range,
         n.here,
-        subst (λ h. IsHeap step_order (heap_items h)) (sym w.queue-is) c.loop-k.invariant.2,
-        subst (λ h. Offers edges layer flow set end v c.args.near k' first (heap_items h)) (sym w.queue-is)
-            (offers_past edges layer flow set end v c.args.near k k' first q n (λ may. let yes = c.is_open.ensures.1 may in let no' = w.if-is_open.false in absurd cc) c.loop-k.invariant.3),
+        subst AreInOrder (sym w.steps-is) c.loop-k.invariant.2,
+        subst (λ h. h.now ≡ c.args.steps.now.now) (sym w.steps-is) c.loop-k.invariant.3,
+        subst (λ h. Offers edges layer flow set end v c.args.steps.now.now k' first (waiting h)) (sym w.steps-is)
+            (offers_past edges layer flow set end v c.args.steps.now.now k k' first q n (λ may. let yes = c.is_open.ensures.1 may in let no' = w.if-is_open.false in absurd cc) c.loop-k.invariant.4),
       )
     ]
 
@@ -54,6 +55,7 @@ returns c =
     let l = c.loop-k-test.false in
     let m = c.loop-k.invariant.0 in
     record {
-      heap = c.loop-k.invariant.2;
-      offers = subst (λ i. Offers c.args.edges.now c.args.layer.now c.args.flow.now (marked c.args.reached.now) c.args.end c.args.v c.args.near i (heap_items c.args.queue.now) (heap_items c.loop-k.queue)) (let e : c.loop-k.k ≡ length c.args.edges.now = omega (arith, l, m) in e) c.loop-k.invariant.3;
+      order = c.loop-k.invariant.2;
+      now = c.loop-k.invariant.3;
+      offers = subst (λ i. Offers c.args.edges.now c.args.layer.now c.args.flow.now (marked c.args.reached.now) c.args.end c.args.v c.args.steps.now.now i (waiting c.args.steps.now) (waiting c.loop-k.steps)) (let e : c.loop-k.k ≡ length c.args.edges.now = omega (arith, l, m) in e) c.loop-k.invariant.4;
     }
