@@ -1,9 +1,9 @@
 -- What the checks find gives what the calls ask.
-use Rattle.std.proofs.Common.{◌≡◌, ℕ, zero, suc, ◌+◌, ◌*◌, ◌<◌, ◌≤◌, ◌^◌, not, ℤ, pos, ◌+ℤ◌, ◌≤ℤ◌, ◌<ℤ◌, List, [], ◌∷◌, length, Bool, true, false, ◌==◌, arith, refl, sym, is_some}
+use Rattle.std.proofs.Common.{◌≡◌, ℕ, suc, ◌*◌, ◌<◌, ◌≤◌, ◌^◌, not, pos, ◌≤ℤ◌, List, [], ◌∷◌, length, Bool, true, false, ◌==◌, arith, refl, sym, is_some}
 use Rattle.std.proofs.lemmas.Int.{ints}
 use Rattle.std.proofs.lemmas.List.Sums.{count_by-le-length}
 use Rattle.elk_layers.specs.declared.units.Unit.{Unit as LayerUnit}
-use Rattle.elk_layers.specs.Layered.{Plain, IsSound, AreRows, IsSpacing, IsFromZero, unit_at, total_height, row_at}
+use Rattle.elk_layers.specs.Layered.{Plain, IsSound, AreRows, IsSpacing, IsFromZero, unit_at, total_height}
 use Rattle.bk_place.specs.Checked.{AreGoodUnits, AreGoodLinks, AreGoodRows, AreFound}
 
 total_small : (units : List LayerUnit) → ((i : ℕ) → i < length units → IsFromZero (unit_at units i).height (pos (2 ^ 20)))

@@ -1,5 +1,5 @@
 -- The greatest end of a list of lines, and lines of one sweep.
-use Rattle.std.proofs.Common.{◌≡◌, ℕ, zero, suc, ◌+◌, ◌<◌, ◌≤◌, ◌^◌, ℤ, pos, ◌+ℤ◌, ◌≤ℤ◌, ◌<ℤ◌, List, [], ◌∷◌, length, get_or, drop, arith, refl, sym, ◌∙◌, ap, subst, inl, inr}
+use Rattle.std.proofs.Common.{◌≡◌, ℕ, suc, ◌+◌, ◌<◌, ◌≤◌, ◌^◌, ℤ, pos, ◌+ℤ◌, ◌≤ℤ◌, ◌<ℤ◌, List, [], ◌∷◌, length, get_or, drop, arith, refl, sym, ◌∙◌, ap, subst, inl, inr}
 use Rattle.std.proofs.lemmas.Int.{ints, clamps}
 use Rattle.std.proofs.lemmas.Bool.{cases_lt}
 use Rattle.std.specs.Int.{int_max}
@@ -7,10 +7,10 @@ use Rattle.std.proofs.lemmas.List.{drop_more, drop_all}
 use Rattle.elk_doc.specs.declared.document.Sweep.{Sweep}
 use Rattle.elk_doc.specs.declared.document.Sweep.TheVariants.{LeftUp, LeftDown, RightUp, RightDown}
 use Rattle.elk_layers.specs.declared.units.Unit.{Unit as LayerUnit}
-use Rattle.elk_layers.specs.Layered.{Plain, IsSound, unit_at, total_height}
+use Rattle.elk_layers.specs.Layered.{Plain, IsSound, unit_at}
 use Rattle.elk_layers.specs.Lines.{top_of, extent, extent_from, AreLeastLines, AreLines}
 use Rattle.elk_layers.specs.Alignment.{aligned}
-use Rattle.row_blocks.specs.Constraints.{EndsWithinStack, AreLeast, greatest_spacing, stacked_height}
+use Rattle.row_blocks.specs.Constraints.{EndsWithinStack, AreLeast, greatest_spacing}
 use Rattle.row_blocks.proofs.SumLemmas.{stacked_bound}
 use Rattle.bk_place.specs.Placement.{rank_of, IsFirstAmong, IsFirstLowest}
 

@@ -3,13 +3,14 @@ ghost use Rattle.std.specs.Prelude.{◌≡◌, ℕ, ◌+◌, List, IfOk};
 ghost use Rattle.elk_layers.specs.Layered.{plain, rows_of, IsSound, AreRows, Plain};
 ghost use Rattle.elk_layers.specs.Lines.{AreLeastLines};
 ghost use Rattle.row_alignment.specs.Choosing.{IsMarked};
+ghost use Rattle.row_alignment.specs.Medians.{CanTake};
 ghost use Rattle.row_blocks.specs.Constraints.{EndsWithinStack};
 ghost use Rattle.bk_place.specs.Placement.{AreLinesOf, IsFirstLowest, IsFirstAmong, rank_of};
 
 use crate::heights::extent;
 use elk_doc::document::Sweep;
 use elk_layers::{Layered, Lines, Order};
-use row_alignment::{Marked, align_marked, marked_order};
+use row_alignment::{Marked, Medians, align_by, marked_order, medians_by_unit};
 use row_blocks::place_links;
 use std::alloc::{AllocError, Global};
 
@@ -20,21 +21,19 @@ struct Placed {
     height: i64,
 }
 
-/// The least lines in which the links of a sweep are level, where the marked links are known.
-fn place_marked(
+/// The least lines in which the links of a sweep are level, where the medians to its side are known.
+fn place_by(
     alloc: Global,
     layered: &Layered,
     order: &Order,
-    known: &Marked,
+    table: &[Medians],
     sweep: Sweep,
 ) -> Result<Lines, AllocError>
-    requires sound { IsSound (plain layered.now) }
-    requires rows { AreRows (plain layered.now) (rows_of order.now) }
-    requires known { IsMarked (plain layered.now) (rows_of order.now) known.now.place.items known.now.marked.items }
+    requires can { CanTake (plain layered.now) (rows_of order.now) sweep table.now }
     ensures least { IfOk result (λ lines. AreLeastLines (plain layered.now) (rows_of order.now) sweep lines.top.items) }
     ensures within { IfOk result (λ lines. EndsWithinStack (plain layered.now) lines.top.items) }
 {
-    let chosen = align_marked(alloc, layered, order, known, sweep)?;
+    let chosen = align_by(alloc, layered, order, table, sweep)?;
     place_links(alloc, layered, order, chosen.links.as_slice())
 }
 
@@ -51,23 +50,22 @@ fn place_sweep(
     ensures within { IfOk result (λ lines. EndsWithinStack (plain layered.now) lines.top.items) }
 {
     let known = marked_order(alloc, layered, order)?;
-    place_marked(alloc, layered, order, &known, sweep)
+    let table = medians_by_unit(alloc, layered, &known, sweep)?;
+    place_by(alloc, layered, order, table.as_slice(), sweep)
 }
 
-/// The lines of a sweep with their height, where the marked links are known.
+/// The lines of a sweep with their height, where the medians to its side are known.
 fn measured(
     alloc: Global,
     layered: &Layered,
     order: &Order,
-    known: &Marked,
+    table: &[Medians],
     sweep: Sweep,
 ) -> Result<Placed, AllocError>
-    requires sound { IsSound (plain layered.now) }
-    requires rows { AreRows (plain layered.now) (rows_of order.now) }
-    requires known { IsMarked (plain layered.now) (rows_of order.now) known.now.place.items known.now.marked.items }
+    requires can { CanTake (plain layered.now) (rows_of order.now) sweep table.now }
     ensures { IfOk result (λ p. IsFirstAmong (plain layered.now) (rows_of order.now) (rank_of sweep) (rank_of sweep + 1) p.lines.top.items p.height) }
 {
-    let lines = place_marked(alloc, layered, order, known, sweep)?;
+    let lines = place_by(alloc, layered, order, table, sweep)?;
     let height = extent(layered, &lines);
     Ok(Placed { lines, height })
 }
@@ -83,6 +81,42 @@ fn lower(first: Placed, second: Placed) -> Placed
     }
 }
 
+/// The lower lines of the two sweeps to the left.
+fn place_left(
+    alloc: Global,
+    layered: &Layered,
+    order: &Order,
+    known: &Marked,
+) -> Result<Placed, AllocError>
+    requires sound { IsSound (plain layered.now) }
+    requires rows { AreRows (plain layered.now) (rows_of order.now) }
+    requires known { IsMarked (plain layered.now) (rows_of order.now) known.now.place.items known.now.marked.items }
+    ensures { IfOk result (λ p. IsFirstAmong (plain layered.now) (rows_of order.now) 0 2 p.lines.top.items p.height) }
+{
+    let table = medians_by_unit(alloc, layered, known, Sweep::LeftUp)?;
+    let up = measured(alloc, layered, order, table.as_slice(), Sweep::LeftUp)?;
+    let down = measured(alloc, layered, order, table.as_slice(), Sweep::LeftDown)?;
+    Ok(lower(up, down))
+}
+
+/// The lower lines of the two sweeps to the right.
+fn place_right(
+    alloc: Global,
+    layered: &Layered,
+    order: &Order,
+    known: &Marked,
+) -> Result<Placed, AllocError>
+    requires sound { IsSound (plain layered.now) }
+    requires rows { AreRows (plain layered.now) (rows_of order.now) }
+    requires known { IsMarked (plain layered.now) (rows_of order.now) known.now.place.items known.now.marked.items }
+    ensures { IfOk result (λ p. IsFirstAmong (plain layered.now) (rows_of order.now) 2 4 p.lines.top.items p.height) }
+{
+    let table = medians_by_unit(alloc, layered, known, Sweep::RightUp)?;
+    let up = measured(alloc, layered, order, table.as_slice(), Sweep::RightUp)?;
+    let down = measured(alloc, layered, order, table.as_slice(), Sweep::RightDown)?;
+    Ok(lower(up, down))
+}
+
 /// The lines of the first sweep of least height.
 fn place_lowest(alloc: Global, layered: &Layered, order: &Order) -> Result<Lines, AllocError>
     requires sound { IsSound (plain layered.now) }
@@ -91,12 +125,8 @@ fn place_lowest(alloc: Global, layered: &Layered, order: &Order) -> Result<Lines
     ensures within { IfOk result (λ lines. EndsWithinStack (plain layered.now) lines.top.items) }
 {
     let known = marked_order(alloc, layered, order)?;
-    let left_up = measured(alloc, layered, order, &known, Sweep::LeftUp)?;
-    let left_down = measured(alloc, layered, order, &known, Sweep::LeftDown)?;
-    let left = lower(left_up, left_down);
-    let right_up = measured(alloc, layered, order, &known, Sweep::RightUp)?;
-    let right_down = measured(alloc, layered, order, &known, Sweep::RightDown)?;
-    let right = lower(right_up, right_down);
+    let left = place_left(alloc, layered, order, &known)?;
+    let right = place_right(alloc, layered, order, &known)?;
     let lowest = lower(left, right);
     Ok(lowest.lines)
 }

@@ -5,6 +5,7 @@ ghost use Rattle.cross_reduce.specs.Fans as spec;
 ghost use Rattle.cross_reduce.specs.Fans.{AreFans, fan_lists, fan_at};
 
 use elk_layers::Link;
+use smallvec::SmallVec;
 use std::alloc::{AllocError, Global};
 
 /// The side to which links are looked at.
@@ -15,16 +16,18 @@ pub(crate) enum Towards {
 }
 
 /// The far end of a link: a unit, and the rank of the link's pin there.
-#[derive(Clone, Copy)]
+#[derive(Clone, Copy, Default)]
 pub(crate) struct Far {
     pub(crate) unit: u32,
     pub(crate) rank: u32,
 }
 
 /// For each unit the far ends of its links to a side.
+///
+/// Most units are lanes of long edges, which have one link to each side, so two far ends are kept in place.
 #[derive(Drop)]
 pub(crate) struct Fans {
-    pub(crate) lists: Vec<Vec<Far>>,
+    pub(crate) lists: Vec<SmallVec<Far, 2>>,
 }
 
 impl Fans {
@@ -68,9 +71,9 @@ fn empty_fans(alloc: Global, count: usize) -> Result<Fans, AllocError>
     ensures as_many { IfOk result (λ fans. length (fan_lists fans) ≡ count) }
     ensures empty { IfOk result (λ fans. (u : ℕ) → fan_at (fan_lists fans) u ≡ []) }
 {
-    let mut lists: Vec<Vec<Far>> = Vec::with_capacity(alloc, count)?;
+    let mut lists: Vec<SmallVec<Far, 2>> = Vec::with_capacity(alloc, count)?;
     for _ in 0..count {
-        lists.push(Vec::new(alloc))?;
+        lists.push(SmallVec::new(alloc))?;
     }
     Ok(Fans { lists })
 }

@@ -1,18 +1,21 @@
 -- The medians of the units, and what a visit takes of them.
 use Rattle.std.proofs.Common.{◌≡◌, ℕ, ◌+◌, ◌-◌, ◌/◌, ◌<◌, ◌==◌, ◌&&◌, not, cond, List, [], ◌∷◌, ◌++◌, length, map, get_or, Bool, true, false, Option, Some, None, arith, refl, sym, ◌∙◌, ap, subst, inl, inr, eqb-true, true≢false}
-use Rattle.std.specs.List.{filter}
+use Rattle.std.specs.List.{filter, range_with_len}
+use Rattle.std.specs.List.Sorted.{IsPermutation}
 use Rattle.std.proofs.lemmas.List.{get_or-map, length-map}
 use Rattle.std.proofs.lemmas.List.FromFn.{get_or-map-range_with_len, length-map-range_with_len}
 use Rattle.elk_doc.specs.declared.document.Sweep.{Sweep}
+use Rattle.elk_doc.specs.declared.document.Sweep.TheVariants.{LeftUp, LeftDown, RightUp, RightDown}
 use Rattle.elk_layers.specs.declared.units.Link.{Link}
 use Rattle.elk_layers.specs.Layered.{Plain, link_at, layer_of}
 use Rattle.elk_layers.specs.Alignment.{goes_up, far_end, first_of}
 use Rattle.row_alignment.specs.declared.medians.Median.{Median}
 use Rattle.row_alignment.specs.declared.medians.Medians.{Medians}
 use Rattle.row_alignment.specs.declared.spokes.Spoke.{Spoke}
-use Rattle.row_alignment.specs.Spokes.{numbers_of, is_of}
+use Rattle.row_alignment.specs.Spokes.{numbers_of, spoke_of, is_of}
+use Rattle.row_alignment.specs.Visits.{turned}
 use Rattle.row_alignment.specs.Choosing.{is_past, can_choose, as_list, choice, last_at, VisitsTo}
-use Rattle.row_alignment.specs.Medians.{median_for, medians_with, medians_for, medians_at, is_open, first_open, taken, number_of, last_after, Takes, no_medians, entry, CanTake}
+use Rattle.row_alignment.specs.Medians.{median_for, medians_with, medians_for, medians_at, is_open, first_open, taken, number_of, last_after, Takes, no_medians, entry, CanTake, ServesSide}
 
 abbrev none : Spoke
 none = record { key = 0; number = 0 }
@@ -181,3 +184,34 @@ module _ (l : Plain) (rows : List (List ℕ)) (sweep : Sweep) (table : List Medi
           let number : m.number ≡ k = cc in
           let place = place_is sweep l.links can.place can.marked (last_at last (layer_of l u)) (layer_of l u) (numbers_of (filter (is_of u) can.spokes)) m is in
           ap (λ p. Rattle.std.proofs.Common.set last (layer_of l u) (Some p)) (place ∙ ap (λ n. get_or can.place (far_end sweep (link_at l.links n)) 0) number)
+
+-- what the two sweeps to one side need is the same
+pub side_is_served : (l : Plain) (rows : List (List ℕ)) (sweep : Sweep) (table : List Medians) → CanTake l rows sweep table → ServesSide l rows sweep table
+side_is_served l rows sweep table t = (
+  t,
+  record {
+    place = t.place;
+    marked = t.marked;
+    spokes = t.spokes;
+    can = record {
+      sound = t.can.sound;
+      are_rows = t.can.are_rows;
+      places = t.can.places;
+      marks = t.can.marks;
+      spokes_are = record { same = same sweep t.can.spokes_are.same; sorted = t.can.spokes_are.sorted };
+    };
+    table_is = same_table sweep t.table_is;
+  },
+)
+  where
+    same : (s : Sweep) → IsPermutation (map (spoke_of l s t.place) (range_with_len 0 (length l.links))) t.spokes → IsPermutation (map (spoke_of l (turned s) t.place) (range_with_len 0 (length l.links))) t.spokes
+    same LeftUp h = h
+    same LeftDown h = h
+    same RightUp h = h
+    same RightDown h = h
+
+    same_table : (s : Sweep) → table ≡ map (medians_at l s t.place t.marked t.spokes) (range_with_len 0 (length l.units)) → table ≡ map (medians_at l (turned s) t.place t.marked t.spokes) (range_with_len 0 (length l.units))
+    same_table LeftUp h = h
+    same_table LeftDown h = h
+    same_table RightUp h = h
+    same_table RightDown h = h

@@ -1,10 +1,10 @@
 -- The links of a unit stand together among all links, and they are in the order of the sweep.
-use Rattle.std.proofs.Common.{◌≡◌, ℕ, ◌+◌, ◌-◌, ◌*◌, ◌<◌, ◌≤◌, ◌^◌, ◌==◌, ◌&&◌, cond, nat_le, List, [], ◌∷◌, length, map, get_or, take, drop, Bool, true, false, arith, refl, sym, ◌∙◌, ap, subst, inl, inr, eq-eqb, ne_eqb, lt-ltb, le-ltb, le-leb, eqb-true}
+use Rattle.std.proofs.Common.{◌≡◌, ℕ, ◌+◌, ◌-◌, ◌*◌, ◌<◌, ◌≤◌, ◌^◌, ◌==◌, ◌&&◌, cond, nat_le, List, [], ◌∷◌, ◌++◌, append_assoc, length, map, get_or, take, drop, Bool, true, false, arith, refl, sym, ◌∙◌, ap, subst, inl, inr, eq-eqb, ne_eqb, lt-ltb, le-ltb, le-leb, eqb-true}
 use Rattle.std.proofs.lemmas.Bool.{cases_eq, cases_lt, cases_Bool, lt-leb}
 use Rattle.std.specs.List.{All, filter, range_with_len}
 use Rattle.std.specs.List.Sorted.{IsPermutation, IsNonDecreasingBy}
 use Rattle.std.proofs.lemmas.List.{get_or-map, get_or_default, length-map}
-use Rattle.std.proofs.lemmas.List.FromFn.{length-range_with_len}
+use Rattle.std.proofs.lemmas.List.FromFn.{length-range_with_len, filter_of_map_range_with_len_more}
 use Rattle.std.proofs.lemmas.List.Elements.{All-get_or, All-from_get_or, All-map, All-head, All-tail, All-weaker, All-filter, filter_passes}
 use Rattle.std.proofs.lemmas.List.Sorted.{All-permutation, IsPermutation-map, length_permutation}
 use Rattle.elk_doc.specs.declared.document.Sweep.{Sweep}
@@ -17,7 +17,7 @@ use Rattle.elk_layers.proofs.OccursLemmas.{occurs_at, occurs_range, occurs_passe
 use Rattle.elk_layers.proofs.RowLemmas.{place_small}
 use Rattle.row_alignment.specs.declared.spokes.Spoke.{Spoke}
 use Rattle.row_alignment.specs.Keys.{key_at, far_key_at}
-use Rattle.row_alignment.specs.Spokes.{spoke_of, numbers_of, AreSpokes, IsFirst, is_of}
+use Rattle.row_alignment.specs.Spokes.{spoke_of, is_at, numbers_of, AreSpokes, IsFirst, is_of}
 use Rattle.row_alignment.proofs.ReachLemmas.{filter_window}
 use Rattle.row_alignment.proofs.SortLemmas.{Ascends, weigh, ascends_unique, ascends_filter, ascends_other, ascends_sorted, ascends_from, occurs_permuted, occurs_kept, range_ascends, range_once}
 
@@ -258,3 +258,12 @@ module _ (l : Plain) (rows : List (List ℕ)) (sweep : Sweep) (place : List ℕ)
   fan_links u =
       subst (All (λ k. (k < length l.links) × (near_end sweep (link_at l.links k) ≡ u))) (sym (numbers_kept u) ∙ fan_sorted u)
       (λ i d h. (All-filter (λ k. near k == u) (λ k. k < length l.links) (numbers_of spokes) numbers_known i d h, eqb-true (near (get_or (filter (λ k. near k == u) (numbers_of spokes)) i d)) u (filter_passes (λ k. near k == u) (numbers_of spokes) i d h)))
+
+-- one more link is looked at
+pub spokes_more : (l : Plain) (sweep : Sweep) (place : List ℕ) (lanes : Bool) (start now new : List Spoke) (k : ℕ)
+    → now ≡ start ++ filter (is_at l sweep lanes) (map (spoke_of l sweep place) (range_with_len 0 k))
+    → new ≡ now ++ cond (is_at l sweep lanes (spoke_of l sweep place k)) (spoke_of l sweep place k ∷ []) []
+    → new ≡ start ++ filter (is_at l sweep lanes) (map (spoke_of l sweep place) (range_with_len 0 (k + 1)))
+spokes_more l sweep place lanes start now new k so more =
+    rw (more, so, filter_of_map_range_with_len_more (is_at l sweep lanes) (spoke_of l sweep place) 0 k k (omega arith))
+    (append_assoc start (filter (is_at l sweep lanes) (map (spoke_of l sweep place) (range_with_len 0 k))) (cond (is_at l sweep lanes (spoke_of l sweep place k)) (spoke_of l sweep place k ∷ []) []))

@@ -9,6 +9,7 @@ use Rattle.row_alignment.specs.declared.medians.Median.{Median}
 use Rattle.row_alignment.specs.declared.medians.Medians.{Medians}
 use Rattle.row_alignment.specs.declared.spokes.Spoke.{Spoke}
 use Rattle.row_alignment.specs.Choosing.{as_list, is_past, last_at, CanVisit}
+use Rattle.row_alignment.specs.Visits.{turned}
 use Rattle.row_alignment.specs.Spokes.{numbers_of, is_of}
 
 -- a link with the place of its far end, if it isn't marked
@@ -70,3 +71,7 @@ pub record CanTake (l : Plain) (rows : List (List ℕ)) (sweep : Sweep) (table :
   pub spokes : List Spoke
   pub can : CanVisit l rows sweep place marked spokes
   pub table_is : table ≡ map (medians_at l sweep place marked spokes) (range_with_len 0 (length l.units))
+
+-- the same for the other sweep to this side
+abbrev pub ServesSide : Plain → List (List ℕ) → Sweep → List Medians → Type 0
+ServesSide l rows sweep table = CanTake l rows sweep table × CanTake l rows (turned sweep) table

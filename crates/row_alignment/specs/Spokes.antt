@@ -1,10 +1,10 @@
 -- The links of all units, by unit, then by the key of the far end, then by number.
-use Rattle.std.specs.Prelude.{◌≡◌, ℕ, ◌+◌, ◌*◌, ◌^◌, ◌<◌, ◌≤◌, List, map, length, slice_index, slice_index_or, Bool, ◌&&◌, nat_le, nat_lt}
+use Rattle.std.specs.Prelude.{◌≡◌, ℕ, ◌+◌, ◌*◌, ◌^◌, ◌<◌, ◌≤◌, cond, not, List, map, length, slice_index, slice_index_or, Bool, ◌&&◌, nat_le, nat_lt}
 use Rattle.std.specs.List.{range_with_len}
 use Rattle.std.specs.List.Sorted.{IsNonDecreasingBy, IsPermutation}
 use Rattle.elk_doc.specs.declared.document.Sweep.{Sweep}
-use Rattle.elk_layers.specs.Layered.{Plain, link_at}
-use Rattle.elk_layers.specs.Alignment.{near_end}
+use Rattle.elk_layers.specs.Layered.{Plain, link_at, is_lane}
+use Rattle.elk_layers.specs.Alignment.{goes_left, near_end}
 use Rattle.row_alignment.specs.declared.spokes.Spoke.{Spoke}
 use Rattle.row_alignment.specs.Keys.{far_key_at}
 
@@ -19,9 +19,20 @@ spoke_of l sweep place k =
 abbrev pub numbers_of : List Spoke → List ℕ
 numbers_of spokes = map (λ (s : Spoke). s.number) spokes
 
+abbrev pub all_spokes : Plain → Sweep → List ℕ → List Spoke
+all_spokes l sweep place = map (spoke_of l sweep place) (range_with_len 0 (length l.links))
+
+-- the near end of a link is a lane
+abbrev pub is_at_lane : Plain → Sweep → ℕ → Bool
+is_at_lane l sweep k = cond (goes_left sweep) (is_lane l (link_at l.links k).head) (is_lane l (link_at l.links k).tail)
+
+-- it is one, or it is none
+abbrev pub is_at : Plain → Sweep → Bool → Spoke → Bool
+is_at l sweep lanes s = cond lanes (is_at_lane l sweep s.number) (not (is_at_lane l sweep s.number))
+
 -- all links, sorted
 pub record AreSpokes (l : Plain) (sweep : Sweep) (place : List ℕ) (spokes : List Spoke) : Type 0 where
-  pub same : IsPermutation (map (spoke_of l sweep place) (range_with_len 0 (length l.links))) spokes
+  pub same : IsPermutation (all_spokes l sweep place) spokes
   pub sorted : IsNonDecreasingBy (λ (s : Spoke). s.key) spokes
 
 -- a link of this unit

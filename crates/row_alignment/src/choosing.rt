@@ -143,6 +143,25 @@ pub fn marked_order(alloc: Global, layered: &Layered, order: &Order) -> Result<M
     Ok(Marked { place, marked })
 }
 
+/// The links that a sweep makes level, where the medians of the units' links to its side are known.
+///
+/// They are those of `align`. The only error is want of memory.
+pub fn align_by(
+    alloc: Global,
+    layered: &Layered,
+    order: &Order,
+    table: &[Medians],
+    sweep: Sweep,
+) -> Result<Alignment, AllocError>
+    requires can { CanTake (plain layered.now) (rows_of order.now) sweep table.now }
+    ensures chosen { IfOk result (λ a. a.links.items ≡ spec.aligned (plain layered.now) (rows_of order.now) sweep) }
+    ensures straight { IfOk result (λ a. AreStraight (plain layered.now) (rows_of order.now) a.links.items) }
+{
+    let mut last: Vec<Option<u32>> = vec![in alloc; None; order.rows.as_slice().len()]?;
+    let links = visit_all(alloc, layered, order, sweep, table, last.as_mut_slice())?;
+    Ok(Alignment { links })
+}
+
 /// The links that a sweep makes level, where the places and the marked links of the order are known.
 ///
 /// They are those of `align`. The only error is want of memory.
@@ -160,16 +179,7 @@ pub fn align_marked(
     ensures straight { IfOk result (λ a. AreStraight (plain layered.now) (rows_of order.now) a.links.items) }
 {
     let table = medians_by_unit(alloc, layered, known, sweep)?;
-    let mut last: Vec<Option<u32>> = vec![in alloc; None; order.rows.as_slice().len()]?;
-    let links = visit_all(
-        alloc,
-        layered,
-        order,
-        sweep,
-        table.as_slice(),
-        last.as_mut_slice(),
-    )?;
-    Ok(Alignment { links })
+    align_by(alloc, layered, order, table.as_slice(), sweep)
 }
 
 /// The links that a sweep makes level, in the order in which it chooses them.

@@ -14,4 +14,5 @@ mod reaching;
 mod spokes;
 mod visiting;
 
-pub use choosing::{Alignment, Marked, align, align_marked, marked_order};
+pub use choosing::{Alignment, Marked, align, align_by, align_marked, marked_order};
+pub use medians::{Median, Medians, medians_by_unit};

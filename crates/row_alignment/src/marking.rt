@@ -14,7 +14,7 @@ use elk_layers::{Layered, Link};
 use std::alloc::{AllocError, Global};
 
 /// Whether the unit is a lane of a long edge.
-fn is_lane(layered: &Layered, unit: u32) -> bool
+pub(crate) fn is_lane(layered: &Layered, unit: u32) -> bool
     requires { unit < length (plain layered.now).units }
     ensures { result ≡ layers.is_lane (plain layered.now) unit }
 {
@@ -55,7 +55,7 @@ fn inner_pins(alloc: Global, layered: &Layered, place: &[u32]) -> Result<Vec<Pin
     ensures pins { IfOk result (λ v. v.items ≡ mark.inner_pins (plain layered.now) place.now) }
     ensures low { IfOk result (λ v. All IsLow v.items) }
 {
-    let mut pins: Vec<Pin> = Vec::new(alloc);
+    let mut pins: Vec<Pin> = Vec::with_capacity(alloc, layered.links.len())?;
     for link in layered.links.as_slice() {
         if is_inner(layered, *link) {
             pins.push(pin_for(layered, place, *link))?;
@@ -115,8 +115,9 @@ pub(crate) fn marks(
     ensures { IfOk result (λ v. (rows : List (List ℕ)) → AreRows (plain layered.now) rows → ArePlaces (plain layered.now) rows place.now → AreMarkedLinks (plain layered.now) rows v.items) }
 {
     let inner = inner_pins(alloc, layered, place)?;
-    let turned = mirrored_pins(alloc, inner.as_slice())?;
     let above = reach_of(alloc, inner)?;
+    // Sorted pins are in descending order when they are mirrored, which costs a sort one pass.
+    let turned = mirrored_pins(alloc, above.pins.as_slice())?;
     let below = reach_of(alloc, turned)?;
     crossed(alloc, layered, place, &above, &below)
 }

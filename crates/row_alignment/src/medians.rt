@@ -4,7 +4,7 @@ ghost use Rattle.std.specs.List.{All, range_with_len};
 ghost use Rattle.elk_layers.specs.Layered.{plain, rows_of, link_at, IsSound, AreRows};
 ghost use Rattle.elk_layers.specs.Alignment as spec;
 ghost use Rattle.row_alignment.specs.Choosing.{CanVisit, IsMarked};
-ghost use Rattle.row_alignment.specs.Medians.{median_for, medians_for, medians_at, CanTake};
+ghost use Rattle.row_alignment.specs.Medians.{median_for, medians_for, medians_at, ServesSide};
 ghost use Rattle.row_alignment.specs.Spokes.{numbers_of, AreFirsts};
 
 use crate::choosing::Marked;
@@ -16,17 +16,17 @@ use std::alloc::{AllocError, Global};
 
 /// A link with the place of its far end.
 #[derive(Clone, Copy)]
-pub(crate) struct Median {
-    pub(crate) number: u32,
-    pub(crate) place: u32,
+pub struct Median {
+    pub number: u32,
+    pub place: u32,
 }
 
 /// A unit's layer, and the medians of its links that are not marked: where their number is odd, both are one link.
 #[derive(Clone, Copy)]
-pub(crate) struct Medians {
-    pub(crate) layer: u32,
-    pub(crate) low: Option<Median>,
-    pub(crate) high: Option<Median>,
+pub struct Medians {
+    pub layer: u32,
+    pub low: Option<Median>,
+    pub high: Option<Median>,
 }
 
 /// A link with the place of its far end, if it isn't marked.
@@ -108,8 +108,10 @@ fn medians_in(
     Ok(table)
 }
 
-/// By unit, the medians that a sweep tries.
-pub(crate) fn medians_by_unit(
+/// By unit, the medians that the sweeps to the side of this one try.
+///
+/// The only error is want of memory.
+pub fn medians_by_unit(
     alloc: Global,
     layered: &Layered,
     known: &Marked,
@@ -117,7 +119,7 @@ pub(crate) fn medians_by_unit(
 ) -> Result<Vec<Medians>, AllocError>
     requires sound { IsSound (plain layered.now) }
     requires known { (rows : List (List ℕ)) × AreRows (plain layered.now) rows × IsMarked (plain layered.now) rows known.now.place.items known.now.marked.items }
-    ensures { IfOk result (λ v. (rows : List (List ℕ)) → AreRows (plain layered.now) rows → IsMarked (plain layered.now) rows known.now.place.items known.now.marked.items → CanTake (plain layered.now) rows sweep v.items) }
+    ensures { IfOk result (λ v. (rows : List (List ℕ)) → AreRows (plain layered.now) rows → IsMarked (plain layered.now) rows known.now.place.items known.now.marked.items → ServesSide (plain layered.now) rows sweep v.items) }
 {
     let spokes = spokes_of(alloc, layered, sweep, known.place.as_slice())?;
     let firsts = firsts_of(alloc, spokes.as_slice(), layered.units.as_slice().len())?;

@@ -59,7 +59,7 @@ fn running_highest(alloc: Global, pins: &[Pin]) -> Result<Vec<u128>, AllocError>
     ensures long { IfOk result (λ v. length v.items ≡ length pins.now + 1) }
     ensures highest { IfOk result (λ v. (count : ℕ) → count < length v.items → IsHighest pins.now count (slice_index v.items count)) }
 {
-    let mut highest: Vec<u128> = Vec::new(alloc);
+    let mut highest: Vec<u128> = Vec::with_capacity(alloc, pins.len())?;
     let mut top: u128 = 0;
     highest.push(top)?;
     for pin in pins {

@@ -1,11 +1,13 @@
 //! The links of each unit to the layer that the sweep looks to.
-ghost use Rattle.std.specs.Prelude.{◌≡◌, ℕ, ◌+◌, ◌-◌, ◌≤◌, ◌<◌, ◌*◌, ◌^◌, length, slice_index, slice_index_or, take, drop, IfOk};
+ghost use Rattle.std.specs.Prelude.{◌≡◌, ℕ, ◌+◌, ◌-◌, ◌≤◌, ◌<◌, ◌*◌, ◌^◌, [], ◌∷◌, ◌++◌, cond, not, length, slice_index, slice_index_or, take, drop, IfOk};
 ghost use Rattle.std.specs.List.{filter};
 ghost use Rattle.std.specs.List.Sorted.{IsNonDecreasingBy};
 ghost use Rattle.elk_layers.specs.Layered.{plain, link_at, IsSound, IsSoundLink};
-ghost use Rattle.row_alignment.specs.Spokes.{spoke_of, AreSpokes, AreFirsts, IsFirst, is_of};
+ghost use Rattle.row_alignment.specs.Spokes as spec;
+ghost use Rattle.row_alignment.specs.Spokes.{spoke_of, all_spokes, is_at, AreSpokes, AreFirsts, IsFirst, is_of};
 
-use crate::ends::{far_key, near_end};
+use crate::ends::{far_key, goes_left, near_end};
+use crate::marking::is_lane;
 use elk_doc::document::Sweep;
 use elk_layers::{Layered, Link};
 use std::alloc::{AllocError, Global};
@@ -33,7 +35,70 @@ fn spoke_for(layered: &Layered, sweep: Sweep, place: &[u32], number: u32) -> Spo
     }
 }
 
+/// Whether the near end of a link is a lane of a long edge.
+fn is_at_lane(layered: &Layered, sweep: Sweep, number: u32) -> bool
+    requires sound { IsSound (plain layered.now) }
+    requires number { number < length (plain layered.now).links }
+    ensures { result ≡ spec.is_at_lane (plain layered.now) sweep number }
+{
+    let links = layered.links.as_slice();
+    let link = links[number as usize];
+    if goes_left(sweep) {
+        is_lane(layered, link.head)
+    } else {
+        is_lane(layered, link.tail)
+    }
+}
+
+/// The test, or its opposite.
+fn matches(wanted: bool, test: bool) -> bool
+    ensures { result ≡ cond wanted test (not test) }
+{
+    if wanted { test } else { !test }
+}
+
+/// Adds a link where its near end is a lane, or where it is none.
+fn push_spoke(
+    layered: &Layered,
+    sweep: Sweep,
+    place: &[u32],
+    lanes: bool,
+    number: u32,
+    spokes: &mut Vec<Spoke>,
+) -> Result<(), AllocError>
+    requires sound { IsSound (plain layered.now) }
+    requires places { length place.now ≡ length (plain layered.now).units }
+    requires number { number < length (plain layered.now).links }
+    ensures { IfOk result (λ _. spokes.new.items ≡ spokes.old.items ++ cond (is_at (plain layered.now) sweep lanes (spoke_of (plain layered.now) sweep place.now number)) (spoke_of (plain layered.now) sweep place.now number ∷ []) []) }
+{
+    if matches(lanes, is_at_lane(layered, sweep, number)) {
+        spokes.push(spoke_for(layered, sweep, place, number))?;
+    }
+    Ok(())
+}
+
+/// Adds the links whose near end is a lane, or those where it is none.
+fn push_spokes(
+    layered: &Layered,
+    sweep: Sweep,
+    place: &[u32],
+    lanes: bool,
+    spokes: &mut Vec<Spoke>,
+) -> Result<(), AllocError>
+    requires sound { IsSound (plain layered.now) }
+    requires places { length place.now ≡ length (plain layered.now).units }
+    ensures { IfOk result (λ _. spokes.new.items ≡ spokes.old.items ++ filter (is_at (plain layered.now) sweep lanes) (all_spokes (plain layered.now) sweep place.now)) }
+{
+    let count = layered.links.as_slice().len();
+    for k in 0..count {
+        push_spoke(layered, sweep, place, lanes, k as u32, spokes)?;
+    }
+    Ok(())
+}
+
 /// All links, sorted.
+///
+/// The links of lanes come last, since they stand in order where edges have their lanes one after the other.
 pub(crate) fn spokes_of(
     alloc: Global,
     layered: &Layered,
@@ -44,11 +109,9 @@ pub(crate) fn spokes_of(
     requires places { length place.now ≡ length (plain layered.now).units }
     ensures { IfOk result (λ v. AreSpokes (plain layered.now) sweep place.now v.items) }
 {
-    let count = layered.links.as_slice().len();
-    let mut spokes = Vec::with_capacity(alloc, count)?;
-    for k in 0..count {
-        spokes.push(spoke_for(layered, sweep, place, k as u32))?;
-    }
+    let mut spokes = Vec::with_capacity(alloc, layered.links.as_slice().len())?;
+    push_spokes(layered, sweep, place, false, &mut spokes)?;
+    push_spokes(layered, sweep, place, true, &mut spokes)?;
     spokes.sort_by_key(|s| s.key)?;
     Ok(spokes)
 }

@@ -106,7 +106,7 @@ pub(crate) fn bounds_of(
     requires small { AreSmall offsets.now }
     ensures { IfOk result (λ v. v.items ≡ all_bounds (plain layered.now) blocks.now offsets.now (rows_of order.now)) }
 {
-    let mut bounds = Vec::new(alloc);
+    let mut bounds = Vec::with_capacity(alloc, blocks.len())?;
     for row in order.rows.iter() {
         push_row_bounds(alloc, layered, row.as_slice(), blocks, offsets, &mut bounds)?;
     }

@@ -1,7 +1,7 @@
-use Rattle.std.proofs.Common.{◌≡◌, ℤ, pos, ◌+ℤ◌, ◌≤ℤ◌, ◌<◌, ◌∙◌, ap, sym, arith, subst, length, get_or, FitsSigned, w64, to_z, of_z, to_z-of_z}
-use Rattle.std.proofs.lemmas.Int.{ints, clamps}
+use Rattle.std.proofs.Common.{◌≡◌, ◌+ℤ◌, ◌<◌, ◌∙◌, ap, arith, subst, length, FitsSigned, w64, to_z, to_z-of_z}
+use Rattle.std.proofs.lemmas.Int.{ints}
 use Rattle.std.specs.Int.{int_max}
-use Rattle.elk_layers.specs.Layered.{plain, unit_at}
+use Rattle.elk_layers.specs.Layered.{unit_at}
 use Rattle.elk_layers.specs.Lines.{top_of}
 use Rattle.bk_place.proofs.HeightLemmas.{extent_start, extent_next, extent_end, greater_step}
 use Rattle.bk_place.proofs.heights.extent.Goals as goal

@@ -1,4 +1,4 @@
-use Rattle.std.proofs.Common.{◌≡◌, ℤ, pos, ◌≤ℤ◌, drop}
+use Rattle.std.proofs.Common.{◌≡◌, pos, ◌≤ℤ◌, drop}
 use Rattle.std.specs.Int.{int_max}
 use Rattle.elk_layers.specs.Layered.{plain}
 use Rattle.elk_layers.specs.Lines.{extent_from}

@@ -5,7 +5,7 @@ use Rattle.bk_place.proofs.HeightLemmas.{first_alone, ends_small}
 use Rattle.bk_place.proofs.placing.measured.Goals as goal
 
 pub extent-height-requires-clause-within : goal.extent-height-requires-clause-within
-extent-height-requires-clause-within c = ends_small (plain c.args.layered.now) c.in_ok-lines.lines.top.items c.requires.sound c.in_ok-lines.ensures.within
+extent-height-requires-clause-within c = ends_small (plain c.args.layered.now) c.in_ok-lines.lines.top.items c.requires.can.can.sound c.in_ok-lines.ensures.within
 
 pub returns : goal.returns
 returns c =

@@ -11,4 +11,4 @@ returns c =
     let inside : c.args.unit < length c.args.fans.now.lists.items = omega (arith, long, c.requires) in
     let old = row_read (λ v. v.items) c.args.fans.now.lists.items c.args.fans.now.lists.items c.args.unit c.index_mut.result.now refl c.index_mut.ensures.value inside in
     map-set (λ v. v.items) c.args.fans.now.lists.items c.args.unit c.push.new.self
-    ∙ ap (λ (xs : List Far). set (fan_lists c.args.fans.now) c.args.unit xs) (c.in_ok-push.ensures.items ∙ ap (λ (xs : List Far). xs ++ c.args.far ∷ []) old.0)
+    ∙ ap (λ (xs : List Far). set (fan_lists c.args.fans.now) c.args.unit xs) (c.in_ok-push.ensures.ok ∙ ap (λ (xs : List Far). xs ++ c.args.far ∷ []) old.0)

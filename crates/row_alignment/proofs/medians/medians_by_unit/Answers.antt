@@ -1,5 +1,6 @@
 use Rattle.std.proofs.lemmas.Result.{IfOk-weaker}
 use Rattle.elk_layers.specs.Layered.{plain}
+use Rattle.row_alignment.proofs.MedianLemmas.{side_is_served}
 use Rattle.row_alignment.proofs.SpokeLemmas.{spokes_few}
 use Rattle.row_alignment.proofs.medians.medians_by_unit.Goals as goal
 
@@ -23,7 +24,7 @@ medians_in-requires-clause-can c =
 pub returns : goal.returns
 returns c =
     IfOk-weaker c.medians_in.result _ _
-    (λ v e rows are known. record {
+    (λ v e rows are known. side_is_served (plain c.args.layered.now) rows c.args.sweep v.items (record {
       place = c.args.known.now.place.items;
       marked = c.args.known.now.marked.items;
       spokes = c.in_ok-spokes.spokes.items;
@@ -35,5 +36,5 @@ returns c =
         spokes_are = rw c.as_slice.ensures.value at c.in_ok-spokes.ensures;
       };
       table_is = rw c.as_slice-4.ensures.value at e;
-    })
+    }))
     c.medians_in.ensures

@@ -7,7 +7,7 @@ use Rattle.row_alignment.proofs.reaching.running_highest.Goals as goal
 pub loop-pin-init : goal.loop-pin-init
 loop-pin-init c =
     let start = highest_start c.args.pins.now in
-    let pushed = push_more (λ count top. IsHighest c.args.pins.now count top) c.new-highest.result.items 0 0 0 (rw c.new-highest.ensures.items refl) (λ u h. absurd (omega (arith, h))) start in
+    let pushed = push_more (λ count top. IsHighest c.args.pins.now count top) c.in_ok-highest.highest.items 0 0 0 (rw c.in_ok-highest.ensures.items refl) (λ u h. absurd (omega (arith, h))) start in
     rw c.in_ok-push.ensures.items (pushed.0, start, pushed.1)
 
 pub loop-pin-preserved : goal.loop-pin-preserved

@@ -2,7 +2,7 @@ use Rattle.std.proofs.Common.{◌∙◌}
 use Rattle.std.proofs.lemmas.Result.{IfOk-weaker}
 use Rattle.elk_layers.specs.Layered.{plain, rows_of}
 use Rattle.bk_place.proofs.HeightLemmas.{least_from}
-use Rattle.bk_place.proofs.placing.place_marked.Goals as goal
+use Rattle.bk_place.proofs.placing.place_by.Goals as goal
 
 pub place_links-requires-clause-straight : goal.place_links-requires-clause-straight
 place_links-requires-clause-straight c = rw c.as_slice.ensures.value c.in_ok-chosen.ensures.straight
