@@ -1,3 +1,4 @@
 pub mod Faults
 pub mod Levels
+pub mod Scenes
 pub mod Shapes

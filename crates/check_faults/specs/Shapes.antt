@@ -6,7 +6,8 @@ use Rattle.elk_doc.specs.declared.shape.Dock.{Dock}
 use Rattle.elk_doc.specs.declared.document.End.{End}
 use Rattle.elk_doc.specs.declared.drawing.Placed.{Placed}
 use Rattle.elk_doc.specs.Document.{Document}
-use Rattle.elk_doc.specs.Drawing.{is_listed, head_end, tail_end}
+use Rattle.elk_doc.specs.Drawing.{is_listed, head_end, head_node, tail_end, tail_node}
+use Rattle.elk_doc.specs.FlowProof.{weight_at}
 use Rattle.elk_doc.specs.Level.{is_loop}
 use Rattle.elk_doc.specs.Numbers.{any_below}
 use Rattle.elk_doc.specs.Places.{outline_of, dock_of}
@@ -26,6 +27,16 @@ AreSides d p sides = Lists (side_of_port d p) (length d.ports) sides
 
 abbrev pub AreDocks : Document → Placed → Bool → List Dock → Type 0
 AreDocks d p at_source docks = Lists (λ e. dock_of d p e at_source) (length d.edges) docks
+
+-- the nodes at which the oriented edges enter and leave, and the weights of the edges
+abbrev pub AreHeads : Document → Placed → List ℕ → Type 0
+AreHeads d p xs = Lists (head_node d p) (length d.edges) xs
+
+abbrev pub AreTails : Document → Placed → List ℕ → Type 0
+AreTails d p xs = Lists (tail_node d p) (length d.edges) xs
+
+abbrev pub AreWeights : Document → List ℕ → Type 0
+AreWeights d xs = Lists (weight_at d) (length d.edges) xs
 
 -- whether each edge is written as reversed
 abbrev pub AreListed : Document → Placed → List Bool → Type 0

@@ -2,17 +2,25 @@
 ghost use Rattle.std.specs.Prelude.{◌≡◌, ◌<◌, ◌^◌, length};
 ghost use Rattle.elk_doc.specs.Fits.{Fits};
 ghost use Rattle.elk_doc.specs.Places.{anchor_of, dock_of};
-ghost use Rattle.elk_doc.specs.Sides.{side_of_end};
+ghost use Rattle.elk_doc.specs.Sides.{side_of_end, side_of_port};
 ghost use Rattle.elk_doc.specs.Sound.{IsPlaceWithin};
 ghost use Rattle.check_faults.specs.Shapes.{AreListed, AreSides};
 
-use crate::shapes::side_at;
 use elk_doc::document::{Doc, End};
 use elk_doc::drawing::Placed;
 use elk_doc::level::{is_loop, node_of};
 use elk_doc::places::{middle_of, offset_on, port_box, section_end};
 use elk_doc::shape::{Dock, Point, Side};
 use elk_doc::sides::{end_of, enters_at, frame_of, side_or};
+
+// The side of a port, of the list of all.
+fn side_in(_doc: &Doc, _placed: &Placed, sides: &[Side], port: u32) -> Side
+    requires port_in { port < length _doc.now.ports }
+    requires sides { AreSides _doc.now _placed.now sides.now }
+    ensures { result ≡ side_of_port _doc.now _placed.now port }
+{
+    sides[port as usize]
+}
 
 // The side of an end of an edge.
 fn side_for(
@@ -29,7 +37,7 @@ fn side_for(
     ensures { result ≡ side_of_end doc.now placed.now edge at_source }
 {
     match end_of(doc, edge, at_source) {
-        End::Port(port) => side_at(doc, placed, sides, port),
+        End::Port(port) => side_in(doc, placed, sides, port),
         End::Node(node) => {
             let enters = enters_at(at_source, listed[edge as usize]) && !is_loop(doc, edge);
             side_or(None, enters, frame_of(doc, node))
@@ -47,7 +55,7 @@ pub fn anchor_at(doc: &Doc, placed: &Placed, sides: &[Side], edge: u32, at_sourc
 {
     match end_of(doc, edge, at_source) {
         End::Port(port) => {
-            let side = side_at(doc, placed, sides, port);
+            let side = side_in(doc, placed, sides, port);
             middle_of(side, port_box(doc, placed, port))
         }
         End::Node(_) => section_end(doc, placed, edge, at_source),

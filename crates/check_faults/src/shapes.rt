@@ -1,6 +1,5 @@
 //! What a drawing has at each node, port or edge, each computed once.
 ghost use Rattle.std.specs.Prelude.{◌≡◌, ◌<◌, length, IfOk, true, false};
-ghost use Rattle.elk_doc.specs.Places.{dock_of, outline_of};
 ghost use Rattle.elk_doc.specs.Sides.{side_of_port};
 ghost use Rattle.elk_doc.specs.Fits.{Fits};
 ghost use Rattle.check_faults.specs.Shapes.{AreDocks, AreListed, AreOutlines, AreSides, AreTouched};
@@ -96,31 +95,4 @@ pub fn docks(
         docks.push(dock_for(doc, placed, sides, listed, edge as u32, at_source))?;
     }
     Ok(docks)
-}
-
-/// The outline of a node, of the list of all.
-pub fn outline_at(_doc: &Doc, _placed: &Placed, outlines: &[Rect], node: u32) -> Rect
-    requires node_in { node < length _doc.now.nodes }
-    requires outlines { AreOutlines _doc.now _placed.now outlines.now }
-    ensures { result ≡ outline_of _doc.now _placed.now node }
-{
-    outlines[node as usize]
-}
-
-/// The side of a port, of the list of all.
-pub fn side_at(_doc: &Doc, _placed: &Placed, sides: &[Side], port: u32) -> Side
-    requires port_in { port < length _doc.now.ports }
-    requires sides { AreSides _doc.now _placed.now sides.now }
-    ensures { result ≡ side_of_port _doc.now _placed.now port }
-{
-    sides[port as usize]
-}
-
-/// The dock of an edge at one of its ends, of the list of all.
-pub fn dock_of(_doc: &Doc, _placed: &Placed, docks: &[Dock], edge: u32, _at_source: bool) -> Dock
-    requires edge_in { edge < length _doc.now.edges }
-    requires docks { AreDocks _doc.now _placed.now _at_source docks.now }
-    ensures { result ≡ dock_of _doc.now _placed.now edge _at_source }
-{
-    docks[edge as usize]
 }

@@ -79,8 +79,7 @@ IsBalanced d p n c a =
 abbrev pub AreByChild : Document → ℕ → List ℕ → List ℕ → Type 0
 AreByChild d n values xs = Lists (λ child. slice_index values (place_of_child d n child)) (length d.nodes) xs
 
--- the written layers and parts of all nodes and the written flow of all edges, as those of a level, the oriented edges'
--- ends, and the edges' weights
+-- the written layers and parts of all nodes and the written flow of all edges, as those of a level
 abbrev pub AreLayers : Document → ℕ → Certificate → List ℕ → Type 0
 AreLayers d n c xs = Lists (layer_in d n c) (length d.nodes) xs
 
@@ -89,15 +88,6 @@ AreParts d n c xs = Lists (part_in d n c) (length d.nodes) xs
 
 abbrev pub AreFlows : Document → ℕ → Certificate → List ℕ → Type 0
 AreFlows d n c xs = Lists (flow_in d n c) (length d.edges) xs
-
-abbrev pub AreHeads : Document → Placed → List ℕ → Type 0
-AreHeads d p xs = Lists (head_node d p) (length d.edges) xs
-
-abbrev pub AreTails : Document → Placed → List ℕ → Type 0
-AreTails d p xs = Lists (tail_node d p) (length d.edges) xs
-
-abbrev pub AreWeights : Document → List ℕ → Type 0
-AreWeights d xs = Lists (weight_at d) (length d.edges) xs
 
 -- the layer at an end of an edge, by lists of all ends and layers, and how far the edge rises, 0 if it falls
 abbrev pub end_layer : List ℕ → List ℕ → ℕ → ℕ

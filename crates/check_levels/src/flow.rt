@@ -3,12 +3,13 @@ ghost use Rattle.std.specs.Prelude.{◌≡◌, ◌↔◌, ℕ, ◌<◌, IfOk, Is
 ghost use Rattle.elk_doc.specs.FlowProof.{FlowProof};
 ghost use Rattle.elk_doc.specs.Level.{is_edge_of};
 ghost use Rattle.elk_doc.specs.Numbers.{sum_below};
-ghost use Rattle.check_levels.specs.FirstLevels.{AreFlows, AreHeads, AreTails, AreWeights, FirstFlow, IsBalanced, IsIdle};
+ghost use Rattle.check_faults.specs.Scenes.{IsScene};
+ghost use Rattle.check_levels.specs.FirstLevels.{AreFlows, FirstFlow, IsBalanced, IsIdle};
 
 use crate::sums::{are_balanced, value_at};
-use check_faults::{Fault, Place, is_edge_of};
+use check_faults::{Fault, Place, Scene, is_edge_of};
 use elk_doc::document::Doc;
-use elk_doc::drawing::{Certificate, Placed};
+use elk_doc::drawing::Certificate;
 use elk_doc::level::is_loop;
 use std::alloc::{AllocError, Global};
 
@@ -55,64 +56,47 @@ fn are_idle(doc: &Doc, node: u32, certificate: &Certificate, flows: &[u64]) -> b
 
 // The fault of a flow of which it is known whether it balances at every child.
 fn fault_if(
-    doc: &Doc,
-    _placed: &Placed,
+    scene: &Scene<'_>,
     node: u32,
     certificate: &Certificate,
     flows: &[u64],
     balanced: bool,
 ) -> Option<Fault>
-    requires flows { AreFlows doc.now node certificate.now flows.now }
-    requires balanced { IsTrue balanced ↔ ((a : ℕ) → IsBalanced doc.now _placed.now node certificate.now a) }
+    requires flows { AreFlows scene.now.doc.now node certificate.now flows.now }
+    requires balanced { IsTrue balanced ↔ ((a : ℕ) → IsBalanced scene.now.doc.now scene.now.placed.now node certificate.now a) }
     ensures { MatchOption result
-        (FlowProof doc.now _placed.now node certificate.now)
-        (FirstFlow doc.now _placed.now node certificate.now) }
+        (FlowProof scene.now.doc.now scene.now.placed.now node certificate.now)
+        (FirstFlow scene.now.doc.now scene.now.placed.now node certificate.now) }
 {
     let fault = Some(Fault::lone(Place::Node(node)));
-    if !are_idle(doc, node, certificate, flows) {
+    if !are_idle(scene.doc, node, certificate, flows) {
         return fault;
     }
     if !balanced {
         return fault;
     }
-    if sum_of(doc, node, flows) != u128::from(certificate.span) {
+    if sum_of(scene.doc, node, flows) != u128::from(certificate.span) {
         return fault;
     }
     None
 }
 
 /// The node, where the written flow of its level does not balance at every child, runs along a self-loop, or has another
-/// sum than the span. The lists are those of all edges' ends and weights and of the level's flow.
+/// sum than the span. The flows are those of the level, by edge.
 pub fn flow_fault(
     alloc: Global,
-    doc: &Doc,
-    placed: &Placed,
+    scene: &Scene<'_>,
     node: u32,
     certificate: &Certificate,
-    heads: &[u32],
-    tails: &[u32],
-    weights: &[u64],
     flows: &[u64],
 ) -> Result<Option<Fault>, AllocError>
-    requires heads { AreHeads doc.now placed.now heads.now }
-    requires tails { AreTails doc.now placed.now tails.now }
-    requires weights { AreWeights doc.now weights.now }
-    requires flows { AreFlows doc.now node certificate.now flows.now }
+    requires scene { IsScene scene.now }
+    requires flows { AreFlows scene.now.doc.now node certificate.now flows.now }
     ensures { IfOk result (λ fault.
         MatchOption fault
-        (FlowProof doc.now placed.now node certificate.now)
-        (FirstFlow doc.now placed.now node certificate.now)) }
+        (FlowProof scene.now.doc.now scene.now.placed.now node certificate.now)
+        (FirstFlow scene.now.doc.now scene.now.placed.now node certificate.now)) }
 {
-    let balanced = are_balanced(
-        alloc,
-        doc,
-        placed,
-        node,
-        certificate,
-        heads,
-        tails,
-        weights,
-        flows,
-    )?;
-    Ok(fault_if(doc, placed, node, certificate, flows, balanced))
+    let balanced = are_balanced(alloc, scene, node, certificate, flows)?;
+    Ok(fault_if(scene, node, certificate, flows, balanced))
 }

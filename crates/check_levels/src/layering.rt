@@ -5,12 +5,13 @@ ghost use Rattle.elk_doc.specs.Level.{is_edge_of};
 ghost use Rattle.elk_doc.specs.Numbers.{sum_below};
 ghost use Rattle.elk_doc.specs.Sound.{IsSound};
 ghost use Rattle.check_faults.specs.Faults.{IsFirst};
-ghost use Rattle.check_levels.specs.FirstLevels.{AreHeads, AreLayers, AreTails, EdgeRises, FirstLayering, end_layer, length_of, rise_of};
+ghost use Rattle.check_faults.specs.Scenes.{IsScene};
+ghost use Rattle.check_levels.specs.FirstLevels.{AreLayers, EdgeRises, FirstLayering, end_layer, length_of, rise_of};
 
 use crate::lists::number_at;
-use check_faults::{Fault, Place, is_edge_of};
+use check_faults::{Fault, Place, Scene, is_edge_of};
 use elk_doc::document::Doc;
-use elk_doc::drawing::{Certificate, Placed};
+use elk_doc::drawing::Certificate;
 use elk_doc::level::is_loop;
 
 // The layer of the node at an end of an edge, of the lists of all ends and layers.
@@ -30,57 +31,43 @@ fn is_before(layer: u32, other: u32) -> bool
 
 // Whether an oriented edge of the level, if it is no self-loop, leads to a greater layer.
 fn edge_rises(
-    doc: &Doc,
-    _placed: &Placed,
+    scene: &Scene<'_>,
     node: u32,
     _certificate: &Certificate,
-    heads: &[u32],
-    tails: &[u32],
     layers: &[u32],
     edge: u32,
 ) -> bool
-    requires sound { IsSound doc.now }
-    requires edge_in { edge < length doc.now.edges }
-    requires heads { AreHeads doc.now _placed.now heads.now }
-    requires tails { AreTails doc.now _placed.now tails.now }
-    requires layers { AreLayers doc.now node _certificate.now layers.now }
-    ensures { IsTrue result ↔ EdgeRises doc.now _placed.now node _certificate.now edge }
+    requires sound { IsSound scene.now.doc.now }
+    requires edge_in { edge < length scene.now.doc.now.edges }
+    requires scene { IsScene scene.now }
+    requires layers { AreLayers scene.now.doc.now node _certificate.now layers.now }
+    ensures { IsTrue result ↔ EdgeRises scene.now.doc.now scene.now.placed.now node _certificate.now edge }
 {
-    if !is_edge_of(doc, node, edge) {
+    if !is_edge_of(scene.doc, node, edge) {
         return true;
     }
-    if is_loop(doc, edge) {
+    if is_loop(scene.doc, edge) {
         return true;
     }
-    is_before(layer_of(tails, layers, edge), layer_of(heads, layers, edge))
+    is_before(
+        layer_of(scene.tails, layers, edge),
+        layer_of(scene.heads, layers, edge),
+    )
 }
 
 // The first edge that does not lead to a greater layer.
 fn first_fall(
-    doc: &Doc,
-    placed: &Placed,
+    scene: &Scene<'_>,
     node: u32,
     certificate: &Certificate,
-    heads: &[u32],
-    tails: &[u32],
     layers: &[u32],
 ) -> Option<u32>
-    requires heads { AreHeads doc.now placed.now heads.now }
-    requires tails { AreTails doc.now placed.now tails.now }
-    requires layers { AreLayers doc.now node certificate.now layers.now }
-    ensures { IsFirst (EdgeRises doc.now placed.now node certificate.now) result }
+    requires scene { IsScene scene.now }
+    requires layers { AreLayers scene.now.doc.now node certificate.now layers.now }
+    ensures { IsFirst (EdgeRises scene.now.doc.now scene.now.placed.now node certificate.now) result }
 {
-    for edge in 0..doc.edges().len() {
-        if !edge_rises(
-            doc,
-            placed,
-            node,
-            certificate,
-            heads,
-            tails,
-            layers,
-            edge as u32,
-        ) {
+    for edge in 0..scene.doc.edges().len() {
+        if !edge_rises(scene, node, certificate, layers, edge as u32) {
             return Some(edge as u32);
         }
     }
@@ -131,27 +118,23 @@ fn span(doc: &Doc, node: u32, heads: &[u32], tails: &[u32], layers: &[u32]) -> u
 }
 
 /// The first edge of a node's level that does not lead to a greater layer, as it is oriented, and else the node, where the
-/// written span is not the sum of weight times length. The lists are those of all edges' ends and of the level's layers.
+/// written span is not the sum of weight times length. The layers are those of the level, by node.
 pub fn layering_fault(
-    doc: &Doc,
-    placed: &Placed,
+    scene: &Scene<'_>,
     node: u32,
     certificate: &Certificate,
-    heads: &[u32],
-    tails: &[u32],
     layers: &[u32],
 ) -> Option<Fault>
-    requires heads { AreHeads doc.now placed.now heads.now }
-    requires tails { AreTails doc.now placed.now tails.now }
-    requires layers { AreLayers doc.now node certificate.now layers.now }
+    requires scene { IsScene scene.now }
+    requires layers { AreLayers scene.now.doc.now node certificate.now layers.now }
     ensures { MatchOption result
-        (Layering doc.now placed.now node certificate.now)
-        (FirstLayering doc.now placed.now node certificate.now) }
+        (Layering scene.now.doc.now scene.now.placed.now node certificate.now)
+        (FirstLayering scene.now.doc.now scene.now.placed.now node certificate.now) }
 {
-    if let Some(edge) = first_fall(doc, placed, node, certificate, heads, tails, layers) {
+    if let Some(edge) = first_fall(scene, node, certificate, layers) {
         return Some(Fault::lone(Place::Edge(edge)));
     }
-    if span(doc, node, heads, tails, layers) == certificate.span {
+    if span(scene.doc, node, scene.heads, scene.tails, layers) == certificate.span {
         return None;
     }
     Some(Fault::lone(Place::Node(node)))

@@ -1,7 +1,8 @@
 //! What a drawing and a level's certificate have at each node or edge, each computed once.
 ghost use Rattle.std.specs.Prelude.{◌≡◌, ◌<◌, IfOk, slice_index};
 ghost use Rattle.elk_doc.specs.Fits.{Fits};
-ghost use Rattle.check_levels.specs.FirstLevels.{AreByChild, AreFlows, AreHeads, AreLayers, AreParts, AreTails, AreWeights};
+ghost use Rattle.check_faults.specs.Shapes.{AreHeads, AreTails, AreWeights};
+ghost use Rattle.check_levels.specs.FirstLevels.{AreByChild, AreFlows, AreLayers, AreParts};
 
 use check_faults::{head_node, is_edge_of, tail_node};
 use elk_doc::document::Doc;

@@ -1,7 +1,7 @@
 //! Whether steps lead from one node to another.
-ghost use Rattle.std.specs.Prelude.{◌≡◌, ◌↔◌, ◌||◌, ℕ, ◌<◌, ◌≤◌, IfOk, IsTrue, length, true};
+ghost use Rattle.std.specs.Prelude.{◌≡◌, ◌↔◌, ◌||◌, ℕ, ◌<◌, IfOk, IsTrue, length, true};
 ghost use Rattle.elk_doc.specs.Paths.{Reaches};
-ghost use Rattle.check_levels.specs.Steps.{AreBelow, AreClosed, AreReached, FollowsOnce, FollowsStep, HasStep, mark_at};
+ghost use Rattle.check_levels.specs.Steps.{AreBelow, AreReached, FollowsOnce, FollowsStep, HasStep, mark_at};
 
 use std::alloc::{AllocError, Global};
 

@@ -1,13 +1,14 @@
 //! The sums of flow and of weight at all nodes, each kind made in one pass over the edges, and whether they balance.
 ghost use Rattle.std.specs.Prelude.{◌≡◌, ◌↔◌, ◌+◌, ◌^◌, ℕ, ◌<◌, IfOk, IsTrue, length, slice_index};
 ghost use Rattle.elk_doc.specs.Sound.{IsSound};
-ghost use Rattle.check_levels.specs.FirstLevels.{AreFlows, AreHeads, AreTails, AreWeights, IsBalanced, ends_at};
+ghost use Rattle.check_faults.specs.Scenes.{IsScene};
+ghost use Rattle.check_levels.specs.FirstLevels.{AreFlows, IsBalanced, ends_at};
 ghost use Rattle.check_levels.specs.Sums.{AreLevelSums, AreSums, AreSumsBelow};
 
 use crate::lists::flow_at;
-use check_faults::is_edge_of;
+use check_faults::{Scene, is_edge_of};
 use elk_doc::document::Doc;
-use elk_doc::drawing::{Certificate, Placed};
+use elk_doc::drawing::Certificate;
 use elk_doc::form::is_child;
 use elk_doc::level::is_loop;
 use std::alloc::{AllocError, Global};
@@ -88,44 +89,37 @@ fn sums(
 // The sums of the flow and of the weights of a level.
 fn level_sums(
     alloc: Global,
-    doc: &Doc,
-    _placed: &Placed,
+    scene: &Scene<'_>,
     node: u32,
     _certificate: &Certificate,
-    heads: &[u32],
-    tails: &[u32],
-    weights: &[u64],
     flows: &[u64],
 ) -> Result<LevelSums, AllocError>
-    requires heads { AreHeads doc.now _placed.now heads.now }
-    requires tails { AreTails doc.now _placed.now tails.now }
-    requires weights { AreWeights doc.now weights.now }
-    requires flows { AreFlows doc.now node _certificate.now flows.now }
-    ensures { IfOk result (AreLevelSums doc.now _placed.now node _certificate.now) }
+    requires scene { IsScene scene.now }
+    requires flows { AreFlows scene.now.doc.now node _certificate.now flows.now }
+    ensures { IfOk result (AreLevelSums scene.now.doc.now scene.now.placed.now node _certificate.now) }
 {
     Ok(LevelSums {
-        flow_in: sums(alloc, doc, node, heads, flows)?,
-        flow_out: sums(alloc, doc, node, tails, flows)?,
-        weight_in: sums(alloc, doc, node, heads, weights)?,
-        weight_out: sums(alloc, doc, node, tails, weights)?,
+        flow_in: sums(alloc, scene.doc, node, scene.heads, flows)?,
+        flow_out: sums(alloc, scene.doc, node, scene.tails, flows)?,
+        weight_in: sums(alloc, scene.doc, node, scene.heads, scene.weights)?,
+        weight_out: sums(alloc, scene.doc, node, scene.tails, scene.weights)?,
     })
 }
 
 // Whether the flow in and the weight out at a child, if it is one, are the flow out and the weight in.
 fn balances(
-    doc: &Doc,
-    _placed: &Placed,
+    scene: &Scene<'_>,
     node: u32,
     _certificate: &Certificate,
     sums: &LevelSums,
     child: u32,
 ) -> bool
-    requires sound { IsSound doc.now }
-    requires child_in { child < length doc.now.nodes }
-    requires sums { AreLevelSums doc.now _placed.now node _certificate.now sums.now }
-    ensures { IsTrue result ↔ IsBalanced doc.now _placed.now node _certificate.now child }
+    requires sound { IsSound scene.now.doc.now }
+    requires child_in { child < length scene.now.doc.now.nodes }
+    requires sums { AreLevelSums scene.now.doc.now scene.now.placed.now node _certificate.now sums.now }
+    ensures { IsTrue result ↔ IsBalanced scene.now.doc.now scene.now.placed.now node _certificate.now child }
 {
-    if !is_child(doc, node, child) {
+    if !is_child(scene.doc, node, child) {
         return true;
     }
     let place = child as usize;
@@ -139,18 +133,12 @@ fn balances(
 }
 
 // Whether the flow balances at every child, by the sums at all nodes.
-fn all_balance(
-    doc: &Doc,
-    placed: &Placed,
-    node: u32,
-    certificate: &Certificate,
-    sums: &LevelSums,
-) -> bool
-    requires { AreLevelSums doc.now placed.now node certificate.now sums.now }
-    ensures { IsTrue result ↔ ((a : ℕ) → IsBalanced doc.now placed.now node certificate.now a) }
+fn all_balance(scene: &Scene<'_>, node: u32, certificate: &Certificate, sums: &LevelSums) -> bool
+    requires { AreLevelSums scene.now.doc.now scene.now.placed.now node certificate.now sums.now }
+    ensures { IsTrue result ↔ ((a : ℕ) → IsBalanced scene.now.doc.now scene.now.placed.now node certificate.now a) }
 {
-    for child in 0..doc.nodes().len() {
-        if !balances(doc, placed, node, certificate, sums, child as u32) {
+    for child in 0..scene.doc.nodes().len() {
+        if !balances(scene, node, certificate, sums, child as u32) {
             return false;
         }
     }
@@ -160,31 +148,15 @@ fn all_balance(
 // Whether the flow balances at every child.
 pub(crate) fn are_balanced(
     alloc: Global,
-    doc: &Doc,
-    placed: &Placed,
+    scene: &Scene<'_>,
     node: u32,
     certificate: &Certificate,
-    heads: &[u32],
-    tails: &[u32],
-    weights: &[u64],
     flows: &[u64],
 ) -> Result<bool, AllocError>
-    requires heads { AreHeads doc.now placed.now heads.now }
-    requires tails { AreTails doc.now placed.now tails.now }
-    requires weights { AreWeights doc.now weights.now }
-    requires flows { AreFlows doc.now node certificate.now flows.now }
-    ensures { IfOk result (λ balanced. IsTrue balanced ↔ ((a : ℕ) → IsBalanced doc.now placed.now node certificate.now a)) }
+    requires scene { IsScene scene.now }
+    requires flows { AreFlows scene.now.doc.now node certificate.now flows.now }
+    ensures { IfOk result (λ balanced. IsTrue balanced ↔ ((a : ℕ) → IsBalanced scene.now.doc.now scene.now.placed.now node certificate.now a)) }
 {
-    let sums = level_sums(
-        alloc,
-        doc,
-        placed,
-        node,
-        certificate,
-        heads,
-        tails,
-        weights,
-        flows,
-    )?;
-    Ok(all_balance(doc, placed, node, certificate, &sums))
+    let sums = level_sums(alloc, scene, node, certificate, flows)?;
+    Ok(all_balance(scene, node, certificate, &sums))
 }

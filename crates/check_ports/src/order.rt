@@ -1,20 +1,15 @@
 //! The order of the ports of a node under a fixed order.
-ghost use Rattle.std.specs.Prelude.{◌≡◌, ◌↔◌, ◌<◌, ◌^◌, ◌+ℤ◌, IsTrue, length};
+ghost use Rattle.std.specs.Prelude.{◌≡◌, ◌↔◌, ◌<◌, IsTrue, length};
 ghost use Rattle.elk_doc.specs.declared.document.PortRule.TheVariants.{FixedOrder};
-ghost use Rattle.elk_doc.specs.Fits.{Fits};
-ghost use Rattle.elk_doc.specs.PortsKept.{ComesBefore, clockwise, given_clockwise, port_offset, size_along};
-ghost use Rattle.elk_doc.specs.Shapes.{half_of};
+ghost use Rattle.elk_doc.specs.PortsKept.{ComesBefore, clockwise, given_clockwise, port_offset};
 ghost use Rattle.elk_doc.specs.Sides.{side_of_port};
-ghost use Rattle.elk_doc.specs.Sound.{IsPlaceWithin, IsSoundSize, along};
-ghost use Rattle.check_faults.specs.Shapes.{AreSides};
+ghost use Rattle.check_faults.specs.Scenes.{IsScene};
 ghost use Rattle.check_ports.specs.FirstPorts.{OrderHolds};
 
 use crate::sides::clockwise;
 use crate::spots::{is_side, middle_along, port_offset};
-use check_faults::side_at;
-use elk_doc::document::{Doc, PortRule};
-use elk_doc::drawing::Placed;
-use elk_doc::shape::Side;
+use check_faults::{Scene, side_at};
+use elk_doc::document::PortRule;
 
 // Whether a rule keeps the order of ports.
 fn is_fixed_order(rule: PortRule) -> bool
@@ -29,44 +24,43 @@ fn is_fixed_order(rule: PortRule) -> bool
 }
 
 // The given place of a port's anchor along its side, counted clockwise.
-fn given_clockwise(doc: &Doc, placed: &Placed, sides: &[Side], port: u32) -> i128
-    requires port_in { port < length doc.now.ports }
-    requires sides { AreSides doc.now placed.now sides.now }
-    ensures { result ≡ given_clockwise doc.now placed.now port }
+fn given_clockwise(scene: &Scene<'_>, port: u32) -> i128
+    requires port_in { port < length scene.now.doc.now.ports }
+    requires scene { IsScene scene.now }
+    ensures { result ≡ given_clockwise scene.now.doc.now scene.now.placed.now port }
 {
-    let found = doc.port(port);
-    let side = side_at(doc, placed, sides, port);
+    let found = scene.doc.port(port);
+    let side = side_at(scene, port);
     clockwise(side, middle_along(side, found.place, found.size))
 }
 
 // The offset of a port's anchor, counted clockwise.
-fn offset_clockwise(doc: &Doc, placed: &Placed, sides: &[Side], port: u32) -> i128
-    requires port_in { port < length doc.now.ports }
-    requires fits { Fits doc.now placed.now }
-    requires sides { AreSides doc.now placed.now sides.now }
-    ensures { result ≡ clockwise (side_of_port doc.now placed.now port) (port_offset doc.now placed.now port) }
+fn offset_clockwise(scene: &Scene<'_>, port: u32) -> i128
+    requires port_in { port < length scene.now.doc.now.ports }
+    requires scene { IsScene scene.now }
+    ensures { result ≡ clockwise (side_of_port scene.now.doc.now scene.now.placed.now port) (port_offset scene.now.doc.now scene.now.placed.now port) }
 {
-    let side = side_at(doc, placed, sides, port);
-    clockwise(side, port_offset(doc, placed, sides, port))
+    let side = side_at(scene, port);
+    clockwise(side, port_offset(scene, port))
 }
 
 // Whether a port comes before another.
-fn comes_before(doc: &Doc, placed: &Placed, sides: &[Side], one: u32, other: u32) -> bool
-    requires one_in { one < length doc.now.ports }
-    requires other_in { other < length doc.now.ports }
-    requires sides { AreSides doc.now placed.now sides.now }
-    ensures { IsTrue result ↔ ComesBefore doc.now placed.now one other }
+fn comes_before(scene: &Scene<'_>, one: u32, other: u32) -> bool
+    requires one_in { one < length scene.now.doc.now.ports }
+    requires other_in { other < length scene.now.doc.now.ports }
+    requires scene { IsScene scene.now }
+    ensures { IsTrue result ↔ ComesBefore scene.now.doc.now scene.now.placed.now one other }
 {
-    let first = doc.port(one).index;
-    let second = doc.port(other).index;
+    let first = scene.doc.port(one).index;
+    let second = scene.doc.port(other).index;
     if first < second {
         return true;
     }
     if second < first {
         return false;
     }
-    let a = given_clockwise(doc, placed, sides, one);
-    let b = given_clockwise(doc, placed, sides, other);
+    let a = given_clockwise(scene, one);
+    let b = given_clockwise(scene, other);
     if a < b {
         return true;
     }
@@ -77,34 +71,26 @@ fn comes_before(doc: &Doc, placed: &Placed, sides: &[Side], one: u32, other: u32
 }
 
 // Whether a port, if the order is fixed and it comes before another of its side, stands no further clockwise.
-pub(crate) fn order_holds(
-    doc: &Doc,
-    placed: &Placed,
-    sides: &[Side],
-    node: u32,
-    one: u32,
-    other: u32,
-) -> bool
-    requires node_in { node < length doc.now.nodes }
-    requires one_in { one < length doc.now.ports }
-    requires other_in { other < length doc.now.ports }
-    requires fits { Fits doc.now placed.now }
-    requires sides { AreSides doc.now placed.now sides.now }
-    ensures { IsTrue result ↔ OrderHolds doc.now placed.now node one other }
+pub(crate) fn order_holds(scene: &Scene<'_>, node: u32, one: u32, other: u32) -> bool
+    requires node_in { node < length scene.now.doc.now.nodes }
+    requires one_in { one < length scene.now.doc.now.ports }
+    requires other_in { other < length scene.now.doc.now.ports }
+    requires scene { IsScene scene.now }
+    ensures { IsTrue result ↔ OrderHolds scene.now.doc.now scene.now.placed.now node one other }
 {
-    if !is_fixed_order(doc.node(node).rule) {
+    if !is_fixed_order(scene.doc.node(node).rule) {
         return true;
     }
-    let first = side_at(doc, placed, sides, one);
-    let second = side_at(doc, placed, sides, other);
+    let first = side_at(scene, one);
+    let second = side_at(scene, other);
     if !is_side(first, second) {
         return true;
     }
-    if !comes_before(doc, placed, sides, one, other) {
+    if !comes_before(scene, one, other) {
         return true;
     }
-    let place = offset_clockwise(doc, placed, sides, one);
-    let most = offset_clockwise(doc, placed, sides, other);
+    let place = offset_clockwise(scene, one);
+    let most = offset_clockwise(scene, other);
     if place > most {
         return false;
     }

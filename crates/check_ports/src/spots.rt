@@ -1,19 +1,16 @@
 //! Ports and ends of edges as they stand on the sides of their nodes.
 ghost use Rattle.std.specs.Prelude.{◌≡◌, ◌↔◌, ◌≤◌, ◌<◌, ◌^◌, ◌+ℤ◌, ◌≤ℤ◌, IsTrue, false, true, length, pos};
-ghost use Rattle.elk_doc.specs.Fits.{Fits};
 ghost use Rattle.elk_doc.specs.Numbers.{count_below};
-ghost use Rattle.elk_doc.specs.Places.{dock_of};
 ghost use Rattle.elk_doc.specs.PortsKept.{is_at_node, is_side, is_spread_end, is_spread_port, port_offset, size_along};
 ghost use Rattle.elk_doc.specs.Shapes.{half_of};
 ghost use Rattle.elk_doc.specs.Sound.{IsPlaceWithin, IsSoundSize, along};
-ghost use Rattle.check_faults.specs.Shapes.{AreDocks, AreSides};
+ghost use Rattle.check_faults.specs.Scenes.{IsScene};
 ghost use Rattle.check_ports.specs.Spots.{IsRoomy, KeepApart, LiesOn, end_spot, is_implicit, port_spot};
 
 use crate::sides::{along, is_pinned, side_length, size_along};
-use check_faults::{dock_of, side_at};
-use elk_doc::document::{Doc, End};
-use elk_doc::drawing::Placed;
-use elk_doc::shape::{Dock, Point, Rect, Side, Size};
+use check_faults::{Scene, dock_of, side_at};
+use elk_doc::document::End;
+use elk_doc::shape::{Point, Rect, Side, Size};
 use elk_doc::sides::end_of;
 
 // A port or an end of an edge on a side of its node.
@@ -50,50 +47,31 @@ pub(crate) fn middle_along(side: Side, place: Point, size: Size) -> i64
 }
 
 // The offset of a port's anchor along its side.
-pub(crate) fn port_offset(doc: &Doc, placed: &Placed, sides: &[Side], port: u32) -> i64
-    requires port_in { port < length doc.now.ports }
-    requires fits { Fits doc.now placed.now }
-    requires sides { AreSides doc.now placed.now sides.now }
-    ensures { result ≡ port_offset doc.now placed.now port }
+pub(crate) fn port_offset(scene: &Scene<'_>, port: u32) -> i64
+    requires port_in { port < length scene.now.doc.now.ports }
+    requires scene { IsScene scene.now }
+    ensures { result ≡ port_offset scene.now.doc.now scene.now.placed.now port }
 {
-    let side = side_at(doc, placed, sides, port);
-    middle_along(side, placed.port_place(port), doc.port(port).size)
+    let side = side_at(scene, port);
+    middle_along(
+        side,
+        scene.placed.port_place(port),
+        scene.doc.port(port).size,
+    )
 }
 
 // A port as it stands on a side of its node.
-pub(crate) fn port_spot(doc: &Doc, placed: &Placed, sides: &[Side], port: u32) -> SideSpot
-    requires port_in { port < length doc.now.ports }
-    requires fits { Fits doc.now placed.now }
-    requires sides { AreSides doc.now placed.now sides.now }
-    ensures { result ≡ port_spot doc.now placed.now port }
+pub(crate) fn port_spot(scene: &Scene<'_>, port: u32) -> SideSpot
+    requires port_in { port < length scene.now.doc.now.ports }
+    requires scene { IsScene scene.now }
+    ensures { result ≡ port_spot scene.now.doc.now scene.now.placed.now port }
 {
-    let offset = port_offset(doc, placed, sides, port);
+    let offset = port_offset(scene, port);
     SideSpot {
-        node: doc.port(port).node,
-        side: side_at(doc, placed, sides, port),
+        node: scene.doc.port(port).node,
+        side: side_at(scene, port),
         offset,
-        spread: !is_pinned(doc, port),
-    }
-}
-
-// The dock of an edge at an end, of the lists of all.
-fn dock_for(
-    doc: &Doc,
-    placed: &Placed,
-    sources: &[Dock],
-    targets: &[Dock],
-    edge: u32,
-    at_source: bool,
-) -> Dock
-    requires edge_in { edge < length doc.now.edges }
-    requires sources { AreDocks doc.now placed.now true sources.now }
-    requires targets { AreDocks doc.now placed.now false targets.now }
-    ensures { result ≡ dock_of doc.now placed.now edge at_source }
-{
-    if at_source {
-        dock_of(doc, placed, sources, edge, true)
-    } else {
-        dock_of(doc, placed, targets, edge, false)
+        spread: !is_pinned(scene.doc, port),
     }
 }
 
@@ -108,25 +86,17 @@ fn is_implicit(end: End) -> bool
 }
 
 // An end of an edge as it stands on a side of its node.
-pub(crate) fn end_spot(
-    doc: &Doc,
-    placed: &Placed,
-    sources: &[Dock],
-    targets: &[Dock],
-    edge: u32,
-    at_source: bool,
-) -> SideSpot
-    requires edge_in { edge < length doc.now.edges }
-    requires sources { AreDocks doc.now placed.now true sources.now }
-    requires targets { AreDocks doc.now placed.now false targets.now }
-    ensures { result ≡ end_spot doc.now placed.now edge at_source }
+pub(crate) fn end_spot(scene: &Scene<'_>, edge: u32, at_source: bool) -> SideSpot
+    requires edge_in { edge < length scene.now.doc.now.edges }
+    requires scene { IsScene scene.now }
+    ensures { result ≡ end_spot scene.now.doc.now scene.now.placed.now edge at_source }
 {
-    let dock = dock_for(doc, placed, sources, targets, edge, at_source);
+    let dock = dock_of(scene, edge, at_source);
     SideSpot {
         node: dock.node,
         side: dock.side,
         offset: dock.offset,
-        spread: is_implicit(end_of(doc, edge, at_source)),
+        spread: is_implicit(end_of(scene.doc, edge, at_source)),
     }
 }
 
@@ -173,56 +143,41 @@ fn is_at_node(end: End, node: u32) -> bool
 }
 
 // Whether a port is a spread spot on a side of a node.
-fn is_spread_port(
-    doc: &Doc,
-    placed: &Placed,
-    sides: &[Side],
-    node: u32,
-    side: Side,
-    port: u32,
-) -> bool
-    requires port_in { port < length doc.now.ports }
-    requires sides { AreSides doc.now placed.now sides.now }
-    ensures { result ≡ is_spread_port doc.now placed.now node side port }
+fn is_spread_port(scene: &Scene<'_>, node: u32, side: Side, port: u32) -> bool
+    requires port_in { port < length scene.now.doc.now.ports }
+    requires scene { IsScene scene.now }
+    ensures { result ≡ is_spread_port scene.now.doc.now scene.now.placed.now node side port }
 {
-    let of_node = doc.port(port).node == node;
-    let free = !is_pinned(doc, port);
-    let on_side = is_side(side_at(doc, placed, sides, port), side);
+    let of_node = scene.doc.port(port).node == node;
+    let free = !is_pinned(scene.doc, port);
+    let on_side = is_side(side_at(scene, port), side);
     of_node && (free && on_side)
 }
 
 // Whether an end of an edge is a spread spot on a side of a node.
-fn is_spread_end(
-    doc: &Doc,
-    placed: &Placed,
-    docks: &[Dock],
-    node: u32,
-    side: Side,
-    at_source: bool,
-    edge: u32,
-) -> bool
-    requires edge_in { edge < length doc.now.edges }
-    requires docks { AreDocks doc.now placed.now at_source docks.now }
-    ensures { result ≡ is_spread_end doc.now placed.now node side at_source edge }
+fn is_spread_end(scene: &Scene<'_>, node: u32, side: Side, at_source: bool, edge: u32) -> bool
+    requires edge_in { edge < length scene.now.doc.now.edges }
+    requires scene { IsScene scene.now }
+    ensures { result ≡ is_spread_end scene.now.doc.now scene.now.placed.now node side at_source edge }
 {
-    let dock = dock_of(doc, placed, docks, edge, at_source);
+    let dock = dock_of(scene, edge, at_source);
     if dock.node != node {
         return false;
     }
-    let of_node = is_at_node(end_of(doc, edge, at_source), node);
+    let of_node = is_at_node(end_of(scene.doc, edge, at_source), node);
     let on_side = is_side(dock.side, side);
     of_node && on_side
 }
 
 // How many ports are spread spots on a side of a node.
-fn port_count(doc: &Doc, placed: &Placed, sides: &[Side], node: u32, side: Side) -> usize
-    requires sides { AreSides doc.now placed.now sides.now }
-    ensures value { result ≡ count_below (is_spread_port doc.now placed.now node side) (length doc.now.ports) }
-    ensures few { result ≤ length doc.now.ports }
+fn port_count(scene: &Scene<'_>, node: u32, side: Side) -> usize
+    requires scene { IsScene scene.now }
+    ensures value { result ≡ count_below (is_spread_port scene.now.doc.now scene.now.placed.now node side) (length scene.now.doc.now.ports) }
+    ensures few { result ≤ length scene.now.doc.now.ports }
 {
     let mut count = 0;
-    for port in 0..doc.ports().len() {
-        if is_spread_port(doc, placed, sides, node, side, port as u32) {
+    for port in 0..scene.doc.ports().len() {
+        if is_spread_port(scene, node, side, port as u32) {
             count += 1;
         }
     }
@@ -230,21 +185,14 @@ fn port_count(doc: &Doc, placed: &Placed, sides: &[Side], node: u32, side: Side)
 }
 
 // How many ends of edges, at their sources or at their targets, are spread spots on a side of a node.
-fn end_count(
-    doc: &Doc,
-    placed: &Placed,
-    docks: &[Dock],
-    node: u32,
-    side: Side,
-    at_source: bool,
-) -> usize
-    requires docks { AreDocks doc.now placed.now at_source docks.now }
-    ensures value { result ≡ count_below (is_spread_end doc.now placed.now node side at_source) (length doc.now.edges) }
-    ensures few { result ≤ length doc.now.edges }
+fn end_count(scene: &Scene<'_>, node: u32, side: Side, at_source: bool) -> usize
+    requires scene { IsScene scene.now }
+    ensures value { result ≡ count_below (is_spread_end scene.now.doc.now scene.now.placed.now node side at_source) (length scene.now.doc.now.edges) }
+    ensures few { result ≤ length scene.now.doc.now.edges }
 {
     let mut count = 0;
-    for edge in 0..doc.edges().len() {
-        if is_spread_end(doc, placed, docks, node, side, at_source, edge as u32) {
+    for edge in 0..scene.doc.edges().len() {
+        if is_spread_end(scene, node, side, at_source, edge as u32) {
             count += 1;
         }
     }
@@ -252,28 +200,17 @@ fn end_count(
 }
 
 // Whether a side of a node is longer than the number of its spread spots.
-pub(crate) fn is_roomy(
-    doc: &Doc,
-    placed: &Placed,
-    sides: &[Side],
-    sources: &[Dock],
-    targets: &[Dock],
-    node: u32,
-    side: Side,
-) -> bool
-    requires node_in { node < length doc.now.nodes }
-    requires fits { Fits doc.now placed.now }
-    requires sides { AreSides doc.now placed.now sides.now }
-    requires sources { AreDocks doc.now placed.now true sources.now }
-    requires targets { AreDocks doc.now placed.now false targets.now }
-    ensures { IsTrue result ↔ IsRoomy doc.now placed.now node side }
+pub(crate) fn is_roomy(scene: &Scene<'_>, node: u32, side: Side) -> bool
+    requires node_in { node < length scene.now.doc.now.nodes }
+    requires scene { IsScene scene.now }
+    ensures { IsTrue result ↔ IsRoomy scene.now.doc.now scene.now.placed.now node side }
 {
-    let _node = doc.node(node);
-    let ports = port_count(doc, placed, sides, node, side);
-    let leaving = end_count(doc, placed, sources, node, side, true);
-    let entering = end_count(doc, placed, targets, node, side, false);
+    let _node = scene.doc.node(node);
+    let ports = port_count(scene, node, side);
+    let leaving = end_count(scene, node, side, true);
+    let entering = end_count(scene, node, side, false);
     let count = ports + leaving + entering;
-    (count as i64) < side_length(side, placed.box_of(node))
+    (count as i64) < side_length(side, scene.placed.box_of(node))
 }
 
 // Whether two spots, if both are spread ones of one side with room, have different offsets.

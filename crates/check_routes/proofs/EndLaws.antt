@@ -3,7 +3,6 @@ use Rattle.std.proofs.Common.{◌≡◌, ◌⊎◌, Bool, ⊎_elim, inl, inr, Li
 use Rattle.std.proofs.lemmas.Bool.{cases_lt, cases_eq}
 use Rattle.std.proofs.lemmas.List.{get_or_push, get_or_append_left, get_or-take, get_or-drop, length-take, length-drop}
 use Rattle.std.proofs.lemmas.Int.{ints, by_lt_z}
-use Rattle.elk_doc.specs.Clear.{Clear}
 use Rattle.elk_doc.specs.Document.{Document}
 use Rattle.elk_doc.specs.Drawing.{section_of}
 use Rattle.elk_doc.specs.Level.{source_node, target_node}

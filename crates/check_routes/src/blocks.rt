@@ -1,10 +1,9 @@
 //! Routes that keep out of boxes, by many outlines at a time first.
 ghost use Rattle.std.specs.Prelude.{ℕ, ◌<◌, ◌≤◌, ◌+◌, IsTrue, MatchOption, length};
 ghost use Rattle.elk_doc.specs.Drawing.{section_of};
-ghost use Rattle.elk_doc.specs.Fits.{Fits};
 ghost use Rattle.elk_doc.specs.Level.{IsEdge};
 ghost use Rattle.elk_doc.specs.Route.{Route};
-ghost use Rattle.check_faults.specs.Shapes.{AreOutlines};
+ghost use Rattle.check_faults.specs.Scenes.{IsScene};
 ghost use Rattle.check_routes.specs.Bounds.{HoldsRoute};
 ghost use Rattle.check_routes.specs.Ends.{AreEnds, EndsClear};
 ghost use Rattle.check_routes.specs.FirstRoutes.{ChildClear, ClearHolds, FirstClear};
@@ -13,37 +12,31 @@ ghost use Rattle.check_routes.specs.Stretches.{AreParallel};
 use crate::bounds::{RouteBounds, bounds_of};
 use crate::clear::{child_clear, clear_fault_by_pairs};
 use crate::stretches::{OutlineEnds, are_off};
-use check_faults::{Fault, is_edge_of};
-use elk_doc::document::Doc;
-use elk_doc::drawing::Placed;
+use check_faults::{Fault, Scene, is_edge_of};
 use elk_doc::level::node_of;
-use elk_doc::shape::Rect;
 
 // How many outlines are looked at together.
 const BLOCK: usize = 16;
 
 // Whether the children with numbers from `from` and below `to` are clear of a route, by the bounds of the route first.
 fn some_clear(
-    doc: &Doc,
-    placed: &Placed,
-    outlines: &[Rect],
+    scene: &Scene<'_>,
     bounds: RouteBounds,
     node: u32,
     edge: u32,
     from: usize,
     to: usize,
 ) -> bool
-    requires edge_in { edge < length doc.now.edges }
-    requires inside { to ≤ length doc.now.nodes }
-    requires fits { Fits doc.now placed.now }
-    requires outlines { AreOutlines doc.now placed.now outlines.now }
-    requires parallel { AreParallel (section_of placed.now edge) }
-    requires bounds { HoldsRoute bounds (section_of placed.now edge) }
-    ensures { IsTrue result → (a : ℕ) → from ≤ a → a < to → ChildClear doc.now placed.now node edge a }
+    requires edge_in { edge < length scene.now.doc.now.edges }
+    requires inside { to ≤ length scene.now.doc.now.nodes }
+    requires scene { IsScene scene.now }
+    requires parallel { AreParallel (section_of scene.now.placed.now edge) }
+    requires bounds { HoldsRoute bounds (section_of scene.now.placed.now edge) }
+    ensures { IsTrue result → (a : ℕ) → from ≤ a → a < to → ChildClear scene.now.doc.now scene.now.placed.now node edge a }
 {
-    let _nodes = doc.nodes();
+    let _nodes = scene.doc.nodes();
     for child in from..to {
-        if !child_clear(doc, placed, outlines, bounds, node, edge, child as u32) {
+        if !child_clear(scene, bounds, node, edge, child as u32) {
             return false;
         }
     }
@@ -53,9 +46,7 @@ fn some_clear(
 // Whether the nodes with numbers from `from` and below `to` are clear of a route: all at once if their outlines lie off
 // its bounds and none is an end node, and else one by one.
 fn block_clear(
-    doc: &Doc,
-    placed: &Placed,
-    outlines: &[Rect],
+    scene: &Scene<'_>,
     ends: &OutlineEnds,
     bounds: RouteBounds,
     node: u32,
@@ -63,21 +54,20 @@ fn block_clear(
     from: usize,
     to: usize,
 ) -> bool
-    requires edge_in { edge < length doc.now.edges }
+    requires edge_in { edge < length scene.now.doc.now.edges }
     requires ordered { from ≤ to }
-    requires inside { to ≤ length doc.now.nodes }
-    requires fits { Fits doc.now placed.now }
-    requires outlines { AreOutlines doc.now placed.now outlines.now }
-    requires ends { AreEnds doc.now placed.now ends.now }
-    requires parallel { AreParallel (section_of placed.now edge) }
-    requires bounds { HoldsRoute bounds (section_of placed.now edge) }
-    requires own { EndsClear doc.now placed.now node edge }
-    ensures { IsTrue result → (a : ℕ) → from ≤ a → a < to → ChildClear doc.now placed.now node edge a }
+    requires inside { to ≤ length scene.now.doc.now.nodes }
+    requires scene { IsScene scene.now }
+    requires ends { AreEnds scene.now.doc.now scene.now.placed.now ends.now }
+    requires parallel { AreParallel (section_of scene.now.placed.now edge) }
+    requires bounds { HoldsRoute bounds (section_of scene.now.placed.now edge) }
+    requires own { EndsClear scene.now.doc.now scene.now.placed.now node edge }
+    ensures { IsTrue result → (a : ℕ) → from ≤ a → a < to → ChildClear scene.now.doc.now scene.now.placed.now node edge a }
 {
-    if are_off(doc, placed, ends, bounds, from, to) {
+    if are_off(scene.doc, scene.placed, ends, bounds, from, to) {
         return true;
     }
-    some_clear(doc, placed, outlines, bounds, node, edge, from, to)
+    some_clear(scene, bounds, node, edge, from, to)
 }
 
 // Where the block that begins at `from` ends.
@@ -95,35 +85,27 @@ fn block_end(from: usize, count: usize) -> usize
 }
 
 // Whether all children of a node are clear of a route.
-fn all_clear(
-    doc: &Doc,
-    placed: &Placed,
-    outlines: &[Rect],
-    ends: &OutlineEnds,
-    node: u32,
-    edge: u32,
-) -> bool
-    requires edge_in { edge < length doc.now.edges }
-    requires fits { Fits doc.now placed.now }
-    requires outlines { AreOutlines doc.now placed.now outlines.now }
-    requires ends { AreEnds doc.now placed.now ends.now }
-    requires route { Route doc.now placed.now edge }
-    ensures { IsTrue result → (a : ℕ) → ChildClear doc.now placed.now node edge a }
+fn all_clear(scene: &Scene<'_>, ends: &OutlineEnds, node: u32, edge: u32) -> bool
+    requires edge_in { edge < length scene.now.doc.now.edges }
+    requires scene { IsScene scene.now }
+    requires ends { AreEnds scene.now.doc.now scene.now.placed.now ends.now }
+    requires route { Route scene.now.doc.now scene.now.placed.now edge }
+    ensures { IsTrue result → (a : ℕ) → ChildClear scene.now.doc.now scene.now.placed.now node edge a }
 {
-    let bounds = bounds_of(placed.section(edge));
-    let source = node_of(doc, doc.edge(edge).source);
-    if !child_clear(doc, placed, outlines, bounds, node, edge, source) {
+    let bounds = bounds_of(scene.placed.section(edge));
+    let source = node_of(scene.doc, scene.doc.edge(edge).source);
+    if !child_clear(scene, bounds, node, edge, source) {
         return false;
     }
-    let target = node_of(doc, doc.edge(edge).target);
-    if !child_clear(doc, placed, outlines, bounds, node, edge, target) {
+    let target = node_of(scene.doc, scene.doc.edge(edge).target);
+    if !child_clear(scene, bounds, node, edge, target) {
         return false;
     }
-    let count = doc.nodes().len();
+    let count = scene.doc.nodes().len();
     for block in 0..count / BLOCK + 1 {
         let from = block * BLOCK;
         let to = block_end(from, count);
-        if !block_clear(doc, placed, outlines, ends, bounds, node, edge, from, to) {
+        if !block_clear(scene, ends, bounds, node, edge, from, to) {
             return false;
         }
     }
@@ -131,37 +113,28 @@ fn all_clear(
 }
 
 // Whether all children of a node are clear of the route of an edge, if that belongs to the level.
-fn edge_clear(
-    doc: &Doc,
-    placed: &Placed,
-    outlines: &[Rect],
-    ends: &OutlineEnds,
-    node: u32,
-    edge: u32,
-) -> bool
-    requires edge_in { edge < length doc.now.edges }
-    requires fits { Fits doc.now placed.now }
-    requires outlines { AreOutlines doc.now placed.now outlines.now }
-    requires ends { AreEnds doc.now placed.now ends.now }
-    requires routes { (e : ℕ) → IsEdge doc.now node e → Route doc.now placed.now e }
-    ensures { IsTrue result → (a : ℕ) → ClearHolds doc.now placed.now node edge a }
+fn edge_clear(scene: &Scene<'_>, ends: &OutlineEnds, node: u32, edge: u32) -> bool
+    requires edge_in { edge < length scene.now.doc.now.edges }
+    requires scene { IsScene scene.now }
+    requires ends { AreEnds scene.now.doc.now scene.now.placed.now ends.now }
+    requires routes { (e : ℕ) → IsEdge scene.now.doc.now node e → Route scene.now.doc.now scene.now.placed.now e }
+    ensures { IsTrue result → (a : ℕ) → ClearHolds scene.now.doc.now scene.now.placed.now node edge a }
 {
-    if !is_edge_of(doc, node, edge) {
+    if !is_edge_of(scene.doc, node, edge) {
         return true;
     }
-    all_clear(doc, placed, outlines, ends, node, edge)
+    all_clear(scene, ends, node, edge)
 }
 
 // Whether all routes of the level are clear of all children.
-fn are_clear(doc: &Doc, placed: &Placed, outlines: &[Rect], ends: &OutlineEnds, node: u32) -> bool
-    requires fits { Fits doc.now placed.now }
-    requires outlines { AreOutlines doc.now placed.now outlines.now }
-    requires ends { AreEnds doc.now placed.now ends.now }
-    requires routes { (e : ℕ) → IsEdge doc.now node e → Route doc.now placed.now e }
-    ensures { IsTrue result → (e a : ℕ) → ClearHolds doc.now placed.now node e a }
+fn are_clear(scene: &Scene<'_>, ends: &OutlineEnds, node: u32) -> bool
+    requires scene { IsScene scene.now }
+    requires ends { AreEnds scene.now.doc.now scene.now.placed.now ends.now }
+    requires routes { (e : ℕ) → IsEdge scene.now.doc.now node e → Route scene.now.doc.now scene.now.placed.now e }
+    ensures { IsTrue result → (e a : ℕ) → ClearHolds scene.now.doc.now scene.now.placed.now node e a }
 {
-    for edge in 0..doc.edges().len() {
-        if !edge_clear(doc, placed, outlines, ends, node, edge as u32) {
+    for edge in 0..scene.doc.edges().len() {
+        if !edge_clear(scene, ends, node, edge as u32) {
             return false;
         }
     }
@@ -169,24 +142,17 @@ fn are_clear(doc: &Doc, placed: &Placed, outlines: &[Rect], ends: &OutlineEnds, 
 }
 
 /// The first edge of a node's level whose route meets the outline of a child that is no end node of it, or enters the box
-/// of one that is, with the first such child. The outlines are those of all nodes, and the ends those of the outlines.
-pub fn clear_fault(
-    doc: &Doc,
-    placed: &Placed,
-    outlines: &[Rect],
-    ends: &OutlineEnds,
-    node: u32,
-) -> Option<Fault>
-    requires fits { Fits doc.now placed.now }
-    requires outlines { AreOutlines doc.now placed.now outlines.now }
-    requires ends { AreEnds doc.now placed.now ends.now }
-    requires routes { (e : ℕ) → IsEdge doc.now node e → Route doc.now placed.now e }
+/// of one that is, with the first such child. The ends are those of all outlines.
+pub fn clear_fault(scene: &Scene<'_>, ends: &OutlineEnds, node: u32) -> Option<Fault>
+    requires scene { IsScene scene.now }
+    requires ends { AreEnds scene.now.doc.now scene.now.placed.now ends.now }
+    requires routes { (e : ℕ) → IsEdge scene.now.doc.now node e → Route scene.now.doc.now scene.now.placed.now e }
     ensures { MatchOption result
-        ((e a : ℕ) → ClearHolds doc.now placed.now node e a)
-        (FirstClear doc.now placed.now node) }
+        ((e a : ℕ) → ClearHolds scene.now.doc.now scene.now.placed.now node e a)
+        (FirstClear scene.now.doc.now scene.now.placed.now node) }
 {
-    if are_clear(doc, placed, outlines, ends, node) {
+    if are_clear(scene, ends, node) {
         return None;
     }
-    clear_fault_by_pairs(doc, placed, outlines, node)
+    clear_fault_by_pairs(scene, node)
 }

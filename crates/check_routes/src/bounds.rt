@@ -1,5 +1,5 @@
 //! The borders of routes: a quick test in front of those that look at each segment.
-ghost use Rattle.std.specs.Prelude.{◌≡◌, ◌<◌, ◌^◌, ◌+ℤ◌, ◌≤ℤ◌, ◌<ℤ◌, neg_ℤ, pos, IfOk, IsTrue, length};
+ghost use Rattle.std.specs.Prelude.{◌≡◌, ◌<◌, ◌^◌, ◌+ℤ◌, ◌≤ℤ◌, ◌<ℤ◌, neg_ℤ, pos, IfOk, IsTrue};
 ghost use Rattle.elk_doc.specs.Fits.{Fits};
 ghost use Rattle.elk_doc.specs.Sound.{IsWithin};
 ghost use Rattle.check_routes.specs.Bounds.{AreRouteBounds, HoldsPoint, HoldsRoute, LieApart, LieOff};

@@ -2,20 +2,19 @@
 ghost use Rattle.std.specs.Prelude.{◌≡◌, ◌⊎◌, ◌↔◌, ℕ, ◌<◌, IsTrue, MatchOption, length};
 ghost use Rattle.elk_doc.specs.Clear.{Clear};
 ghost use Rattle.elk_doc.specs.Drawing.{section_of};
-ghost use Rattle.elk_doc.specs.Fits.{Fits};
 ghost use Rattle.elk_doc.specs.Level.{IsEdge, source_node, target_node};
 ghost use Rattle.elk_doc.specs.Places.{outline_of};
 ghost use Rattle.elk_doc.specs.Route.{Route};
 ghost use Rattle.check_faults.specs.Faults.{IsFirst};
-ghost use Rattle.check_faults.specs.Shapes.{AreOutlines};
+ghost use Rattle.check_faults.specs.Scenes.{IsScene};
 ghost use Rattle.check_routes.specs.Bounds.{HoldsRoute};
 ghost use Rattle.check_routes.specs.FirstRoutes.{ChildClear, ClearHolds, FirstClear};
 ghost use Rattle.check_routes.specs.Stretches.{AreParallel, KeepsOff, KeepsOut};
 
 use crate::bounds::{RouteBounds, bounds_of, lie_off};
-use check_faults::{Fault, Place, is_edge_of, outline_at, point_at, point_count};
+use check_faults::{Fault, Place, Scene, is_edge_of, outline_at, point_at, point_count};
 use elk_doc::document::Doc;
-use elk_doc::drawing::{Placed, Section};
+use elk_doc::drawing::Section;
 use elk_doc::form::is_child;
 use elk_doc::geometry::{segment_enters_rect, segment_meets_rect};
 use elk_doc::level::node_of;
@@ -59,95 +58,79 @@ fn is_end_node(doc: &Doc, edge: u32, node: u32) -> bool
 }
 
 // Whether the route of an edge keeps off the outline of a node.
-fn keeps_off_outline(doc: &Doc, placed: &Placed, outlines: &[Rect], edge: u32, child: u32) -> bool
-    requires edge_in { edge < length doc.now.edges }
-    requires child_in { child < length doc.now.nodes }
-    requires fits { Fits doc.now placed.now }
-    requires outlines { AreOutlines doc.now placed.now outlines.now }
-    requires parallel { AreParallel (section_of placed.now edge) }
-    ensures { IsTrue result ↔ KeepsOff (section_of placed.now edge) (outline_of doc.now placed.now child) }
+fn keeps_off_outline(scene: &Scene<'_>, edge: u32, child: u32) -> bool
+    requires edge_in { edge < length scene.now.doc.now.edges }
+    requires child_in { child < length scene.now.doc.now.nodes }
+    requires scene { IsScene scene.now }
+    requires parallel { AreParallel (section_of scene.now.placed.now edge) }
+    ensures { IsTrue result ↔ KeepsOff (section_of scene.now.placed.now edge) (outline_of scene.now.doc.now scene.now.placed.now child) }
 {
-    keeps_off(
-        placed.section(edge),
-        outline_at(doc, placed, outlines, child),
-    )
+    keeps_off(scene.placed.section(edge), outline_at(scene, child))
 }
 
 // Whether a route keeps out of a child: of its outline, and of the box of an end node.
-fn is_clear(doc: &Doc, placed: &Placed, outlines: &[Rect], edge: u32, child: u32) -> bool
-    requires edge_in { edge < length doc.now.edges }
-    requires child_in { child < length doc.now.nodes }
-    requires fits { Fits doc.now placed.now }
-    requires outlines { AreOutlines doc.now placed.now outlines.now }
-    requires parallel { AreParallel (section_of placed.now edge) }
-    ensures { IsTrue result ↔ Clear doc.now placed.now edge child }
+fn is_clear(scene: &Scene<'_>, edge: u32, child: u32) -> bool
+    requires edge_in { edge < length scene.now.doc.now.edges }
+    requires child_in { child < length scene.now.doc.now.nodes }
+    requires scene { IsScene scene.now }
+    requires parallel { AreParallel (section_of scene.now.placed.now edge) }
+    ensures { IsTrue result ↔ Clear scene.now.doc.now scene.now.placed.now edge child }
 {
-    if is_end_node(doc, edge, child) {
-        keeps_out(placed.section(edge), placed.box_of(child))
+    if is_end_node(scene.doc, edge, child) {
+        keeps_out(scene.placed.section(edge), scene.placed.box_of(child))
     } else {
-        keeps_off_outline(doc, placed, outlines, edge, child)
+        keeps_off_outline(scene, edge, child)
     }
 }
 
 // Whether a node is no end node of an edge, and its outline lies off the bounds of the edge's route.
-fn is_far(
-    doc: &Doc,
-    placed: &Placed,
-    outlines: &[Rect],
-    bounds: RouteBounds,
-    edge: u32,
-    child: u32,
-) -> bool
-    requires edge_in { edge < length doc.now.edges }
-    requires child_in { child < length doc.now.nodes }
-    requires outlines { AreOutlines doc.now placed.now outlines.now }
-    requires bounds { HoldsRoute bounds (section_of placed.now edge) }
-    ensures { IsTrue result → Clear doc.now placed.now edge child }
+fn is_far(scene: &Scene<'_>, bounds: RouteBounds, edge: u32, child: u32) -> bool
+    requires edge_in { edge < length scene.now.doc.now.edges }
+    requires child_in { child < length scene.now.doc.now.nodes }
+    requires scene { IsScene scene.now }
+    requires bounds { HoldsRoute bounds (section_of scene.now.placed.now edge) }
+    ensures { IsTrue result → Clear scene.now.doc.now scene.now.placed.now edge child }
 {
-    if !lie_off(bounds, outline_at(doc, placed, outlines, child)) {
+    if !lie_off(bounds, outline_at(scene, child)) {
         return false;
     }
-    !is_end_node(doc, edge, child)
+    !is_end_node(scene.doc, edge, child)
 }
 
 // Whether a node, if it is a child, is clear of a route, by the bounds of the route first.
 pub(crate) fn child_clear(
-    doc: &Doc,
-    placed: &Placed,
-    outlines: &[Rect],
+    scene: &Scene<'_>,
     bounds: RouteBounds,
     node: u32,
     edge: u32,
     child: u32,
 ) -> bool
-    requires edge_in { edge < length doc.now.edges }
-    requires child_in { child < length doc.now.nodes }
-    requires fits { Fits doc.now placed.now }
-    requires outlines { AreOutlines doc.now placed.now outlines.now }
-    requires parallel { AreParallel (section_of placed.now edge) }
-    requires bounds { HoldsRoute bounds (section_of placed.now edge) }
-    ensures { IsTrue result ↔ ChildClear doc.now placed.now node edge child }
+    requires edge_in { edge < length scene.now.doc.now.edges }
+    requires child_in { child < length scene.now.doc.now.nodes }
+    requires scene { IsScene scene.now }
+    requires parallel { AreParallel (section_of scene.now.placed.now edge) }
+    requires bounds { HoldsRoute bounds (section_of scene.now.placed.now edge) }
+    ensures { IsTrue result ↔ ChildClear scene.now.doc.now scene.now.placed.now node edge child }
 {
-    if is_far(doc, placed, outlines, bounds, edge, child) {
+    if is_far(scene, bounds, edge, child) {
         return true;
     }
-    if !is_child(doc, node, child) {
+    if !is_child(scene.doc, node, child) {
         return true;
     }
-    is_clear(doc, placed, outlines, edge, child)
+    is_clear(scene, edge, child)
 }
 
 // The first child of a node that is not clear of a route.
-fn first_met(doc: &Doc, placed: &Placed, outlines: &[Rect], node: u32, edge: u32) -> Option<u32>
-    requires edge_in { edge < length doc.now.edges }
-    requires fits { Fits doc.now placed.now }
-    requires outlines { AreOutlines doc.now placed.now outlines.now }
-    requires route { Route doc.now placed.now edge }
-    ensures { IsFirst (ChildClear doc.now placed.now node edge) result }
+fn first_met(scene: &Scene<'_>, node: u32, edge: u32) -> Option<u32>
+    requires edge_in { edge < length scene.now.doc.now.edges }
+    requires scene { IsScene scene.now }
+    requires route { Route scene.now.doc.now scene.now.placed.now edge }
+    ensures { IsFirst (ChildClear scene.now.doc.now scene.now.placed.now node edge) result }
 {
-    let bounds = bounds_of(placed.section(edge));
-    for child in 0..doc.nodes().len() {
-        if !child_clear(doc, placed, outlines, bounds, node, edge, child as u32) {
+    let bounds = bounds_of(scene.placed.section(edge));
+    for child in 0..scene.doc.nodes().len() {
+        if !child_clear(scene, bounds, node, edge, child as u32) {
             return Some(child as u32);
         }
     }
@@ -155,36 +138,29 @@ fn first_met(doc: &Doc, placed: &Placed, outlines: &[Rect], node: u32, edge: u32
 }
 
 // The first child that an edge, if it belongs to the level of the node, is not clear of.
-fn first_unclear(doc: &Doc, placed: &Placed, outlines: &[Rect], node: u32, edge: u32) -> Option<u32>
-    requires edge_in { edge < length doc.now.edges }
-    requires fits { Fits doc.now placed.now }
-    requires outlines { AreOutlines doc.now placed.now outlines.now }
-    requires routes { (e : ℕ) → IsEdge doc.now node e → Route doc.now placed.now e }
-    ensures { IsFirst (ClearHolds doc.now placed.now node edge) result }
+fn first_unclear(scene: &Scene<'_>, node: u32, edge: u32) -> Option<u32>
+    requires edge_in { edge < length scene.now.doc.now.edges }
+    requires scene { IsScene scene.now }
+    requires routes { (e : ℕ) → IsEdge scene.now.doc.now node e → Route scene.now.doc.now scene.now.placed.now e }
+    ensures { IsFirst (ClearHolds scene.now.doc.now scene.now.placed.now node edge) result }
 {
-    if !is_edge_of(doc, node, edge) {
+    if !is_edge_of(scene.doc, node, edge) {
         return None;
     }
-    first_met(doc, placed, outlines, node, edge)
+    first_met(scene, node, edge)
 }
 
 // The first edge of a node's level that is not clear of a child, with the first such child: each edge is compared with each
 // child.
-pub(crate) fn clear_fault_by_pairs(
-    doc: &Doc,
-    placed: &Placed,
-    outlines: &[Rect],
-    node: u32,
-) -> Option<Fault>
-    requires fits { Fits doc.now placed.now }
-    requires outlines { AreOutlines doc.now placed.now outlines.now }
-    requires routes { (e : ℕ) → IsEdge doc.now node e → Route doc.now placed.now e }
+pub(crate) fn clear_fault_by_pairs(scene: &Scene<'_>, node: u32) -> Option<Fault>
+    requires scene { IsScene scene.now }
+    requires routes { (e : ℕ) → IsEdge scene.now.doc.now node e → Route scene.now.doc.now scene.now.placed.now e }
     ensures { MatchOption result
-        ((e a : ℕ) → ClearHolds doc.now placed.now node e a)
-        (FirstClear doc.now placed.now node) }
+        ((e a : ℕ) → ClearHolds scene.now.doc.now scene.now.placed.now node e a)
+        (FirstClear scene.now.doc.now scene.now.placed.now node) }
 {
-    for edge in 0..doc.edges().len() {
-        if let Some(child) = first_unclear(doc, placed, outlines, node, edge as u32) {
+    for edge in 0..scene.doc.edges().len() {
+        if let Some(child) = first_unclear(scene, node, edge as u32) {
             return Some(Fault {
                 first: Place::Edge(edge as u32),
                 second: Place::Node(child),

@@ -1,19 +1,17 @@
 //! Orthogonal routes that leave both docks outward.
 ghost use Rattle.std.specs.Prelude.{◌≡◌, ◌↔◌, ℕ, ◌<◌, IsTrue, MatchOption, false, length, true};
 ghost use Rattle.elk_doc.specs.Drawing.{path_of};
-ghost use Rattle.elk_doc.specs.Fits.{Fits};
 ghost use Rattle.elk_doc.specs.Places.{dock_of};
 ghost use Rattle.elk_doc.specs.Route.{IsOrthogonal, IsStep, IsTurn, LeavesOutward, Route};
 ghost use Rattle.elk_doc.specs.Sides.{side_of_end};
 ghost use Rattle.check_faults.specs.Faults.{IsFirst};
-ghost use Rattle.check_faults.specs.Shapes.{AreDocks, AreSides};
+ghost use Rattle.check_faults.specs.Scenes.{IsScene};
 ghost use Rattle.check_routes.specs.FirstRoutes.{FirstRoute, IsAnchored, LeavesBoth, RouteHolds};
 ghost use Rattle.check_routes.specs.Stretches.{AreSteps, AreTurns};
 
-use check_faults::{Fault, Place, anchor_at, dock_of, is_edge_of, point_at, point_count};
-use elk_doc::document::Doc;
-use elk_doc::drawing::{Placed, Section};
-use elk_doc::shape::{Dock, Point, Side};
+use check_faults::{Fault, Place, Scene, anchor_at, dock_of, is_edge_of, point_at, point_count};
+use elk_doc::drawing::Section;
+use elk_doc::shape::{Point, Side};
 
 // Whether two points differ in exactly one coordinate.
 fn is_step(a: Point, b: Point) -> bool
@@ -77,20 +75,18 @@ fn are_turns(section: &Section) -> bool
 }
 
 // Whether the route leaves its source outward, and its target, seen from the end.
-fn is_outward(doc: &Doc, placed: &Placed, sources: &[Dock], targets: &[Dock], edge: u32) -> bool
-    requires edge_in { edge < length doc.now.edges }
-    requires fits { Fits doc.now placed.now }
-    requires sources { AreDocks doc.now placed.now true sources.now }
-    requires targets { AreDocks doc.now placed.now false targets.now }
-    ensures { IsTrue result ↔ LeavesBoth doc.now placed.now edge }
+fn is_outward(scene: &Scene<'_>, edge: u32) -> bool
+    requires edge_in { edge < length scene.now.doc.now.edges }
+    requires scene { IsScene scene.now }
+    ensures { IsTrue result ↔ LeavesBoth scene.now.doc.now scene.now.placed.now edge }
 {
-    let section = placed.section(edge);
+    let section = scene.placed.section(edge);
     let count = point_count(section);
-    let from = dock_of(doc, placed, sources, edge, true).side;
+    let from = dock_of(scene, edge, true).side;
     if !leaves_outward(from, point_at(section, 0), point_at(section, 1)) {
         return false;
     }
-    let to = dock_of(doc, placed, targets, edge, false).side;
+    let to = dock_of(scene, edge, false).side;
     leaves_outward(
         to,
         point_at(section, count - 1),
@@ -99,114 +95,78 @@ fn is_outward(doc: &Doc, placed: &Placed, sources: &[Dock], targets: &[Dock], ed
 }
 
 // Whether the route consists of steps that turn, and leaves both ends outward.
-fn is_orthogonal(doc: &Doc, placed: &Placed, sources: &[Dock], targets: &[Dock], edge: u32) -> bool
-    requires edge_in { edge < length doc.now.edges }
-    requires fits { Fits doc.now placed.now }
-    requires sources { AreDocks doc.now placed.now true sources.now }
-    requires targets { AreDocks doc.now placed.now false targets.now }
-    ensures { IsTrue result ↔ IsOrthogonal (path_of placed.now edge) (side_of_end doc.now placed.now edge true) (side_of_end doc.now placed.now edge false) }
+fn is_orthogonal(scene: &Scene<'_>, edge: u32) -> bool
+    requires edge_in { edge < length scene.now.doc.now.edges }
+    requires scene { IsScene scene.now }
+    ensures { IsTrue result ↔ IsOrthogonal (path_of scene.now.placed.now edge) (side_of_end scene.now.doc.now scene.now.placed.now edge true) (side_of_end scene.now.doc.now scene.now.placed.now edge false) }
 {
-    let section = placed.section(edge);
+    let section = scene.placed.section(edge);
     if !are_steps(section) {
         return false;
     }
     if !are_turns(section) {
         return false;
     }
-    is_outward(doc, placed, sources, targets, edge)
+    is_outward(scene, edge)
 }
 
 // Whether both ends of an edge have one dock.
-fn has_one_dock(doc: &Doc, placed: &Placed, sources: &[Dock], targets: &[Dock], edge: u32) -> bool
-    requires edge_in { edge < length doc.now.edges }
-    requires fits { Fits doc.now placed.now }
-    requires sources { AreDocks doc.now placed.now true sources.now }
-    requires targets { AreDocks doc.now placed.now false targets.now }
-    ensures { IsTrue result ↔ dock_of doc.now placed.now edge true ≡ dock_of doc.now placed.now edge false }
+fn has_one_dock(scene: &Scene<'_>, edge: u32) -> bool
+    requires edge_in { edge < length scene.now.doc.now.edges }
+    requires scene { IsScene scene.now }
+    ensures { IsTrue result ↔ dock_of scene.now.doc.now scene.now.placed.now edge true ≡ dock_of scene.now.doc.now scene.now.placed.now edge false }
 {
-    let source = dock_of(doc, placed, sources, edge, true);
-    source == dock_of(doc, placed, targets, edge, false)
+    let source = dock_of(scene, edge, true);
+    source == dock_of(scene, edge, false)
 }
 
 // Whether the route begins and ends at its anchors.
-fn is_anchored(doc: &Doc, placed: &Placed, sides: &[Side], edge: u32) -> bool
-    requires edge_in { edge < length doc.now.edges }
-    requires fits { Fits doc.now placed.now }
-    requires sides { AreSides doc.now placed.now sides.now }
-    ensures { IsTrue result ↔ IsAnchored doc.now placed.now edge }
+fn is_anchored(scene: &Scene<'_>, edge: u32) -> bool
+    requires edge_in { edge < length scene.now.doc.now.edges }
+    requires scene { IsScene scene.now }
+    ensures { IsTrue result ↔ IsAnchored scene.now.doc.now scene.now.placed.now edge }
 {
-    let section = placed.section(edge);
-    if section.start != anchor_at(doc, placed, sides, edge, true) {
+    let section = scene.placed.section(edge);
+    if section.start != anchor_at(scene.doc, scene.placed, scene.sides, edge, true) {
         return false;
     }
-    section.end == anchor_at(doc, placed, sides, edge, false)
+    section.end == anchor_at(scene.doc, scene.placed, scene.sides, edge, false)
 }
 
 // Whether a route leads from anchor to anchor as its docks ask.
-fn is_route(
-    doc: &Doc,
-    placed: &Placed,
-    sides: &[Side],
-    sources: &[Dock],
-    targets: &[Dock],
-    edge: u32,
-) -> bool
-    requires edge_in { edge < length doc.now.edges }
-    requires fits { Fits doc.now placed.now }
-    requires sides { AreSides doc.now placed.now sides.now }
-    requires sources { AreDocks doc.now placed.now true sources.now }
-    requires targets { AreDocks doc.now placed.now false targets.now }
-    ensures { IsTrue result ↔ Route doc.now placed.now edge }
+fn is_route(scene: &Scene<'_>, edge: u32) -> bool
+    requires edge_in { edge < length scene.now.doc.now.edges }
+    requires scene { IsScene scene.now }
+    ensures { IsTrue result ↔ Route scene.now.doc.now scene.now.placed.now edge }
 {
-    if !is_anchored(doc, placed, sides, edge) {
+    if !is_anchored(scene, edge) {
         return false;
     }
-    if has_one_dock(doc, placed, sources, targets, edge) {
-        return placed.section(edge).bends.as_slice().is_empty();
+    if has_one_dock(scene, edge) {
+        return scene.placed.section(edge).bends.as_slice().is_empty();
     }
-    is_orthogonal(doc, placed, sources, targets, edge)
+    is_orthogonal(scene, edge)
 }
 
 // Whether an edge, if it belongs to the level of the node, has a good route.
-fn route_holds(
-    doc: &Doc,
-    placed: &Placed,
-    sides: &[Side],
-    sources: &[Dock],
-    targets: &[Dock],
-    node: u32,
-    edge: u32,
-) -> bool
-    requires edge_in { edge < length doc.now.edges }
-    requires fits { Fits doc.now placed.now }
-    requires sides { AreSides doc.now placed.now sides.now }
-    requires sources { AreDocks doc.now placed.now true sources.now }
-    requires targets { AreDocks doc.now placed.now false targets.now }
-    ensures { IsTrue result ↔ RouteHolds doc.now placed.now node edge }
+fn route_holds(scene: &Scene<'_>, node: u32, edge: u32) -> bool
+    requires edge_in { edge < length scene.now.doc.now.edges }
+    requires scene { IsScene scene.now }
+    ensures { IsTrue result ↔ RouteHolds scene.now.doc.now scene.now.placed.now node edge }
 {
-    if !is_edge_of(doc, node, edge) {
+    if !is_edge_of(scene.doc, node, edge) {
         return true;
     }
-    is_route(doc, placed, sides, sources, targets, edge)
+    is_route(scene, edge)
 }
 
 // The first edge of the level whose route fails.
-fn first_route(
-    doc: &Doc,
-    placed: &Placed,
-    sides: &[Side],
-    sources: &[Dock],
-    targets: &[Dock],
-    node: u32,
-) -> Option<u32>
-    requires fits { Fits doc.now placed.now }
-    requires sides { AreSides doc.now placed.now sides.now }
-    requires sources { AreDocks doc.now placed.now true sources.now }
-    requires targets { AreDocks doc.now placed.now false targets.now }
-    ensures { IsFirst (RouteHolds doc.now placed.now node) result }
+fn first_route(scene: &Scene<'_>, node: u32) -> Option<u32>
+    requires scene { IsScene scene.now }
+    ensures { IsFirst (RouteHolds scene.now.doc.now scene.now.placed.now node) result }
 {
-    for edge in 0..doc.edges().len() {
-        if !route_holds(doc, placed, sides, sources, targets, node, edge as u32) {
+    for edge in 0..scene.doc.edges().len() {
+        if !route_holds(scene, node, edge as u32) {
             return Some(edge as u32);
         }
     }
@@ -214,24 +174,13 @@ fn first_route(
 }
 
 /// The first edge of a node's level whose route does not lead orthogonally from anchor to anchor, outward from both docks.
-/// The sides are those of all ports, the docks those of all edges at their sources and at their targets.
-pub fn route_fault(
-    doc: &Doc,
-    placed: &Placed,
-    sides: &[Side],
-    sources: &[Dock],
-    targets: &[Dock],
-    node: u32,
-) -> Option<Fault>
-    requires fits { Fits doc.now placed.now }
-    requires sides { AreSides doc.now placed.now sides.now }
-    requires sources { AreDocks doc.now placed.now true sources.now }
-    requires targets { AreDocks doc.now placed.now false targets.now }
+pub fn route_fault(scene: &Scene<'_>, node: u32) -> Option<Fault>
+    requires scene { IsScene scene.now }
     ensures { MatchOption result
-        ((e : ℕ) → RouteHolds doc.now placed.now node e)
-        (FirstRoute doc.now placed.now node) }
+        ((e : ℕ) → RouteHolds scene.now.doc.now scene.now.placed.now node e)
+        (FirstRoute scene.now.doc.now scene.now.placed.now node) }
 {
-    match first_route(doc, placed, sides, sources, targets, node) {
+    match first_route(scene, node) {
         Some(edge) => Some(Fault::lone(Place::Edge(edge))),
         None => None,
     }

@@ -1,19 +1,17 @@
 //! Routes that share a piece only where their edges share a dock.
 ghost use Rattle.std.specs.Prelude.{◌≡◌, ◌↔◌, ℕ, ◌<◌, IsTrue, MatchOption, length, true, false};
-ghost use Rattle.elk_doc.specs.Fits.{Fits};
 ghost use Rattle.elk_doc.specs.Level.{IsEdge};
 ghost use Rattle.elk_doc.specs.Places.{dock_of};
 ghost use Rattle.elk_doc.specs.Route.{Route};
 ghost use Rattle.elk_doc.specs.Segments.{IsAxisParallel};
 ghost use Rattle.elk_doc.specs.Sharing.{DocksShare, Sharing};
 ghost use Rattle.check_faults.specs.Faults.{IsFirst};
-ghost use Rattle.check_faults.specs.Shapes.{AreDocks};
+ghost use Rattle.check_faults.specs.Scenes.{IsScene};
 ghost use Rattle.check_routes.specs.FirstRoutes.{FirstSharing, SharingHolds};
 ghost use Rattle.check_routes.specs.Stretches.{AreFree, AreParallel, IsFreeOf};
 
-use check_faults::{Fault, Place, dock_of, is_edge_of, point_at, point_count};
-use elk_doc::document::Doc;
-use elk_doc::drawing::{Placed, Section};
+use check_faults::{Fault, Place, Scene, dock_of, is_edge_of, point_at, point_count};
+use elk_doc::drawing::Section;
 use elk_doc::geometry::segments_share;
 use elk_doc::shape::{Dock, Point};
 
@@ -53,24 +51,16 @@ fn is_same(one: Dock, other: Dock) -> bool
 }
 
 // Whether a dock of one edge is a dock of another.
-fn share_dock(
-    doc: &Doc,
-    placed: &Placed,
-    sources: &[Dock],
-    targets: &[Dock],
-    edge: u32,
-    other: u32,
-) -> bool
-    requires edge_in { edge < length doc.now.edges }
-    requires other_in { other < length doc.now.edges }
-    requires sources { AreDocks doc.now placed.now true sources.now }
-    requires targets { AreDocks doc.now placed.now false targets.now }
-    ensures { IsTrue result ↔ DocksShare (dock_of doc.now placed.now edge) (dock_of doc.now placed.now other) }
+fn share_dock(scene: &Scene<'_>, edge: u32, other: u32) -> bool
+    requires edge_in { edge < length scene.now.doc.now.edges }
+    requires other_in { other < length scene.now.doc.now.edges }
+    requires scene { IsScene scene.now }
+    ensures { IsTrue result ↔ DocksShare (dock_of scene.now.doc.now scene.now.placed.now edge) (dock_of scene.now.doc.now scene.now.placed.now other) }
 {
-    let source = dock_of(doc, placed, sources, edge, true);
-    let target = dock_of(doc, placed, targets, edge, false);
-    let other_source = dock_of(doc, placed, sources, other, true);
-    let other_target = dock_of(doc, placed, targets, other, false);
+    let source = dock_of(scene, edge, true);
+    let target = dock_of(scene, edge, false);
+    let other_source = dock_of(scene, other, true);
+    let other_target = dock_of(scene, other, false);
     if is_same(source, other_source) {
         return true;
     }
@@ -84,75 +74,47 @@ fn share_dock(
 }
 
 // Whether the routes of two edges share a piece only where the edges share a dock.
-fn is_sharing(
-    doc: &Doc,
-    placed: &Placed,
-    sources: &[Dock],
-    targets: &[Dock],
-    edge: u32,
-    other: u32,
-) -> bool
-    requires edge_in { edge < length doc.now.edges }
-    requires other_in { other < length doc.now.edges }
-    requires fits { Fits doc.now placed.now }
-    requires sources { AreDocks doc.now placed.now true sources.now }
-    requires targets { AreDocks doc.now placed.now false targets.now }
-    requires edge_route { Route doc.now placed.now edge }
-    requires other_route { Route doc.now placed.now other }
-    ensures { IsTrue result ↔ Sharing doc.now placed.now edge other }
+fn is_sharing(scene: &Scene<'_>, edge: u32, other: u32) -> bool
+    requires edge_in { edge < length scene.now.doc.now.edges }
+    requires other_in { other < length scene.now.doc.now.edges }
+    requires scene { IsScene scene.now }
+    requires edge_route { Route scene.now.doc.now scene.now.placed.now edge }
+    requires other_route { Route scene.now.doc.now scene.now.placed.now other }
+    ensures { IsTrue result ↔ Sharing scene.now.doc.now scene.now.placed.now edge other }
 {
-    if are_free(placed.section(edge), placed.section(other)) {
+    if are_free(scene.placed.section(edge), scene.placed.section(other)) {
         return true;
     }
-    share_dock(doc, placed, sources, targets, edge, other)
+    share_dock(scene, edge, other)
 }
 
 // Whether two edges, if they belong to the level of the node and the other has the greater number, share rightly.
-pub(crate) fn sharing_holds(
-    doc: &Doc,
-    placed: &Placed,
-    sources: &[Dock],
-    targets: &[Dock],
-    node: u32,
-    edge: u32,
-    other: u32,
-) -> bool
-    requires edge_in { edge < length doc.now.edges }
-    requires other_in { other < length doc.now.edges }
-    requires edge_of { IsEdge doc.now node edge }
-    requires fits { Fits doc.now placed.now }
-    requires sources { AreDocks doc.now placed.now true sources.now }
-    requires targets { AreDocks doc.now placed.now false targets.now }
-    requires routes { (e : ℕ) → IsEdge doc.now node e → Route doc.now placed.now e }
-    ensures { IsTrue result ↔ SharingHolds doc.now placed.now node edge other }
+pub(crate) fn sharing_holds(scene: &Scene<'_>, node: u32, edge: u32, other: u32) -> bool
+    requires edge_in { edge < length scene.now.doc.now.edges }
+    requires other_in { other < length scene.now.doc.now.edges }
+    requires edge_of { IsEdge scene.now.doc.now node edge }
+    requires scene { IsScene scene.now }
+    requires routes { (e : ℕ) → IsEdge scene.now.doc.now node e → Route scene.now.doc.now scene.now.placed.now e }
+    ensures { IsTrue result ↔ SharingHolds scene.now.doc.now scene.now.placed.now node edge other }
 {
     if other <= edge {
         return true;
     }
-    if !is_edge_of(doc, node, other) {
+    if !is_edge_of(scene.doc, node, other) {
         return true;
     }
-    is_sharing(doc, placed, sources, targets, edge, other)
+    is_sharing(scene, edge, other)
 }
 
 // The first edge of greater number that shares wrongly with an edge of the level.
-fn first_partner(
-    doc: &Doc,
-    placed: &Placed,
-    sources: &[Dock],
-    targets: &[Dock],
-    node: u32,
-    edge: u32,
-) -> Option<u32>
-    requires edge_of { IsEdge doc.now node edge }
-    requires fits { Fits doc.now placed.now }
-    requires sources { AreDocks doc.now placed.now true sources.now }
-    requires targets { AreDocks doc.now placed.now false targets.now }
-    requires routes { (e : ℕ) → IsEdge doc.now node e → Route doc.now placed.now e }
-    ensures { IsFirst (SharingHolds doc.now placed.now node edge) result }
+fn first_partner(scene: &Scene<'_>, node: u32, edge: u32) -> Option<u32>
+    requires edge_of { IsEdge scene.now.doc.now node edge }
+    requires scene { IsScene scene.now }
+    requires routes { (e : ℕ) → IsEdge scene.now.doc.now node e → Route scene.now.doc.now scene.now.placed.now e }
+    ensures { IsFirst (SharingHolds scene.now.doc.now scene.now.placed.now node edge) result }
 {
-    for other in 0..doc.edges().len() {
-        if !sharing_holds(doc, placed, sources, targets, node, edge, other as u32) {
+    for other in 0..scene.doc.edges().len() {
+        if !sharing_holds(scene, node, edge, other as u32) {
             return Some(other as u32);
         }
     }
@@ -160,45 +122,28 @@ fn first_partner(
 }
 
 // The first edge of greater number that shares wrongly with an edge, if that belongs to the level.
-fn first_sharing(
-    doc: &Doc,
-    placed: &Placed,
-    sources: &[Dock],
-    targets: &[Dock],
-    node: u32,
-    edge: u32,
-) -> Option<u32>
-    requires edge_in { edge < length doc.now.edges }
-    requires fits { Fits doc.now placed.now }
-    requires sources { AreDocks doc.now placed.now true sources.now }
-    requires targets { AreDocks doc.now placed.now false targets.now }
-    requires routes { (e : ℕ) → IsEdge doc.now node e → Route doc.now placed.now e }
-    ensures { IsFirst (SharingHolds doc.now placed.now node edge) result }
+fn first_sharing(scene: &Scene<'_>, node: u32, edge: u32) -> Option<u32>
+    requires edge_in { edge < length scene.now.doc.now.edges }
+    requires scene { IsScene scene.now }
+    requires routes { (e : ℕ) → IsEdge scene.now.doc.now node e → Route scene.now.doc.now scene.now.placed.now e }
+    ensures { IsFirst (SharingHolds scene.now.doc.now scene.now.placed.now node edge) result }
 {
-    if !is_edge_of(doc, node, edge) {
+    if !is_edge_of(scene.doc, node, edge) {
         return None;
     }
-    first_partner(doc, placed, sources, targets, node, edge)
+    first_partner(scene, node, edge)
 }
 
 // The first two edges of a node's level that share wrongly: each edge is compared with each of greater number.
-pub(crate) fn sharing_fault_by_pairs(
-    doc: &Doc,
-    placed: &Placed,
-    sources: &[Dock],
-    targets: &[Dock],
-    node: u32,
-) -> Option<Fault>
-    requires fits { Fits doc.now placed.now }
-    requires sources { AreDocks doc.now placed.now true sources.now }
-    requires targets { AreDocks doc.now placed.now false targets.now }
-    requires routes { (e : ℕ) → IsEdge doc.now node e → Route doc.now placed.now e }
+pub(crate) fn sharing_fault_by_pairs(scene: &Scene<'_>, node: u32) -> Option<Fault>
+    requires scene { IsScene scene.now }
+    requires routes { (e : ℕ) → IsEdge scene.now.doc.now node e → Route scene.now.doc.now scene.now.placed.now e }
     ensures { MatchOption result
-        ((e f : ℕ) → SharingHolds doc.now placed.now node e f)
-        (FirstSharing doc.now placed.now node) }
+        ((e f : ℕ) → SharingHolds scene.now.doc.now scene.now.placed.now node e f)
+        (FirstSharing scene.now.doc.now scene.now.placed.now node) }
 {
-    for edge in 0..doc.edges().len() {
-        if let Some(other) = first_sharing(doc, placed, sources, targets, node, edge as u32) {
+    for edge in 0..scene.doc.edges().len() {
+        if let Some(other) = first_sharing(scene, node, edge as u32) {
             return Some(Fault {
                 first: Place::Edge(edge as u32),
                 second: Place::Edge(other),

@@ -2,12 +2,12 @@
 ghost use Rattle.std.specs.Prelude.{◌≡◌, ℕ, ◌<◌, ◌≤◌, ◌+ℤ◌, IfOk, IsTrue, length};
 ghost use Rattle.elk_doc.specs.declared.shape.Rect.{Rect};
 ghost use Rattle.elk_doc.specs.Places.{outline_of};
-ghost use Rattle.check_faults.specs.Shapes.{AreOutlines};
+ghost use Rattle.check_faults.specs.Scenes.{IsScene};
 ghost use Rattle.check_routes.specs.Bounds.{LieOff};
 ghost use Rattle.check_routes.specs.Ends.{AreEnds, AreHighEnds, AreLowEnds, IsHighEnd, MeetNone, end_along, low_along};
 
 use crate::bounds::RouteBounds;
-use check_faults::outline_at;
+use check_faults::{Scene, outline_at};
 use elk_doc::document::Doc;
 use elk_doc::drawing::Placed;
 use elk_doc::shape::Rect;
@@ -52,56 +52,39 @@ fn high_along(down: bool, r: Rect) -> i64
 }
 
 // The lower ends of all outlines along y, or along x.
-fn low_ends(
-    alloc: Global,
-    doc: &Doc,
-    placed: &Placed,
-    outlines: &[Rect],
-    down: bool,
-) -> Result<Vec<i64>, AllocError>
-    requires { AreOutlines doc.now placed.now outlines.now }
-    ensures { IfOk result (λ ends. AreLowEnds doc.now placed.now down (length doc.now.nodes) ends.items) }
+fn low_ends(alloc: Global, scene: &Scene<'_>, down: bool) -> Result<Vec<i64>, AllocError>
+    requires scene { IsScene scene.now }
+    ensures { IfOk result (λ ends. AreLowEnds scene.now.doc.now scene.now.placed.now down (length scene.now.doc.now.nodes) ends.items) }
 {
     let mut ends = Vec::new(alloc);
-    for node in 0..doc.nodes().len() {
-        ends.push(low_along(down, outline_at(doc, placed, outlines, node as u32)))?;
+    for node in 0..scene.doc.nodes().len() {
+        ends.push(low_along(down, outline_at(scene, node as u32)))?;
     }
     Ok(ends)
 }
 
 // The upper ends of all outlines along y, or along x.
-fn high_ends(
-    alloc: Global,
-    doc: &Doc,
-    placed: &Placed,
-    outlines: &[Rect],
-    down: bool,
-) -> Result<Vec<i64>, AllocError>
-    requires { AreOutlines doc.now placed.now outlines.now }
-    ensures { IfOk result (λ ends. AreHighEnds doc.now placed.now down (length doc.now.nodes) ends.items) }
+fn high_ends(alloc: Global, scene: &Scene<'_>, down: bool) -> Result<Vec<i64>, AllocError>
+    requires scene { IsScene scene.now }
+    ensures { IfOk result (λ ends. AreHighEnds scene.now.doc.now scene.now.placed.now down (length scene.now.doc.now.nodes) ends.items) }
 {
     let mut ends = Vec::new(alloc);
-    for node in 0..doc.nodes().len() {
-        ends.push(high_along(down, outline_at(doc, placed, outlines, node as u32)))?;
+    for node in 0..scene.doc.nodes().len() {
+        ends.push(high_along(down, outline_at(scene, node as u32)))?;
     }
     Ok(ends)
 }
 
-/// The ends of the outlines of all nodes, of the list of these.
-pub fn outline_ends(
-    alloc: Global,
-    doc: &Doc,
-    placed: &Placed,
-    outlines: &[Rect],
-) -> Result<OutlineEnds, AllocError>
-    requires { AreOutlines doc.now placed.now outlines.now }
-    ensures { IfOk result (AreEnds doc.now placed.now) }
+/// The ends of the outlines of all nodes.
+pub fn outline_ends(alloc: Global, scene: &Scene<'_>) -> Result<OutlineEnds, AllocError>
+    requires scene { IsScene scene.now }
+    ensures { IfOk result (AreEnds scene.now.doc.now scene.now.placed.now) }
 {
     Ok(OutlineEnds {
-        left: low_ends(alloc, doc, placed, outlines, false)?,
-        right: high_ends(alloc, doc, placed, outlines, false)?,
-        top: low_ends(alloc, doc, placed, outlines, true)?,
-        bottom: high_ends(alloc, doc, placed, outlines, true)?,
+        left: low_ends(alloc, scene, false)?,
+        right: high_ends(alloc, scene, false)?,
+        top: low_ends(alloc, scene, true)?,
+        bottom: high_ends(alloc, scene, true)?,
     })
 }
 

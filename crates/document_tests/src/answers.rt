@@ -46,8 +46,21 @@ fn square(x: i64, y: i64) -> Rect {
     }
 }
 
-// Two leaves with an edge, in a node of its own.
+// Two leaves with an edge, in a node of its own. Each list is made by a function: one that made them all would have to give up
+// the earlier ones wherever a later one finds no memory, and what it does is proved for each such way.
 fn nested_drawing(alloc: Global) -> Result<Placed, AllocError> {
+    let boxes = nested_boxes(alloc)?;
+    let sections = nested_sections(alloc)?;
+    let levels = nested_levels(alloc)?;
+    Ok(Placed {
+        boxes: Items::from_vec(boxes),
+        ports: Items::from_vec(Vec::new(alloc)),
+        sections: Items::from_vec(sections),
+        levels: Items::from_vec(levels),
+    })
+}
+
+fn nested_boxes(alloc: Global) -> Result<Vec<Rect>, AllocError> {
     let root = Rect {
         x: 0,
         y: 0,
@@ -60,19 +73,33 @@ fn nested_drawing(alloc: Global) -> Result<Placed, AllocError> {
         width: 104,
         height: 54,
     };
+    Ok(vec![in alloc; root, inner, square(12, 12), square(62, 12)]?)
+}
+
+fn nested_sections(alloc: Global) -> Result<Vec<Section>, AllocError> {
     let section = Section {
         start: Point { x: 42, y: 27 },
         bends: Items::from_vec(Vec::new(alloc)),
         end: Point { x: 62, y: 27 },
     };
-    let outer_level = certificate(vec![in alloc; 0]?, Vec::new(alloc), 0, alloc);
-    let inner_level = certificate(vec![in alloc; 0, 1]?, vec![in alloc; 1]?, 1, alloc);
-    Ok(Placed {
-        boxes: Items::from_vec(vec![in alloc; root, inner, square(12, 12), square(62, 12)]?),
-        ports: Items::from_vec(Vec::new(alloc)),
-        sections: Items::from_vec(vec![in alloc; section]?),
-        levels: Items::from_vec(vec![in alloc; Some(outer_level), Some(inner_level), None, None]?),
-    })
+    Ok(vec![in alloc; section]?)
+}
+
+fn nested_levels(alloc: Global) -> Result<Vec<Option<Certificate>>, AllocError> {
+    let outer = outer_level(alloc)?;
+    let inner = inner_level(alloc)?;
+    Ok(vec![in alloc; Some(outer), Some(inner), None, None]?)
+}
+
+fn outer_level(alloc: Global) -> Result<Certificate, AllocError> {
+    let layers = vec![in alloc; 0]?;
+    Ok(certificate(layers, Vec::new(alloc), 0, alloc))
+}
+
+fn inner_level(alloc: Global) -> Result<Certificate, AllocError> {
+    let layers = vec![in alloc; 0, 1]?;
+    let flow = vec![in alloc; 1]?;
+    Ok(certificate(layers, flow, 1, alloc))
 }
 
 #[test]

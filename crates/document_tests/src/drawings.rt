@@ -57,46 +57,62 @@ fn make_two_nodes(alloc: Global) -> Result<Doc, AllocError>
 
 // Their drawing: side by side, with a straight route.
 fn make_drawing(alloc: Global, end_x: i64) -> Result<Placed, AllocError> {
-    let mut boxes = Vec::new(alloc);
-    boxes.push(Rect {
-        x: 0,
-        y: 0,
-        width: 104,
-        height: 54,
-    })?;
-    boxes.push(Rect {
-        x: 12,
-        y: 12,
-        width: 30,
-        height: 30,
-    })?;
-    boxes.push(Rect {
-        x: 62,
-        y: 12,
-        width: 30,
-        height: 30,
-    })?;
-    let mut sections = Vec::new(alloc);
-    sections.push(Section {
-        start: Point { x: 42, y: 27 },
-        bends: Items::from_vec(Vec::new(alloc)),
-        end: Point { x: end_x, y: 27 },
-    })?;
-    let mut levels = Vec::new(alloc);
-    levels.push(Some(Certificate {
-        layers: Items::from_vec(vec![in alloc; 0, 1]?),
-        reversed: Items::from_vec(Vec::new(alloc)),
-        flow: Items::from_vec(vec![in alloc; 1]?),
-        span: 1,
-        parts: Items::from_vec(Vec::new(alloc)),
-    }))?;
-    levels.push(None)?;
-    levels.push(None)?;
+    let boxes = make_boxes(alloc)?;
+    let sections = make_sections(alloc, end_x)?;
+    let levels = make_levels(alloc)?;
     Ok(Placed {
         boxes: Items::from_vec(boxes),
         ports: Items::from_vec(Vec::new(alloc)),
         sections: Items::from_vec(sections),
         levels: Items::from_vec(levels),
+    })
+}
+
+fn make_boxes(alloc: Global) -> Result<Vec<Rect>, AllocError> {
+    let root = Rect {
+        x: 0,
+        y: 0,
+        width: 104,
+        height: 54,
+    };
+    let first = Rect {
+        x: 12,
+        y: 12,
+        width: 30,
+        height: 30,
+    };
+    let second = Rect {
+        x: 62,
+        y: 12,
+        width: 30,
+        height: 30,
+    };
+    Ok(vec![in alloc; root, first, second]?)
+}
+
+fn make_sections(alloc: Global, end_x: i64) -> Result<Vec<Section>, AllocError> {
+    let section = Section {
+        start: Point { x: 42, y: 27 },
+        bends: Items::from_vec(Vec::new(alloc)),
+        end: Point { x: end_x, y: 27 },
+    };
+    Ok(vec![in alloc; section]?)
+}
+
+fn make_levels(alloc: Global) -> Result<Vec<Option<Certificate>>, AllocError> {
+    let level = make_level(alloc)?;
+    Ok(vec![in alloc; Some(level), None, None]?)
+}
+
+fn make_level(alloc: Global) -> Result<Certificate, AllocError> {
+    let layers = vec![in alloc; 0, 1]?;
+    let flow = vec![in alloc; 1]?;
+    Ok(Certificate {
+        layers: Items::from_vec(layers),
+        reversed: Items::from_vec(Vec::new(alloc)),
+        flow: Items::from_vec(flow),
+        span: 1,
+        parts: Items::from_vec(Vec::new(alloc)),
     })
 }
 

@@ -32,90 +32,93 @@ fn holds(alloc: Global, text: &str, place: &str) -> bool {
     }
 }
 
+// Rows: the place, what is written, and what in its place, with `|` between.
+const UNCHANGED: &str = r#"read||"#;
+
+const ROOT: &str = r#"r|"x":0,|
+r|"x":0|"x":1
+r|"y":0|"y":-1
+r|"width":300,|
+r|"height":90|"height":-1
+r|"height":90|"height":9007199254740993
+r|"flow":[1]|"flow":[]
+r|"flow":[1]|"flow":[-1]
+r|"layers":[0,1]|"layers":[0,1,1]
+r|"layers":[0,1]|"layers":[0,4294967296]
+read|"layers":[0,1]|"layers":[0,4294967295]
+read|"span":1}|"span":18446744073709551615}
+r|"span":1}|"span":"1"}
+r|"reversed":[],|
+r|"reversed":[]|"reversed":["f"]
+read|"reversed":[]|"reversed":["e"]
+read|"span":1}|"span":1,"parts":7}"#;
+
+const INNER_LEVEL: &str = r#"c|"x":12|"x":9007199254740993
+read|"x":12|"x":9007199254740992
+c|"x":12|"x":-9007199254740993
+c|"x":12|"x":true
+c|"layering":{"flow":[1,2,0]|"Layering":{"flow":[1,2,0]
+read|"reversed":["f"]|"reversed":["f",7]
+c|"reversed":["f"]|"reversed":[7,"f"]
+c|"reversed":["f"]|"reversed":["f","f"]
+c|"reversed":["f"]|"reversed":["g"]
+c|"reversed":["f"]|"reversed":["e"]
+c|"reversed":["f"]|"reversed":["7"]
+c|"reversed":["f"]|"reversed":"f""#;
+
+const PORTS: &str = r#"p|"x":200,|
+q|"y":-6,|
+other|"y":-6|"y":9007199254740993"#;
+
+const EDGES: &str = r#"f|"id":"f_s0",|
+f|"id":"f_s0"|"id":"f_s1"
+read|"id":"f_s0"|"id":"f_s0","z":0
+7|"id":"7_s0"|"id":7
+f|"startPoint":{"x":1,"y":2},|
+f|"endPoint":{"x":5,"y":4}|"endPoint":{"x":5}
+f|{"x":3,"y":4}|{"x":3,"Y":4}
+f|{"x":3,"y":4}|3
+g|"bendPoints":[]|"bendPoints":{}
+e|"sections":[{"id":"e_s0"|"sections":[{},{"id":"e_s0"
+e|"sections":[{"id":"e_s0"|"section":[{"id":"e_s0""#;
+
+const LEAVES: &str = r#"a|"x":14,|
+b|"x":64,|
+d|"x":250,"y":20|"x":250"#;
+
+const EARLIER: &str = r#"a|"y":15},{"id":"b","x":64|"Y":15},{"id":"b","X":64
+other|"targets":["d"],"sections"|"targets":["z"],"section""#;
+
+// Whether a row holds.
+fn row_holds(alloc: Global, row: &str) -> Result<bool, AllocError> {
+    let Some((place, change)) = row.split_once('|') else {
+        return Ok(false);
+    };
+    let Some((old, new)) = change.split_once('|') else {
+        return Ok(false);
+    };
+    let text = PLACED.replacen(alloc, old, new, 1)?;
+    Ok(holds(alloc, text.as_str(), place))
+}
+
+fn all_hold(alloc: Global, rows: &str) -> Result<bool, AllocError> {
+    for row in rows.lines() {
+        if !row_holds(alloc, row)? {
+            return Ok(false);
+        }
+    }
+    Ok(true)
+}
+
 #[test]
 fn what_is_missing(rt: HostRuntime) -> Result<(), Fail> {
-    let alloc = rt.alloc();
-    let rows = [
-        ("", "", "read"),
-        // the root
-        (r#""x":0,"#, "", "r"),
-        (r#""x":0"#, r#""x":1"#, "r"),
-        (r#""y":0"#, r#""y":-1"#, "r"),
-        (r#""width":300,"#, "", "r"),
-        (r#""height":90"#, r#""height":-1"#, "r"),
-        (r#""height":90"#, r#""height":9007199254740993"#, "r"),
-        (r#""flow":[1]"#, r#""flow":[]"#, "r"),
-        (r#""flow":[1]"#, r#""flow":[-1]"#, "r"),
-        (r#""layers":[0,1]"#, r#""layers":[0,1,1]"#, "r"),
-        (r#""layers":[0,1]"#, r#""layers":[0,4294967296]"#, "r"),
-        (r#""layers":[0,1]"#, r#""layers":[0,4294967295]"#, "read"),
-        (r#""span":1}"#, r#""span":18446744073709551615}"#, "read"),
-        (r#""span":1}"#, r#""span":"1"}"#, "r"),
-        (r#""reversed":[],"#, "", "r"),
-        (r#""reversed":[]"#, r#""reversed":["f"]"#, "r"),
-        (r#""reversed":[]"#, r#""reversed":["e"]"#, "read"),
-        (r#""span":1}"#, r#""span":1,"parts":7}"#, "read"),
-        // the inner level
-        (r#""x":12"#, r#""x":9007199254740993"#, "c"),
-        (r#""x":12"#, r#""x":9007199254740992"#, "read"),
-        (r#""x":12"#, r#""x":-9007199254740993"#, "c"),
-        (r#""x":12"#, r#""x":true"#, "c"),
-        (
-            r#""layering":{"flow":[1,2,0]"#,
-            r#""Layering":{"flow":[1,2,0]"#,
-            "c",
-        ),
-        (r#""reversed":["f"]"#, r#""reversed":["f",7]"#, "read"),
-        (r#""reversed":["f"]"#, r#""reversed":[7,"f"]"#, "c"),
-        (r#""reversed":["f"]"#, r#""reversed":["f","f"]"#, "c"),
-        (r#""reversed":["f"]"#, r#""reversed":["g"]"#, "c"),
-        (r#""reversed":["f"]"#, r#""reversed":["e"]"#, "c"),
-        (r#""reversed":["f"]"#, r#""reversed":["7"]"#, "c"),
-        (r#""reversed":["f"]"#, r#""reversed":"f""#, "c"),
-        // ports
-        (r#""x":200,"#, "", "p"),
-        (r#""y":-6,"#, "", "q"),
-        (r#""y":-6"#, r#""y":9007199254740993"#, "other"),
-        // edges
-        (r#""id":"f_s0","#, "", "f"),
-        (r#""id":"f_s0""#, r#""id":"f_s1""#, "f"),
-        (r#""id":"f_s0""#, r#""id":"f_s0","z":0"#, "read"),
-        (r#""id":"7_s0""#, r#""id":7"#, "7"),
-        (r#""startPoint":{"x":1,"y":2},"#, "", "f"),
-        (r#""endPoint":{"x":5,"y":4}"#, r#""endPoint":{"x":5}"#, "f"),
-        (r#"{"x":3,"y":4}"#, r#"{"x":3,"Y":4}"#, "f"),
-        (r#"{"x":3,"y":4}"#, "3", "f"),
-        (r#""bendPoints":[]"#, r#""bendPoints":{}"#, "g"),
-        (
-            r#""sections":[{"id":"e_s0""#,
-            r#""sections":[{},{"id":"e_s0""#,
-            "e",
-        ),
-        (
-            r#""sections":[{"id":"e_s0""#,
-            r#""section":[{"id":"e_s0""#,
-            "e",
-        ),
-        // leaves
-        (r#""x":14,"#, "", "a"),
-        (r#""x":64,"#, "", "b"),
-        (r#""x":250,"y":20"#, r#""x":250"#, "d"),
-        // an earlier element, and an earlier rule
-        (
-            r#""y":15},{"id":"b","x":64"#,
-            r#""Y":15},{"id":"b","X":64"#,
-            "a",
-        ),
-        (
-            r#""targets":["d"],"sections""#,
-            r#""targets":["z"],"section""#,
-            "other",
-        ),
-    ];
-    for (old, new, place) in rows {
-        let text = PLACED.replacen(alloc, old, new, 1)?;
-        assert!(rt; holds(alloc, text.as_str(), place));
-    }
+    assert!(rt; all_hold(rt.alloc(), UNCHANGED)?);
+    assert!(rt; all_hold(rt.alloc(), ROOT)?);
+    assert!(rt; all_hold(rt.alloc(), INNER_LEVEL)?);
+    assert!(rt; all_hold(rt.alloc(), PORTS)?);
+    assert!(rt; all_hold(rt.alloc(), EDGES)?);
+    assert!(rt; all_hold(rt.alloc(), LEAVES)?);
+    assert!(rt; all_hold(rt.alloc(), EARLIER)?);
     Ok(())
 }
 

@@ -14,8 +14,8 @@ use Rattle.elk_doc.specs.Sharing.{PathsShare, Sharing as SharesRightly}
 use Rattle.elk_doc.specs.declared.shape.Point.{Point}
 use Rattle.elk_doc.specs.Sound.{IsSound}
 use Rattle.check_faults.specs.declared.fault.Fault.{Fault}
-use Rattle.check_apart.proofs.BreakLaws.{fault_breaks as apart_breaks}
-use Rattle.check_inside.proofs.BreakLaws.{fault_breaks as inside_breaks}
+use Rattle.check_boxes.proofs.BreakLaws.{fault_breaks as apart_breaks}
+use Rattle.check_boxes.proofs.BreakInside.{fault_breaks as inside_breaks}
 use Rattle.check_ports.proofs.BreakLaws.{fault_breaks as ports_breaks}
 use Rattle.check_routes.specs.FirstRoutes.{FirstSharing, SharingHolds}
 use Rattle.layout_check.specs.declared.definition.Definition.{Definition}

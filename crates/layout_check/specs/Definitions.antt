@@ -16,8 +16,8 @@ use Rattle.elk_doc.specs.Layering as layering
 use Rattle.elk_doc.specs.FlowProof as flow
 use Rattle.check_faults.specs.declared.fault.Fault.{Fault}
 use Rattle.check_faults.specs.Levels.{IsLevel}
-use Rattle.check_apart.specs.FirstApart.{FirstApart}
-use Rattle.check_inside.specs.FirstInside.{FirstInside}
+use Rattle.check_boxes.specs.FirstApart.{FirstApart}
+use Rattle.check_boxes.specs.FirstInside.{FirstInside}
 use Rattle.check_ports.specs.FirstPorts.{FirstPorts}
 use Rattle.check_routes.specs.FirstRoutes.{FirstRoute, FirstClear, FirstSharing}
 use Rattle.check_levels.specs.FirstLevels.{FirstReversed, FirstLayering, FirstFlow}

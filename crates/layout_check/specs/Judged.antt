@@ -5,12 +5,12 @@ use Rattle.elk_doc.specs.declared.drawing.Certificate.{Certificate}
 use Rattle.elk_doc.specs.declared.drawing.Placed.{Placed}
 use Rattle.elk_doc.specs.Document.{Document}
 use Rattle.check_faults.specs.declared.fault.Fault.{Fault}
-use Rattle.check_faults.specs.Shapes.{AreOutlines, AreSides, AreDocks}
-use Rattle.check_levels.specs.FirstLevels.{AreHeads, AreTails, AreWeights}
+use Rattle.check_faults.specs.Shapes.{AreOutlines, AreSides, AreDocks, AreHeads, AreTails, AreWeights}
 use Rattle.check_routes.specs.Bounds.{AreRouteBounds}
 use Rattle.check_routes.specs.Ends.{AreEnds}
 use Rattle.layout_check.specs.declared.definition.Definition.{Definition}
 use Rattle.layout_check.specs.declared.definition.Definition.TheVariants.{Route, Clear, Sharing}
+use Rattle.layout_check.specs.declared.shapes.Extents.{Extents}
 use Rattle.layout_check.specs.declared.shapes.Shapes.{Shapes}
 use Rattle.layout_check.specs.Definitions.{Holds, FirstPlaces, Everywhere}
 
@@ -23,8 +23,10 @@ pub record AreShapes (d : Document) (p : Placed) (s : Shapes) : Type 0 where
   pub heads : AreHeads d p s.heads.items
   pub tails : AreTails d p s.tails.items
   pub weights : AreWeights d s.weights.items
-  pub bounds : AreRouteBounds d p s.bounds.items
-  pub ends : AreEnds d p s.ends
+
+pub record AreExtents (d : Document) (p : Placed) (x : Extents) : Type 0 where
+  pub bounds : AreRouteBounds d p x.bounds.items
+  pub ends : AreEnds d p x.ends
 
 -- what a definition needs of those before it: routes keep clear and share only where they are routes
 abbrev pub Needs : Definition → Document → Placed → Type 0

@@ -3,14 +3,15 @@ ghost use Rattle.std.specs.Prelude.{◌≡◌, ◌↔◌, ◌+◌, ◌<◌, IfOk
 ghost use Rattle.elk_doc.specs.Drawn.{Drawn};
 ghost use Rattle.elk_doc.specs.Fits.{Fits};
 ghost use Rattle.layout_check.specs.Definitions.{definitions};
-ghost use Rattle.layout_check.specs.Judged.{AreShapes};
+ghost use Rattle.check_faults.specs.Scenes.{IsScene};
+ghost use Rattle.layout_check.specs.Judged.{AreExtents};
 ghost use Rattle.layout_check.specs.Verdicts.{IsVerdict};
 ghost use Rattle.layout_check.specs.declared.verdict.Verdict.TheVariants.{No, Yes};
 
 use crate::definition::Definition;
 use crate::levels::first_fault;
-use crate::shapes::{Shapes, shapes_of};
-use check_faults::{Fault, Place};
+use crate::shapes::{Extents, extents_of, scene_of, shapes_of};
+use check_faults::{Fault, Place, Scene};
 use elk_doc::document::Doc;
 use elk_doc::drawing::Placed;
 use std::alloc::{AllocError, Global};
@@ -42,19 +43,18 @@ fn no_at(place: usize, fault: Fault) -> Verdict
 // Asks for one definition after the other, at all levels.
 fn first_no(
     alloc: Global,
-    doc: &Doc,
-    placed: &Placed,
-    shapes: &Shapes,
+    scene: &Scene<'_>,
+    extents: &Extents,
     order: &[Definition],
 ) -> Result<Verdict, AllocError>
-    requires fits { Fits doc.now placed.now }
-    requires shapes { AreShapes doc.now placed.now shapes.now }
+    requires scene { IsScene scene.now }
+    requires extents { AreExtents scene.now.doc.now scene.now.placed.now extents.now }
     requires all { order.now ≡ definitions }
-    ensures { IfOk result (IsVerdict doc.now placed.now) }
+    ensures { IfOk result (IsVerdict scene.now.doc.now scene.now.placed.now) }
 {
-    let _nodes = doc.nodes();
+    let _nodes = scene.doc.nodes();
     for place in 0..order.len() {
-        let found = first_fault(alloc, doc, placed, shapes, order[place])?;
+        let found = first_fault(alloc, scene, extents, order[place])?;
         if let Some(fault) = found {
             return Ok(no_at(place, fault));
         }
@@ -69,6 +69,8 @@ pub fn check(alloc: Global, doc: &Doc, placed: &Placed) -> Result<Verdict, Alloc
     ensures verdict { IfOk result (IsVerdict doc.now placed.now) }
 {
     let shapes = shapes_of(alloc, doc, placed)?;
+    let scene = scene_of(doc, placed, &shapes);
+    let extents = extents_of(alloc, &scene)?;
     let order = [
         Definition::Apart,
         Definition::Inside,
@@ -80,6 +82,6 @@ pub fn check(alloc: Global, doc: &Doc, placed: &Placed) -> Result<Verdict, Alloc
         Definition::Layering,
         Definition::FlowProof,
     ];
-    let verdict = first_no(alloc, doc, placed, &shapes, &order)?;
+    let verdict = first_no(alloc, &scene, &extents, &order)?;
     Ok(verdict)
 }

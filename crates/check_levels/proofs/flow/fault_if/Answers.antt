@@ -5,12 +5,12 @@ use Rattle.check_levels.proofs.flow.fault_if.Goals as goal
 
 pub returns-then-sum_of-from : goal.returns-then-sum_of-from
 returns-then-sum_of-from c =
-    let sum = sum_of_level c.args.doc.now c.args.node c.args.flows.now (flow_in c.args.doc.now c.args.node c.args.certificate.now) c.requires.flows in
+    let sum = sum_of_level c.args.scene.now.doc.now c.args.node c.args.flows.now (flow_in c.args.scene.now.doc.now c.args.node c.args.certificate.now) c.requires.flows in
     (c.lone.ensures, λ f. c.if-sum_of-from.true (c.sum_of.ensures ∙ sum ∙ f.sum ∙ sym c.from.ensures))
 
 pub returns : goal.returns
 returns c =
-    let sum = sum_of_level c.args.doc.now c.args.node c.args.flows.now (flow_in c.args.doc.now c.args.node c.args.certificate.now) c.requires.flows in
+    let sum = sum_of_level c.args.scene.now.doc.now c.args.node c.args.flows.now (flow_in c.args.scene.now.doc.now c.args.node c.args.certificate.now) c.requires.flows in
     let idle = c.are_idle.ensures.0 c.if-not-are_idle.false in
     record {
       loops = λ e h l. idle e h l;

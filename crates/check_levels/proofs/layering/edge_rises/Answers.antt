@@ -6,14 +6,14 @@ use Rattle.check_levels.proofs.layering.edge_rises.Goals as goal
 
 pub returns : goal.returns
 returns c =
-    let d = c.args.doc.now in
-    let p = c.args._placed.now in
+    let d = c.args.scene.now.doc.now in
+    let p = c.args.scene.now.placed.now in
     let n = c.args.node in
     let e = c.args.edge in
     let x = c.args._certificate.now in
     let r = c.requires in
-    let t = c.layer_of.ensures ∙ tail_layer d p n x c.args.tails.now c.args.layers.now e r.sound r.edge_in r.tails r.layers in
-    let h = c.layer_of-2.ensures ∙ head_layer d p n x c.args.heads.now c.args.layers.now e r.sound r.edge_in r.heads r.layers in
+    let t = c.layer_of.ensures ∙ tail_layer d p n x c.args.scene.now.tails.now c.args.layers.now e r.sound r.edge_in r.scene.tails r.layers in
+    let h = c.layer_of-2.ensures ∙ head_layer d p n x c.args.scene.now.heads.now c.args.layers.now e r.sound r.edge_in r.scene.heads r.layers in
     let P : ℕ → Type 0 = λ k. IsTrue c.is_before.result ↔ ((pos k +ℤ pos 1) ≤ℤ pos c.layer_of-2.result) in
     let Q : ℕ → Type 0 = λ k. IsTrue c.is_before.result ↔ ((pos (layer_in d n x (tail_node d p e)) +ℤ pos 1) ≤ℤ pos k) in
     let says = subst Q h (subst P t c.is_before.ensures) in

@@ -3,4 +3,4 @@ use Rattle.check_levels.specs.FirstLevels.{EdgeRises}
 use Rattle.check_levels.proofs.layering.first_fall.Given as goal
 
 abbrev pub invariant-loop-edge : goal.invariant-loop-edge
-invariant-loop-edge l = (k : ℕ) → k < l.edge → EdgeRises l.doc l.placed l.node l.certificate k
+invariant-loop-edge l = (k : ℕ) → k < l.edge → EdgeRises l.scene.doc.now l.scene.placed.now l.node l.certificate k

@@ -3,4 +3,4 @@ use Rattle.check_levels.specs.FirstLevels.{IsBalanced}
 use Rattle.check_levels.proofs.sums.all_balance.Given as goal
 
 abbrev pub invariant-loop-child : goal.invariant-loop-child
-invariant-loop-child l = (k : ℕ) → k < l.child → IsBalanced l.doc l.placed l.node l.certificate k
+invariant-loop-child l = (k : ℕ) → k < l.child → IsBalanced l.scene.doc.now l.scene.placed.now l.node l.certificate k

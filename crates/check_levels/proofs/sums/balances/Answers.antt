@@ -12,7 +12,7 @@ returns c =
     let x = ap at c.as_slice-weight_out.ensures.value ∙ r.sums.weight_out.each a 0 r.child_in in
     let y = ap at c.as_slice-flow_out.ensures.value ∙ r.sums.flow_out.each a 0 r.child_in in
     let z = ap at c.as_slice-weight_in.ensures.value ∙ r.sums.weight_in.each a 0 r.child_in in
-    let child : IsChild c.args.doc.now c.args.node a = record { node_in = r.child_in; child = search rules } in (
+    let child : IsChild c.args.scene.now.doc.now c.args.node a = record { node_in = r.child_in; child = search rules } in (
       λ t _. let e = eqb-true _ _ t in omega (arith, w, x, y, z, e),
       λ h. let e = h child in eq-eqb _ _ (omega (arith, w, x, y, z, e)),
     )

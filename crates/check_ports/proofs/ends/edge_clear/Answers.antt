@@ -15,6 +15,6 @@ returns-then-not-end_clear c =
 pub returns : goal.returns
 returns c =
     record {
-      holds = λ t u. both_ends (λ x. SpotsDiffer c.args.doc.now c.args.placed.now c.args.node (an_end c.args.other x) (an_end c.args.edge c.args.at_source)) (c.end_clear.ensures.holds c.if-not-end_clear.false) (c.end_clear-2.ensures.holds t) u;
+      holds = λ t u. both_ends (λ x. SpotsDiffer c.args.scene.now.doc.now c.args.scene.now.placed.now c.args.node (an_end c.args.other x) (an_end c.args.edge c.args.at_source)) (c.end_clear.ensures.holds c.if-not-end_clear.false) (c.end_clear-2.ensures.holds t) u;
       fails = λ room h. c.end_clear-2.ensures.fails room (h false);
     }

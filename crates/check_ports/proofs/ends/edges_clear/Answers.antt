@@ -5,7 +5,7 @@ use Rattle.check_ports.proofs.ends.edges_clear.Goals as goal
 
 pub loop-other-preserved : goal.loop-other-preserved
 loop-other-preserved c =
-    below_more (EdgeClear c.args.doc.now c.args.placed.now c.args.node c.args.edge c.args.at_source) _ c.loop-other.invariant (c.edge_clear.ensures.holds c.if-not-edge_clear.false)
+    below_more (EdgeClear c.args.scene.now.doc.now c.args.scene.now.placed.now c.args.node c.args.edge c.args.at_source) _ c.loop-other.invariant (c.edge_clear.ensures.holds c.if-not-edge_clear.false)
 
 pub returns-then-not-edge_clear : goal.returns-then-not-edge_clear
 returns-then-not-edge_clear c =

@@ -15,6 +15,6 @@ returns-then-is_apart c =
 pub returns : goal.returns
 returns c =
     let side = ap (λ (x : SideSpot). x.side) c.end_spot-spot.ensures in
-    let room = subst (λ s. IsTrue c.is_roomy-roomy.result ↔ IsRoomy c.args.doc.now c.args.placed.now c.args.node s) side c.is_roomy-roomy.ensures in
+    let room = subst (λ s. IsTrue c.is_roomy-roomy.result ↔ IsRoomy c.args.scene.now.doc.now c.args.scene.now.placed.now c.args.node s) side c.is_roomy-roomy.ensures in
     let apart = c.is_apart-2.ensures in
     (λ t. record { alone = c.keeps_end.ensures.0 c.if-not-keeps_end.false; apart = apart.holds t }, λ h. apart.fails room.0 h.apart)

@@ -5,7 +5,7 @@ use Rattle.check_ports.proofs.ends.first_edge.Goals as goal
 pub loop-edge-preserved : goal.loop-edge-preserved
 loop-edge-preserved c =
     let t : IsTrue c.ends_hold.result = search rules in
-    below_more (EndsHold c.args.doc.now c.args.placed.now c.args.node) _ c.loop-edge.invariant (c.ends_hold.ensures.0 t)
+    below_more (EndsHold c.args.scene.now.doc.now c.args.scene.now.placed.now c.args.node) _ c.loop-edge.invariant (c.ends_hold.ensures.0 t)
 
 pub returns : goal.returns
 returns c =

@@ -31,7 +31,7 @@ returns c =
           record {
             ports = c.ports_clear.ensures.holds c.if-not-ports_clear.false;
             lower = λ f u l. c.edges_clear.ensures.holds c.if-not-edges_clear.false f l u;
-            other = λ u n. the_other (λ x. SpotsDiffer c.args.doc.now c.args.placed.now c.args.node (an_end c.args.edge x) (an_end c.args.edge s)) s u (c.end_clear.ensures.holds t) n;
+            other = λ u n. the_other (λ x. SpotsDiffer c.args.scene.now.doc.now c.args.scene.now.placed.now c.args.node (an_end c.args.edge x) (an_end c.args.edge s)) s u (c.end_clear.ensures.holds t) n;
           };
       fails = λ room h. c.end_clear.ensures.fails room (h.other (not s) (not_itself s));
     }

@@ -18,8 +18,8 @@ returns-then-not-is_on_side c =
 
 pub returns : goal.returns
 returns c =
-    let d = c.args.doc.now in
-    let p = c.args.placed.now in
+    let d = c.args.scene.now.doc.now in
+    let p = c.args.scene.now.placed.now in
     let m = c.args.node in
     let e = c.args.edge in
     let s = c.args.at_source in

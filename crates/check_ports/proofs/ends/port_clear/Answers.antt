@@ -8,8 +8,8 @@ use Rattle.check_ports.proofs.ends.port_clear.Goals as goal
 
 pub returns : goal.returns
 returns c =
-    let d = c.args.doc.now in
-    let p = c.args.placed.now in
+    let d = c.args.scene.now.doc.now in
+    let p = c.args.scene.now.placed.now in
     let P : SideSpot → Type 0 = λ x. IsTrue c.are_apart.result ↔ KeepApart c.args.roomy x c.end_spot-second.result in
     let Q : SideSpot → Type 0 = λ y. IsTrue c.are_apart.result ↔ KeepApart c.args.roomy (port_spot d p c.args.port) y in
     let says = subst Q c.end_spot-second.ensures (subst P c.port_spot-first.ensures c.are_apart.ensures) in

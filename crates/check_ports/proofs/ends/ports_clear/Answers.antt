@@ -5,7 +5,7 @@ use Rattle.check_ports.proofs.ends.ports_clear.Goals as goal
 
 pub loop-port-preserved : goal.loop-port-preserved
 loop-port-preserved c =
-    below_more (PortClear c.args.doc.now c.args.placed.now c.args.node c.args.edge c.args.at_source) _ c.loop-port.invariant (c.port_clear-clear.ensures.holds c.if-not-clear.false)
+    below_more (PortClear c.args.scene.now.doc.now c.args.scene.now.placed.now c.args.node c.args.edge c.args.at_source) _ c.loop-port.invariant (c.port_clear-clear.ensures.holds c.if-not-clear.false)
 
 pub returns-then-not-clear : goal.returns-then-not-clear
 returns-then-not-clear c =

@@ -13,8 +13,8 @@ less_yes a b e = search rules
 
 pub returns-then-a-b : goal.returns-then-a-b
 returns-then-a-b c =
-    let d = c.args.doc.now in
-    let p = c.args.placed.now in
+    let d = c.args.scene.now.doc.now in
+    let p = c.args.scene.now.placed.now in
     let i = (port_at d c.args.one).index in
     let j = (port_at d c.args.other).index in
     let ei = ap (λ (q : Port). q.index) c.port.ensures.value in
@@ -43,8 +43,8 @@ returns-then-b-a c =
 
 pub returns : goal.returns
 returns c =
-    let d = c.args.doc.now in
-    let p = c.args.placed.now in
+    let d = c.args.scene.now.doc.now in
+    let p = c.args.scene.now.placed.now in
     let i = (port_at d c.args.one).index in
     let j = (port_at d c.args.other).index in
     let ei = ap (λ (q : Port). q.index) c.port.ensures.value in

@@ -11,9 +11,9 @@ returns-then-place-most c =
     let ea = c.offset_clockwise-place.ensures in
     let eb = c.offset_clockwise-most.ensures in
     let more = c.if-place-most.true in
-    let rule : (node_at c.args.doc.now c.args.node).rule ≡ FixedOrder = search rules in
+    let rule : (node_at c.args.scene.now.doc.now c.args.node).rule ≡ FixedOrder = search rules in
     let one_side = is_side-same _ _ (sym c.is_side.ensures ∙ c.if-not-is_side.false) in
-    let side : side_of_port c.args.doc.now c.args.placed.now c.args.one ≡ side_of_port c.args.doc.now c.args.placed.now c.args.other = sym c.side_at-first.ensures ∙ one_side ∙ c.side_at-second.ensures in
+    let side : side_of_port c.args.scene.now.doc.now c.args.scene.now.placed.now c.args.one ≡ side_of_port c.args.scene.now.doc.now c.args.scene.now.placed.now c.args.other = sym c.side_at-first.ensures ∙ one_side ∙ c.side_at-second.ensures in
     let before = c.comes_before.ensures.0 c.if-not-comes_before.false in
     (λ t. absurd (search rules), λ h. let most = h rule side before in absurd (omega (arith, ints, ea, eb, more, most)))
 

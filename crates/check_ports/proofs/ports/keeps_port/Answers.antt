@@ -25,8 +25,8 @@ returns-then-not-agree_across c =
 
 pub returns-then-not-stands_flush : goal.returns-then-not-stands_flush
 returns-then-not-stands_flush c =
-    let d = c.args.doc.now in
-    let p = c.args.placed.now in
+    let d = c.args.scene.now.doc.now in
+    let p = c.args.scene.now.placed.now in
     let k = c.args.port in
     let pinned = is_pinned d k && is_leaf d (node_of_port d k) in
     let box : c.box_of-outer.result ≡ box_of p (node_of_port d k) = c.box_of-outer.ensures ∙ ap (λ (q : Port). box_of p q.node) c.port-found.ensures.value in
@@ -36,8 +36,8 @@ returns-then-not-stands_flush c =
 
 pub returns : goal.returns
 returns c =
-    let d = c.args.doc.now in
-    let p = c.args.placed.now in
+    let d = c.args.scene.now.doc.now in
+    let p = c.args.scene.now.placed.now in
     let k = c.args.port in
     let pinned = is_pinned d k && is_leaf d (node_of_port d k) in
     let box : c.box_of-outer.result ≡ box_of p (node_of_port d k) = c.box_of-outer.ensures ∙ ap (λ (q : Port). box_of p q.node) c.port-found.ensures.value in

@@ -3,4 +3,4 @@ use Rattle.check_ports.specs.FirstPorts.{PairHolds}
 use Rattle.check_ports.proofs.ports.lower_hold.Given as goal
 
 abbrev pub invariant-loop-other : goal.invariant-loop-other
-invariant-loop-other l = (j : ℕ) → j < l.other → PairHolds l.doc l.placed l.node j l.port
+invariant-loop-other l = (j : ℕ) → j < l.other → PairHolds l.scene.doc.now l.scene.placed.now l.node j l.port

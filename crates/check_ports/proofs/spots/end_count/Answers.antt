@@ -9,7 +9,7 @@ loop-edge-init c = record { counted = sym (count_below-zero _); few = omega arit
 
 pub loop-edge-preserved : goal.loop-edge-preserved
 loop-edge-preserved c =
-    let passes = is_spread_end c.args.doc.now c.args.placed.now c.args.node c.args.side c.args.at_source in
+    let passes = is_spread_end c.args.scene.now.doc.now c.args.scene.now.placed.now c.args.node c.args.side c.args.at_source in
     elim c.if-is_spread_end.branch [
       | then-is_spread_end w ↦
           let more = count_below-more passes c.loop-edge.edge (sym c.is_spread_end.ensures ∙ w.if-is_spread_end.true) in

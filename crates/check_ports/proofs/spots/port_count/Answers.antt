@@ -9,7 +9,7 @@ loop-port-init c = record { counted = sym (count_below-zero _); few = omega arit
 
 pub loop-port-preserved : goal.loop-port-preserved
 loop-port-preserved c =
-    let passes = is_spread_port c.args.doc.now c.args.placed.now c.args.node c.args.side in
+    let passes = is_spread_port c.args.scene.now.doc.now c.args.scene.now.placed.now c.args.node c.args.side in
     elim c.if-is_spread_port.branch [
       | then-is_spread_port w ↦
           let more = count_below-more passes c.loop-port.port (sym c.is_spread_port.ensures ∙ w.if-is_spread_port.true) in

@@ -1,4 +1,4 @@
-use Rattle.std.proofs.Common.{◌≡◌, ◌∙◌, ℤ, ◌+ℤ◌, ap, sym, arith, w64, to_z, of_z}
+use Rattle.std.proofs.Common.{◌≡◌, ◌∙◌, ℤ, ◌+ℤ◌, ap, sym, subst, arith, w64, to_z, of_z}
 use Rattle.std.proofs.lemmas.Int.{ints}
 use Rattle.elk_doc.specs.declared.shape.Point.{Point}
 use Rattle.elk_doc.specs.declared.shape.Side.{Side}
@@ -8,14 +8,18 @@ use Rattle.elk_doc.specs.Drawing.{box_of, port_place}
 use Rattle.elk_doc.specs.PortsKept.{size_along}
 use Rattle.elk_doc.specs.Shapes.{half_of}
 use Rattle.elk_doc.specs.Sides.{side_of_port}
-use Rattle.elk_doc.specs.Sound.{along}
+use Rattle.elk_doc.specs.Sound.{IsSoundSize, along}
 use Rattle.check_ports.proofs.SpotLaws.{offset_of_middle}
 use Rattle.check_ports.proofs.spots.port_offset.Goals as goal
 
+pub middle_along-requires-clause-small : goal.middle_along-requires-clause-small
+middle_along-requires-clause-small c =
+    subst (λ (q : Port). IsSoundSize q.size) (sym c.port.ensures.value) (c.port.ensures.sound.ports.each c.args.port c.requires.port_in).size
+
 pub returns : goal.returns
 returns c =
-    let d = c.args.doc.now in
-    let p = c.args.placed.now in
+    let d = c.args.scene.now.doc.now in
+    let p = c.args.scene.now.placed.now in
     let k = c.args.port in
     let side = side_of_port d p k in
     let middle : Side → Point → Port → ℤ = λ s q r. along s q +ℤ half_of (size_along s r.size) in

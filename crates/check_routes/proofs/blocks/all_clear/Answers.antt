@@ -4,13 +4,13 @@ use Rattle.check_routes.proofs.ParallelLaws.{route_parallel}
 use Rattle.check_routes.proofs.blocks.all_clear.Goals as goal
 
 pub child_clear-requires-clause-parallel : goal.child_clear-requires-clause-parallel
-child_clear-requires-clause-parallel c = route_parallel c.args.doc.now c.args.placed.now c.args.edge c.requires.route
+child_clear-requires-clause-parallel c = route_parallel c.args.scene.now.doc.now c.args.scene.now.placed.now c.args.edge c.requires.route
 
 pub child_clear-requires-2-clause-parallel : goal.child_clear-requires-2-clause-parallel
-child_clear-requires-2-clause-parallel c = route_parallel c.args.doc.now c.args.placed.now c.args.edge c.requires.route
+child_clear-requires-2-clause-parallel c = route_parallel c.args.scene.now.doc.now c.args.scene.now.placed.now c.args.edge c.requires.route
 
 pub block_clear-requires-clause-parallel : goal.block_clear-requires-clause-parallel
-block_clear-requires-clause-parallel c = route_parallel c.args.doc.now c.args.placed.now c.args.edge c.requires.route
+block_clear-requires-clause-parallel c = route_parallel c.args.scene.now.doc.now c.args.scene.now.placed.now c.args.edge c.requires.route
 
 pub loop-block-preserved : goal.loop-block-preserved
 loop-block-preserved c =

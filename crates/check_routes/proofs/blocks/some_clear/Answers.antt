@@ -5,7 +5,7 @@ use Rattle.check_routes.proofs.blocks.some_clear.Goals as goal
 
 pub loop-child-preserved : goal.loop-child-preserved
 loop-child-preserved c =
-    let P : ℕ → Type 0 = ChildClear c.args.doc.now c.args.placed.now c.args.node c.args.edge in
+    let P : ℕ → Type 0 = ChildClear c.args.scene.now.doc.now c.args.scene.now.placed.now c.args.node c.args.edge in
     λ k above below.
     elim (cases_lt k c.loop-child.child) [
       | inl before ↦ c.loop-child.invariant k above before

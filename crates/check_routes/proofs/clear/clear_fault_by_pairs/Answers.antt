@@ -4,5 +4,5 @@ use Rattle.check_routes.proofs.clear.clear_fault_by_pairs.Goals as goal
 
 pub loop-edge-preserved : goal.loop-edge-preserved
 loop-edge-preserved c =
-    let here : (a : ℕ) → ClearHolds c.args.doc.now c.args.placed.now c.args.node c.loop-edge.edge a = c.in_default.ensures in
-    below_more (λ k. (a : ℕ) → ClearHolds c.args.doc.now c.args.placed.now c.args.node k a) _ c.loop-edge.invariant here
+    let here : (a : ℕ) → ClearHolds c.args.scene.now.doc.now c.args.scene.now.placed.now c.args.node c.loop-edge.edge a = c.in_default.ensures in
+    below_more (λ k. (a : ℕ) → ClearHolds c.args.scene.now.doc.now c.args.scene.now.placed.now c.args.node k a) _ c.loop-edge.invariant here

@@ -9,13 +9,12 @@ child_clear-requires c =
     record {
       edge_in = c.requires.edge_in;
       child_in = search rules;
-      fits = c.requires.fits;
-      outlines = c.requires.outlines;
-      parallel = route_parallel c.args.doc.now c.args.placed.now c.args.edge c.requires.route;
+      scene = c.requires.scene;
+      parallel = route_parallel c.args.scene.now.doc.now c.args.scene.now.placed.now c.args.edge c.requires.route;
       bounds = subst (λ s. HoldsRoute c.bounds_of-bounds.result s) c.section.ensures c.bounds_of-bounds.ensures;
     }
 
 pub loop-child-preserved : goal.loop-child-preserved
 loop-child-preserved c =
     let t : IsTrue c.child_clear.result = search rules in
-    below_more (ChildClear c.args.doc.now c.args.placed.now c.args.node c.args.edge) _ c.loop-child.invariant (c.child_clear.ensures.0 t)
+    below_more (ChildClear c.args.scene.now.doc.now c.args.scene.now.placed.now c.args.node c.args.edge) _ c.loop-child.invariant (c.child_clear.ensures.0 t)

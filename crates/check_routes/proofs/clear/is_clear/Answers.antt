@@ -5,7 +5,7 @@ use Rattle.check_routes.proofs.clear.is_clear.Goals as goal
 
 pub returns-else-is_end_node : goal.returns-else-is_end_node
 returns-else-is_end_node c =
-    let d = c.args.doc.now in
+    let d = c.args.scene.now.doc.now in
     let e = c.args.edge in
     let a = c.args.child in
     let no_end : (source_node d e ≡ a) ⊎ (target_node d e ≡ a) → ⊥ = λ o. both_ways c.is_end_node.result c.if-is_end_node.false (c.is_end_node.ensures.1 o) in

@@ -8,10 +8,10 @@ use Rattle.check_routes.proofs.clear.is_far.Goals as goal
 
 pub returns : goal.returns
 returns c =
-    let d = c.args.doc.now in
+    let d = c.args.scene.now.doc.now in
     let e = c.args.edge in
     let a = c.args.child in
-    let s = section_of c.args.placed.now e in
+    let s = section_of c.args.scene.now.placed.now e in
     let off = route_off c.args.bounds s c.outline_at.result c.requires.bounds (c.lie_off.ensures c.if-not-lie_off.false) in
     let P : Rect → Type 0 = λ r. KeepsOff s r in
     let keeps = subst P c.outline_at.ensures off in

@@ -4,8 +4,8 @@ use Rattle.check_routes.proofs.partners.all_hold.Goals as goal
 
 pub loop-edge-preserved : goal.loop-edge-preserved
 loop-edge-preserved c =
-    let here : (f : ℕ) → SharingHolds c.args.doc.now c.args.placed.now c.args.node c.loop-edge.edge f = c.edge_holds-holds.ensures c.if-not-holds.false in
-    below_more (λ k. (f : ℕ) → SharingHolds c.args.doc.now c.args.placed.now c.args.node k f) _ c.loop-edge.invariant here
+    let here : (f : ℕ) → SharingHolds c.args.scene.now.doc.now c.args.scene.now.placed.now c.args.node c.loop-edge.edge f = c.edge_holds-holds.ensures c.if-not-holds.false in
+    below_more (λ k. (f : ℕ) → SharingHolds c.args.scene.now.doc.now c.args.scene.now.placed.now c.args.node k f) _ c.loop-edge.invariant here
 
 pub returns : goal.returns
 returns c =

@@ -6,7 +6,7 @@ use Rattle.check_routes.proofs.partners.partner_holds.Goals as goal
 pub returns-then-lie_apart : goal.returns-then-lie_apart
 returns-then-lie_apart c =
     let xs = c.args.bounds.now in
-    let p = c.args.placed.now in
+    let p = c.args.scene.now.placed.now in
     let e = c.args.edge in
     let f = c.args.other in
     let bounds = c.requires.bounds in

@@ -5,7 +5,7 @@ use Rattle.check_routes.proofs.partners.partners_hold.Goals as goal
 
 pub loop-other-preserved : goal.loop-other-preserved
 loop-other-preserved c =
-    let P : ℕ → Type 0 = SharingHolds c.args.doc.now c.args.placed.now c.args.node c.args.edge in
+    let P : ℕ → Type 0 = SharingHolds c.args.scene.now.doc.now c.args.scene.now.placed.now c.args.node c.args.edge in
     λ k above below.
     elim (cases_lt k c.loop-other.other) [
       | inl before ↦ c.loop-other.invariant k above before

@@ -3,4 +3,4 @@ use Rattle.check_routes.specs.FirstRoutes.{SharingHolds}
 use Rattle.check_routes.proofs.partners.partners_hold.Given as goal
 
 abbrev pub invariant-loop-other : goal.invariant-loop-other
-invariant-loop-other l = (k : ℕ) → l.edge < k → k < l.other → SharingHolds l.doc l.placed l.node l.edge k
+invariant-loop-other l = (k : ℕ) → l.edge < k → k < l.other → SharingHolds l.scene.doc.now l.scene.placed.now l.node l.edge k

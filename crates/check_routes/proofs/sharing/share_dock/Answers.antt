@@ -26,7 +26,7 @@ pub returns : goal.returns
 returns c = (
   λ t. (false, false, sym c.dock_of-target.ensures ∙ c.is_same-4.ensures.0 t ∙ c.dock_of-other_target.ensures),
   λ h.
-      by_ends (c.is_same-4.result ≡ true) (λ s t. dock_of c.args.doc.now c.args.placed.now c.args.edge s ≡ dock_of c.args.doc.now c.args.placed.now c.args.other t)
+      by_ends (c.is_same-4.result ≡ true) (λ s t. dock_of c.args.scene.now.doc.now c.args.scene.now.placed.now c.args.edge s ≡ dock_of c.args.scene.now.doc.now c.args.scene.now.placed.now c.args.other t)
       (λ e. absurd (both_ways c.is_same.result c.if-is_same.false (c.is_same.ensures.1 (c.dock_of-source.ensures ∙ e ∙ sym c.dock_of-other_source.ensures))))
       (λ e. absurd (both_ways c.is_same-2.result c.if-is_same-2.false (c.is_same-2.ensures.1 (c.dock_of-source.ensures ∙ e ∙ sym c.dock_of-other_target.ensures))))
       (λ e. absurd (both_ways c.is_same-3.result c.if-is_same-3.false (c.is_same-3.ensures.1 (c.dock_of-target.ensures ∙ e ∙ sym c.dock_of-other_source.ensures))))

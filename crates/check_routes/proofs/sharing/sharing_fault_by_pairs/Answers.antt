@@ -4,8 +4,8 @@ use Rattle.check_routes.proofs.sharing.sharing_fault_by_pairs.Goals as goal
 
 pub loop-edge-preserved : goal.loop-edge-preserved
 loop-edge-preserved c =
-    let here : (f : ℕ) → SharingHolds c.args.doc.now c.args.placed.now c.args.node c.loop-edge.edge f = c.in_default.ensures in
-    below_more (λ k. (f : ℕ) → SharingHolds c.args.doc.now c.args.placed.now c.args.node k f) _ c.loop-edge.invariant here
+    let here : (f : ℕ) → SharingHolds c.args.scene.now.doc.now c.args.scene.now.placed.now c.args.node c.loop-edge.edge f = c.in_default.ensures in
+    below_more (λ k. (f : ℕ) → SharingHolds c.args.scene.now.doc.now c.args.scene.now.placed.now c.args.node k f) _ c.loop-edge.invariant here
 
 pub returns-in-Some : goal.returns-in-Some
 returns-in-Some c = (

@@ -1,5 +1,5 @@
-use Rattle.std.proofs.Common.{◌≤ℤ◌, ◌-◌, ◌^◌, SFits, arith, false, inl, inr, pos, rules, true, w64}
-use Rattle.std.proofs.lemmas.Int.{ints, to_z-of_z}
+use Rattle.std.proofs.Common.{◌≤ℤ◌, ◌-◌, ◌^◌, SFits, false, inl, inr, pos, rules, true, w64}
+use Rattle.std.proofs.lemmas.Int.{to_z-of_z}
 use Rattle.check_routes.proofs.EndLaws.{off_in_part}
 use Rattle.check_routes.proofs.stretches.are_off.Goals as goal
 

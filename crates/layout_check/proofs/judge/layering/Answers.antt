@@ -4,4 +4,4 @@ use Rattle.layout_check.proofs.judge.layering.Goals as goal
 
 pub returns : goal.returns
 returns c =
-    judged Layering c.args.doc.now c.args.placed.now c.args.node c.args._options.now c.args.certificate.now _ c.requires.sound c.layering_fault.ensures
+    judged Layering c.args.scene.now.doc.now c.args.scene.now.placed.now c.args.node c.args._options.now c.args.certificate.now _ c.requires.sound c.layering_fault.ensures

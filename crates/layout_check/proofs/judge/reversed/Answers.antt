@@ -6,5 +6,5 @@ use Rattle.layout_check.proofs.judge.reversed.Goals as goal
 pub returns : goal.returns
 returns c =
     IfOk-weaker c.reversed_fault.result _ _
-    (λ fault found. judged Reversed c.args.doc.now c.args._placed.now c.args.node c.args._options.now c.args.certificate.now fault c.requires.sound found)
+    (λ fault found. judged Reversed c.args.scene.now.doc.now c.args.scene.now.placed.now c.args.node c.args._options.now c.args.certificate.now fault c.requires.sound found)
     c.reversed_fault.ensures

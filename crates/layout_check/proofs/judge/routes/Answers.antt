@@ -4,4 +4,4 @@ use Rattle.layout_check.proofs.judge.routes.Goals as goal
 
 pub returns : goal.returns
 returns c =
-    judged Route c.args.doc.now c.args.placed.now c.args.node c.args._options.now c.args._certificate.now _ c.requires.sound c.route_fault.ensures
+    judged Route c.args.scene.now.doc.now c.args.scene.now.placed.now c.args.node c.args._options.now c.args._certificate.now _ c.requires.sound c.route_fault.ensures

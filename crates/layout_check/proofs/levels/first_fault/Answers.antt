@@ -5,4 +5,4 @@ use Rattle.layout_check.proofs.levels.first_fault.Goals as goal
 
 pub loop-node-preserved : goal.loop-node-preserved
 loop-node-preserved c =
-    below_more (HoldsAt c.args.definition c.args.doc.now c.args.placed.now) _ c.loop-node.invariant (subst (λ (o : Option Fault). MatchOption o (HoldsAt c.args.definition c.args.doc.now c.args.placed.now c.loop-node.node) (FailsAt c.args.definition c.args.doc.now c.args.placed.now c.loop-node.node)) c.in_default.is c.in_ok-fault.ensures)
+    below_more (HoldsAt c.args.definition c.args.scene.now.doc.now c.args.scene.now.placed.now) _ c.loop-node.invariant (subst (λ (o : Option Fault). MatchOption o (HoldsAt c.args.definition c.args.scene.now.doc.now c.args.scene.now.placed.now c.loop-node.node) (FailsAt c.args.definition c.args.scene.now.doc.now c.args.scene.now.placed.now c.loop-node.node)) c.in_default.is c.in_ok-fault.ensures)

@@ -23,16 +23,16 @@ nine order place all l = subst (λ (xs : List Definition). place < length xs) al
 
 pub first_fault-requires-clause-needs : goal.first_fault-requires-clause-needs
 first_fault-requires-clause-needs c =
-    let d = c.args.doc.now in
-    let p = c.args.placed.now in
+    let d = c.args.scene.now.doc.now in
+    let p = c.args.scene.now.placed.now in
     let place = c.loop-place.place in
     let within = nine c.args.order.now place c.requires.all c.loop-place-test.true in
     subst (λ (t : Definition). Needs t d p) (sym (item c.args.order.now place c.requires.all)) (needs_met d p place within c.loop-place.invariant)
 
 pub loop-place-preserved : goal.loop-place-preserved
 loop-place-preserved c =
-    let d = c.args.doc.now in
-    let p = c.args.placed.now in
+    let d = c.args.scene.now.doc.now in
+    let p = c.args.scene.now.placed.now in
     let place = c.loop-place.place in
     let none = subst (λ (r : Option Fault). Says d p r (slice_index_or c.args.order.now place Apart)) c.in_default.is c.in_ok-found.ensures in
     below_more (λ i. Everywhere (definition_at i) d p) place c.loop-place.invariant (subst (λ (t : Definition). Everywhere t d p) (item c.args.order.now place c.requires.all) none)
@@ -44,8 +44,8 @@ refused d p place fault within fails lower =
 
 pub returns-in-Some : goal.returns-in-Some
 returns-in-Some c =
-    let d = c.args.doc.now in
-    let p = c.args.placed.now in
+    let d = c.args.scene.now.doc.now in
+    let p = c.args.scene.now.placed.now in
     let place = c.loop-place.place in
     let fault = c.in-Some.fault in
     let within = nine c.args.order.now place c.requires.all c.loop-place-test.true in
@@ -57,4 +57,4 @@ pub returns : goal.returns
 returns c =
     let up : 9 ≡ length c.args.order.now = ap (λ (xs : List Definition). length xs) (sym c.requires.all) in
     let end = c.loop-place-test.false in
-    yes_by_all c.args.doc.now c.args.placed.now c.nodes-nodes.ensures.sound c.requires.fits (λ i l. c.loop-place.invariant i (omega (arith, l, up, end)))
+    yes_by_all c.args.scene.now.doc.now c.args.scene.now.placed.now c.nodes-nodes.ensures.sound c.requires.scene.fits (λ i l. c.loop-place.invariant i (omega (arith, l, up, end)))

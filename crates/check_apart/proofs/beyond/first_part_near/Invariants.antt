@@ -1,6 +1,0 @@
-use Rattle.std.proofs.Common.{ℕ, ◌<◌}
-use Rattle.check_apart.specs.FirstApart.{PartsHold}
-use Rattle.check_apart.proofs.beyond.first_part_near.Given as goal
-
-abbrev pub invariant-loop-other : goal.invariant-loop-other
-invariant-loop-other l = (k : ℕ) → k < l.other → PartsHold l.doc l.placed l.node l.options l.certificate l.one k

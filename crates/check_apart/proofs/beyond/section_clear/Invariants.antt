@@ -1,9 +1,0 @@
-use Rattle.std.proofs.Common.{ℕ, ◌<◌, get_or}
-use Rattle.elk_doc.specs.Document.{origin}
-use Rattle.elk_doc.specs.Drawing.{points_of}
-use Rattle.elk_doc.specs.Shapes.{point_rect}
-use Rattle.check_apart.specs.FirstApart.{PartBeyond}
-use Rattle.check_apart.proofs.beyond.section_clear.Given as goal
-
-abbrev pub invariant-loop-t : goal.invariant-loop-t
-invariant-loop-t l = (k : ℕ) → k < l.t → PartBeyond l.doc l.placed l.node l.options l.certificate l.across (point_rect (get_or (points_of l.section) k origin)) l.j

@@ -1,9 +1,0 @@
-use Rattle.std.proofs.Common.{ℕ, ◌<◌, below_more}
-use Rattle.check_apart.specs.Bounds.{OutlineHeld}
-use Rattle.check_apart.proofs.bounds.add_children.Goals as goal
-
-pub loop-child-preserved : goal.loop-child-preserved
-loop-child-preserved c =
-    let P : ℕ → Type 0 = OutlineHeld c.args.doc.now c.args.placed.now c.args.node c.args.options.now c.args.certificate.now c.add_child-held.new.bounds in
-    let before : (k : ℕ) → k < c.loop-child.child → P k = λ k l child. c.add_child-held.ensures.kept _ _ (c.loop-child.invariant k l child) in
-    below_more P _ before (c.add_child-held.ensures.held c.if-not-held.false)

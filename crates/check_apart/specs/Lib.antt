@@ -1,4 +1,0 @@
-pub mod Bounds
-pub mod Framed
-pub mod Names
-pub mod FirstApart
