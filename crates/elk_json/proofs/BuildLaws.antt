@@ -1,7 +1,8 @@
 -- What the rules that do not hold say where a document is built.
-use Rattle.std.proofs.Common.{◌≡◌, ℕ, suc, ◌+◌, ◌<◌, ◌≤◌, ◌^◌, ℤ, pos, neg_ℤ, List, [], ◌∷◌, length, get_or, Bool, true, false, cond, T, Option, Some, None, refl, ap, sym, subst, ◌∙◌, arith}
+use Rattle.std.proofs.Common.{◌≡◌, ℕ, suc, ◌+◌, ◌<◌, ◌≤◌, ◌^◌, ℤ, pos, neg_ℤ, List, [], ◌∷◌, length, get_or, Bool, true, false, cond, T, Option, Some, None, refl, ap, sym, subst, ◌∙◌, arith, map, drop, append_assoc, append-nil, ◌++◌}
 use Rattle.std.specs.Prelude.{slice_get, find, filter, option_map, codes}
 use Rattle.std.proofs.lemmas.Bool.{and_from}
+use Rattle.std.proofs.lemmas.List.{drop_more}
 use Rattle.std.proofs.lemmas.Int.{ints}
 use Rattle.serde_json.specs.Data.{Data}
 use Rattle.elk_doc.specs.Sound.{IsWithin, IsLength}
@@ -33,6 +34,27 @@ seen_at es i e h is = slice_get-map seen es i ∙ ap (option_map seen) (slice_ge
 -- what no element of a list passes, the element that is read does not pass
 pub none_read : (test : spec.Element → Bool) (es : List Element) (i : ℕ) (e : Element) → find test (seen_list es) ≡ None → i < length es → e ≡ get_or es i e → test (seen e) ≡ false
 none_read test es i e none h is = none_found test (seen_list es) i (seen e) none (seen_at es i e h is)
+
+-- one more item of a list, of those that pass a test, each as its part of the document
+kept_by : {E A : Type 0} (f : E → A) (passes : Bool) (x : E) (rest : List E) (old new all : List A) → old ++ map f (cond passes (x ∷ rest) rest) ≡ all
+    → new ≡ old ++ cond passes (f x ∷ []) [] → new ++ map f rest ≡ all
+kept_by f true x rest old new all before step = ap (λ l. l ++ map f rest) step ∙ append_assoc old (f x ∷ []) (map f rest) ∙ before
+kept_by f false x rest old new all before step = ap (λ l. l ++ map f rest) step ∙ append_assoc old [] (map f rest) ∙ before
+
+pub kept_next : {A : Type 0} (f : spec.Element → A) (test : spec.Element → Bool) (es : List Element) (i : ℕ) (e : Element) (old new all : List A) → i < length es → e ≡ get_or es i e
+    → old ++ map f (filter test (seen_list (drop i es))) ≡ all → new ≡ old ++ cond (test (seen e)) (f (seen e) ∷ []) []
+    → new ++ map f (filter test (seen_list (drop (i + 1) es))) ≡ all
+kept_next f test es i e old new all h is before step =
+    let here : drop i es ≡ e ∷ drop (i + 1) es = drop_more es i e h ∙ ap (λ x. x ∷ drop (i + 1) es) (sym is) in
+    let first : old ++ map f (filter test (seen_list (e ∷ drop (i + 1) es))) ≡ all = ap (λ l. old ++ map f (filter test (seen_list l))) (sym here) ∙ before in
+    kept_by f (test (seen e)) (seen e) (filter test (seen_list (drop (i + 1) es))) old new all first step
+
+-- with a test whose outcome is known
+pub kept : {A : Type 0} (x : A) (passes : Bool) (old new : List A) → passes ≡ true → new ≡ old ++ x ∷ [] → new ≡ old ++ cond passes (x ∷ []) []
+kept x passes old new passed push = push ∙ ap (λ b. old ++ cond b (x ∷ []) []) (sym passed)
+
+pub left_out : {A : Type 0} (x : A) (passes : Bool) (old new : List A) → passes ≡ false → new ≡ old → new ≡ old ++ cond passes (x ∷ []) []
+left_out x passes old new failed same = same ∙ sym (append-nil old) ∙ ap (λ b. old ++ cond b (x ∷ []) []) (sym failed)
 
 true_of : (b : Bool) → T b → b ≡ true
 true_of true h = refl

@@ -1,5 +1,7 @@
 -- Lists of values, as they grow.
-use Rattle.std.proofs.Common.{◌≡◌, suc, List, [], ◌∷◌, ◌++◌, length, refl, ap, string_bytes, String, Global}
+use Rattle.std.proofs.Common.{◌≡◌, ℕ, suc, ◌+◌, ◌<◌, List, [], ◌∷◌, ◌++◌, length, get_or, take, map, refl, sym, ap, ◌∙◌, string_bytes, String, Global}
+use Rattle.std.specs.Prelude.{pos}
+use Rattle.std.proofs.lemmas.List.{take_more, map-append}
 use Rattle.std.specs.BTreeMap.{insert_entry}
 use Rattle.std.specs.String.{string_cmp}
 use Rattle.serde_json.specs.Data.{Items, no_items, item, put}
@@ -7,6 +9,7 @@ use Rattle.serde_json.specs.View.{view, items_view, members_view}
 use Rattle.serde_json.specs.declared.value.Value.{Value}
 use Rattle.serde_json.proofs.Views.{Entry, members_view-insert_entry}
 use Rattle.elk_json.specs.Elements.{items_list}
+use Rattle.elk_write.specs.Values.{whole}
 
 pub length_items : (vs : List Value) → length (items_list (items_view vs)) ≡ length vs
 length_items [] = refl
@@ -27,3 +30,14 @@ before_none (item d ds) = ap (item d) (before_none ds)
 
 pub view_insert : (es : List Entry) (k : String Global) (v : Value) → members_view (insert_entry string_cmp es k v) ≡ put (string_bytes k) (view v) (members_view es)
 view_insert es k v = members_view-insert_entry es k v
+
+-- one number more is written
+pub wholes_next : (xs : List ℕ) (i : ℕ) (old new : List Value) (v : Value) → i < length xs → map view old ≡ map (λ n. whole (pos n)) (take i xs) → new ≡ old ++ v ∷ [] → view v ≡ whole (pos (get_or xs i 0))
+    → map view new ≡ map (λ n. whole (pos n)) (take (i + 1) xs)
+wholes_next xs i old new v h before push is =
+    ap (map view) push
+    ∙ map-append view old (v ∷ [])
+    ∙ ap (λ ds. ds ++ view v ∷ []) before
+    ∙ ap (λ d. map (λ n. whole (pos n)) (take i xs) ++ d ∷ []) is
+    ∙ sym (map-append (λ n. whole (pos n)) (take i xs) (get_or xs i 0 ∷ []))
+    ∙ ap (map (λ n. whole (pos n))) (sym (take_more xs i 0 h))

@@ -1,6 +1,6 @@
 -- Documents that are the same but for the places of ports, where the sides that they give ports are the same too, ask the
 -- same of siblings, content, routes and certificates.
-use Rattle.std.proofs.Common.{◌≡◌, ◌≢◌, ℕ, ◌+◌, ◌-◌, List, length, get_or, map, Bool, true, false, not, ◌&&◌, ◌⊎◌, ⊎_elim, inl, inr, Option, Some, None, sym, ap, ◌∙◌, subst, subst₂}
+use Rattle.std.proofs.Common.{◌≡◌, ◌≢◌, ℕ, ◌+◌, List, length, get_or, map, Bool, true, false, not, ◌&&◌, ◌⊎◌, ⊎_elim, inl, inr, Option, Some, None, sym, ap, ◌∙◌, subst, subst₂}
 use Rattle.std.specs.Prelude.{◌==◌, ℤ, pos, ◌+ℤ◌, ◌-ℤ◌, ◌*ℤ◌, ◌≤ℤ◌, IsTrue, IsFalse, slice_index}
 use Rattle.std.proofs.Math.Path.{fun_ext}
 use Rattle.elk_doc.specs.declared.shape.Rect.{Rect}

@@ -1,5 +1,5 @@
 -- Which rule refuses a placed value.
-use Rattle.std.proofs.Common.{◌≡◌, List, None, Some, Option, sym, ap, ◌∙◌, subst, refl}
+use Rattle.std.proofs.Common.{◌≡◌, List, None, Some, Option, sym, ap, ◌∙◌}
 use Rattle.std.specs.Option.{option_or}
 use Rattle.serde_json.specs.Data.{Data}
 use Rattle.elk_doc.specs.Document.{Document, document}
@@ -10,7 +10,7 @@ use Rattle.elk_json.specs.declared.fault.Rule.TheVariants.{NotPlaced}
 use Rattle.elk_json.specs.Elements.{Element, elements}
 use Rattle.elk_json.specs.Refused.{MatchFault}
 use Rattle.elk_json.specs.Rules.{refused, at}
-use Rattle.elk_json.specs.Document.{IsDocument, nodes_of, ports_of, edges_of}
+use Rattle.elk_json.specs.Document.{IsDocument, nodes_of, ports_of}
 use Rattle.elk_write.specs.Placing.{first_unplaced, document_in, not_placed, refused_placed}
 
 fault_by : (P Q : Refusal → Type 0) (f : DocFault) → ((r : Refusal) → P r → Q r) → MatchFault f P → MatchFault f Q

@@ -1,5 +1,8 @@
 //! A thousand random changes of a graph, against plain lists.
-use crate::incidence::{connect, enter, leave};
+use crate::incidence::{
+    add_node, connect, empty, enter, is_edge, is_node, leads_from, leads_to, leave, remove_edge,
+    remove_node, reverse, split,
+};
 use graph_arena::{Arena, EdgeKey, NodeKey};
 use std::alloc::{AllocError, Global};
 use std::test::Fail;
@@ -51,16 +54,25 @@ fn edges_at(alloc: Global, list: &[Entry], node: NodeKey) -> Result<Vec<EdgeKey>
 }
 
 impl Plain {
+    fn add_edge(&mut self, edge: EdgeKey, tail: NodeKey, head: NodeKey) -> Result<(), AllocError> {
+        self.outs.push(Entry { node: tail, edge })?;
+        self.ins.push(Entry { node: head, edge })?;
+        Ok(())
+    }
+
+    fn remove_edge(&mut self, edge: EdgeKey) {
+        drop_edge(&mut self.outs, edge);
+        drop_edge(&mut self.ins, edge);
+    }
+
     fn remove_node(&mut self, alloc: Global, node: NodeKey) -> Result<(), AllocError> {
         let outs = edges_at(alloc, &self.outs, node)?;
         let ins = edges_at(alloc, &self.ins, node)?;
         for edge in &outs {
-            drop_edge(&mut self.outs, *edge);
-            drop_edge(&mut self.ins, *edge);
+            self.remove_edge(*edge);
         }
         for edge in &ins {
-            drop_edge(&mut self.outs, *edge);
-            drop_edge(&mut self.ins, *edge);
+            self.remove_edge(*edge);
         }
         self.nodes.retain(|other| other.at != node.at);
         Ok(())
@@ -70,23 +82,29 @@ impl Plain {
         if let Some(tail) = end_of(&self.outs, edge)
             && let Some(head) = end_of(&self.ins, edge)
         {
-            drop_edge(&mut self.outs, edge);
-            drop_edge(&mut self.ins, edge);
-            self.outs.push(Entry { node: head, edge })?;
-            self.ins.push(Entry { node: tail, edge })?;
+            self.remove_edge(edge);
+            self.add_edge(edge, head, tail)?;
         }
+        Ok(())
+    }
+
+    fn split(&mut self, edge: EdgeKey, node: NodeKey, far: EdgeKey) -> Result<(), AllocError> {
+        self.nodes.push(node)?;
+        self.outs.push(Entry { node, edge: far })?;
+        hand_over(self.ins.as_mut_slice(), edge, far);
+        self.ins.push(Entry { node, edge })?;
         Ok(())
     }
 }
 
 fn same_ends(arena: &Arena, plain: &Plain) -> bool {
     for entry in &plain.outs {
-        if !arena.is_live_edge(entry.edge) || arena.tail(entry.edge).at != entry.node.at {
+        if !leads_from(arena, entry.edge, entry.node) {
             return false;
         }
     }
     for entry in &plain.ins {
-        if !arena.is_live_edge(entry.edge) || arena.head(entry.edge).at != entry.node.at {
+        if !leads_to(arena, entry.edge, entry.node) {
             return false;
         }
     }
@@ -113,7 +131,7 @@ fn random(state: &mut u64) -> usize {
 
 fn grow(arena: &mut Arena, plain: &mut Plain, state: &mut u64) -> Result<(), AllocError> {
     if plain.nodes.len() < 2 || random(state) % 4 == 0 {
-        let node = arena.add_node()?;
+        let node = add_node(arena)?;
         plain.nodes.push(node)?;
         return Ok(());
     }
@@ -124,8 +142,7 @@ fn grow(arena: &mut Arena, plain: &mut Plain, state: &mut u64) -> Result<(), All
     let tail = nodes[random(state) % nodes.len()];
     let head = nodes[random(state) % nodes.len()];
     if let Some(edge) = connect(arena, tail, head)? {
-        plain.outs.push(Entry { node: tail, edge })?;
-        plain.ins.push(Entry { node: head, edge })?;
+        plain.add_edge(edge, tail, head)?;
     }
     Ok(())
 }
@@ -136,28 +153,30 @@ fn change(arena: &mut Arena, plain: &mut Plain, state: &mut u64) -> Result<(), A
         return Ok(());
     }
     let edge = outs[random(state) % outs.len()].edge;
-    if !arena.is_live_edge(edge) {
+    if !is_edge(arena, edge) {
         return Ok(());
     }
-    match random(state) % 3 {
-        0 => {
-            arena.reverse(edge);
-            plain.reverse(edge)
-        }
-        1 => {
-            arena.remove_edge(edge);
-            drop_edge(&mut plain.outs, edge);
-            drop_edge(&mut plain.ins, edge);
-            Ok(())
-        }
-        _ => {
-            let (node, far) = arena.split(edge)?;
-            plain.nodes.push(node)?;
-            plain.outs.push(Entry { node, edge: far })?;
-            hand_over(plain.ins.as_mut_slice(), edge, far);
-            plain.ins.push(Entry { node, edge })?;
-            Ok(())
-        }
+    change_edge(arena, plain, edge, random(state) % 3)
+}
+
+fn change_edge(
+    arena: &mut Arena,
+    plain: &mut Plain,
+    edge: EdgeKey,
+    way: usize,
+) -> Result<(), AllocError> {
+    if way == 0 {
+        reverse(arena, edge);
+        return plain.reverse(edge);
+    }
+    if way == 1 {
+        remove_edge(arena, edge);
+        plain.remove_edge(edge);
+        return Ok(());
+    }
+    match split(arena, edge)? {
+        None => Ok(()),
+        Some((node, far)) => plain.split(edge, node, far),
     }
 }
 
@@ -172,16 +191,31 @@ fn shrink(
         return Ok(());
     }
     let node = nodes[random(state) % nodes.len()];
-    if arena.is_live_node(node) {
-        arena.remove_node(node);
+    if is_node(arena, node) {
+        remove_node(arena, node);
         plain.remove_node(alloc, node)?;
     }
     Ok(())
 }
 
+// Changes both graphs in one way, and says whether they agree.
+fn step(
+    alloc: Global,
+    arena: &mut Arena,
+    plain: &mut Plain,
+    state: &mut u64,
+) -> Result<bool, AllocError> {
+    match random(state) % 8 {
+        0..4 => grow(arena, plain, state)?,
+        4..7 => change(arena, plain, state)?,
+        _ => shrink(alloc, arena, plain, state)?,
+    }
+    same(alloc, arena, plain)
+}
+
 #[test]
 fn a_thousand_random_changes_agree_with_plain_lists(rt: HostRuntime) -> Result<(), Fail> {
-    let mut arena = Arena::new(rt.alloc());
+    let mut arena = empty(rt.alloc());
     let mut plain = Plain {
         nodes: Vec::new(rt.alloc()),
         outs: Vec::new(rt.alloc()),
@@ -189,12 +223,7 @@ fn a_thousand_random_changes_agree_with_plain_lists(rt: HostRuntime) -> Result<(
     };
     let mut state = 20261127;
     for _ in 0..1000 {
-        match random(&mut state) % 8 {
-            0..4 => grow(&mut arena, &mut plain, &mut state)?,
-            4..7 => change(&mut arena, &mut plain, &mut state)?,
-            _ => shrink(rt.alloc(), &mut arena, &mut plain, &mut state)?,
-        }
-        assert!(rt; same(rt.alloc(), &arena, &plain)?);
+        assert!(rt; step(rt.alloc(), &mut arena, &mut plain, &mut state)?);
     }
     assert!(rt; plain.nodes.len() >= 2);
     Ok(())

@@ -4,6 +4,7 @@ ghost use Rattle.graph_arena.specs.Graph.{Ends, ends_at, IsEdge, IsNode};
 ghost use Rattle.long_edges.specs.Chains.{chain_at};
 ghost use Rattle.long_edges.specs.Layers.{IsLayered};
 
+use crate::incidence::{add_node, connect, empty, leads_to};
 use graph_arena::{Arena, EdgeKey, NodeKey};
 use long_edges::{Chains, split_all};
 use std::alloc::{AllocError, Global};
@@ -70,14 +71,14 @@ fn split_if_layered(
 
 #[test]
 fn one_node_on_the_edge_over_two_layers(rt: HostRuntime) -> Result<(), Fail> {
-    let mut arena = Arena::new(rt.alloc());
-    let a = arena.add_node()?;
-    let b = arena.add_node()?;
-    let c = arena.add_node()?;
-    assert!(rt; arena.is_live_node(a) && arena.is_live_node(b) && arena.is_live_node(c));
-    arena.add_edge(a, b)?;
-    arena.add_edge(b, c)?;
-    let long = arena.add_edge(a, c)?;
+    let mut arena = empty(rt.alloc());
+    let a = add_node(&mut arena)?;
+    let b = add_node(&mut arena)?;
+    let c = add_node(&mut arena)?;
+    connect(&mut arena, a, b)?;
+    connect(&mut arena, b, c)?;
+    let long = connect(&mut arena, a, c)?.ok_or("no node")?;
+    assert!(rt; arena.is_live_edge(long));
     let chains = split_if_layered(rt.alloc(), &mut arena, &[0, 1, 2])?.ok_or("no layers")?;
     let chain = chains.chain_of(long);
     assert_eq!(rt; chain.len(), 2);
@@ -86,19 +87,17 @@ fn one_node_on_the_edge_over_two_layers(rt: HostRuntime) -> Result<(), Fail> {
     let lane = chains.lanes()[0];
     assert_eq!(rt; lane.layer, 1);
     assert_eq!(rt; lane.edge.at, long.at);
-    assert!(rt; arena.is_live_edge(long));
-    assert_eq!(rt; arena.head(long).at, lane.node.at);
+    assert!(rt; leads_to(&arena, long, lane.node));
     Ok(())
 }
 
 #[test]
 fn one_node_on_each_layer_between(rt: HostRuntime) -> Result<(), Fail> {
-    let mut arena = Arena::new(rt.alloc());
-    let a = arena.add_node()?;
-    let b = arena.add_node()?;
-    assert!(rt; arena.is_live_node(a) && arena.is_live_node(b));
-    arena.add_edge(a, b)?;
-    arena.add_edge(a, b)?;
+    let mut arena = empty(rt.alloc());
+    let a = add_node(&mut arena)?;
+    let b = add_node(&mut arena)?;
+    connect(&mut arena, a, b)?;
+    connect(&mut arena, a, b)?;
     let chains = split_if_layered(rt.alloc(), &mut arena, &[3, 7])?.ok_or("no layers")?;
     let layers = [4, 5, 6, 4, 5, 6];
     assert_eq!(rt; chains.lanes().len(), layers.len());

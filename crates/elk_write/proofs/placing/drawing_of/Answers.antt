@@ -1,4 +1,4 @@
-use Rattle.std.proofs.Common.{◌≡◌, ◌+◌, ◌<◌, List, [], ◌∷◌, ◌++◌, length, map, take, drop, filter, Some, None, sym, ap, ◌∙◌, subst, arith}
+use Rattle.std.proofs.Common.{◌≡◌, ◌+◌, ◌<◌, [], ◌∷◌, ◌++◌, length, map, take, drop, filter, Some, sym, ap, ◌∙◌, subst, arith}
 use Rattle.std.proofs.lemmas.List.{drop_more, take_more}
 use Rattle.elk_doc.specs.declared.drawing.Placed.{Placed}
 use Rattle.elk_json.specs.declared.fault.Rule.TheVariants.{NotPlaced}
@@ -6,7 +6,7 @@ use Rattle.elk_json.specs.Members.{is_node, is_port, is_edge}
 use Rattle.elk_json.specs.Refused.{MatchFault}
 use Rattle.elk_json.specs.Rules.{first_at, at}
 use Rattle.elk_json.specs.Seen.{seen, seen_list}
-use Rattle.elk_write.specs.Placing.{box_at, level_at, place_at, section_at, given, IsGiven, given_part, of_kind, number_of, is_unplaced, first_unplaced}
+use Rattle.elk_write.specs.Placing.{box_at, level_at, place_at, section_at, given, IsGiven, given_part, number_of, is_unplaced, first_unplaced}
 use Rattle.elk_write.proofs.Growing.{map_push, map_front, grown, number_is, first_passes, first_stops}
 use Rattle.elk_write.proofs.placing.drawing_of.Goals as goal
 
