@@ -27,23 +27,23 @@ use Rattle.level_plan.specs.declared.level.LevelIn.{LevelIn}
 use Rattle.level_plan.specs.Conditions.{plain_level}
 use Rattle.level_plan.specs.FromPlan.{LevelDrawing, point_or}
 use Rattle.level_plan.specs.Level.{PlainLevel, child_at}
-use Rattle.level_stands.specs.Apart.{drawn_outline_from}
+use Rattle.level_plan.specs.Apart.{drawn_outline_from}
 use Rattle.level_boxes.specs.Boxes.{IsBoxesLayout, alone}
 use Rattle.level_boxes.specs.Outlines.{child_in, outline_from, outline_of, outline_size, port_rect, ports_in, rect_in}
 use Rattle.level_boxes.specs.Placing.{corner}
 use Rattle.level_frame.specs.Drawing.{IsTurnedDrawing, plus}
 use Rattle.level_frame.specs.Turned.{box_size, child_number, edge_number, level_edge, level_of, turned_place, turned_size}
 use Rattle.level_frame.proofs.NumberedLemmas.{levels_are_listed}
-use Rattle.level_turns.specs.Framed.{start_of}
-use Rattle.level_turns.specs.Outlines.{shifted}
-use Rattle.level_turns.proofs.HullLemmas.{hull_moved}
-use Rattle.level_turns.proofs.OutlineLemmas.{drawn_port_box, outlines_turn_back}
-use Rattle.level_writing.specs.declared.figure.LevelFigure.{LevelFigure}
-use Rattle.level_writing.specs.Figure.{figure_in}
-use Rattle.level_writing.specs.Sizes.{IsSizeRound}
-use Rattle.level_writing.specs.Written.{HasCertificate}
+use Rattle.level_laws.specs.Framed.{start_of}
+use Rattle.level_laws.specs.Outlines.{shifted}
+use Rattle.level_laws.proofs.HullLemmas.{hull_moved}
+use Rattle.level_laws.proofs.OutlineLemmas.{drawn_port_box, outlines_turn_back}
+use Rattle.document_levels.specs.declared.figure.LevelFigure.{LevelFigure}
+use Rattle.document_levels.specs.Figure.{figure_in}
+use Rattle.document_levels.specs.Sizes.{IsSizeRound}
+use Rattle.document_levels.specs.Written.{HasCertificate}
 use Rattle.document_plan.specs.Boxed.{IsBoxedPlan, boxes_certificate, corner_of, inner_corner, lowest, outline_sizes, size_of}
-use Rattle.document_rules.proofs.EdgeLemmas.{no_edges}
+use Rattle.document_plan.proofs.EdgeLemmas.{no_edges}
 use Rattle.compound.specs.Figures.{IsBoxed, figure_of_boxes, layers_for}
 
 -- ---- out of the frame

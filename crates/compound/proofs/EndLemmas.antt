@@ -10,12 +10,12 @@ use Rattle.elk_doc.specs.Fits.{KeepsSize}
 use Rattle.elk_doc.specs.Sound.{IsSound}
 use Rattle.level_frame.specs.Kept.{AgreeAt}
 use Rattle.level_frame.specs.Turned.{box_size}
-use Rattle.level_writing.specs.Back.{size_of}
+use Rattle.document_levels.specs.Back.{size_of}
 use Rattle.document_plan.proofs.PlanLemmas.{plans_stay}
-use Rattle.document_rules.proofs.NestedLemmas.{planned_boxes_are_small}
-use Rattle.document_root.specs.Rooted.{AreRootPortsPlaced, IsRootBox}
-use Rattle.document_rules.specs.Whole.{IsLaidOutDocument, IsWellDrawnDocument}
-use Rattle.document_rules.proofs.WholeLemmas.{documents_are_drawn}
+use Rattle.document_plan.proofs.NestedLemmas.{planned_boxes_are_small}
+use Rattle.document_plan.specs.Rooted.{AreRootPortsPlaced, IsRootBox}
+use Rattle.document_plan.specs.Whole.{IsLaidOutDocument, IsWellDrawnDocument}
+use Rattle.document_plan.proofs.WholeLemmas.{documents_are_drawn}
 use Rattle.compound.specs.Work.{IsWork}
 use Rattle.compound.proofs.TreeLemmas.{child_after}
 

@@ -19,13 +19,13 @@ use Rattle.level_traces.specs.Traced.{plain_traces}
 use Rattle.level_frame.specs.Drawing.{IsTurnedDrawing}
 use Rattle.level_frame.specs.Turned.{box_size, level_of}
 use Rattle.level_frame.proofs.KeptLemmas.{drawings_read_levels, levels_read_sizes}
-use Rattle.level_turns.specs.Framed.{start_of}
-use Rattle.level_reading.specs.Read.{size_at}
-use Rattle.level_writing.specs.declared.figure.LevelFigure.{LevelFigure}
-use Rattle.level_writing.specs.Back.{size_of}
-use Rattle.level_writing.specs.Figure.{figure_in}
-use Rattle.level_writing.specs.Sizes.{IsSizeRound}
-use Rattle.level_writing.specs.Written.{HasCertificate}
+use Rattle.level_laws.specs.Framed.{start_of}
+use Rattle.document_levels.specs.Read.{size_at}
+use Rattle.document_levels.specs.declared.figure.LevelFigure.{LevelFigure}
+use Rattle.document_levels.specs.Back.{size_of}
+use Rattle.document_levels.specs.Figure.{figure_in}
+use Rattle.document_levels.specs.Sizes.{IsSizeRound}
+use Rattle.document_levels.specs.Written.{HasCertificate}
 use Rattle.document_plan.specs.Parted.{IsPartedPlan}
 use Rattle.document_plan.specs.Planned.{ArePlannedFrom, IsLayeredPlan, IsPlannedLevel}
 use Rattle.document_plan.proofs.PlanLemmas.{plans_stay}

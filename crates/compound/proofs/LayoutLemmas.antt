@@ -16,7 +16,7 @@ use Rattle.level_plan.specs.declared.level.LevelIn.{LevelIn}
 use Rattle.level_plan.specs.Conditions.{IsLevel, plain_level}
 use Rattle.level_plan.specs.FromPlan.{IsDrawnFrom}
 use Rattle.level_plan.specs.Level.{PlainLevel, PlainPlan}
-use Rattle.level_stands.proofs.Lists.{has_at}
+use Rattle.level_plan.proofs.Lists.{has_at}
 use Rattle.level_nets.specs.Held.{plain_gaps}
 use Rattle.level_traces.specs.Traced.{plain_traces}
 use Rattle.level_boxes.specs.Boxes.{alone}
@@ -24,24 +24,24 @@ use Rattle.level_draw.specs.declared.drawing.LevelOut.{LevelOut}
 use Rattle.level_draw.specs.Drawing.{IsTight, drawn_in, plan_from}
 use Rattle.level_frame.specs.Turned.{level_of}
 use Rattle.level_frame.proofs.NumberedLemmas.{levels_are_listed}
-use Rattle.level_turns.proofs.EdgeLemmas.{has_holds}
-use Rattle.level_bounds.proofs.Bounded.{extents_small}
-use Rattle.level_reading.specs.Levels.{HasRoom}
-use Rattle.level_reading.specs.Read.{AreSizes, HasSizes}
-use Rattle.level_reading.proofs.LevelLemmas.{levels_are_levels}
-use Rattle.level_writing.specs.Back.{size_of}
-use Rattle.level_writing.specs.Ranges.{IsLongBox, IsLongSize}
-use Rattle.level_writing.specs.declared.figure.LevelFigure.{LevelFigure}
-use Rattle.level_writing.specs.Figure.{figure_of}
-use Rattle.level_writing.specs.Room.{HasPlaces}
-use Rattle.level_writing.specs.Written.{ArePortPlaces, IsWritable}
-use Rattle.level_writing.proofs.RoomLemmas.{writable}
+use Rattle.level_laws.proofs.EdgeLemmas.{has_holds}
+use Rattle.level_laws.proofs.Bounded.{extents_small}
+use Rattle.document_levels.specs.Levels.{HasRoom}
+use Rattle.document_levels.specs.Read.{AreSizes, HasSizes}
+use Rattle.document_levels.proofs.LevelLemmas.{levels_are_levels}
+use Rattle.document_levels.specs.Back.{size_of}
+use Rattle.document_levels.specs.Ranges.{IsLongBox, IsLongSize}
+use Rattle.document_levels.specs.declared.figure.LevelFigure.{LevelFigure}
+use Rattle.document_levels.specs.Figure.{figure_of}
+use Rattle.document_levels.specs.Room.{HasPlaces}
+use Rattle.document_levels.specs.Written.{ArePortPlaces, IsWritable}
+use Rattle.document_levels.proofs.RoomLemmas.{writable}
 use Rattle.level_layout.specs.Layout.{IsLaidOut}
 use Rattle.document_plan.specs.Planned.{ArePlannedFrom}
-use Rattle.document_rules.proofs.EdgeLemmas.{edges_none}
-use Rattle.document_rules.specs.Nested.{IsSmallBox}
-use Rattle.document_rules.proofs.NestedLemmas.{planned_boxes_are_small, planned_levels_have_room}
-use Rattle.level_joined.specs.Joined.{with_gaps}
+use Rattle.document_plan.proofs.EdgeLemmas.{edges_none}
+use Rattle.document_plan.specs.Nested.{IsSmallBox}
+use Rattle.document_plan.proofs.NestedLemmas.{planned_boxes_are_small, planned_levels_have_room}
+use Rattle.level_laws.specs.Joined.{with_gaps}
 use Rattle.level_split.specs.declared.layout.PartsOut.{PartsOut}
 use Rattle.level_split.specs.Laws.{IsPartedDrawing}
 use Rattle.level_split.specs.Parts.{IsPartsLayout, whole_drawing}

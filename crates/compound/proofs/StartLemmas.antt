@@ -10,8 +10,8 @@ use Rattle.elk_doc.specs.Document.{Document, no_node, no_size, node_at}
 use Rattle.elk_doc.specs.Drawing.{box_of, certificate_of, no_rect}
 use Rattle.elk_doc.specs.Sound.{IsSound}
 use Rattle.level_frame.specs.Turned.{box_size}
-use Rattle.level_writing.specs.Back.{size_of}
-use Rattle.level_writing.specs.Canvas.{IsDrawingOf, blank_box, blank_drawing}
+use Rattle.document_levels.specs.Back.{size_of}
+use Rattle.document_levels.specs.Canvas.{IsDrawingOf, blank_box, blank_drawing}
 use Rattle.compound.specs.Work.{IsWork, given_size}
 
 blank_at : (d : Document) (n : ℕ) → n < length d.nodes → box_of (blank_drawing d) n ≡ blank_box (node_at d n)

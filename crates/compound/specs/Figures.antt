@@ -10,8 +10,8 @@ use Rattle.level_boxes.specs.declared.layout.BoxesOut.{BoxesOut}
 use Rattle.level_boxes.specs.Boxes.{HasRoom, IsBoxesLayout}
 use Rattle.level_split.specs.declared.layout.PartsOut.{PartsOut}
 use Rattle.level_split.specs.Parts.{IsPartsLayout}
-use Rattle.level_writing.specs.declared.figure.LevelFigure.{LevelFigure}
-use Rattle.level_writing.specs.Figure.{figure_of}
+use Rattle.document_levels.specs.declared.figure.LevelFigure.{LevelFigure}
+use Rattle.document_levels.specs.Figure.{figure_of}
 
 -- a layer for each box, and nothing turned round
 abbrev pub layers_for : List Point → List ℕ

@@ -9,12 +9,12 @@ use Rattle.elk_doc.specs.Drawing.{certificate_of}
 use Rattle.elk_doc.specs.Fits.{IsRooted}
 use Rattle.level_plan.specs.declared.level.LevelIn.{LevelIn}
 use Rattle.level_plan.specs.Conditions.{plain_level}
-use Rattle.level_writing.specs.declared.figure.LevelFigure.{LevelFigure}
+use Rattle.document_levels.specs.declared.figure.LevelFigure.{LevelFigure}
 use Rattle.level_frame.specs.Turned.{box_size, level_of}
-use Rattle.level_reading.specs.Read.{size_at}
-use Rattle.level_writing.specs.Canvas.{IsDrawingOf}
-use Rattle.level_writing.specs.Sizes.{IsNodeFramed}
-use Rattle.level_writing.specs.Written.{IsWritten}
+use Rattle.document_levels.specs.Read.{size_at}
+use Rattle.document_levels.specs.Canvas.{IsDrawingOf}
+use Rattle.document_levels.specs.Sizes.{IsNodeFramed}
+use Rattle.document_levels.specs.Written.{IsWritten}
 use Rattle.document_plan.specs.Planned.{ArePlannedFrom}
 use Rattle.compound.specs.Figures.{IsFigureIn}
 

@@ -4,6 +4,7 @@ ghost use Rattle.level_plan.specs.Conditions.{plain_level, IsLevel};
 ghost use Rattle.elk_doc.specs.Sound.{IsDistance};
 ghost use Rattle.compound.specs.Figures.{IsBoxed, IsFigureIn, IsLayered, IsParted, figure_of_boxes, flat_certificate, layers_for};
 
+use document_levels::{LevelFigure, figure_of};
 use elk_doc::document::LevelOptions;
 use elk_doc::drawing::Certificate;
 use elk_doc::list::Items;
@@ -12,7 +13,6 @@ use level_boxes::{BoxesOut, layout_boxes};
 use level_layout::layout_level;
 use level_plan::LevelIn;
 use level_split::layout_parts;
-use level_writing::{LevelFigure, figure_of};
 use std::alloc::{AllocError, Global};
 
 // Layer 0 for each box.

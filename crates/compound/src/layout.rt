@@ -5,21 +5,23 @@ ghost use Rattle.elk_doc.specs.Drawn.{Drawn};
 ghost use Rattle.elk_doc.specs.Fitted.{Fitted};
 ghost use Rattle.elk_doc.specs.Sound.{IsSound};
 ghost use Rattle.level_frame.specs.Turned.{box_size};
-ghost use Rattle.level_reading.specs.Indexed.{IsIndex};
-ghost use Rattle.level_writing.specs.Canvas.{IsDrawingOf, drawing_of};
-ghost use Rattle.level_writing.specs.Written.{IsWritable};
+ghost use Rattle.document_levels.specs.Indexed.{IsIndex};
+ghost use Rattle.document_levels.specs.Canvas.{IsDrawingOf, drawing_of};
+ghost use Rattle.document_levels.specs.Written.{IsWritable};
 ghost use Rattle.document_plan.specs.Planned.{Planned};
 ghost use Rattle.drawing_laws.specs.Held.{HasSmallCoordinates};
 ghost use Rattle.compound.specs.Work.{IsFigureOf, IsFramedRound, IsWork};
 
 use crate::figures::figure_in;
 use crate::sizes::given_sizes;
-use document_root::place_root_ports;
+use document_levels::{
+    Canvas, Index, LevelFigure, LevelNumbers, blank, frame_node, index_of, level_in, placed,
+    write_level,
+};
+use document_plan::place_root_ports;
 use elk_doc::document::{Doc, LevelOptions};
 use elk_doc::drawing::Placed;
 use elk_doc::shape::Size;
-use level_reading::{Index, index_of, level_in};
-use level_writing::{Canvas, LevelFigure, LevelNumbers, blank, frame_node, placed, write_level};
 use std::alloc::{AllocError, Global};
 
 // A drawing in work, with the sizes of its boxes by node.

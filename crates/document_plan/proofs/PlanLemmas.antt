@@ -16,8 +16,8 @@ use Rattle.level_frame.specs.Turned.{box_size, child_number, port_number, turned
 use Rattle.level_frame.proofs.KeptLemmas.{drawings_read_levels, levels_read_sizes}
 use Rattle.level_frame.proofs.NumberedLemmas.{numbers_match}
 use Rattle.level_draw.specs.Drawing.{drawn_in}
-use Rattle.level_turns.specs.Framed.{start_of}
-use Rattle.level_writing.specs.Sizes.{IsSizeRound}
+use Rattle.level_laws.specs.Framed.{start_of}
+use Rattle.document_levels.specs.Sizes.{IsSizeRound}
 use Rattle.document_plan.specs.Boxed.{IsBoxedPlan, corner_of, outline_sizes, size_of}
 use Rattle.document_plan.specs.Laws.{PlansStay}
 use Rattle.document_plan.specs.Parted.{IsPartedPlan}

@@ -22,7 +22,7 @@ use Rattle.box_pack.specs.Boxes.{point_at}
 use Rattle.box_pack.specs.Squareness.{IsSquarest}
 use Rattle.level_frame.specs.Turned.{box_size, child_number, level_child, port_number, ports_of, turned_place, turned_size}
 use Rattle.level_frame.specs.Drawing.{plus}
-use Rattle.level_writing.specs.Sizes.{IsSizeRound}
+use Rattle.document_levels.specs.Sizes.{IsSizeRound}
 
 -- the children of n, with their sizes in the drawing, as a level without edges
 abbrev pub edgeless : Document → Placed → ℕ → LevelOptions → PlainLevel

@@ -2,3 +2,9 @@ pub mod Boxed
 pub mod Parted
 pub mod Planned
 pub mod Laws
+pub mod Rooted
+pub mod Examples
+pub mod Whole
+pub mod Boxes
+pub mod PartedDrawn
+pub mod Nested

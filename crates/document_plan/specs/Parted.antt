@@ -9,9 +9,9 @@ use Rattle.level_split.specs.declared.layout.PartsOut.{PartsOut}
 use Rattle.level_split.specs.Parts.{IsPartsLayout, whole_drawing}
 use Rattle.level_frame.specs.Turned.{box_size, level_of}
 use Rattle.level_frame.specs.Drawing.{IsTurnedDrawing}
-use Rattle.level_turns.specs.Framed.{start_of}
-use Rattle.level_writing.specs.Sizes.{IsSizeRound}
-use Rattle.level_writing.specs.Written.{HasCertificate}
+use Rattle.level_laws.specs.Framed.{start_of}
+use Rattle.document_levels.specs.Sizes.{IsSizeRound}
+use Rattle.document_levels.specs.Written.{HasCertificate}
 
 -- The level of n, which has these options, comes from layouts of its connected parts, with the sizes of its children in the
 -- drawing, in the frame of its direction: its boxes, ports and routes are those of the parts in rows, turned back and moved to

@@ -14,9 +14,9 @@ use Rattle.level_draw.specs.Drawing.{drawn_in}
 use Rattle.level_layout.specs.Layout.{IsLaidOut}
 use Rattle.level_frame.specs.Turned.{box_size, level_child, level_of, port_number, ports_of, turned_place}
 use Rattle.level_frame.specs.Drawing.{IsTurnedDrawing}
-use Rattle.level_turns.specs.Framed.{start_of}
-use Rattle.level_writing.specs.Sizes.{IsSizeRound}
-use Rattle.level_writing.specs.Written.{HasCertificate}
+use Rattle.level_laws.specs.Framed.{start_of}
+use Rattle.document_levels.specs.Sizes.{IsSizeRound}
+use Rattle.document_levels.specs.Written.{HasCertificate}
 use Rattle.document_plan.specs.Boxed.{IsBoxedPlan}
 use Rattle.document_plan.specs.Parted.{IsPartedPlan}
 

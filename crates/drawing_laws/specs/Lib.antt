@@ -1,2 +1,4 @@
 pub mod Duality
 pub mod Held
+pub mod Turning
+pub mod Frames

@@ -1,9 +1,14 @@
-//! What holds of every drawing: a flow shows that no layering has a smaller span, and levels that lie within their nodes' padding
-//! give a drawing the form that its document asks for.
+//! What holds of every drawing: a flow shows that no layering has a smaller span; levels that lie within their nodes' padding
+//! give a drawing the form that its document asks for; and a drawing says the same in the frame in which its direction runs to
+//! the right.
 #![tactic(auto)]
 
 mod fits;
 mod laws;
+mod turning;
 
 pub use fits::held_drawings_fit;
 pub use laws::least_by_flow;
+pub use turning::{
+    boxes_turn, distances_turn, docks_turn, paths_turn, routes_turn, sides_turn, turns_back,
+};

@@ -13,7 +13,7 @@ use Rattle.elk_write.specs.Placing.{IsDrawing, refused_placed}
 use Rattle.layout_check.specs.declared.verdict.Verdict.TheVariants.{Yes}
 use Rattle.layout_check.proofs.DrawnLaws.{exact}
 use Rattle.elk_outer.specs.Causes.{Rose}
-use Rattle.elk_words.specs.declared.Command.TheVariants.{Check}
+use Rattle.elk_engine.specs.declared.words.Command.TheVariants.{Check}
 use Rattle.elk_engine.specs.Check.{Refuses, RefusesReading, IsJudged, verdict_line, verdict_status}
 use Rattle.elk_engine.specs.Command.{limit, IsRefused}
 use Rattle.elk_engine.specs.Outcome.{Outcome, Gains, IsCutShort}

@@ -13,7 +13,7 @@ use Rattle.elk_lines.specs.declared.answer.Piece.{Piece}
 use Rattle.elk_lines.specs.declared.answer.Piece.TheVariants.{Line, Long, End}
 use Rattle.elk_lines.specs.declared.answer.LineFault.{LineFault}
 use Rattle.elk_lines.specs.declared.answer.LineFault.TheVariants.{Fault, TooLong as PastLimit, Memory as NoMemory}
-use Rattle.elk_words.specs.declared.Command.TheVariants.{Batch}
+use Rattle.elk_engine.specs.declared.words.Command.TheVariants.{Batch}
 use Rattle.elk_engine.specs.declared.batch.Halt.{Halt}
 use Rattle.elk_engine.specs.declared.batch.Halt.TheVariants.{Read, TooLong, Write, Memory}
 use Rattle.elk_json.specs.declared.fault.Refusal.{Refusal}

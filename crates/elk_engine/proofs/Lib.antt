@@ -2,3 +2,5 @@ mod BatchLemmas
 mod DemoLemmas
 mod Outcomes
 mod AgainLaw
+mod Clap
+mod Numbers

@@ -2,7 +2,7 @@
 use Rattle.std.specs.Prelude.{◌≡◌, ◌⊎◌, ℕ, ◌≤◌, List, [], length, codes, Option, Some}
 use Rattle.std.specs.Io.KnownBytes.{Consumes, IsAtEnd}
 use Rattle.elk_outer.specs.Causes.{Rose}
-use Rattle.elk_words.specs.declared.Command.TheVariants.{Layout, Check}
+use Rattle.elk_engine.specs.declared.words.Command.TheVariants.{Layout, Check}
 use Rattle.elk_engine.specs.Command.{limit, Answers}
 use Rattle.elk_engine.specs.Outcome.{Outcome, Gains, IsCutShort}
 

@@ -5,8 +5,8 @@ use Rattle.elk_answer.specs.Answer as answer
 use Rattle.elk_engine.specs.Check as check
 use Rattle.elk_engine.specs.Batch as batch
 use Rattle.elk_engine.specs.Demo as demo
-use Rattle.elk_words.specs.declared.Command.{Command}
-use Rattle.elk_words.specs.declared.Command.TheVariants.{Layout, Check, Batch, Demo}
+use Rattle.elk_engine.specs.declared.words.Command.{Command}
+use Rattle.elk_engine.specs.declared.words.Command.TheVariants.{Layout, Check, Batch, Demo}
 use Rattle.elk_engine.specs.Notes.{refused_note}
 
 -- the most bytes that it takes of its input; none where it reads nothing

@@ -2,7 +2,7 @@
 use Rattle.std.specs.Prelude.{◌≡◌, ◌≢◌, [], Some, ℕ, ◌+◌, ◌≤◌, Bool, true, false, List, ◌++◌, length, take, All, Option, Result, Ok, Err}
 use Rattle.std.specs.Io.KnownBytes.{Appends, Consumes, IsAtEnd}
 use Rattle.elk_lines.specs.Reader.{HasNoFeed}
-use Rattle.elk_words.specs.declared.Command.TheVariants.{Batch}
+use Rattle.elk_engine.specs.declared.words.Command.TheVariants.{Batch}
 use Rattle.elk_engine.specs.declared.batch.Halt.{Halt}
 use Rattle.elk_engine.specs.declared.batch.Halt.TheVariants.{Read, TooLong, Write, Memory}
 use Rattle.elk_lines.specs.declared.answer.Piece.{Piece}

@@ -1,6 +1,6 @@
 -- Why a command has no reply.
 use Rattle.std.specs.Prelude.{◌≡◌, ℕ, List, ⊤}
-use Rattle.elk_words.specs.declared.Command.{Command}
+use Rattle.elk_engine.specs.declared.words.Command.{Command}
 use Rattle.elk_engine.specs.declared.reply.Stop.{Stop}
 use Rattle.elk_engine.specs.declared.reply.Stop.TheVariants as stop
 use Rattle.elk_json.specs.declared.fault.DocFault.{DocFault}

@@ -3,7 +3,7 @@ ghost use Rattle.std.specs.Prelude.{◌≡◌, ◌⊎◌, ◌≤◌, ◌<◌, �
 ghost use Rattle.std.specs.declared.option.Option.{Option};
 ghost use Rattle.std.specs.Io.KnownBytes.{Consumes, IsAtEnd};
 ghost use Rattle.elk_outer.specs.Causes.{Rose};
-ghost use Rattle.elk_words.specs.declared.Command.TheVariants.{Batch};
+ghost use Rattle.elk_engine.specs.declared.words.Command.TheVariants.{Batch};
 ghost use Rattle.elk_engine.specs.Batch.{longest, IsReply};
 ghost use Rattle.elk_engine.specs.Lines.{AfterLine, AreAnswered, IsEnd, IsPut, IsReplyPut, IsTold, halt_of, note_of, status_of};
 ghost use Rattle.elk_engine.specs.Outcome.{Outcome};

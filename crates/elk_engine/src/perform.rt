@@ -2,8 +2,8 @@
 ghost use Rattle.std.specs.Prelude.{◌≡◌, ◌≤◌, ◌^◌, ⊤, ℕ, List, IsTrue, IsFalse};
 ghost use Rattle.std.specs.Io.KnownBytes.{Consumes, IsAtEnd, Keeps};
 ghost use Rattle.elk_outer.specs.Causes.{Rose};
-ghost use Rattle.elk_words.specs.Words.{IsBounded};
-ghost use Rattle.elk_words.specs.declared.Command.TheVariants.{Batch};
+ghost use Rattle.elk_engine.specs.Words.{IsBounded};
+ghost use Rattle.elk_engine.specs.declared.words.Command.TheVariants.{Batch};
 ghost use Rattle.elk_engine.specs.Command.{Answers, IsAccepted, IsTooLong, IsWhole, Reads, limit};
 ghost use Rattle.elk_engine.specs.Outcome.{Outcome};
 

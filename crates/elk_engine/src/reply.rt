@@ -3,7 +3,7 @@ ghost use Rattle.std.specs.Prelude.{◌≡◌, ◌≤◌, ℕ, List, IfOk, OnOk,
 ghost use Rattle.elk_engine.specs.Command.{Answers, IsWhole, Refuses};
 ghost use Rattle.elk_engine.specs.Demo.{IsDemoLine};
 ghost use Rattle.elk_engine.specs.Reply.{IsCause, IsStop};
-ghost use Rattle.elk_words.specs.Words.{IsBounded};
+ghost use Rattle.elk_engine.specs.Words.{IsBounded};
 
 use crate::Command;
 use crate::demonstration::demo_line;

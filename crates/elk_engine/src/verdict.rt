@@ -1,6 +1,6 @@
 // What `check` answers.
 ghost use Rattle.std.specs.Prelude.{◌≡◌, ℕ, List, IfOk, OnOk, IfErr, option_map};
-ghost use Rattle.elk_words.specs.declared.Command.TheVariants.{Check};
+ghost use Rattle.elk_engine.specs.declared.words.Command.TheVariants.{Check};
 ghost use Rattle.elk_engine.specs.Command.{Answers, Refuses};
 ghost use Rattle.elk_engine.specs.Check.{id_at, verdict_line, verdict_status};
 ghost use Rattle.elk_engine.specs.Reply.{IsCause};

@@ -15,7 +15,7 @@ use Rattle.level_plan.specs.declared.level.LevelIn.{LevelIn}
 use Rattle.level_plan.specs.Conditions.{IsLevel, plain_level}
 use Rattle.level_draw.specs.declared.drawing.LevelOut.{LevelOut}
 use Rattle.level_layout.specs.Layout.{IsLaidOut}
-use Rattle.level_shift.specs.Ranges.{IsFarPoint}
+use Rattle.level_frame.specs.Ranges.{IsFarPoint}
 use Rattle.level_frame.specs.Turned.{turned_size}
 use Rattle.level_boxes.specs.Boxes.{HasRoom, IsBoxesLayout, alone}
 use Rattle.level_boxes.specs.Outlines.{AreOutlines, outline_size}

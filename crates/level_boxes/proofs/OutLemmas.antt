@@ -15,15 +15,15 @@ use Rattle.level_plan.specs.declared.level.LevelIn.{LevelIn}
 use Rattle.level_plan.specs.Conditions.{plain_level}
 use Rattle.level_plan.specs.FromPlan.{IsDrawnFrom, point_or}
 use Rattle.level_plan.specs.Level.{Orders, PlainLevel, PlainPlan, child_at, dock_of_spot, outline, outline_from as planned_from, port_place, port_spot}
-use Rattle.level_stands.proofs.Lists.{Has, below_has, has_range}
-use Rattle.level_stands.proofs.SpotLemmas.{held_once, port_spot_there}
+use Rattle.level_plan.proofs.Lists.{Has, below_has, has_range}
+use Rattle.level_plan.proofs.SpotLemmas.{held_once, port_spot_there}
 use Rattle.level_ends.specs.Narrow.{IsNarrow, IsNearRect, IsOffset}
 use Rattle.level_ends.proofs.NarrowLemmas.{box_near, given_near, narrow, pinned_side, port_near, spread_near}
 use Rattle.level_draw.specs.declared.drawing.LevelOut.{LevelOut}
 use Rattle.level_draw.specs.Drawing.{drawn_in, plan_from}
 use Rattle.level_layout.specs.Layout.{IsLaidOut}
-use Rattle.level_bounds.proofs.SizeLemmas.{heights_low, widths_low}
-use Rattle.level_bounds.proofs.Sums.{over, over_least}
+use Rattle.level_laws.proofs.SizeLemmas.{heights_low, widths_low}
+use Rattle.level_laws.proofs.Sums.{over, over_least}
 use Rattle.level_boxes.specs.Outlines.{AreOutlines, ArePorted, child_in, outline_from, outline_of, ports_in, rect_in}
 
 -- a part of a sum

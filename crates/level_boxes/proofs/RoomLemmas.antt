@@ -10,7 +10,7 @@ use Rattle.elk_doc.specs.declared.document.Direction.{Direction}
 use Rattle.elk_doc.specs.declared.document.Direction.TheVariants.{Right, Left, Down, Up}
 use Rattle.elk_doc.specs.Drawing.{no_rect}
 use Rattle.elk_doc.specs.Sound.{IsDistance, IsPlaceWithin, IsWithin}
-use Rattle.level_shift.specs.Ranges.{IsFar}
+use Rattle.level_frame.specs.Ranges.{IsFar}
 use Rattle.level_frame.specs.Turned.{turned_place}
 use Rattle.level_ends.specs.Narrow.{IsNearRect}
 use Rattle.box_pack.specs.declared.packing.Rows.{Rows}

@@ -7,7 +7,7 @@ use Rattle.level_plan.specs.declared.level.LevelIn.{LevelIn}
 use Rattle.level_plan.specs.FromPlan.{point_or}
 use Rattle.level_draw.specs.declared.drawing.LevelOut.{LevelOut}
 use Rattle.level_layout.specs.Layout.{IsLaidOut}
-use Rattle.level_shift.specs.Ranges.{IsFarPoint}
+use Rattle.level_frame.specs.Ranges.{IsFarPoint}
 use Rattle.level_frame.specs.Turned.{turned_size}
 use Rattle.box_pack.specs.declared.squarest.Squarest.{Squarest}
 use Rattle.box_pack.specs.Boxes.{point_at}

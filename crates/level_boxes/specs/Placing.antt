@@ -9,7 +9,7 @@ use Rattle.box_pack.specs.declared.packing.Rows.{Rows}
 use Rattle.box_pack.specs.Boxes.{point_at}
 use Rattle.level_ends.specs.Narrow.{IsNearRect}
 use Rattle.level_plan.specs.FromPlan.{point_or}
-use Rattle.level_shift.specs.Ranges.{IsFarPoint}
+use Rattle.level_frame.specs.Ranges.{IsFarPoint}
 use Rattle.level_frame.specs.Drawing.{plus}
 use Rattle.level_frame.specs.Turned.{turned_place}
 use Rattle.level_boxes.specs.Outlines.{outline_size, rect_in}

@@ -11,7 +11,7 @@ use Rattle.level_plan.specs.declared.table.ChildAt.{ChildAt}
 use Rattle.level_plan.specs.Level.{Orders}
 use Rattle.level_plan.specs.Table.{child_in}
 use Rattle.level_plan.specs.FromPlan.{LevelDrawing, IsGap, IsPlaced, IsRoute, IsDrawnFrom}
-use Rattle.level_shift.specs.Ranges.{plain_trace}
+use Rattle.level_frame.specs.Ranges.{plain_trace}
 use Rattle.level_nets.specs.Parts.{Parts, ArePlanned, plan_of}
 use Rattle.level_nets.specs.Held.{plain_gaps}
 use Rattle.level_nets.specs.Routed.{AreGapsOf}

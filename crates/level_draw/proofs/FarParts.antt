@@ -25,11 +25,11 @@ use Rattle.level_nets.specs.declared.routing.Routing.{Routing}
 use Rattle.level_nets.specs.Parts.{Parts, ArePlanned, EndAbove}
 use Rattle.level_nets.specs.Held.{plain_gaps}
 use Rattle.level_nets.specs.Routed.{AreGapsIn, AreGapsOf, AreLegsOf}
-use Rattle.level_shift.specs.Ranges.{IsFar, IsFarGap, IsFarNet, IsFarPoint, IsFarRoute, IsFarSection, IsFarStep, IsFarTrace}
+use Rattle.level_frame.specs.Ranges.{IsFar, IsFarGap, IsFarNet, IsFarPoint, IsFarRoute, IsFarSection, IsFarStep, IsFarTrace}
 use Rattle.level_traces.specs.declared.tracing.Routes.{Routes}
 use Rattle.level_traces.specs.Reach.{IsBoxPoint}
 use Rattle.level_traces.specs.Traced.{AreRoutesOf, plain_traces, trace_in}
-use Rattle.level_rules.specs.Nearness.{IsNearEnd, IsNearHeight, IsNearStep}
+use Rattle.level_plan.specs.Nearness.{IsNearEnd, IsNearHeight, IsNearStep}
 use Rattle.level_draw.specs.Joined.{AreJoinable, AreJoined, section_in}
 use Rattle.level_draw.proofs.Nearness.{gaps_near, nets_held, nets_near}
 use Rattle.level_draw.proofs.Joining.{end_near, lanes_near, start_near}

@@ -11,12 +11,12 @@ use Rattle.level_nets.specs.declared.routing.Routing.{Routing}
 use Rattle.level_nets.specs.Parts.{Parts, ArePlanned, EndAbove, plan_of}
 use Rattle.level_nets.specs.Held.{plain_gaps}
 use Rattle.level_nets.specs.Routed.{AreGapsIn, AreGapsOf, AreLegsOf}
-use Rattle.level_shift.specs.Ranges.{plain_trace}
+use Rattle.level_frame.specs.Ranges.{plain_trace}
 use Rattle.level_traces.specs.declared.tracing.Routes.{Routes}
 use Rattle.level_traces.specs.Traced.{ArePlannedRoutes, AreRoutesOf, plain_traces, trace_in}
-use Rattle.level_rules.specs.Nearness.{IsNearEnd, IsNearStep}
-use Rattle.level_rules.proofs.LegsThere.{traces_join}
-use Rattle.level_rules.proofs.NearPoints.{points_near}
+use Rattle.level_plan.specs.Nearness.{IsNearEnd, IsNearStep}
+use Rattle.level_plan.proofs.LegsThere.{traces_join}
+use Rattle.level_plan.proofs.NearPoints.{points_near}
 use Rattle.level_draw.specs.Joined.{AreJoinable}
 use Rattle.level_draw.proofs.Nearness.{anchor_near, gaps_near, nets_held, steps_near}
 

@@ -25,8 +25,8 @@ use Rattle.level_plan.specs.Lanes.{has_one_dock}
 use Rattle.level_plan.specs.Table.{end_in, loop_in}
 use Rattle.level_plan.specs.FromPlan.{IsGap, anchor}
 use Rattle.level_plan.specs.Traces as plan
-use Rattle.level_stands.proofs.Lists.{Has, at_has}
-use Rattle.level_stands.proofs.LinkLemmas.{chain_are}
+use Rattle.level_plan.proofs.Lists.{Has, at_has}
+use Rattle.level_plan.proofs.LinkLemmas.{chain_are}
 use Rattle.level_ends.specs.Bounds.{AreNumbersIn, IsIn, IsEndIn, IsLoopIn}
 use Rattle.level_nets.specs.declared.routing.Routing.{Routing}
 use Rattle.level_nets.specs.Parts.{Parts, ArePlanned, EndAbove, plan_of}
@@ -45,8 +45,8 @@ use Rattle.level_traces.proofs.LoopReading.{loop_steps_are}
 use Rattle.level_traces.proofs.PlaceReading.{anchor_is, box_is}
 use Rattle.level_traces.proofs.RangeLemmas.{box_numbers}
 use Rattle.level_traces.proofs.StepReading.{edge_steps_are}
-use Rattle.level_rules.specs.Joins.{HoldNets}
-use Rattle.level_rules.specs.Nearness.{AreNearGaps, IsNearEnd, IsNearGap, IsNearHeight, IsNearStep}
+use Rattle.level_plan.specs.Joins.{HoldNets}
+use Rattle.level_plan.specs.Nearness.{AreNearGaps, IsNearEnd, IsNearGap, IsNearHeight, IsNearStep}
 
 -- ---- the table
 

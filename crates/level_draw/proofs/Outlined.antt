@@ -11,9 +11,9 @@ use Rattle.level_plan.specs.declared.table.Table.{Table}
 use Rattle.level_plan.specs.Level.{PlainLevel, PlainPlan, Orders}
 use Rattle.level_plan.specs.Table.{IsTable, child_in}
 use Rattle.level_plan.specs.FromPlan.{LevelDrawing, IsDrawnFrom, point_or}
-use Rattle.level_stands.specs.Apart.{drawn_outline}
-use Rattle.level_stands.proofs.ApartLemmas.{outlines_are_drawn}
-use Rattle.level_extent.specs.Reach.{IsNear}
+use Rattle.level_plan.specs.Apart.{drawn_outline}
+use Rattle.level_plan.proofs.ApartLemmas.{outlines_are_drawn}
+use Rattle.level_frame.specs.Reach.{IsNear}
 use Rattle.level_ends.specs.Bounds.{AreNumbersIn, IsChildIn}
 use Rattle.level_traces.specs.Reach.{IsBoxPoint}
 use Rattle.level_draw.specs.Drawing.{outlines_in}

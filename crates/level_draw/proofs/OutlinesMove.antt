@@ -14,11 +14,11 @@ use Rattle.elk_doc.proofs.ShapeLaws.{same_point, same_rect}
 use Rattle.port_order.specs.Child.{port_at}
 use Rattle.level_plan.specs.Level.{PlainLevel, child_at}
 use Rattle.level_plan.specs.FromPlan.{LevelDrawing}
-use Rattle.level_stands.specs.Apart.{drawn_box, drawn_port, drawn_outline, drawn_outline_from}
-use Rattle.level_extent.specs.declared.spanning.Reach.{Reach}
-use Rattle.level_extent.specs.Reach.{IsReach, abscissae, corners_of, greatest, heights, least, points_along, points_of, reached}
-use Rattle.level_extent.proofs.Spanned.{moves}
-use Rattle.level_shift.specs.Moved.{moved, moved_point, moved_section}
+use Rattle.level_plan.specs.Apart.{drawn_box, drawn_port, drawn_outline, drawn_outline_from}
+use Rattle.level_frame.specs.declared.spanning.Reach.{Reach}
+use Rattle.level_frame.specs.Reach.{IsReach, abscissae, corners_of, greatest, heights, least, points_along, points_of, reached}
+use Rattle.level_frame.proofs.Spanned.{moves}
+use Rattle.level_frame.specs.Moved.{moved, moved_point, moved_section}
 use Rattle.level_draw.specs.Drawing.{outlines_in}
 
 -- a rectangle, moved to the left and up

@@ -8,9 +8,9 @@ use Rattle.level_plan.specs.Level.{Orders}
 use Rattle.level_plan.specs.FromPlan.{LevelDrawing, IsDrawnFrom}
 use Rattle.level_plan.specs.Table.{IsTable}
 use Rattle.level_plan.specs.Units.{AreOrders}
-use Rattle.level_stands.specs.Ready.{IsReady}
-use Rattle.level_extent.specs.Reach.{IsNear}
-use Rattle.level_shift.specs.Ranges.{IsFarGap, IsFarPoint, IsFarSection, IsFarTrace}
+use Rattle.level_plan.specs.Ready.{IsReady}
+use Rattle.level_frame.specs.Reach.{IsNear}
+use Rattle.level_frame.specs.Ranges.{IsFarGap, IsFarPoint, IsFarSection, IsFarTrace}
 use Rattle.level_ends.specs.Bounds.{AreNumbersIn}
 use Rattle.level_ends.specs.Tops.{with_tops}
 use Rattle.level_nets.specs.declared.routing.Routing.{Routing}

@@ -5,7 +5,7 @@ use Rattle.level_plan.specs.declared.table.Table.{Table}
 use Rattle.level_plan.specs.Level.{PlainLevel, PlainPlan, Orders}
 use Rattle.level_plan.specs.Table.{IsTable}
 use Rattle.level_plan.specs.Units.{AreLinked, AreOrders, HasChain, IsLaneUnit, IsLinkOf, IsUnitOf}
-use Rattle.level_stands.specs.Ready.{IsReady}
+use Rattle.level_plan.specs.Ready.{IsReady}
 use Rattle.level_ends.specs.Tops.{with_tops}
 use Rattle.level_nets.specs.Parts.{IsGiven, Parts, plan_of}
 use Rattle.level_units.proofs.LayerLemmas.{few_counted}

@@ -6,9 +6,9 @@ use Rattle.std.specs.List.{All}
 use Rattle.elk_doc.specs.declared.shape.Point.{Point}
 use Rattle.elk_doc.specs.declared.shape.Rect.{Rect}
 use Rattle.elk_doc.specs.declared.drawing.Section.{Section}
-use Rattle.level_extent.specs.declared.spanning.Reach.{Reach}
-use Rattle.level_extent.specs.Reach.{IsNear, IsReach, abscissae, corners_of, greatest, heights, least, points_along, points_of, reached}
-use Rattle.level_shift.specs.Ranges.{IsFar, IsFarPoint, IsFarSection}
+use Rattle.level_frame.specs.declared.spanning.Reach.{Reach}
+use Rattle.level_frame.specs.Reach.{IsNear, IsReach, abscissae, corners_of, greatest, heights, least, points_along, points_of, reached}
+use Rattle.level_frame.specs.Ranges.{IsFar, IsFarPoint, IsFarSection}
 use Rattle.elk_doc.specs.Document.{origin}
 use Rattle.level_draw.specs.Shifted.{IsFarReach, reach_or}
 

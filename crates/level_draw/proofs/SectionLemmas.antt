@@ -6,7 +6,7 @@ use Rattle.elk_doc.specs.declared.drawing.Section.{Section}
 use Rattle.route_lines.specs.declared.Gap.{Gap}
 use Rattle.route_lines.specs.declared.Trace.{Trace}
 use Rattle.route_lines.specs.Points.{IsJoinOf}
-use Rattle.level_shift.specs.Ranges.{plain_trace}
+use Rattle.level_frame.specs.Ranges.{plain_trace}
 use Rattle.level_nets.specs.Held.{plain_gaps}
 use Rattle.level_traces.specs.Traced.{plain_traces, trace_in}
 use Rattle.level_draw.specs.Joined.{AreJoined, points_through}

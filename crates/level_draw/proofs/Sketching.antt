@@ -10,11 +10,11 @@ use Rattle.route_lines.specs.Points.{PlainGap}
 use Rattle.level_plan.specs.Level.{PlainLevel, PlainPlan, Orders, end_at, spoke}
 use Rattle.level_plan.specs.Nets.{unit_of}
 use Rattle.level_plan.specs.FromPlan.{LevelDrawing, PlainTrace, IsDrawnFrom}
-use Rattle.level_stands.specs.Ready.{IsReady}
-use Rattle.level_extent.specs.declared.spanning.Reach.{Reach}
-use Rattle.level_extent.specs.Reach.{IsReach, reached}
-use Rattle.level_shift.specs.Moved.{HasPlaces, moved, moved_point, moved_section}
-use Rattle.level_shift.proofs.DrawingMoves.{drawing_moves}
+use Rattle.level_plan.specs.Ready.{IsReady}
+use Rattle.level_frame.specs.declared.spanning.Reach.{Reach}
+use Rattle.level_frame.specs.Reach.{IsReach, reached}
+use Rattle.level_frame.specs.Moved.{HasPlaces, moved, moved_point, moved_section}
+use Rattle.level_frame.proofs.DrawingMoves.{drawing_moves}
 use Rattle.level_draw.specs.declared.parts.Parts.{Parts}
 use Rattle.level_draw.specs.Drawing.{IsDrawable, IsTight, outlines_in}
 use Rattle.level_draw.specs.Parts.{AreLevelParts, drawn_of}

@@ -12,11 +12,11 @@ use Rattle.elk_layers.specs.Lines.{top_of}
 use Rattle.level_plan.specs.Conditions.{plain_plan}
 use Rattle.level_plan.specs.Level.{PlainLevel, PlainPlan, Orders}
 use Rattle.level_plan.specs.FromPlan.{LevelDrawing, IsDrawnFrom}
-use Rattle.level_stands.specs.Ready.{IsReady}
-use Rattle.level_stands.specs.Apart.{ChildrenApart, drawn_outline}
-use Rattle.level_stands.specs.PortsKept.{KeepsPorts}
-use Rattle.level_rules.specs.Routes.{RoutesKept}
-use Rattle.level_extent.specs.Reach.{IsReach, reached}
+use Rattle.level_plan.specs.Ready.{IsReady}
+use Rattle.level_plan.specs.Apart.{ChildrenApart, drawn_outline}
+use Rattle.level_plan.specs.PortsKept.{KeepsPorts}
+use Rattle.level_plan.specs.Routes.{RoutesKept}
+use Rattle.level_frame.specs.Reach.{IsReach, reached}
 use Rattle.level_nets.specs.Held.{plain_gaps}
 use Rattle.level_traces.specs.Traced.{plain_traces}
 use Rattle.level_units.specs.Layering.{AreLayersOf, IsLayerCount}

@@ -6,9 +6,9 @@ use Rattle.elk_doc.specs.declared.shape.Size.{Size}
 use Rattle.level_plan.specs.declared.table.ChildAt.{ChildAt}
 use Rattle.level_plan.specs.Level.{PlainLevel, PlainPlan, Orders}
 use Rattle.level_plan.specs.FromPlan.{LevelDrawing, IsDrawnFrom}
-use Rattle.level_stands.specs.Ready.{IsReady}
-use Rattle.level_extent.specs.Reach.{IsNear}
-use Rattle.level_shift.specs.Ranges.{IsFarGap, IsFarPoint, IsFarSection, IsFarTrace}
+use Rattle.level_plan.specs.Ready.{IsReady}
+use Rattle.level_frame.specs.Reach.{IsNear}
+use Rattle.level_frame.specs.Ranges.{IsFarGap, IsFarPoint, IsFarSection, IsFarTrace}
 use Rattle.level_nets.specs.Held.{plain_gaps}
 use Rattle.level_traces.specs.Traced.{plain_traces}
 use Rattle.level_draw.specs.declared.parts.Parts.{Parts}

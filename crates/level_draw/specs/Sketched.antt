@@ -2,7 +2,7 @@
 use Rattle.std.specs.Prelude.{ℕ, List, ℤ}
 use Rattle.level_plan.specs.Level.{PlainLevel, PlainPlan, Orders}
 use Rattle.level_plan.specs.FromPlan.{IsDrawnFrom}
-use Rattle.level_stands.specs.Ready.{IsReady}
+use Rattle.level_plan.specs.Ready.{IsReady}
 use Rattle.level_draw.specs.declared.drawing.Sketch.{Sketch}
 use Rattle.level_draw.specs.Drawing.{IsTight}
 use Rattle.level_draw.specs.Parts.{drawn_of}

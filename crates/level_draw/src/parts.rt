@@ -12,7 +12,8 @@ use elk_doc::shape::{Point, Rect};
 use elk_layers::{Layered, Lines, Order};
 use level_ends::table_of;
 use level_nets::gaps_of;
-use level_plan::{ChildAt, LevelIn};
+use level_nets::sheet::Sheet;
+use level_plan::{ChildAt, LevelIn, marks_of};
 use level_traces::routes_of;
 use route_lines::{Gap, Trace};
 use std::alloc::{AllocError, Global};
@@ -51,9 +52,19 @@ pub(crate) fn parts_of(
     requires { (layers : List ℕ) × IsDrawable (plain_level level.now) (plain_plan layered.now order.now lines.now.top.items reversed.now) layers }
     ensures { IfOk result (AreLevelParts (plain_level level.now) (plain_plan layered.now order.now lines.now.top.items reversed.now)) }
 {
-    let table = table_of(alloc, level, layered, order, reversed)?;
-    let routing = gaps_of(alloc, level, layered, lines, reversed, &table)?;
-    let routes = routes_of(alloc, level, layered, lines, reversed, &table, &routing)?;
+    let marks = marks_of(alloc, reversed, level.edges.len())?;
+    let turned = marks.as_slice();
+    let table = table_of(alloc, level, layered, order, reversed, turned)?;
+    let sheet = Sheet {
+        level,
+        layered,
+        tops: lines.top.as_slice(),
+        reversed,
+        turned,
+        table: &table,
+    };
+    let routing = gaps_of(alloc, &sheet)?;
+    let routes = routes_of(alloc, &sheet, &routing)?;
     let gaps = routing.gaps.into_vec();
     let traces = routes.traces;
     let boxes = routes.boxes;

@@ -1,14 +1,13 @@
 //! The parts of a drawing, moved so that they begin at 0.
 ghost use Rattle.std.specs.Prelude.{◌≡◌, ◌-ℤ◌, IfOk};
-ghost use Rattle.level_extent.specs.Reach.{IsReach, reached};
-ghost use Rattle.level_shift.specs.Ranges.{IsFarPoint};
+ghost use Rattle.level_frame.specs.Reach.{IsReach, reached};
+ghost use Rattle.level_frame.specs.Ranges.{IsFarPoint};
 ghost use Rattle.level_draw.specs.Parts.{AreFar};
 ghost use Rattle.level_draw.specs.Shifted.{AreShifted, IsFarReach, reach_or};
 
 use crate::parts::Parts;
 use elk_doc::shape::{Point, Size};
-use level_extent::{Reach, reach_of};
-use level_shift::{move_gaps, move_points, move_traces, moved_sections};
+use level_frame::{Reach, move_gaps, move_points, move_traces, moved_sections, reach_of};
 use std::alloc::{AllocError, Global};
 
 /// Parts that are moved to the left and up.

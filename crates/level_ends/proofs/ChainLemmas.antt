@@ -15,7 +15,8 @@ use Rattle.level_plan.specs.Nets.{unit_of}
 use Rattle.level_plan.specs.Traces.{chain, links_at, links_from}
 use Rattle.level_plan.specs.Units.{AreLinked, chain_at}
 use Rattle.level_ends.specs.declared.flows.Flow.{Flow}
-use Rattle.level_ends.specs.Flows.{AreFirst, AreFlows, AreMarks, IsFlow, IsReadable, first_link, flow_at, is_near, near_unit}
+use Rattle.level_plan.specs.Marks.{AreMarks}
+use Rattle.level_ends.specs.Flows.{AreFirst, AreFlows, IsFlow, IsReadable, first_link, flow_at, is_near, near_unit}
 
 first_exists : (test : ℕ → Bool) (a m k : ℕ) → a ≤ k → k < a + m → test k ≡ true → first_or (filter test (range_with_len a m)) 0 < a + m
 first_exists test a zero k low high t = absurd (omega (arith, low, high))
@@ -135,7 +136,7 @@ flow_read l p place marks firsts lasts e v are h is =
     in
     record {
       looped = is.looped;
-      turned = is.turned ∙ are.marks_are.mark_is e h;
+      turned = is.turned ∙ are.marks_are.each e h;
       after = λ no_loop. is.after ∙ ap (λ b. cond b 0 (get_or place (link_at p.layered.links (get_or firsts e 0)).head 0)) no_loop ∙ head no_loop;
       before = λ no_loop. is.before ∙ ap (λ b. cond b 0 (get_or place (link_at p.layered.links (get_or lasts e 0)).tail 0)) no_loop ∙ tail no_loop;
       after_small = rw is.after (small_cond (is_loop l e) (get_or place (link_at p.layered.links (get_or firsts e 0)).head 0) (2 ^ 24) (λ no_loop. (placed (link_at p.layered.links (get_or firsts e 0)).head (read_first l p place marks firsts lasts e are h no_loop).head).1));
@@ -145,7 +146,7 @@ flow_read l p place marks firsts lasts e v are h is =
 -- ---- as an edge is read from the tables
 
 pub tables : (l : PlainLevel) (p : PlainPlan) (place : List ℕ) (marks : List Bool) (firsts lasts : List ℕ) (es : List LevelEdge) → es ≡ l.edges → IsLevel l → IsSound p.layered → AreRows p.layered p.rows → ((layers : List ℕ) × AreLinked l p layers)
-    → ArePlaces p.layered p.rows place → AreMarks p.reversed (length es) marks → AreFirst (is_near p.layered false) (length p.layered.links) (length es) firsts → AreFirst (is_near p.layered true) (length p.layered.links) (length es) lasts
+    → ArePlaces p.layered p.rows place → AreMarks p.reversed (length l.edges) marks → AreFirst (is_near p.layered false) (length p.layered.links) (length es) firsts → AreFirst (is_near p.layered true) (length p.layered.links) (length es) lasts
     → AreRead l p place marks firsts lasts
 tables l p place marks firsts lasts es e level sound rows linked places marks_are firsts_are lasts_are =
     record {
@@ -155,7 +156,7 @@ tables l p place marks firsts lasts es e level sound rows linked places marks_ar
       layers = linked.0;
       linked = linked.1;
       places = places;
-      marks_are = subst (λ (xs : List LevelEdge). AreMarks p.reversed (length xs) marks) e marks_are;
+      marks_are = marks_are;
       firsts_are = subst (λ (xs : List LevelEdge). AreFirst (is_near p.layered false) (length p.layered.links) (length xs) firsts) e firsts_are;
       lasts_are = subst (λ (xs : List LevelEdge). AreFirst (is_near p.layered true) (length p.layered.links) (length xs) lasts) e lasts_are;
     }
@@ -200,23 +201,22 @@ cond_link b c links links' place place' k k' near q x y z =
     ∙ ap (λ n. cond c 0 (get_or place (near (link_at links n)) 0)) z
 
 -- a flow that was read, behind those that were
-pub flow_pushed : (l : PlainLevel) (p : PlainPlan) (place : List ℕ) (marks : List Bool) (firsts lasts : List ℕ) (es : List LevelEdge) (e : ℕ) (d : LevelEdge) (links' : List Link) (place' : List ℕ) (mark : Bool) (first last : ℕ) (v : Flow) (old new : List Flow)
-    → AreRead l p place marks firsts lasts → es ≡ l.edges → e < length es → links' ≡ p.layered.links → place' ≡ place → mark ≡ get_or marks e mark → first ≡ get_or firsts e first → last ≡ get_or lasts e last
-    → v.looped ≡ ((get_or es e d).source.child == (get_or es e d).target.child) → v.turned ≡ mark
+pub flow_pushed : (l : PlainLevel) (p : PlainPlan) (place : List ℕ) (marks : List Bool) (firsts lasts : List ℕ) (es : List LevelEdge) (e : ℕ) (d : LevelEdge) (links' : List Link) (place' : List ℕ) (first last : ℕ) (v : Flow) (old new : List Flow)
+    → AreRead l p place marks firsts lasts → es ≡ l.edges → e < length es → links' ≡ p.layered.links → place' ≡ place → first ≡ get_or firsts e first → last ≡ get_or lasts e last
+    → v.looped ≡ ((get_or es e d).source.child == (get_or es e d).target.child) → v.turned ≡ get_or marks e false
     → v.after ≡ cond ((get_or es e d).source.child == (get_or es e d).target.child) 0 (get_or place' (link_at links' first).head 0)
     → v.before ≡ cond ((get_or es e d).source.child == (get_or es e d).target.child) 0 (get_or place' (link_at links' last).tail 0)
     → new ≡ old ++ v ∷ [] → AreFlows l p e old → AreFlows l p (e + 1) new
-flow_pushed l p place marks firsts lasts es e d links' place' mark first last v old new are q h a b m f t looped turned after before pushed s =
+flow_pushed l p place marks firsts lasts es e d links' place' first last v old new are q h a b f t looped turned after before pushed s =
     let at = edge_read l es e d q h in
     let loop : ((get_or es e d).source.child == (get_or es e d).target.child) ≡ is_loop l e = ap (λ (y : LevelEdge). y.source.child == y.target.child) at.0 in
-    let long_m = are.marks_are.as_long in
     let long_f = are.firsts_are.as_long in
     let long_l = are.lasts_are.as_long in
     let first_is = get_or_read firsts e first (omega (arith, long_f, at.1)) f 0 in
     let last_is = get_or_read lasts e last (omega (arith, long_l, at.1)) t 0 in
     let is : IsFlow l p e v = flow_read l p place marks firsts lasts e v are at.1 (record {
       looped = looped ∙ loop;
-      turned = turned ∙ get_or_read marks e mark (omega (arith, long_m, at.1)) m false;
+      turned = turned;
       after = after ∙ cond_link ((get_or es e d).source.child == (get_or es e d).target.child) (is_loop l e) p.layered.links links' place place' (get_or firsts e 0) first (λ x. x.head) loop a b first_is;
       before = before ∙ cond_link ((get_or es e d).source.child == (get_or es e d).target.child) (is_loop l e) p.layered.links links' place place' (get_or lasts e 0) last (λ x. x.tail) loop a b last_is;
     }) in

@@ -6,11 +6,6 @@ use Rattle.elk_layers.specs.Layered.{Plain, link_at, is_child, place_of}
 use Rattle.level_plan.specs.Level.{PlainLevel, PlainPlan, holds, is_loop, first_or}
 use Rattle.level_ends.specs.declared.flows.Flow.{Flow}
 
--- for each number below a bound, whether it is listed
-pub record AreMarks (numbers : List ℕ) (count : ℕ) (marks : List Bool) : Type 0 where
-  pub as_long : length marks ≡ count
-  pub mark_is : (n : ℕ) → n < count → slice_index_or marks n false ≡ holds numbers n
-
 -- the unit of a link at its head or its tail
 abbrev pub near_unit : Link → Bool → ℕ
 near_unit link at_head = cond at_head link.head link.tail

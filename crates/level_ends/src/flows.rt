@@ -3,8 +3,9 @@ ghost use Rattle.std.specs.Prelude.{◌≡◌, ◌≢◌, ℕ, ◌<◌, ◌≤�
 ghost use Rattle.elk_layers.specs.Layered.{plain, link_at, rows_of, is_child, IsSound, AreRows};
 ghost use Rattle.level_plan.specs.Conditions.{plain_level, plain_plan, IsLevel};
 ghost use Rattle.level_plan.specs.Units.{AreLinked};
+ghost use Rattle.level_plan.specs.Marks.{AreMarks};
 ghost use Rattle.level_ends.specs.Flows as spec;
-ghost use Rattle.level_ends.specs.Flows.{AreMarks, AreFirst, AreFlows, HaveEdges, IsReadable};
+ghost use Rattle.level_ends.specs.Flows.{AreFirst, AreFlows, HaveEdges, IsReadable};
 
 use elk_layers::{Layered, Link, Order, places};
 use level_plan::{LevelEdge, LevelIn};
@@ -18,34 +19,6 @@ pub(crate) struct Flow {
     pub(crate) turned: bool,
     pub(crate) after: u32,
     pub(crate) before: u32,
-}
-
-// Marks a number, where it is below the bound.
-fn mark(marks: &mut [bool], number: u32)
-    ensures { marks.new ≡ slice_set marks.old number true }
-{
-    if (number as usize) < marks.len() {
-        marks[number as usize] = true;
-    }
-}
-
-// Marks all these numbers.
-fn mark_all(marks: &mut [bool], numbers: &[u32])
-    requires { AreMarks [] (length marks.old) marks.old }
-    ensures { AreMarks numbers.now (length marks.old) marks.new }
-{
-    for number in numbers {
-        mark(marks, *number);
-    }
-}
-
-// For each number below a bound, whether it is listed.
-fn marks_of(alloc: Global, numbers: &[u32], count: usize) -> Result<Vec<bool>, AllocError>
-    ensures { IfOk result (λ marks. AreMarks numbers.now count marks.items) }
-{
-    let mut marks: Vec<bool> = vec![in alloc; false; count]?;
-    mark_all(marks.as_mut_slice(), numbers);
-    Ok(marks)
 }
 
 // The unit of a link at its head or its tail.
@@ -139,16 +112,17 @@ pub(crate) fn flows_of(
     layered: &Layered,
     order: &Order,
     reversed: &[u32],
+    turned: &[bool],
 ) -> Result<Vec<Flow>, AllocError>
     requires level { IsLevel (plain_level level.now) }
     requires sound { IsSound (plain layered.now) }
     requires rows { AreRows (plain layered.now) (rows_of order.now) }
     requires linked { (layers : List ℕ) × AreLinked (plain_level level.now) (plain_plan layered.now order.now [] reversed.now) layers }
+    requires marked { AreMarks reversed.now (length level.now.edges) turned.now }
     ensures { IfOk result (λ flows. AreFlows (plain_level level.now) (plain_plan layered.now order.now [] reversed.now) (length level.now.edges) flows.items) }
 {
     let edges = level.edges.as_slice();
     let place = places(alloc, layered, order)?;
-    let turned = marks_of(alloc, reversed, edges.len())?;
     let firsts = first_links(alloc, layered, edges.len(), false)?;
     let lasts = first_links(alloc, layered, edges.len(), true)?;
     let mut flows: Vec<Flow> = Vec::with_capacity(alloc, edges.len())?;

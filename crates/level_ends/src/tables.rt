@@ -7,6 +7,7 @@ ghost use Rattle.elk_doc.specs.Sound.{IsSoundSpacing};
 ghost use Rattle.elk_layers.specs.Layered.{plain, rows_of, IsSound, AreRows};
 ghost use Rattle.level_plan.specs.Conditions.{plain_level, plain_plan, IsLevel, IsSpoke};
 ghost use Rattle.level_plan.specs.Level.{Orders, PlainPlan};
+ghost use Rattle.level_plan.specs.Marks.{AreMarks};
 ghost use Rattle.level_plan.specs.Table.{IsTable, child_in};
 ghost use Rattle.level_plan.specs.Units.{AreLinked, AreOrders};
 ghost use Rattle.level_ends.specs.Bounds.{AreNumbersIn, IsIn, IsLoopIn};
@@ -284,7 +285,7 @@ fn table_from(
 }
 
 /// The table of a level: what a drawing needs to know of its children, ends and self-loops. Of the layered drawing only
-/// units, links and the places in rows are read, and of each edge whether it is among the `reversed`.
+/// units, links and the places in rows are read, and of each edge whether it is among the `reversed`, as `turned` marks it.
 ///
 /// The only error is want of memory.
 pub fn table_of(
@@ -293,15 +294,17 @@ pub fn table_of(
     layered: &Layered,
     order: &Order,
     reversed: &[u32],
+    turned: &[bool],
 ) -> Result<Table, AllocError>
     requires level { IsLevel (plain_level level.now) }
     requires sound { IsSound (plain layered.now) }
     requires rows { AreRows (plain layered.now) (rows_of order.now) }
     requires linked { (layers : List ℕ) × AreLinked (plain_level level.now) (plain_plan layered.now order.now [] reversed.now) layers }
+    requires marked { AreMarks reversed.now (length level.now.edges) turned.now }
     ensures table { IfOk result (λ t. (o : Orders) × AreOrders (plain_level level.now) (plain_plan layered.now order.now [] reversed.now) o × IsTable (plain_level level.now) (plain_plan layered.now order.now [] reversed.now) o t) }
     ensures numbers { IfOk result AreNumbersIn }
 {
-    let flows = flows_of(alloc, level, layered, order, reversed)?;
+    let flows = flows_of(alloc, level, layered, order, reversed, turned)?;
     let spots = spots_of(alloc, level, flows.as_slice())?;
     let orders = orders_of(alloc, level, &spots.rows)?;
     let docks = docks_of(alloc, level, &spots.rows, orders.as_slice())?;

@@ -1,2 +1,9 @@
 pub mod NumberedLemmas
 pub mod KeptLemmas
+pub mod Growing
+pub mod Spanned
+pub mod MapLemmas
+pub mod GapMoves
+pub mod PathMoves
+pub mod StepMoves
+pub mod DrawingMoves

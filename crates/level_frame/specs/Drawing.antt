@@ -10,9 +10,9 @@ use Rattle.elk_doc.specs.Document.{Document, port_at}
 use Rattle.elk_doc.specs.Level.{children, edges_of}
 use Rattle.elk_doc.specs.Shapes.{turned, rect_at}
 use Rattle.elk_doc.specs.Drawing.{box_of, port_place, section_of}
-use Rattle.drawing_turns.specs.Turning.{turned_point}
+use Rattle.drawing_laws.specs.Turning.{turned_point}
 use Rattle.level_plan.specs.FromPlan.{LevelDrawing, point_or, section_at}
-use Rattle.level_stands.specs.Apart.{drawn_port}
+use Rattle.level_plan.specs.Apart.{drawn_port}
 use Rattle.level_frame.specs.Turned.{child_number, edge_number, ports_of, port_number, turned_size, turned_place, box_size}
 
 -- a point that is moved

@@ -3,3 +3,7 @@ pub mod Drawing
 pub mod Examples
 pub mod Numbered
 pub mod Kept
+pub mod Reach
+pub mod Walk
+pub mod Moved
+pub mod Ranges

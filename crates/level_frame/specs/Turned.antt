@@ -16,7 +16,7 @@ use Rattle.elk_doc.specs.Numbers.{numbers_below, count_below}
 use Rattle.elk_doc.specs.PortsKept.{size_along}
 use Rattle.elk_doc.specs.Shapes.{half_of}
 use Rattle.elk_doc.specs.Sides.{given_side}
-use Rattle.drawing_turns.specs.Turning.{turned_side}
+use Rattle.drawing_laws.specs.Turning.{turned_side}
 use Rattle.port_order.specs.declared.children.ChildPort.{ChildPort}
 use Rattle.port_order.specs.declared.children.Child.{Child}
 use Rattle.port_order.specs.Sides.{is_mirrored, side_else}

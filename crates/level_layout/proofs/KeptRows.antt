@@ -11,7 +11,7 @@ use Rattle.elk_layers.specs.Layered.{Plain, gap_of, head_key, layer_of, link_at,
 use Rattle.elk_layers.specs.Crossings.{cross, crossings, crossings_among, exchanged}
 use Rattle.elk_layers.specs.Sweeps.{Ends, backward_sweep, far_count, far_sum, forward_sweep, has_links, insert_by, mean_le, ordered, refilled, sorted_by, sweep_orders, swept, swept_after, to_left, to_right}
 use Rattle.cross_reduce.specs.Reduced.{AtMostOf, FewerThan, IsExchangedFromFewest, IsFirstOfFewest, Lowers, LowersTo, go, stay}
-use Rattle.level_pins.specs.Fitted.{AreKept}
+use Rattle.level_units.specs.Fitted.{AreKept}
 use Rattle.level_layout.specs.Chosen.{IsReduced}
 
 -- two links with the same ends and ranks

@@ -9,7 +9,7 @@ use Rattle.network_laws.specs.declared.network.NetEdge.{NetEdge}
 use Rattle.network_laws.specs.Layering.{layer_of}
 use Rattle.level_plan.specs.Conditions.{IsLevel}
 use Rattle.level_plan.specs.Level.{PlainLevel, edge_at, holds, is_loop}
-use Rattle.level_stands.proofs.Lists.{Has, at_has, has_filter, has_map, has_range}
+use Rattle.level_plan.proofs.Lists.{Has, at_has, has_filter, has_map, has_range}
 use Rattle.level_layers.specs.Certificate.{IsCertificateOf, links, net_edge, network}
 use Rattle.level_units.specs.Layering.{AreLayersOf, head_child, layer_in, tail_child}
 

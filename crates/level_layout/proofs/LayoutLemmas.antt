@@ -21,12 +21,12 @@ use Rattle.level_plan.specs.Conditions.{IsLevel, plain_level, plain_plan}
 use Rattle.level_plan.specs.Level.{Orders, PlainLevel}
 use Rattle.level_plan.specs.Units.{AreLinked}
 use Rattle.level_layers.specs.Certificate.{IsCertificateOf}
-use Rattle.level_pins.specs.Alike.{AreAlike, LanesStay}
-use Rattle.level_pins.specs.Fitted.{AreFitted, AreKept}
+use Rattle.level_units.specs.Alike.{AreAlike, LanesStay}
+use Rattle.level_units.specs.Fitted.{AreFitted, AreKept}
 use Rattle.level_units.specs.Layering.{IsLayerCount}
 use Rattle.level_draw.specs.declared.drawing.LevelOut.{LevelOut}
 use Rattle.level_draw.specs.Drawing.{IsDrawable, IsDrawn, IsMadeFrom, plan_from}
-use Rattle.level_ranks.specs.Laws.{MakeUnits}
+use Rattle.level_units.specs.Laws.{MakeUnits}
 use Rattle.level_layout.specs.Bounds.{AreFew}
 use Rattle.level_layout.proofs.LayerLemmas.{layers_from}
 use Rattle.level_layout.proofs.LinkLemmas.{links_few}

@@ -14,7 +14,7 @@ use Rattle.level_layers.proofs.NetLemmas.{ends_below, is_plain, link_at}
 use Rattle.level_units.specs.Layering.{AreLayersOf, Layering, head_child, layer_in, layering, tail_child}
 use Rattle.level_units.specs.Numbered.{AreNumberedUnits, before, gaps_of, lanes_of}
 use Rattle.level_units.proofs.RunLemmas.{head_below, head_in}
-use Rattle.level_pins.specs.Alike.{AreAlike}
+use Rattle.level_units.specs.Alike.{AreAlike}
 use Rattle.level_layout.specs.Bounds.{AreFew, LinksAreFew}
 use Rattle.level_layout.proofs.CountLemmas.{found_below, greatest, ones_keep_small, sum_grows}
 use Rattle.level_layout.proofs.CrossingLemmas.{some_step}

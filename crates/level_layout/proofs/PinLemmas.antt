@@ -12,7 +12,7 @@ use Rattle.level_units.specs.Layering.{Layering, head_child, layer_in, layering,
 use Rattle.level_units.specs.Numbered.{AreNumberedUnits, first_lane, first_link, gaps_of, lanes_of, run_of, stop_of}
 use Rattle.level_units.proofs.RunLemmas.{Stop, at_head, at_lane, at_tail, stop_last, stop_where}
 use Rattle.level_units.proofs.SumLemmas.{before_below}
-use Rattle.level_pins.specs.Alike.{AreAlike}
+use Rattle.level_units.specs.Alike.{AreAlike}
 use Rattle.ns_place.specs.Heights.{pins_together}
 use Rattle.level_layout.specs.Bounds.{PinsAreLow}
 use Rattle.level_layout.proofs.PinSums.{groups_small, one_counts, pins_added, pins_of, sum_of_both, two_within}

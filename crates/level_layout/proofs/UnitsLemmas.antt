@@ -10,9 +10,9 @@ use Rattle.elk_layers.specs.Layered.{Plain, IsSound, plain, unit_at}
 use Rattle.level_plan.specs.Level.{PlainLevel}
 use Rattle.level_units.specs.Layering.{IsLayerCount, layering, plan_with}
 use Rattle.level_units.specs.Numbered.{AreNumberedUnits}
-use Rattle.level_pins.specs.Alike.{AreFlat}
-use Rattle.level_pins.proofs.AlikeLemmas.{no_heights}
-use Rattle.level_ranks.specs.Ranked.{AreRanked, AreReranked}
+use Rattle.level_units.specs.Alike.{AreFlat}
+use Rattle.level_units.proofs.AlikeLemmas.{no_heights}
+use Rattle.level_units.specs.Ranked.{AreRanked, AreReranked}
 use Rattle.level_units.specs.Started.{AreAscending}
 use Rattle.level_layout.specs.Phases.{AreRankedUnits, IsStart}
 use Rattle.level_plan.specs.Units.{AreLinked}

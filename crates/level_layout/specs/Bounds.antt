@@ -7,7 +7,7 @@ use Rattle.level_plan.specs.Level.{PlainLevel}
 use Rattle.level_layers.specs.Certificate.{IsCertificateOf}
 use Rattle.level_units.specs.Layering.{layering}
 use Rattle.level_units.specs.Numbered.{AreNumberedUnits}
-use Rattle.level_pins.specs.Alike.{AreAlike}
+use Rattle.level_units.specs.Alike.{AreAlike}
 use Rattle.ns_place.specs.Heights.{pins_together}
 
 -- at most 2^21 units and 2^21 links

@@ -8,7 +8,7 @@ use Rattle.level_layers.specs.Certificate.{IsCertificateOf}
 use Rattle.level_plan.specs.Conditions.{plain_level}
 use Rattle.level_plan.specs.declared.level.LevelIn.{LevelIn}
 use Rattle.level_plan.specs.Level.{Orders}
-use Rattle.level_stands.specs.Ready.{IsReady}
+use Rattle.level_plan.specs.Ready.{IsReady}
 use Rattle.level_units.specs.Layering.{IsLayerCount}
 use Rattle.level_draw.specs.declared.drawing.LevelOut.{LevelOut}
 use Rattle.level_draw.specs.Drawing.{IsDrawn, plan_from}

@@ -8,8 +8,8 @@ use Rattle.level_plan.specs.Units.{AreLinked}
 use Rattle.level_units.specs.Layering.{IsLayerCount, layering, plan_with}
 use Rattle.level_units.specs.Numbered.{AreNumberedUnits}
 use Rattle.level_units.specs.Started.{AreAscending}
-use Rattle.level_pins.specs.Alike.{AreAlike, LanesStay}
-use Rattle.level_ranks.specs.Ranked.{AreRanked}
+use Rattle.level_units.specs.Alike.{AreAlike, LanesStay}
+use Rattle.level_units.specs.Ranked.{AreRanked}
 
 -- Units and links whose numbers, layers and ends are those of a level's children and edges, from the tail of each edge on. The
 -- units of lanes have no height, and no lanes above or below.

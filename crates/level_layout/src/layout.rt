@@ -7,8 +7,8 @@ use crate::lines::lines_for;
 use crate::phases::{order_for, start_for};
 use level_draw::{LevelOut, draw};
 use level_layers::certificate_for;
-use level_pins::pinned;
-use level_plan::LevelIn;
+use level_plan::{LevelIn, marks_of};
+use level_units::pinned;
 use std::alloc::{AllocError, Global};
 
 /// The layout of one level, in whole document units and in the frame in which its direction runs to the right.
@@ -23,9 +23,11 @@ pub fn layout_level(alloc: Global, level: &LevelIn) -> Result<LevelOut, AllocErr
 {
     let certificate = certificate_for(alloc, level)?;
     let reversed = certificate.reversed.as_slice();
-    let start = start_for(alloc, level, &certificate)?;
+    let marks = marks_of(alloc, reversed, level.edges.len())?;
+    let turned = marks.as_slice();
+    let start = start_for(alloc, level, &certificate, turned)?;
     let order = order_for(alloc, &start.layered, &start.rows)?;
-    let layered = pinned(alloc, level, start.layered, &order, reversed)?;
+    let layered = pinned(alloc, level, start.layered, &order, reversed, turned)?;
     let lines = lines_for(alloc, level, &layered, &order)?;
     draw(alloc, level, certificate, layered, start.rows, order, lines)
 }

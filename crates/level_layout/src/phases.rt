@@ -1,7 +1,8 @@
 //! The units of a level with the ranks of pins, and the order of its rows.
-ghost use Rattle.std.specs.Prelude.{◌≡◌, IfOk};
+ghost use Rattle.std.specs.Prelude.{◌≡◌, length, IfOk};
 ghost use Rattle.elk_layers.specs.Layered.{plain, rows_of, AreRows, IsSound};
 ghost use Rattle.level_plan.specs.Conditions.{plain_level, IsLevel};
+ghost use Rattle.level_plan.specs.Marks.{AreMarks};
 ghost use Rattle.level_layers.specs.Certificate.{IsCertificateOf};
 ghost use Rattle.level_layout.specs.Chosen.{IsReduced};
 ghost use Rattle.level_layout.specs.Phases.{AreRankedUnits, IsStart};
@@ -10,8 +11,7 @@ use cross_reduce::reduce;
 use elk_doc::drawing::Certificate;
 use elk_layers::{Layered, Order};
 use level_plan::LevelIn;
-use level_ranks::ranked;
-use level_units::{start_of, units_of};
+use level_units::{ranked, start_of, units_of};
 use std::alloc::{AllocError, Global};
 
 /// The units and links of a level with the ranks of pins, and the rows to start with.
@@ -21,23 +21,26 @@ pub(crate) struct Start {
     pub rows: Order,
 }
 
-/// The units and links of a level by its certificate, without heights and pins, and its rows in document order.
+/// The units and links of a level by its certificate, without heights and pins, and its rows in document order. `turned` marks
+/// the certificate's reversed edges.
 pub(crate) fn start_for(
     alloc: Global,
     level: &LevelIn,
     certificate: &Certificate,
+    turned: &[bool],
 ) -> Result<Start, AllocError>
     requires level { IsLevel (plain_level level.now) }
     requires certificate { IsCertificateOf (plain_level level.now) certificate.now }
+    requires marked { AreMarks certificate.now.reversed (length level.now.edges) turned.now }
     ensures units { IfOk result (λ v. AreRankedUnits (plain_level level.now) certificate.now v.layered) }
     ensures rows { IfOk result (λ v. AreRows (plain v.layered) (rows_of v.rows)) }
     ensures start { IfOk result (λ v. IsStart (plain v.layered) (rows_of v.rows)) }
 {
     let layers = certificate.layers.as_slice();
     let reversed = certificate.reversed.as_slice();
-    let blank = units_of(alloc, level, layers, reversed)?;
+    let blank = units_of(alloc, level, layers, reversed, turned)?;
     let rows = start_of(alloc, &blank)?;
-    let layered = ranked(alloc, level, blank, &rows, reversed)?;
+    let layered = ranked(alloc, level, blank, &rows, reversed, turned)?;
     Ok(Start { layered, rows })
 }
 

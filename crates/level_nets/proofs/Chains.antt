@@ -11,8 +11,8 @@ use Rattle.level_plan.specs.Level.{PlainLevel, PlainPlan, Orders, End, spoke, ta
 use Rattle.level_plan.specs.Nets.{unit_of, unit_of_line, is_inverted, line_of_end, tail_line, head_line}
 use Rattle.level_plan.specs.Traces.{links_at, links_from, chain}
 use Rattle.level_plan.specs.Units.{IsLaneUnit, HasChain, chain_at}
-use Rattle.level_stands.specs.Ready.{IsReady}
-use Rattle.level_stands.proofs.Lists.{Has, has_filter, filter_has, has_left, has_right, append_has, has_range, range_has, at_has, has_at}
+use Rattle.level_plan.specs.Ready.{IsReady}
+use Rattle.level_plan.proofs.Lists.{Has, has_filter, filter_has, has_left, has_right, append_has, has_range, range_has, at_has, has_at}
 
 -- what the chain of an edge holds
 has_from : (p : PlainPlan) (e r k : ℕ) (rs : List ℕ) → Has rs r → Has (links_at p e r) k → Has (links_from p e rs) k

@@ -14,8 +14,8 @@ use Rattle.level_plan.specs.Level.{Orders, all_ends, outline}
 use Rattle.level_plan.specs.Nets.{Name, of_link, of_dock, of_loop, unit_of, layer_of_child, gap_of, net_of, all_names, names_in, nets_in, place_of_name, widest, column_width, gap_left, gap_width}
 use Rattle.level_plan.specs.FromPlan.{IsGap}
 use Rattle.level_plan.specs.Table.{child_in}
-use Rattle.level_stands.proofs.Lists.{Has, has_left, has_right, filter_has, range_has}
-use Rattle.level_stands.proofs.NameLemmas.{IsName, name_is}
+use Rattle.level_plan.proofs.Lists.{Has, has_left, has_right, filter_has, range_has}
+use Rattle.level_plan.proofs.NameLemmas.{IsName, name_is}
 use Rattle.level_nets.specs.Parts.{Parts, plan_of, ArePlanned, EndAbove}
 use Rattle.level_nets.specs.Read.{HoldNets, link_names, dock_names, passing_names, names_of, gap_named, net_named, in_gap, nets_named, leg_behind, widest_of, width_of, left_of}
 use Rattle.level_nets.specs.Reach.{AreNetsIn}

@@ -8,7 +8,6 @@ pub mod Splits
 pub mod Reaching
 pub mod Gaps
 pub mod PinLemmas
-pub mod MarkLemmas
 pub mod BorderLemmas
 pub mod PushLemmas
 pub mod RoutedLemmas

@@ -3,7 +3,7 @@ use Rattle.std.proofs.Common.{◌≡◌, inl, inr, ⊎_elim, ℕ, zero, suc, ◌
 use Rattle.std.proofs.lemmas.Bool.{cases_Bool}
 use Rattle.std.proofs.lemmas.List.{length-map, get_or-map}
 use Rattle.std.specs.List.{All, filter, range_with_len}
-use Rattle.level_stands.proofs.Lists.{Has, has_at, filter_has, range_has}
+use Rattle.level_plan.proofs.Lists.{Has, has_at, filter_has, range_has}
 use Rattle.route_slots.proofs.Lists.{few_below}
 
 -- tests that agree on what a list holds filter it alike, and functions that do so map it alike

@@ -12,12 +12,12 @@ use Rattle.level_plan.specs.Level.{PlainLevel, Orders, End, end_at, edge_at, all
 use Rattle.level_plan.specs.Lanes.{has_one_dock}
 use Rattle.level_plan.specs.Nets.{Name, of_link, of_dock, of_loop, unit_of, inverts, is_inverted, if_passed, loop_names, all_names, gap_beside, gap_of}
 use Rattle.level_plan.specs.Table.{IsEndAt, child_in}
-use Rattle.level_stands.proofs.Lists.{Has, range_has}
-use Rattle.level_stands.proofs.SpotLemmas.{spoke_there}
+use Rattle.level_plan.proofs.Lists.{Has, range_has}
+use Rattle.level_plan.proofs.SpotLemmas.{spoke_there}
 use Rattle.level_nets.specs.Parts.{Parts, plan_of, ArePlanned}
 use Rattle.level_nets.specs.Read.{at_end, dock_at, unit_of_dock, is_turned_back, is_one_dock, passes_west, passes_east, link_names, dock_names, passing_names, names_of, gap_at, gap_named}
 use Rattle.level_nets.specs.Routed.{is_passing_left, is_passing_right}
-use Rattle.level_stands.proofs.NameLemmas.{IsName, ends_edge}
+use Rattle.level_plan.proofs.NameLemmas.{IsName, ends_edge}
 use Rattle.level_nets.proofs.ListLemmas.{filter_same}
 
 and_first : (a b : Bool) → a ≡ true → (a && b) ≡ b

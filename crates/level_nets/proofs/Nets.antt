@@ -19,11 +19,11 @@ use Rattle.level_plan.specs.Level.{PlainLevel, PlainPlan, Orders, End, end_at, e
 use Rattle.level_plan.specs.Lanes.{dock_eq, has_one_dock, loop_sides, body_top}
 use Rattle.level_plan.specs.Nets.{Name, of_link, of_dock, of_loop, unit_of, unit_of_line, below_top, height_of, inverts, is_inverted, lane_side_of_end, loop_line, a_line, b_line, edge_of, net_of}
 use Rattle.level_plan.specs.Table.{loop_in}
-use Rattle.level_stands.proofs.SameLines.{dock_eq-self, is_side-same}
-use Rattle.level_stands.proofs.LoopSides.{source_left, target_left, source_right, target_right}
-use Rattle.level_stands.proofs.LaneLemmas.{end_has_lane}
-use Rattle.level_stands.proofs.NameLemmas.{IsName, IsLine, a_line_is, b_line_is}
-use Rattle.level_stands.proofs.LineLemmas.{lies_in, line_unit, lines_differ}
+use Rattle.level_plan.proofs.SameLines.{dock_eq-self, is_side-same}
+use Rattle.level_plan.proofs.LoopSides.{source_left, target_left, source_right, target_right}
+use Rattle.level_plan.proofs.LaneLemmas.{end_has_lane}
+use Rattle.level_plan.proofs.NameLemmas.{IsName, IsLine, a_line_is, b_line_is}
+use Rattle.level_plan.proofs.LineLemmas.{lies_in, line_unit, lines_differ}
 use Rattle.level_nets.specs.Parts.{Parts, plan_of, ArePlanned, EndAbove}
 use Rattle.level_nets.specs.Read.{at_end, dock_at, child_of, unit_of_dock, anchor_below, lane_of_loop, loop_below, pin, loop_pin, net_named}
 use Rattle.level_nets.proofs.Chains.{tail_line_unit, head_line_unit}

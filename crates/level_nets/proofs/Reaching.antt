@@ -14,13 +14,15 @@ use Rattle.level_plan.specs.Stage.{Line, anchor_line, dock_lane, loop_lane}
 use Rattle.level_plan.specs.Level.{Orders, End, end_at, spoke, is_loop, dock_of}
 use Rattle.level_plan.specs.Lanes.{has_one_dock}
 use Rattle.level_plan.specs.Nets.{of_dock, of_loop, unit_of, unit_of_line, below_top, lane_side_of_end, loop_line, is_inverted}
-use Rattle.level_stands.proofs.EndLemmas.{child_unit}
-use Rattle.level_stands.proofs.LinkLemmas.{child_is}
-use Rattle.level_stands.proofs.NameLemmas.{IsName, IsLine, a_line_is, b_line_is}
-use Rattle.level_stands.proofs.LineLemmas.{lies_in, line_unit}
-use Rattle.level_nets.specs.Parts.{Parts, plan_of, ArePlanned, EndAbove}
+use Rattle.level_plan.proofs.EndLemmas.{child_unit}
+use Rattle.level_plan.proofs.LinkLemmas.{child_is}
+use Rattle.level_plan.proofs.NameLemmas.{IsName, IsLine, a_line_is, b_line_is}
+use Rattle.level_plan.proofs.LineLemmas.{lies_in, line_unit}
+use Rattle.level_plan.specs.Marks.{AreMarks}
+use Rattle.level_nets.specs.declared.sheet.Sheet.{Sheet}
+use Rattle.level_nets.specs.Parts.{Parts, plan_of, ArePlanned, EndAbove, IsGiven}
 use Rattle.level_nets.specs.Read.{dock_at, child_of, unit_of_dock, passes_on}
-use Rattle.level_nets.specs.Reach.{IsBeside, IsBelow, IsDockIn, IsEndIn, IsPassing, AreInReach}
+use Rattle.level_nets.specs.Reach.{IsBeside, IsBelow, IsDockIn, IsEndIn, IsPassing, AreInReach, IsSheet, parts_in}
 use Rattle.level_nets.proofs.Names.{dock_is, turned_is, west_is, east_is, child_below, unit_is}
 use Rattle.level_nets.proofs.Nets.{anchor_is, lane_is, loop_lane_is, laned_source, laned_target}
 
@@ -141,3 +143,15 @@ module _ (s : Parts) (rows : List (List ℕ)) (o : Orders) (layers : List ℕ) (
         ends = λ e t h. end_in_reach (end_at e t) h;
         loops = λ e side t h passes. passing_in e side t h passes;
       }
+
+-- what is asked of a level, with its marks, is what its nets are read with
+pub given_sheet : (t : Sheet) → IsGiven (parts_in t) → AreMarks t.reversed.now (length t.level.now.edges) t.turned.now → IsSheet t
+given_sheet t given marks =
+    let plan = given.plan in
+    let many = marks.as_many in
+    record {
+      sound = plan.planned.ready.sound;
+      reach = are_in_reach (parts_in t) plan.rows plan.orders plan.layers plan.planned given.bottoms given.few_layers;
+      as_many_marks = many;
+      marks = λ e h. marks.each e (omega (arith, h, many));
+    }

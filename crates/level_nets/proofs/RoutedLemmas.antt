@@ -8,7 +8,7 @@ use Rattle.elk_doc.specs.Sound.{IsDistance, IsSoundSpacing}
 use Rattle.elk_layers.specs.Layered.{IsFromZero}
 use Rattle.route_lines.specs.declared.Gap.{Gap}
 use Rattle.route_lines.specs.Points.{PlainGap, plain_gap, gap_in}
-use Rattle.level_plan.specs.Level.{PlainLevel, end_at, holds}
+use Rattle.level_plan.specs.Level.{PlainLevel, end_at}
 use Rattle.level_plan.specs.Nets.{of_link, of_dock, of_loop, first_slot}
 use Rattle.level_nets.specs.declared.routing.Places.{Places}
 use Rattle.level_nets.specs.declared.routing.Routing.{Routing}
@@ -17,7 +17,7 @@ use Rattle.level_nets.specs.Read.{HoldNets, names_of, end_number, left_of, in_ga
 use Rattle.level_nets.specs.Held.{plain_gaps, legs_at, before_dock}
 use Rattle.level_nets.specs.Reach.{AreNetsIn, AreColumnsIn}
 use Rattle.level_nets.specs.Placed.{HaveBorders, counts_of}
-use Rattle.level_nets.specs.Routed.{AreEmpty, AreMarks, ArePlaces, AreRouted, AreGapsOf, AreLegsOf, AreGapsIn}
+use Rattle.level_nets.specs.Routed.{AreEmpty, ArePlaces, AreRouted, AreGapsOf, AreLegsOf, AreGapsIn}
 use Rattle.level_nets.proofs.Names.{turned_is, west_is, east_is}
 use Rattle.level_nets.proofs.Gaps.{gap_of_plan, place_is, are_nets}
 use Rattle.level_nets.proofs.Splits.{link_splits, dock_splits, west_splits, east_splits}
@@ -133,9 +133,3 @@ routed_range s gaps given columns routed g h =
       first = first_in _ _ _ placed.first left (slot_in s.level g sound);
       right = right_range s g (left_of s (counts_of (plain_gaps gaps)) g) (gap_in (plain_gaps gaps) g) sound placed (nets g inside) left;
     }
-
--- marks of a list as a slice
-pub marks_kept : (numbers : List ℕ) (n : ℕ) (marks slice : List Bool) → slice ≡ marks → AreMarks numbers n marks → (k : ℕ) → k < length slice → get_or slice k false ≡ holds numbers k
-marks_kept numbers n marks slice same are k h =
-    let long = ap length same ∙ are.as_many in
-    ap (λ (ms : List Bool). get_or ms k false) same ∙ are.each k (omega (arith, h, long))

@@ -8,8 +8,8 @@ use Rattle.elk_doc.specs.declared.shape.Side.TheVariants.{North, East, South, We
 use Rattle.elk_doc.specs.PortsKept.{is_side}
 use Rattle.level_plan.specs.Level.{End, end_at, end_eq, ends_of_edges, all_ends}
 use Rattle.level_plan.specs.Nets.{Name, of_link, of_dock, of_loop, name_eq, if_passed, place_of_name}
-use Rattle.level_stands.proofs.Lists.{Has, map_has, append_has, filter_has, range_has}
-use Rattle.level_stands.proofs.NameLemmas.{ends_edge}
+use Rattle.level_plan.proofs.Lists.{Has, map_has, append_has, filter_has, range_has}
+use Rattle.level_plan.proofs.NameLemmas.{ends_edge}
 use Rattle.level_nets.specs.Parts.{Parts}
 use Rattle.level_nets.specs.Read.{link_names, dock_names, passing_names, names_of, is_turned_back, passes_west, passes_east}
 use Rattle.level_nets.specs.Held.{behind_docks, behind_loops, before_dock}

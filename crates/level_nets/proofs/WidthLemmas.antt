@@ -30,8 +30,8 @@ use Rattle.level_plan.specs.Level.{PlainLevel, PlainPlan, Orders, child_at, port
 use Rattle.level_plan.specs.Conditions.{IsLevel, IsLevelChild, IsNear, sizes_of, sum_of_ints, total_width}
 use Rattle.level_plan.specs.Table.{child_in}
 use Rattle.level_plan.specs.Units.{AreOrders}
-use Rattle.level_stands.proofs.Lists.{Has, range_has}
-use Rattle.level_stands.proofs.SpotLemmas.{port_spot_there, held_once}
+use Rattle.level_plan.proofs.Lists.{Has, range_has}
+use Rattle.level_plan.proofs.SpotLemmas.{port_spot_there, held_once}
 use Rattle.level_nets.specs.Parts.{Parts, plan_of, ArePlanned}
 use Rattle.level_nets.specs.Read.{widest_of, width_of, columns_of}
 use Rattle.level_nets.specs.Reach.{AreColumnsIn}

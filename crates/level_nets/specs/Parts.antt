@@ -9,7 +9,7 @@ use Rattle.level_plan.specs.declared.table.Table.{Table}
 use Rattle.level_plan.specs.Level.{PlainLevel, PlainPlan, Orders}
 use Rattle.level_plan.specs.Conditions.{plain_level}
 use Rattle.level_plan.specs.Table.{IsTable}
-use Rattle.level_stands.specs.Ready.{IsReady}
+use Rattle.level_plan.specs.Ready.{IsReady}
 
 pub record Parts : Type 0 where
   pub level : PlainLevel

@@ -20,11 +20,6 @@ pub record AreEmpty (n : ℕ) (gaps : List PlainGap) : Type 0 where
   pub as_many : length gaps ≡ n
   pub none : (g : ℕ) → g < n → (gap_in gaps g).nets ≡ []
 
--- for each number below n, whether a list holds it
-pub record AreMarks (numbers : List ℕ) (n : ℕ) (marks : List Bool) : Type 0 where
-  pub as_many : length marks ≡ n
-  pub each : (k : ℕ) → k < n → slice_index_or marks k false ≡ holds numbers k
-
 -- the places of all nets
 pub record ArePlaces (s : Parts) (v : Places) : Type 0 where
   pub links : AreLinkLegs s (length s.layered.links) v.links.items

@@ -8,4 +8,4 @@ pub mod reading;
 mod routing;
 pub mod sheet;
 
-pub use routing::{LoopLegs, Routing, gaps_of, marks_of};
+pub use routing::{LoopLegs, Routing, gaps_of};

@@ -1,18 +1,17 @@
 //! The gaps of a level.
-ghost use Rattle.std.specs.Prelude.{◌≡◌, ◌+◌, [], true, length, slice_set, IfOk, OnOk};
-ghost use Rattle.level_nets.specs.Parts.{IsGiven, parts};
+ghost use Rattle.std.specs.Prelude.{◌≡◌, ◌+◌, [], length, IfOk, OnOk};
+ghost use Rattle.level_plan.specs.Marks.{AreMarks};
+ghost use Rattle.level_nets.specs.Parts.{IsGiven};
 ghost use Rattle.level_nets.specs.Held.{plain_gaps};
 ghost use Rattle.level_nets.specs.Reach.{AreColumnsIn, IsSheet, parts_in};
 ghost use Rattle.level_nets.specs.Read.{HoldNets, names_of};
-ghost use Rattle.level_nets.specs.Routed.{AreEmpty, AreMarks, AreGapsIn, AreGapsOf, AreLegsOf, ArePlaces, AreRouted};
+ghost use Rattle.level_nets.specs.Routed.{AreEmpty, AreGapsIn, AreGapsOf, AreLegsOf, ArePlaces, AreRouted};
 
 use crate::borders::{column_widths, place_gaps};
 pub use crate::pushing::LoopLegs;
 use crate::pushing::{push_docks, push_links, push_loops};
 use crate::sheet::Sheet;
 use elk_doc::list::Items;
-use elk_layers::{Layered, Lines};
-use level_plan::{LevelIn, Table};
 use route_lines::Gap;
 use route_slots::Slots;
 use std::alloc::{AllocError, Global};
@@ -57,34 +56,6 @@ fn empty_gaps(alloc: Global, count: usize) -> Result<Vec<Gap>, AllocError>
     Ok(gaps)
 }
 
-// Sets the mark with this number, where there is one.
-fn set_mark(marks: &mut [bool], number: u32)
-    ensures { marks.new ≡ slice_set marks.old number true }
-{
-    if (number as usize) < marks.len() {
-        marks[number as usize] = true;
-    }
-}
-
-// Marks all these numbers.
-fn mark_all(marks: &mut [bool], numbers: &[u32])
-    requires { AreMarks [] (length marks.old) marks.old }
-    ensures { AreMarks numbers.now (length marks.old) marks.new }
-{
-    for number in numbers {
-        set_mark(marks, *number);
-    }
-}
-
-/// For each number below a count, whether a list holds it.
-pub fn marks_of(alloc: Global, numbers: &[u32], count: usize) -> Result<Vec<bool>, AllocError>
-    ensures { IfOk result (λ marks. AreMarks numbers.now count marks.items) }
-{
-    let mut marks: Vec<bool> = vec![in alloc; false; count]?;
-    mark_all(marks.as_mut_slice(), numbers);
-    Ok(marks)
-}
-
 // Puts all nets into gaps that have none, and tells their places there.
 fn fill_gaps(alloc: Global, sheet: &Sheet<'_>, gaps: &mut [Gap]) -> Result<Places, AllocError>
     requires sheet { IsSheet sheet.now }
@@ -118,34 +89,19 @@ fn fill_and_place(alloc: Global, sheet: &Sheet<'_>, gaps: &mut [Gap]) -> Result<
 }
 
 /// The gaps of a level, with nets, slots and borders, before the level is moved: its first gap begins at 0, and its tops are
-/// those of the lines. `reversed` has the numbers of the edges that are turned round.
+/// those of the sheet.
 ///
 /// The nets of a gap are those of links, of inverted docks and of self-loops, in this order, each in document order.
-pub fn gaps_of(
-    alloc: Global,
-    level: &LevelIn,
-    layered: &Layered,
-    lines: &Lines,
-    reversed: &[u32],
-    table: &Table,
-) -> Result<Routing, AllocError>
-    requires given { IsGiven (parts level.now layered.now lines.now.top.items reversed.now table.now) }
-    ensures count { IfOk result (λ r. length r.gaps ≡ layered.now.layers + 1) }
-    ensures gaps { IfOk result (λ r. AreGapsOf (parts level.now layered.now lines.now.top.items reversed.now table.now) r.gaps) }
-    ensures legs { IfOk result (λ r. AreLegsOf (parts level.now layered.now lines.now.top.items reversed.now table.now) r) }
+pub fn gaps_of(alloc: Global, sheet: &Sheet<'_>) -> Result<Routing, AllocError>
+    requires given { IsGiven (parts_in sheet.now) }
+    requires marked { AreMarks sheet.now.reversed.now (length sheet.now.level.now.edges) sheet.now.turned.now }
+    ensures count { IfOk result (λ r. length r.gaps ≡ sheet.now.layered.now.layers + 1) }
+    ensures gaps { IfOk result (λ r. AreGapsOf (parts_in sheet.now) r.gaps) }
+    ensures legs { IfOk result (λ r. AreLegsOf (parts_in sheet.now) r) }
     ensures range { IfOk result (λ r. AreGapsIn r.gaps) }
 {
-    let turned = marks_of(alloc, reversed, level.edges.len())?;
-    let sheet = Sheet {
-        level,
-        layered,
-        tops: lines.top.as_slice(),
-        reversed,
-        turned: turned.as_slice(),
-        table,
-    };
-    let mut gaps = empty_gaps(alloc, layered.layers as usize + 1)?;
-    let places = fill_and_place(alloc, &sheet, gaps.as_mut_slice())?;
+    let mut gaps = empty_gaps(alloc, sheet.layered.layers as usize + 1)?;
+    let places = fill_and_place(alloc, sheet, gaps.as_mut_slice())?;
     Ok(Routing {
         gaps: Items::from_vec(gaps),
         links: Items::from_vec(places.links),

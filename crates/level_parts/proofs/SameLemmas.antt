@@ -18,8 +18,8 @@ use Rattle.level_plan.specs.declared.level.Spoke.{Spoke}
 use Rattle.level_plan.specs.declared.level.LevelEdge.{LevelEdge}
 use Rattle.level_plan.specs.Conditions.{IsLevel}
 use Rattle.level_plan.specs.Level.{PlainLevel, PlainPlan, Orders, End, all_ends, child_at, dock_of, end_at, ends_at_port, ends_of_edges, enters, implicit_ends, implicit_spot, is_loop, is_port, linked, outline_from, place_of_end, port_place, port_spot, spoke, spot_at_port, spot_of, spots}
-use Rattle.level_stands.proofs.SameLines.{same_dock}
-use Rattle.level_stands.specs.PortsKept.{spread_count}
+use Rattle.level_plan.proofs.SameLines.{same_dock}
+use Rattle.level_plan.specs.PortsKept.{spread_count}
 use Rattle.network_parts.specs.Divided.{place_of}
 use Rattle.network_parts.proofs.PlaceLemmas.{place_node}
 use Rattle.level_parts.specs.Divided.{child_number, edge_keys, edge_number, members, part_level}

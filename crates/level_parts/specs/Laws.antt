@@ -4,7 +4,7 @@ use Rattle.elk_doc.specs.declared.shape.Dock.{Dock}
 use Rattle.elk_doc.specs.declared.shape.Side.{Side}
 use Rattle.level_plan.specs.Conditions.{IsLevel}
 use Rattle.level_plan.specs.Level.{PlainLevel, PlainPlan, Orders, anchor_of_spot, child_at, dock_of, end_at, holds, outline, port_place, spoke, spot_of}
-use Rattle.level_stands.specs.PortsKept.{port_side, spread_count}
+use Rattle.level_plan.specs.PortsKept.{port_side, spread_count}
 use Rattle.level_parts.specs.Divided.{child_number, edge_keys, edge_number, members, part_level}
 use Rattle.level_parts.specs.Parts.{AreParts}
 

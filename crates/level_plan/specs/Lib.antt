@@ -11,3 +11,13 @@ pub mod Examples
 pub mod MoreExamples
 pub mod Stage
 pub mod Law
+pub mod Ready
+pub mod Laws
+pub mod Apart
+pub mod PortsKept
+pub mod Chained
+pub mod Routes
+pub mod Lawful
+pub mod Joins
+pub mod Nearness
+pub mod Marks

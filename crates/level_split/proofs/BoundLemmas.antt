@@ -13,23 +13,23 @@ use Rattle.elk_doc.specs.Shapes.{Holds}
 use Rattle.elk_doc.specs.Sound.{IsDistance}
 use Rattle.box_pack.specs.Boxes.{EachSize, IsSize, point_at}
 use Rattle.box_pack.specs.Spaced.{AreSpaced, gapped, height_at, width_at}
-use Rattle.level_joined.proofs.PartLemmas.{outline_at}
-use Rattle.level_joined.proofs.ReachLemmas as reach
-use Rattle.level_bounds.specs.Extents.{IsBounded, outline_heights, outline_widths, room_between}
-use Rattle.level_bounds.proofs.Sums.{first_le, over, over_same, part, parts_within}
+use Rattle.level_laws.proofs.PartLemmas.{outline_at}
+use Rattle.level_laws.proofs.JoinedReachLemmas as reach
+use Rattle.level_laws.specs.Extents.{IsBounded, outline_heights, outline_widths, room_between}
+use Rattle.level_laws.proofs.Sums.{first_le, over, over_same, part, parts_within}
 use Rattle.level_draw.specs.declared.drawing.LevelOut.{LevelOut}
-use Rattle.level_pins.proofs.TotalLemmas.{first}
+use Rattle.level_units.proofs.TotalLemmas.{first}
 use Rattle.level_plan.specs.declared.level.LevelIn.{LevelIn}
 use Rattle.level_plan.specs.Conditions.{plain_level, sum_of_ints}
 use Rattle.level_plan.specs.FromPlan.{LevelDrawing}
 use Rattle.level_plan.specs.Level.{PlainLevel}
-use Rattle.level_stands.specs.Apart.{drawn_box, drawn_outline}
-use Rattle.level_stands.proofs.Lists.{Has, below_has}
+use Rattle.level_plan.specs.Apart.{drawn_box, drawn_outline}
+use Rattle.level_plan.proofs.Lists.{Has, below_has}
 use Rattle.network_parts.proofs.RangeLemmas.{few_picked}
 use Rattle.level_parts.specs.Divided.{child_number, edge_keys, members, part_level}
 use Rattle.level_parts.specs.Split.{part_in}
 use Rattle.level_parts.proofs.LevelLemmas.{many_children, many_edges, many_keys}
-use Rattle.level_turns.specs.Outlines.{shifted}
+use Rattle.level_laws.specs.Outlines.{shifted}
 use Rattle.level_split.specs.declared.layout.PartsOut.{PartsOut}
 use Rattle.level_split.specs.Gathered.{extents_of}
 use Rattle.level_split.specs.Laws.{PartsAreBounded, room_apart}

@@ -11,10 +11,10 @@ use Rattle.box_pack.specs.Boxes.{EachSize, IsSize, point_at}
 use Rattle.box_pack.specs.Packed.{AreRows}
 use Rattle.box_pack.specs.Spaced.{AreSolid, gapped, height_at, width_at}
 use Rattle.box_pack.proofs.SpacedLemmas.{rows_are_spaced}
-use Rattle.level_bounds.specs.Extents.{outline_heights, outline_widths}
-use Rattle.level_bounds.proofs.Bounded.{extents_bounded, extents_small}
-use Rattle.level_bounds.proofs.SizeLemmas.{heights_low, widths_low}
-use Rattle.level_bounds.proofs.Sums.{over, over_same}
+use Rattle.level_laws.specs.Extents.{outline_heights, outline_widths}
+use Rattle.level_laws.proofs.Bounded.{extents_bounded, extents_small}
+use Rattle.level_laws.proofs.SizeLemmas.{heights_low, widths_low}
+use Rattle.level_laws.proofs.Sums.{over, over_same}
 use Rattle.level_draw.specs.declared.drawing.LevelOut.{LevelOut}
 use Rattle.level_draw.specs.Drawing.{drawn_in, plan_from}
 use Rattle.level_layout.specs.Layout.{IsLaidOut}
@@ -23,9 +23,9 @@ use Rattle.level_plan.specs.Conditions.{plain_level, sum_of_ints}
 use Rattle.level_plan.specs.FromPlan.{LevelDrawing, IsDrawnFrom}
 use Rattle.level_plan.specs.Level.{PlainLevel, PlainPlan, outline}
 use Rattle.level_plan.specs.Drawing.{outline_at}
-use Rattle.level_stands.specs.Apart.{drawn_outline}
-use Rattle.level_stands.proofs.ApartLemmas.{outlines_are_drawn}
-use Rattle.level_stands.proofs.Lists.{Has, below_has}
+use Rattle.level_plan.specs.Apart.{drawn_outline}
+use Rattle.level_plan.proofs.ApartLemmas.{outlines_are_drawn}
+use Rattle.level_plan.proofs.Lists.{Has, below_has}
 use Rattle.level_split.specs.Gathered.{IsPartPlace}
 
 -- ---- a part

@@ -14,14 +14,14 @@ use Rattle.elk_doc.specs.Sound.{IsDistance}
 use Rattle.box_pack.specs.declared.packing.Rows.{Rows}
 use Rattle.box_pack.specs.Packed.{AreRows}
 use Rattle.box_pack.specs.Boxes.{AreSizes, EachSize, IsSize, point_at}
-use Rattle.level_joined.specs.CertificateJoined as certificates
-use Rattle.level_joined.specs.CertificateJoined.{AreCertificates, spans_to, turns}
-use Rattle.level_joined.proofs.ListLemmas.{filter_alike}
-use Rattle.level_joined.proofs.CertificateWholeLemmas.{certificates_join}
-use Rattle.level_joined.specs.Joined.{moved_section}
-use Rattle.level_joined.proofs.PlanLemmas.{many_over, over_range}
-use Rattle.level_joined.proofs.ReachLemmas.{IsReached, LiesIn, at_lower, at_upper, box_held, lower, on_route, reached_has, tight_lies, upper}
-use Rattle.level_bounds.proofs.Bounded.{extents_small}
+use Rattle.level_laws.specs.CertificateJoined as certificates
+use Rattle.level_laws.specs.CertificateJoined.{AreCertificates, spans_to, turns}
+use Rattle.level_laws.proofs.ListLemmas.{filter_alike}
+use Rattle.level_laws.proofs.CertificateWholeLemmas.{certificates_join}
+use Rattle.level_laws.specs.Joined.{moved_section}
+use Rattle.level_laws.proofs.PlanLemmas.{many_over, over_range}
+use Rattle.level_laws.proofs.JoinedReachLemmas.{IsReached, LiesIn, at_lower, at_upper, box_held, lower, on_route, reached_has, tight_lies, upper}
+use Rattle.level_laws.proofs.Bounded.{extents_small}
 use Rattle.level_draw.specs.declared.drawing.LevelOut.{LevelOut}
 use Rattle.level_draw.specs.Drawing.{drawn_in, plan_from}
 use Rattle.level_layers.specs.Certificate.{IsCertificateOf, link_flows}
@@ -31,9 +31,9 @@ use Rattle.level_plan.specs.declared.level.LevelIn.{LevelIn}
 use Rattle.level_plan.specs.Conditions.{IsLevel, plain_level}
 use Rattle.level_plan.specs.FromPlan.{LevelDrawing, IsDrawnFrom, point_or, section_at}
 use Rattle.level_plan.specs.Level.{PlainLevel, child_at, holds}
-use Rattle.level_rules.specs.Routes.{route_count, route_point}
-use Rattle.level_stands.specs.Apart.{drawn_outline}
-use Rattle.level_stands.proofs.Lists.{below_has, has_at}
+use Rattle.level_plan.specs.Routes.{route_count, route_point}
+use Rattle.level_plan.specs.Apart.{drawn_outline}
+use Rattle.level_plan.proofs.Lists.{below_has, has_at}
 use Rattle.network_parts.specs.Divided.{place_of}
 use Rattle.network_parts.specs.Dividing.{AreCounted}
 use Rattle.network_parts.proofs.PlaceLemmas.{place_less}
@@ -42,7 +42,7 @@ use Rattle.level_parts.specs.Divided.{edge_keys, part_level}
 use Rattle.level_parts.specs.Split.{IsSplit, part_at, part_in}
 use Rattle.level_parts.proofs.LevelLemmas.{many_children, many_edges, many_keys}
 use Rattle.level_parts.proofs.SplitLemmas.{keys_below}
-use Rattle.level_turns.proofs.EdgeLemmas.{has_holds}
+use Rattle.level_laws.proofs.EdgeLemmas.{has_holds}
 use Rattle.level_frame.specs.Drawing.{plus}
 use Rattle.level_split.specs.declared.layout.Joined.{Joined}
 use Rattle.level_split.specs.Gathered.{AreLayouts, ArePartDrawings, AreSeated, IsInPart, IsSectionInPart, certificate_at, drawing_at, extents_of}

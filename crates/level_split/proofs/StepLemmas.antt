@@ -10,18 +10,18 @@ use Rattle.elk_doc.specs.declared.drawing.Section.{Section}
 use Rattle.elk_doc.specs.declared.shape.Size.{Size}
 use Rattle.elk_doc.specs.Document.{no_size, origin}
 use Rattle.box_pack.specs.Boxes.{size_at}
-use Rattle.level_joined.specs.CertificateJoined.{spans_to}
-use Rattle.level_joined.proofs.ListLemmas.{filter_alike}
+use Rattle.level_laws.specs.CertificateJoined.{spans_to}
+use Rattle.level_laws.proofs.ListLemmas.{filter_alike}
 use Rattle.level_draw.specs.declared.drawing.LevelOut.{LevelOut}
 use Rattle.level_layout.specs.Layout.{IsLaidOut}
 use Rattle.level_plan.specs.FromPlan.{LevelDrawing, section_at}
 use Rattle.level_plan.specs.Level.{holds}
-use Rattle.level_stands.proofs.Lists.{Has, any_has, at_has, below_has, has_at}
+use Rattle.level_plan.proofs.Lists.{Has, any_has, at_has, below_has, has_at}
 use Rattle.network_parts.proofs.RangeLemmas.{filter_no, filter_yes}
 use Rattle.level_parts.specs.declared.levels.PartLevel.{PartLevel}
 use Rattle.level_parts.specs.declared.levels.PartLevels.{PartLevels}
 use Rattle.level_parts.specs.Split.{part_at}
-use Rattle.level_turns.proofs.EdgeLemmas.{has_holds}
+use Rattle.level_laws.proofs.EdgeLemmas.{has_holds}
 use Rattle.level_split.specs.Gathered.{AreFlows, AreLayers, AreLayouts, AreMarked, AreTurned, certificate_at, drawing_at, drawing_of, is_marked, marks_in, no_certificate, no_drawing}
 use Rattle.level_split.specs.Limits.{area_of, area_to}
 use Rattle.level_split.specs.Steps.{CanCertify, IsCertificateIn}

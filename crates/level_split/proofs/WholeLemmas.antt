@@ -6,16 +6,16 @@ use Rattle.elk_doc.specs.declared.drawing.Certificate.{Certificate}
 use Rattle.elk_doc.specs.declared.shape.Point.{Point}
 use Rattle.elk_doc.specs.declared.drawing.Section.{Section}
 use Rattle.box_pack.specs.Boxes.{point_at, size_at}
-use Rattle.level_joined.specs.CertificateJoined.{AreCertificates}
-use Rattle.level_joined.proofs.EdgeLemmas.{turned_at}
-use Rattle.level_joined.proofs.CertificateWholeLemmas.{certificates_join}
-use Rattle.level_joined.specs.Joined.{AreDrawn, AreInRows, IsJoined, IsWholeDrawing, moved_section, part_rect}
-use Rattle.level_joined.proofs.PartLemmas.{by_child, in_part, ports_at, same_child, there}
-use Rattle.level_joined.proofs.ReachLemmas as reach
-use Rattle.level_joined.proofs.WholeLemmas.{drawings_join}
+use Rattle.level_laws.specs.CertificateJoined.{AreCertificates}
+use Rattle.level_laws.proofs.JoinedEdgeLemmas.{turned_at}
+use Rattle.level_laws.proofs.CertificateWholeLemmas.{certificates_join}
+use Rattle.level_laws.specs.Joined.{AreDrawn, AreInRows, IsJoined, IsWholeDrawing, moved_section, part_rect}
+use Rattle.level_laws.proofs.PartLemmas.{by_child, in_part, ports_at, same_child, there}
+use Rattle.level_laws.proofs.JoinedReachLemmas as reach
+use Rattle.level_laws.proofs.JoinedWholeLemmas.{drawings_join}
 use Rattle.box_pack.specs.Spaced.{AreSpaced}
-use Rattle.level_bounds.specs.Extents.{IsBounded}
-use Rattle.level_bounds.proofs.Bounded.{extents_bounded}
+use Rattle.level_laws.specs.Extents.{IsBounded}
+use Rattle.level_laws.proofs.Bounded.{extents_bounded}
 use Rattle.level_draw.specs.declared.drawing.LevelOut.{LevelOut}
 use Rattle.level_draw.specs.Drawing.{IsDrawing, drawn_in, plan_from}
 use Rattle.level_layers.specs.Certificate.{IsCertificateOf}
@@ -25,7 +25,7 @@ use Rattle.level_plan.specs.Conditions.{plain_level}
 use Rattle.level_plan.specs.FromPlan.{LevelDrawing, point_or}
 use Rattle.level_plan.specs.Level.{Orders, PlainLevel, PlainPlan, child_at, holds}
 use Rattle.port_order.specs.declared.children.Child.{Child}
-use Rattle.level_stands.specs.Ready.{IsReady}
+use Rattle.level_plan.specs.Ready.{IsReady}
 use Rattle.network_parts.specs.Divided.{place_of}
 use Rattle.level_parts.specs.Divided.{child_number, edge_keys, part_level}
 use Rattle.level_parts.specs.Split.{part_in}

@@ -9,7 +9,7 @@ use Rattle.elk_doc.specs.declared.drawing.Section.{Section}
 use Rattle.elk_doc.specs.Document.{no_size}
 use Rattle.elk_doc.specs.Sound.{IsWithin}
 use Rattle.box_pack.specs.Boxes.{point_at}
-use Rattle.level_joined.specs.Joined.{moved_section}
+use Rattle.level_laws.specs.Joined.{moved_section}
 use Rattle.level_draw.specs.declared.drawing.LevelOut.{LevelOut}
 use Rattle.level_draw.specs.Drawing.{drawn_in}
 use Rattle.level_layout.specs.Layout.{IsLaidOut}

@@ -4,16 +4,16 @@ use Rattle.elk_doc.specs.declared.shape.Rect.{Rect}
 use Rattle.elk_doc.specs.Apart.{StandsClear}
 use Rattle.elk_doc.specs.Shapes.{Holds, point_rect}
 use Rattle.elk_doc.specs.Sound.{IsDistance, IsWithin}
-use Rattle.level_bounds.specs.Extents.{outline_heights, outline_widths}
-use Rattle.level_joined.specs.Joined.{KeepsRules}
+use Rattle.level_laws.specs.Extents.{outline_heights, outline_widths}
+use Rattle.level_laws.specs.Joined.{KeepsRules}
 use Rattle.level_plan.specs.declared.level.LevelIn.{LevelIn}
 use Rattle.level_plan.specs.Conditions.{plain_level}
 use Rattle.level_plan.specs.Level.{PlainLevel, child_at}
-use Rattle.level_rules.specs.Routes.{route_count, route_point}
-use Rattle.level_stands.specs.Apart.{ChildrenApart, drawn_outline}
+use Rattle.level_plan.specs.Routes.{route_count, route_point}
+use Rattle.level_plan.specs.Apart.{ChildrenApart, drawn_outline}
 use Rattle.level_parts.specs.Divided.{edge_keys}
 use Rattle.level_parts.specs.Parts.{AreParts}
-use Rattle.level_turns.specs.Certified.{IsProofOf}
+use Rattle.level_laws.specs.Certified.{IsProofOf}
 use Rattle.level_split.specs.declared.layout.PartsOut.{PartsOut}
 use Rattle.level_split.specs.Parts.{IsPartsLayout, whole_drawing}
 

@@ -5,7 +5,7 @@ use Rattle.elk_doc.specs.declared.drawing.Certificate.{Certificate}
 use Rattle.elk_doc.specs.declared.shape.Point.{Point}
 use Rattle.box_pack.specs.declared.packing.Rows.{Rows}
 use Rattle.box_pack.specs.Packed.{AreRows}
-use Rattle.level_joined.specs.CertificateJoined.{spans_to}
+use Rattle.level_laws.specs.CertificateJoined.{spans_to}
 use Rattle.level_draw.specs.declared.drawing.LevelOut.{LevelOut}
 use Rattle.level_plan.specs.Level.{holds}
 use Rattle.level_parts.specs.declared.levels.PartLevels.{PartLevels}

@@ -2,7 +2,7 @@
 ghost use Rattle.std.specs.Prelude.{◌≡◌, ◌<◌, ◌≤◌, ◌^◌, [], ℕ, length, slice_index, slice_index_or, IfOk};
 ghost use Rattle.std.specs.List.{filter, range_with_len};
 ghost use Rattle.level_parts.specs.Split.{part_at};
-ghost use Rattle.level_joined.specs.CertificateJoined.{spans_to};
+ghost use Rattle.level_laws.specs.CertificateJoined.{spans_to};
 ghost use Rattle.level_split.specs.Gathered.{AreFlows, AreLayers, AreMarked, AreSeated, AreTurned, certificate_at, is_marked, marks_in};
 
 use level_draw::LevelOut;

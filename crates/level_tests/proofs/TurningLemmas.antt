@@ -14,13 +14,13 @@ use Rattle.elk_doc.specs.Numbers.{numbers_below}
 use Rattle.elk_doc.specs.Sides.{given_side}
 use Rattle.elk_doc.specs.Sound.{HasParent, IsSound, IsSoundEdge, IsSoundLevel, IsSoundNode, IsSoundPort, ancestor}
 use Rattle.elk_doc.specs.Examples.{point}
-use Rattle.level_shift.specs.Ranges.{IsFarPoint, IsFarSection}
+use Rattle.level_frame.specs.Ranges.{IsFarPoint, IsFarSection}
 use Rattle.level_frame.specs.Turned.{ports_of}
-use Rattle.level_writing.specs.Canvas.{blank_drawing}
-use Rattle.level_writing.specs.Ranges.{IsLongBox}
-use Rattle.level_writing.specs.declared.figure.LevelFigure.{LevelFigure}
-use Rattle.level_writing.specs.declared.writing.LevelNumbers.{LevelNumbers}
-use Rattle.level_writing.specs.Written.{AreNumbersAt, ArePortPlaces, IsWritable, rows_in}
+use Rattle.document_levels.specs.Canvas.{blank_drawing}
+use Rattle.document_levels.specs.Ranges.{IsLongBox}
+use Rattle.document_levels.specs.declared.figure.LevelFigure.{LevelFigure}
+use Rattle.document_levels.specs.declared.writing.LevelNumbers.{LevelNumbers}
+use Rattle.document_levels.specs.Written.{AreNumbersAt, ArePortPlaces, IsWritable, rows_in}
 use Rattle.level_tests.specs.Turning.{figure, padded, port_rows, turning}
 
 below1 : (P : ℕ → Type 0) → P 0 → (k : ℕ) → k < 1 → P k

@@ -9,7 +9,7 @@ use Rattle.elk_doc.specs.declared.document.Port.{Port}
 use Rattle.elk_doc.specs.declared.document.PortRule.TheVariants.{Free}
 use Rattle.elk_doc.specs.Document.{Document, no_size}
 use Rattle.elk_doc.specs.Examples.{edge, options, point, size}
-use Rattle.level_writing.specs.declared.figure.LevelFigure.{LevelFigure}
+use Rattle.document_levels.specs.declared.figure.LevelFigure.{LevelFigure}
 
 -- the default options with a padding of another width on each side
 abbrev pub padded : Direction → LevelOptions

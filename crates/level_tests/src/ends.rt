@@ -10,7 +10,7 @@ use elk_doc::list::Items;
 use elk_doc::shape::{Dock, Point, Rect, Side, Size};
 use elk_layers::{Layered, Order};
 use level_ends::table_of;
-use level_plan::{LevelEdge, LevelIn, Spoke, Table};
+use level_plan::{LevelEdge, LevelIn, Spoke, Table, marks_of};
 use port_order::{Child, ChildPort};
 use std::alloc::{AllocError, Global};
 use std::test::Fail;
@@ -80,7 +80,8 @@ fn west_table(alloc: Global) -> Result<Table, AllocError> {
     let level = west_level(alloc)?;
     let layered = west_layered(alloc)?;
     let order = west_rows(alloc)?;
-    table_of(alloc, &level, &layered, &order, &[])
+    let turned = marks_of(alloc, &[], level.edges.len())?;
+    table_of(alloc, &level, &layered, &order, &[], turned.as_slice())
 }
 
 #[test]

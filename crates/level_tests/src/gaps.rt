@@ -1,7 +1,8 @@
 //! The gaps of two children that two parallel edges join.
 use crate::fixtures::{parallel, parallel_layered, parallel_table};
-use elk_layers::Lines;
+use level_nets::sheet::Sheet;
 use level_nets::{Routing, gaps_of};
+use level_plan::marks_of;
 use std::alloc::{AllocError, Global};
 use std::test::Fail;
 
@@ -9,10 +10,16 @@ fn routing(alloc: Global) -> Result<Routing, AllocError> {
     let level = parallel(alloc)?;
     let layered = parallel_layered(alloc)?;
     let table = parallel_table(alloc)?;
-    let lines = Lines {
-        top: vec![in alloc; 0, 0]?,
+    let turned = marks_of(alloc, &[], level.edges.len())?;
+    let sheet = Sheet {
+        level: &level,
+        layered: &layered,
+        tops: &[0, 0],
+        reversed: &[],
+        turned: turned.as_slice(),
+        table: &table,
     };
-    gaps_of(alloc, &level, &layered, &lines, &[], &table)
+    gaps_of(alloc, &sheet)
 }
 
 #[test]

@@ -2,7 +2,7 @@
 //! joined to two.
 ghost use Rattle.std.specs.Prelude.{◌≡◌, IfOk};
 ghost use Rattle.level_plan.specs.Conditions.{plain_level};
-ghost use Rattle.level_stands.specs.Examples.{chained};
+ghost use Rattle.level_plan.specs.Chained.{chained};
 ghost use Rattle.level_layout.specs.Examples.{forked};
 
 use crate::fixtures::{edge, level_of, parallel, square};

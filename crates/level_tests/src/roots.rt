@@ -1,12 +1,11 @@
 //! The ports of a root of 200 by 300 alone in its document, each 10 by 20.
 ghost use Rattle.std.specs.Prelude.{◌≡◌, IfOk};
-ghost use Rattle.document_root.specs.Examples.{port_with, rooted};
+ghost use Rattle.document_plan.specs.Examples.{port_with, rooted};
 
-use document_root::place_root_ports;
+use document_levels::{Canvas, blank, index_of};
+use document_plan::place_root_ports;
 use elk_doc::document::{Direction, Doc, Id, Node, Port, PortRule, default_options};
 use elk_doc::shape::{Point, Rect, Side, Size};
-use level_reading::index_of;
-use level_writing::{Canvas, blank};
 use std::alloc::{AllocError, Global};
 use std::test::Fail;
 

@@ -1,8 +1,9 @@
 //! The boxes and traces of two children that two parallel edges join.
 use crate::fixtures::{parallel, parallel_layered, parallel_table};
 use elk_doc::shape::Point;
-use elk_layers::Lines;
 use level_nets::gaps_of;
+use level_nets::sheet::Sheet;
+use level_plan::marks_of;
 use level_traces::{Routes, routes_of};
 use route_lines::Step;
 use std::alloc::{AllocError, Global};
@@ -12,11 +13,17 @@ fn routes(alloc: Global) -> Result<Routes, AllocError> {
     let level = parallel(alloc)?;
     let layered = parallel_layered(alloc)?;
     let table = parallel_table(alloc)?;
-    let lines = Lines {
-        top: vec![in alloc; 0, 0]?,
+    let turned = marks_of(alloc, &[], level.edges.len())?;
+    let sheet = Sheet {
+        level: &level,
+        layered: &layered,
+        tops: &[0, 0],
+        reversed: &[],
+        turned: turned.as_slice(),
+        table: &table,
     };
-    let routing = gaps_of(alloc, &level, &layered, &lines, &[], &table)?;
-    routes_of(alloc, &level, &layered, &lines, &[], &table, &routing)
+    let routing = gaps_of(alloc, &sheet)?;
+    routes_of(alloc, &sheet, &routing)
 }
 
 #[test]

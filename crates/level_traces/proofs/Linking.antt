@@ -11,8 +11,8 @@ use Rattle.level_plan.specs.Level.{PlainLevel, PlainPlan, Orders, End, end_at, s
 use Rattle.level_plan.specs.Nets.{unit_of, layer_of_child}
 use Rattle.level_plan.specs.Traces.{chain, links_at, links_from}
 use Rattle.level_plan.specs.Units.{HasChain, IsLaneUnit, chain_at}
-use Rattle.level_stands.proofs.Lists.{at_has}
-use Rattle.level_stands.proofs.LinkLemmas.{chain_are}
+use Rattle.level_plan.proofs.Lists.{at_has}
+use Rattle.level_plan.proofs.LinkLemmas.{chain_are}
 use Rattle.level_nets.specs.Parts.{Parts, plan_of, ArePlanned, EndAbove}
 use Rattle.level_nets.specs.Read.{dock_at}
 use Rattle.level_nets.proofs.Chains.{in_chain, chain_of, one_link}

@@ -6,13 +6,13 @@ use Rattle.level_plan.specs.Level.{Orders, end_at, is_loop, holds, dock_of}
 use Rattle.level_plan.specs.Lanes.{has_one_dock}
 use Rattle.level_plan.specs.FromPlan.{PlainTrace, point_or, box_place}
 use Rattle.level_plan.specs.Traces as plan
-use Rattle.level_stands.proofs.Lists.{Has}
-use Rattle.level_stands.proofs.LinkLemmas.{chain_are}
+use Rattle.level_plan.proofs.Lists.{Has}
+use Rattle.level_plan.proofs.LinkLemmas.{chain_are}
 use Rattle.level_nets.specs.declared.routing.Routing.{Routing}
 use Rattle.level_nets.specs.Parts.{Parts, plan_of, ArePlanned}
 use Rattle.level_nets.specs.Read.{dock_at, is_one_dock}
 use Rattle.level_nets.specs.Routed.{AreLegs, drawn_with}
-use Rattle.level_stands.proofs.Lists.{at_has}
+use Rattle.level_plan.proofs.Lists.{at_has}
 use Rattle.level_traces.specs.Read as read
 use Rattle.level_traces.specs.Traced.{AreBoxes, AreTraces, ArePlannedRoutes}
 use Rattle.level_traces.proofs.StepReading.{edge_steps_are}

@@ -12,8 +12,8 @@ use Rattle.level_plan.specs.Stage.{dock_lane, long_lane}
 use Rattle.level_plan.specs.Level.{PlainLevel, PlainPlan, Orders, End, is_loop, enters, tail_end, head_end, dock_of, holds}
 use Rattle.level_plan.specs.Nets.{of_link, of_dock, is_inverted, inverts}
 use Rattle.level_plan.specs.Traces as plan
-use Rattle.level_stands.proofs.Lists.{Has}
-use Rattle.level_stands.proofs.LaneLemmas.{end_has_lane}
+use Rattle.level_plan.proofs.Lists.{Has}
+use Rattle.level_plan.proofs.LaneLemmas.{end_has_lane}
 use Rattle.level_nets.specs.declared.routing.Routing.{Routing}
 use Rattle.level_nets.specs.Parts.{Parts, plan_of, ArePlanned}
 use Rattle.level_nets.specs.Read.{gap_named}

@@ -5,7 +5,7 @@ use Rattle.std.proofs.lemmas.List.{map-append, get_or_append_left, get_or-append
 use Rattle.elk_doc.specs.declared.shape.Point.{Point}
 use Rattle.route_lines.specs.declared.Trace.{Trace}
 use Rattle.level_plan.specs.FromPlan.{PlainTrace}
-use Rattle.level_shift.specs.Ranges.{plain_trace}
+use Rattle.level_frame.specs.Ranges.{plain_trace}
 use Rattle.level_nets.specs.declared.routing.Routing.{Routing}
 use Rattle.level_nets.specs.Parts.{Parts}
 use Rattle.level_traces.specs.Traced.{AreTraces, IsTraceOf, plain_traces, trace_in}

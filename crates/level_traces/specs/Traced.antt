@@ -6,7 +6,7 @@ use Rattle.route_lines.specs.Points.{PlainGap}
 use Rattle.level_plan.specs.Level.{PlainLevel, PlainPlan, Orders, end_at}
 use Rattle.level_plan.specs.FromPlan.{PlainTrace, point_or, box_place, anchor}
 use Rattle.level_plan.specs.Traces.{steps_of}
-use Rattle.level_shift.specs.Ranges.{plain_trace}
+use Rattle.level_frame.specs.Ranges.{plain_trace}
 use Rattle.level_nets.specs.declared.routing.Routing.{Routing}
 use Rattle.level_nets.specs.Parts.{Parts, ArePlanned, plan_of}
 use Rattle.level_nets.specs.Held.{plain_gaps}

@@ -1,7 +1,7 @@
 //! Where boxes and anchors stand.
 ghost use Rattle.std.specs.Prelude.{◌≡◌, ◌+◌, ◌<◌, ◌^◌, pos, length, IfOk};
 ghost use Rattle.std.specs.List.{All};
-ghost use Rattle.level_shift.specs.Ranges.{IsFarPoint};
+ghost use Rattle.level_frame.specs.Ranges.{IsFarPoint};
 ghost use Rattle.elk_layers.specs.Layered.{IsFromZero};
 ghost use Rattle.route_lines.specs.Points.{gap_in};
 ghost use Rattle.level_plan.specs.FromPlan.{point_or};

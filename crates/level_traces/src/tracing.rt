@@ -4,13 +4,14 @@ ghost use Rattle.std.specs.List.{All};
 ghost use Rattle.elk_doc.specs.PortsKept.{is_side};
 ghost use Rattle.level_plan.specs.Level as level;
 ghost use Rattle.level_nets.specs.Read.{dock_at, is_one_dock};
-ghost use Rattle.level_nets.specs.Parts.{IsGiven, parts};
+ghost use Rattle.level_plan.specs.Marks.{AreMarks};
+ghost use Rattle.level_nets.specs.Parts.{IsGiven};
 ghost use Rattle.level_nets.specs.Reach.{IsSheet, parts_in};
 ghost use Rattle.level_nets.specs.Routed.{AreGapsIn, AreLegsOf};
 ghost use Rattle.level_traces.specs.Chains.{AreNext};
 ghost use Rattle.level_traces.specs.Read as read;
 ghost use Rattle.level_traces.specs.Reach.{AreNumbersIn, HaveLegs, IsBoxPoint, IsLinked};
-ghost use Rattle.level_shift.specs.Ranges.{plain_trace};
+ghost use Rattle.level_frame.specs.Ranges.{plain_trace};
 ghost use Rattle.level_traces.specs.Traced.{AreRead, AreRoutesOf, AreTraces, IsTraceOf, plain_traces};
 
 use crate::chains::{Next, next_links};
@@ -18,10 +19,8 @@ use crate::loops::push_loop;
 use crate::places::{anchor_at, boxes_in};
 use crate::steps::push_steps;
 use elk_doc::shape::{Point, Side};
-use elk_layers::{Layered, Lines};
+use level_nets::Routing;
 use level_nets::sheet::{Sheet, end_at, is_loop};
-use level_nets::{Routing, marks_of};
-use level_plan::{LevelIn, Table};
 use route_lines::{Step, Trace};
 use std::alloc::{AllocError, Global};
 
@@ -183,32 +182,16 @@ fn routes_in(alloc: Global, sheet: &Sheet<'_>, routing: &Routing) -> Result<Rout
 
 /// The boxes and traces of a level, before the level is moved.
 ///
-/// `routing` has the level's gaps and the places of its nets in them, as `gaps_of` finds them.
-pub fn routes_of(
-    alloc: Global,
-    level: &LevelIn,
-    layered: &Layered,
-    lines: &Lines,
-    reversed: &[u32],
-    table: &Table,
-    routing: &Routing,
-) -> Result<Routes, AllocError>
-    requires given { IsGiven (parts level.now layered.now lines.now.top.items reversed.now table.now) }
-    requires numbers { AreNumbersIn table.now }
+/// `routing` has the level's gaps and the places of its nets in them, as `gaps_of` finds them by the same sheet.
+pub fn routes_of(alloc: Global, sheet: &Sheet<'_>, routing: &Routing) -> Result<Routes, AllocError>
+    requires given { IsGiven (parts_in sheet.now) }
+    requires marked { AreMarks sheet.now.reversed.now (length sheet.now.level.now.edges) sheet.now.turned.now }
+    requires numbers { AreNumbersIn sheet.now.table.now }
     requires gaps { AreGapsIn routing.now.gaps }
-    requires count { length routing.now.gaps ≡ layered.now.layers + 1 }
-    requires legs { AreLegsOf (parts level.now layered.now lines.now.top.items reversed.now table.now) routing.now }
-    ensures routes { IfOk result (λ v. AreRoutesOf (parts level.now layered.now lines.now.top.items reversed.now table.now) routing.now v) }
+    requires count { length routing.now.gaps ≡ sheet.now.layered.now.layers + 1 }
+    requires legs { AreLegsOf (parts_in sheet.now) routing.now }
+    ensures routes { IfOk result (λ v. AreRoutesOf (parts_in sheet.now) routing.now v) }
     ensures near { IfOk result (λ v. All IsBoxPoint v.boxes.items) }
 {
-    let turned = marks_of(alloc, reversed, level.edges.len())?;
-    let sheet = Sheet {
-        level,
-        layered,
-        tops: lines.top.as_slice(),
-        reversed,
-        turned: turned.as_slice(),
-        table,
-    };
-    routes_in(alloc, &sheet, routing)
+    routes_in(alloc, sheet, routing)
 }

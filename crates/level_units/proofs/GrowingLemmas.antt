@@ -8,7 +8,7 @@ use Rattle.level_units.specs.declared.runs.Run.{Run}
 use Rattle.level_units.specs.Layering.{Layering, layer_in, IsCountTo}
 use Rattle.level_units.specs.Numbered.{lane_on, link_on, gaps_of, lanes_of, first_lane, run_at, run_of}
 use Rattle.level_units.specs.Grown.{grown, child_units, units_to, links_to}
-use Rattle.level_nets.specs.Routed.{AreMarks}
+use Rattle.level_plan.specs.Marks.{AreMarks}
 use Rattle.level_units.proofs.GrownLemmas.{all_more}
 use Rattle.level_units.proofs.NumberLemmas.{lanes_begin}
 
@@ -52,7 +52,7 @@ links_more s e ks new run old is push =
     ∙ sym (all_more (λ d i. link_on (run_of s d) i) (gaps_of s) [] e)
 
 -- the run that is worked out behind the units of all edges before it
-pub run_here : (s : Layering) (n e first : ℕ) (marks ms : List Bool) (us : List LayerUnit) (run : Run) → length s.layers ≡ length s.level.children → AreMarks s.reversed n marks → ms ≡ marks → e < n
-    → us ≡ units_to s e → first ≡ length us → run ≡ run_at s.level s.layers (get_or ms e false) e first → run ≡ run_of s e
-run_here s n e first marks ms us run many are same h old begin made =
-    run_is s e first (get_or ms e false) run made (ap (λ xs. get_or xs e false) same ∙ are.each e h) (begin ∙ ap length old ∙ lanes_begin s e many)
+pub run_here : (s : Layering) (e first : ℕ) (marks : List Bool) (us : List LayerUnit) (run : Run) → length s.layers ≡ length s.level.children → AreMarks s.reversed (length s.level.edges) marks → e < length s.level.edges
+    → us ≡ units_to s e → first ≡ length us → run ≡ run_at s.level s.layers (get_or marks e false) e first → run ≡ run_of s e
+run_here s e first marks us run many are h old begin made =
+    run_is s e first (get_or marks e false) run made (are.each e h) (begin ∙ ap length old ∙ lanes_begin s e many)

@@ -5,7 +5,7 @@ use Rattle.std.proofs.lemmas.List.{length_push, get_or_push, get_or_append_left,
 use Rattle.std.specs.List.{range_with_len}
 use Rattle.elk_layers.specs.declared.units.Unit.{Unit as LayerUnit}
 use Rattle.elk_layers.specs.Layered.{Plain, unit_at, layer_of, row_at, AreRows, HasUnit, IsSound}
-use Rattle.level_stands.proofs.Lists.{filter_has, has_filter, has_range, range_has, has_at, at_has}
+use Rattle.level_plan.proofs.Lists.{filter_has, has_filter, has_range, range_has, has_at, at_has}
 use Rattle.level_units.specs.Started.{AreAscending, plain_rows, row_to}
 use Rattle.level_units.proofs.FilterLemmas.{filter_last, ascends}
 

@@ -2,3 +2,14 @@ pub mod Layering
 pub mod Numbered
 pub mod Grown
 pub mod Started
+pub mod Alike
+pub mod Fitted
+pub mod Reading
+pub mod Worked
+pub mod Ranked
+pub mod Sides
+pub mod Flows
+pub mod Ports
+pub mod RankReading
+pub mod Levels
+pub mod Laws

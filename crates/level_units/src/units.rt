@@ -2,6 +2,7 @@
 ghost use Rattle.std.specs.Prelude.{◌≡◌, ◌⊎◌, ℕ, ℤ, ◌+◌, ◌-◌, ◌<◌, ◌≤◌, List, length, IfOk, OnOk};
 ghost use Rattle.elk_layers.specs.Layered.{IsSound, plain};
 ghost use Rattle.level_plan.specs.Conditions.{IsLevel, plain_level};
+ghost use Rattle.level_plan.specs.Marks.{AreMarks};
 ghost use Rattle.level_plan.specs.Units.{AreLinked};
 ghost use Rattle.level_units.specs.Grown.{AreGrown, IsShort, child_units, grown};
 ghost use Rattle.level_units.specs.Layering.{layering, AreLayersOf, IsLayerCount, layer_in, plan_with};
@@ -9,7 +10,6 @@ ghost use Rattle.level_units.specs.Numbered.{AreNumberedUnits, flat_unit, lane_o
 
 use crate::runs::{Run, lanes, run_of, stop};
 use elk_layers::{Layered, Link, Unit};
-use level_nets::marks_of;
 use level_plan::LevelIn;
 use std::alloc::{AllocError, Global};
 
@@ -110,19 +110,20 @@ fn grow(
     level: &LevelIn,
     layers: &[u32],
     reversed: &[u32],
+    turned: &[bool],
 ) -> Result<Layered, AllocError>
     requires level { IsLevel (plain_level level.now) }
     requires layering { AreLayersOf (plain_level level.now) reversed.now layers.now }
+    requires marked { AreMarks reversed.now (length level.now.edges) turned.now }
     ensures { IfOk result (λ v. AreGrown (layering (plain_level level.now) reversed.now layers.now) (plain v)) }
 {
-    let turned = marks_of(alloc, reversed, level.edges.len())?;
     let mut units = units_of_children(alloc, layers)?;
     let mut links = Vec::new(alloc);
     for edge in 0..level.edges.len() as u32 {
         let run = run_of(
             level,
             layers,
-            turned.as_slice()[edge as usize],
+            turned[edge as usize],
             edge,
             units.len() as u32,
         );
@@ -140,7 +141,7 @@ fn grow(
 }
 
 /// The units and links of a level whose children lie in these layers, without heights, pins and ranks. `reversed` has the
-/// numbers of the edges that are turned round.
+/// numbers of the edges that are turned round, and `turned` marks them.
 ///
 /// Unit c is that of child c. The lanes of long edges follow by edge, and those of an edge from its tail on; so do links.
 pub fn units_of(
@@ -148,9 +149,11 @@ pub fn units_of(
     level: &LevelIn,
     layers: &[u32],
     reversed: &[u32],
+    turned: &[bool],
 ) -> Result<Layered, AllocError>
     requires level { IsLevel (plain_level level.now) }
     requires layering { AreLayersOf (plain_level level.now) reversed.now layers.now }
+    requires marked { AreMarks reversed.now (length level.now.edges) turned.now }
     ensures linked { IfOk result (λ v. (rows : List (List ℕ)) (tops : List ℤ) → AreLinked (plain_level level.now) (plan_with v rows tops reversed.now) layers.now) }
     ensures sound { IfOk result (λ v. IsSound (plain v)) }
     ensures numbered { IfOk result (λ v. AreNumberedUnits (layering (plain_level level.now) reversed.now layers.now) (plain v)) }
@@ -160,5 +163,5 @@ pub fn units_of(
     ensures edge_node { IfOk result (λ v. v.edge_node ≡ level.now.spacing.edge_node) }
     ensures edge_edge { IfOk result (λ v. v.edge_edge ≡ level.now.spacing.edge_edge) }
 {
-    grow(alloc, level, layers, reversed)
+    grow(alloc, level, layers, reversed, turned)
 }

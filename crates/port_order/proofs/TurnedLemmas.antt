@@ -15,7 +15,7 @@ use Rattle.elk_doc.specs.declared.document.Direction.TheVariants.{Right, Left, D
 use Rattle.elk_doc.specs.Sides.{side_by_place}
 use Rattle.elk_doc.specs.Sound.{along}
 use Rattle.elk_doc.specs.PortsKept.{size_along, clockwise as clockwise_on}
-use Rattle.drawing_turns.specs.Turning.{turned_side}
+use Rattle.drawing_laws.specs.Turning.{turned_side}
 use Rattle.port_order.specs.Sides.{is_mirrored, is_forward, side_of_place}
 use Rattle.port_order.specs.Places.{spread_at, turned_spread}
 use Rattle.port_order.specs.Order.{clockwise}

@@ -1,6 +1,6 @@
 //! Words as a shell hands them in.
 use crate::drawings::words_of;
-use elk_words::{Command, command_of};
+use elk_engine::{Command, command_of};
 use std::test::Fail;
 
 #[test]

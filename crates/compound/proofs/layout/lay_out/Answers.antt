@@ -1,7 +1,7 @@
 use Rattle.std.proofs.Common.{◌∙◌, ap, map, subst, sym}
 use Rattle.elk_doc.specs.Drawn.{Drawn}
 use Rattle.elk_doc.specs.Fitted.{Fitted}
-use Rattle.level_writing.specs.Canvas.{drawing_of}
+use Rattle.document_levels.specs.Canvas.{drawing_of}
 use Rattle.document_plan.specs.Planned.{Planned}
 use Rattle.drawing_laws.specs.Held.{HasSmallCoordinates}
 use Rattle.compound.specs.Work.{given_size}

@@ -1,9 +1,22 @@
+use Rattle.std.proofs.Common.{ℕ, Bool, List, length, sym, subst}
 use Rattle.level_plan.specs.Conditions.{plain_level}
+use Rattle.level_plan.specs.Marks.{AreMarks}
 use Rattle.level_draw.specs.Drawing.{IsDrawn, IsMadeFrom, plan_from}
 use Rattle.level_layout.specs.Layout.{IsLaidOut}
-use Rattle.level_ranks.proofs.UnitLemmas.{make_units}
+use Rattle.level_units.proofs.UnitLemmas.{make_units}
 use Rattle.level_layout.proofs.LayoutLemmas.{drawable, if_both, laid_out, linked_by, pinned_by, pins_small, units_few}
 use Rattle.level_layout.proofs.layout.layout_level.Goals as goal
+
+pub start_for-requires-clause-marked : goal.start_for-requires-clause-marked
+start_for-requires-clause-marked c =
+    subst (λ (ns : List ℕ). AreMarks ns (length c.args.level.now.edges) c.as_slice-turned.result.now) c.as_slice-reversed.ensures.value
+    (subst (λ (ms : List Bool). AreMarks c.as_slice-reversed.result.now (length c.args.level.now.edges) ms) (sym c.as_slice-turned.ensures.value)
+    (subst (λ (n : ℕ). AreMarks c.as_slice-reversed.result.now n c.in_ok-marks.marks.items) c.len.ensures c.in_ok-marks.ensures))
+
+pub pinned-requires-clause-marked : goal.pinned-requires-clause-marked
+pinned-requires-clause-marked c =
+    subst (λ (ms : List Bool). AreMarks c.as_slice-reversed.result.now (length c.args.level.now.edges) ms) (sym c.as_slice-turned.ensures.value)
+    (subst (λ (n : ℕ). AreMarks c.as_slice-reversed.result.now n c.in_ok-marks.marks.items) c.len.ensures c.in_ok-marks.ensures)
 
 pub pinned-requires-clause-linked : goal.pinned-requires-clause-linked
 pinned-requires-clause-linked c =

@@ -1,6 +1,7 @@
-use Rattle.std.proofs.Common.{[]}
+use Rattle.std.proofs.Common.{ℕ, List, [], length, sym, subst}
 use Rattle.elk_layers.specs.Layered.{plain, rows_of}
 use Rattle.level_plan.specs.Conditions.{plain_level}
+use Rattle.level_plan.specs.Marks.{AreMarks}
 use Rattle.level_layout.proofs.LayerLemmas.{layers_from}
 use Rattle.level_layout.proofs.UnitsLemmas.{started, units_ranked}
 use Rattle.level_layout.proofs.phases.start_for.Goals as goal
@@ -23,3 +24,9 @@ returns-clause-rows c = c.in_ok-layered.ensures.rows (rows_of c.in_ok-rows.rows)
 
 pub returns-clause-start : goal.returns-clause-start
 returns-clause-start c = started (plain c.in_ok-blank.blank) (plain c.in_ok-layered.layered) (rows_of c.in_ok-rows.rows) c.in_ok-layered.ensures.kept c.in_ok-rows.ensures.ascending
+
+pub units_of-requires-clause-marked : goal.units_of-requires-clause-marked
+units_of-requires-clause-marked c = subst (λ (ns : List ℕ). AreMarks ns (length c.args.level.now.edges) c.args.turned.now) (sym c.as_slice-reversed.ensures.value) c.requires.marked
+
+pub ranked-requires-clause-marked : goal.ranked-requires-clause-marked
+ranked-requires-clause-marked c = subst (λ (ns : List ℕ). AreMarks ns (length c.args.level.now.edges) c.args.turned.now) (sym c.as_slice-reversed.ensures.value) c.requires.marked

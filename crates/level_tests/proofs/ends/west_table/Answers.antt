@@ -1,3 +1,5 @@
+use Rattle.std.proofs.Common.{ℕ, Bool, List, [], length, sym, subst}
+use Rattle.level_plan.specs.Marks.{AreMarks}
 use Rattle.elk_layers.specs.Layered.{plain, rows_of}
 use Rattle.level_plan.specs.Conditions.{plain_level}
 use Rattle.level_ends.proofs.WestLemmas.{level_is, linked_is, rows_are, sound_is}
@@ -14,3 +16,8 @@ table_of-requires-clause-rows c = rows_are (plain c.in_ok-layered.layered) (rows
 
 pub table_of-requires-clause-linked : goal.table_of-requires-clause-linked
 table_of-requires-clause-linked c = linked_is (plain_level c.in_ok-level.level) (plain c.in_ok-layered.layered) (rows_of c.in_ok-order.order) c.in_ok-level.ensures c.in_ok-layered.ensures c.in_ok-order.ensures
+
+pub table_of-requires-clause-marked : goal.table_of-requires-clause-marked
+table_of-requires-clause-marked c =
+    subst (λ (ms : List Bool). AreMarks [] (length c.in_ok-level.level.edges) ms) (sym c.as_slice.ensures.value)
+    (subst (λ (n : ℕ). AreMarks [] n c.in_ok-turned.turned.items) c.len.ensures c.in_ok-turned.ensures)

@@ -1,6 +1,6 @@
 use Rattle.std.proofs.Common.{◌∙◌, arith, refl}
 use Rattle.level_plan.specs.Traces.{turned_step}
-use Rattle.level_shift.proofs.MapLemmas.{change_next, all_changed}
+use Rattle.level_frame.proofs.MapLemmas.{change_next, all_changed}
 use Rattle.level_traces.proofs.steps.turn_each.Goals as goal
 
 pub loop-i-init : goal.loop-i-init

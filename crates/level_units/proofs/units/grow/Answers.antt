@@ -25,8 +25,8 @@ run_of-run-requires c =
     let l = plain_level c.args.level.now in
     let e = c.loop-edge.edge in
     let h : c.loop-edge.edge < length c.args.level.now.edges = omega (arith, c.len-edge-end.ensures, c.loop-edge-test.true) in
-    let way : get_or c.as_slice.result.now c.loop-edge.edge false ≡ holds c.args.reversed.now c.loop-edge.edge =
-    ap (λ ms. get_or ms c.loop-edge.edge false) c.as_slice.ensures.value ∙ c.in_ok-turned.ensures.each c.loop-edge.edge (omega (arith, c.len.ensures, h))
+    let way : get_or c.args.turned.now c.loop-edge.edge false ≡ holds c.args.reversed.now c.loop-edge.edge =
+    c.requires.marked.each c.loop-edge.edge h
     in
     record {
       edge = h;
@@ -42,15 +42,15 @@ overflow_cast-len c =
     let long = ap length c.loop-edge.invariant.units_are ∙ lanes_begin s c.loop-edge.edge c.requires.layering.as_many in
     let few = few_lanes s c.requires.level c.requires.layering c.loop-edge.edge h in
     let children = c.requires.level.few_children in
-    omega (arith, long, few, children, c.len-in-loop-edge.ensures, c.loop-edge.units.ok.0)
+    omega (arith, long, few, children, c.len.ensures, c.loop-edge.units.ok.0)
 
 pub push_lanes-requires : goal.push_lanes-requires
 push_lanes-requires c =
     let s = layering (plain_level c.args.level.now) c.args.reversed.now c.args.layers.now in
     let h : c.loop-edge.edge < length c.args.level.now.edges = omega (arith, c.len-edge-end.ensures, c.loop-edge-test.true) in
     let run =
-    run_here s c.len.result c.loop-edge.edge c.len-in-loop-edge.result c.in_ok-turned.turned.items c.as_slice.result.now c.loop-edge.units.items c.run_of-run.result c.requires.layering.as_many c.in_ok-turned.ensures c.as_slice.ensures.value
-    (omega (arith, c.len.ensures, h)) c.loop-edge.invariant.units_are (omega (arith, c.len-in-loop-edge.ensures, c.loop-edge.units.ok.0)) c.run_of-run.ensures
+    run_here s c.loop-edge.edge c.len.result c.args.turned.now c.loop-edge.units.items c.run_of-run.result c.requires.layering.as_many c.requires.marked
+    h c.loop-edge.invariant.units_are (omega (arith, c.len.ensures, c.loop-edge.units.ok.0)) c.run_of-run.ensures
     in
     subst IsShort (sym run) (is_short s c.requires.level c.requires.layering c.loop-edge.edge h)
 
@@ -59,8 +59,8 @@ push_links-requires c =
     let s = layering (plain_level c.args.level.now) c.args.reversed.now c.args.layers.now in
     let h : c.loop-edge.edge < length c.args.level.now.edges = omega (arith, c.len-edge-end.ensures, c.loop-edge-test.true) in
     let run =
-    run_here s c.len.result c.loop-edge.edge c.len-in-loop-edge.result c.in_ok-turned.turned.items c.as_slice.result.now c.loop-edge.units.items c.run_of-run.result c.requires.layering.as_many c.in_ok-turned.ensures c.as_slice.ensures.value
-    (omega (arith, c.len.ensures, h)) c.loop-edge.invariant.units_are (omega (arith, c.len-in-loop-edge.ensures, c.loop-edge.units.ok.0)) c.run_of-run.ensures
+    run_here s c.loop-edge.edge c.len.result c.args.turned.now c.loop-edge.units.items c.run_of-run.result c.requires.layering.as_many c.requires.marked
+    h c.loop-edge.invariant.units_are (omega (arith, c.len.ensures, c.loop-edge.units.ok.0)) c.run_of-run.ensures
     in
     subst IsShort (sym run) (is_short s c.requires.level c.requires.layering c.loop-edge.edge h)
 
@@ -69,8 +69,8 @@ loop-edge-preserved c =
     let s = layering (plain_level c.args.level.now) c.args.reversed.now c.args.layers.now in
     let h : c.loop-edge.edge < length c.args.level.now.edges = omega (arith, c.len-edge-end.ensures, c.loop-edge-test.true) in
     let run =
-    run_here s c.len.result c.loop-edge.edge c.len-in-loop-edge.result c.in_ok-turned.turned.items c.as_slice.result.now c.loop-edge.units.items c.run_of-run.result c.requires.layering.as_many c.in_ok-turned.ensures c.as_slice.ensures.value
-    (omega (arith, c.len.ensures, h)) c.loop-edge.invariant.units_are (omega (arith, c.len-in-loop-edge.ensures, c.loop-edge.units.ok.0)) c.run_of-run.ensures
+    run_here s c.loop-edge.edge c.len.result c.args.turned.now c.loop-edge.units.items c.run_of-run.result c.requires.layering.as_many c.requires.marked
+    h c.loop-edge.invariant.units_are (omega (arith, c.len.ensures, c.loop-edge.units.ok.0)) c.run_of-run.ensures
     in
     record {
       units_are = units_more s c.loop-edge.edge c.loop-edge.units.items c.push_lanes.new.units.items c.run_of-run.result c.loop-edge.invariant.units_are run c.in_ok-push_lanes.ensures;

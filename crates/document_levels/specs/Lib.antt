@@ -1,0 +1,12 @@
+pub mod Grouping
+pub mod Indexed
+pub mod Read
+pub mod Levels
+pub mod Canvas
+pub mod Figure
+pub mod Ranges
+pub mod Back
+pub mod Changed
+pub mod Written
+pub mod Sizes
+pub mod Room

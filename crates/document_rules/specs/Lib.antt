@@ -1,4 +1,0 @@
-pub mod Whole
-pub mod Boxes
-pub mod Parted
-pub mod Nested

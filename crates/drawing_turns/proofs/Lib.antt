@@ -1,2 +1,0 @@
-pub mod TurningLaws
-pub mod FrameLaws

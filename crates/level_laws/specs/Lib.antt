@@ -1,0 +1,12 @@
+pub mod Levels
+pub mod Outlines
+pub mod Framed
+pub mod BoxExamples
+pub mod DockLaws
+pub mod RouteLaws
+pub mod PortLaws
+pub mod PortExamples
+pub mod Certified
+pub mod Joined
+pub mod CertificateJoined
+pub mod Extents

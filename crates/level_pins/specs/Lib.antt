@@ -1,4 +1,0 @@
-pub mod Alike
-pub mod Fitted
-pub mod Reading
-pub mod Worked

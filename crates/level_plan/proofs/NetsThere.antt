@@ -1,0 +1,72 @@
+-- Each net of the level lies in its gap: there is a gap of that number, and the net's number is below that of the gap's nets.
+use Rattle.std.proofs.Common.{◌≡◌, ℕ, ◌+◌, ◌<◌, eqb, Bool, true, List, ℤ, length, refl, sym, subst, ap, ◌∙◌, arith}
+use Rattle.std.proofs.lemmas.List.{length-map}
+use Rattle.std.proofs.lemmas.Bool.{and_parts, and_from, eqb-true, eq-eqb}
+use Rattle.elk_doc.specs.declared.shape.Side.{Side}
+use Rattle.elk_doc.specs.declared.shape.Side.TheVariants.{North, East, South, West}
+use Rattle.elk_doc.specs.PortsKept.{is_side}
+use Rattle.elk_layers.specs.Layered.{link_at, layer_of}
+use Rattle.route_lines.specs.Points.{PlainGap, IsStepIn}
+use Rattle.level_plan.specs.Level.{PlainLevel, PlainPlan, Orders}
+use Rattle.level_plan.specs.Nets.{Name, of_link, of_dock, of_loop, name_eq, gap_beside, gap_of, all_names, names_in, net_of, place_of_name, unit_of}
+use Rattle.level_plan.specs.Traces.{leg_step}
+use Rattle.level_plan.specs.Ready.{IsReady}
+use Rattle.level_plan.proofs.Lists.{Has, has_filter}
+use Rattle.level_plan.proofs.FirstPlaces as places
+use Rattle.level_plan.proofs.NumberedSpots.{end_eq-same, end_eq-self}
+use Rattle.level_plan.proofs.SameLines.{is_side-self, is_side-same}
+use Rattle.level_plan.proofs.EndLemmas.{column_there, child_unit, child_there}
+use Rattle.level_plan.proofs.NameLemmas.{IsName, name_is}
+use Rattle.level_plan.specs.Joins.{HoldNets}
+
+name_eq-same : (m n : Name) → name_eq m n ≡ true → m ≡ n
+name_eq-same (of_link j) (of_link k) h = ap of_link (eqb-true j k h)
+name_eq-same (of_link j) (of_dock n) h = absurd cc
+name_eq-same (of_link j) (of_loop f t) h = absurd cc
+name_eq-same (of_dock m) (of_link k) h = absurd cc
+name_eq-same (of_dock m) (of_dock n) h = ap of_dock (end_eq-same m n h)
+name_eq-same (of_dock m) (of_loop f t) h = absurd cc
+name_eq-same (of_loop e s) (of_link k) h = absurd cc
+name_eq-same (of_loop e s) (of_dock n) h = absurd cc
+name_eq-same (of_loop e s) (of_loop f t) h =
+    let x = and_parts (eqb e f) (is_side s t) h in
+    ap (λ n. of_loop n s) (eqb-true e f x.0) ∙ ap (of_loop f) (is_side-same s t x.1)
+
+name_eq-self : (n : Name) → name_eq n n ≡ true
+name_eq-self (of_link k) = eq-eqb k k refl
+name_eq-self (of_dock n) = end_eq-self n
+name_eq-self (of_loop e s) = and_from (eqb e e) (is_side s s) (eq-eqb e e refl) (is_side-self s)
+
+module _ (l : PlainLevel) (p : PlainPlan) (o : Orders) where
+  number_within : (n : Name) → Has (all_names l p o) n → place_of_name (names_in l p o (gap_of l p o n)) n < length (names_in l p o (gap_of l p o n))
+  number_within n h =
+      places.place_within name_eq name_eq-same name_eq-self place_of_name (λ m ms k. refl) (names_in l p o (gap_of l p o n)) n
+      (has_filter (λ k. eqb (gap_of l p o k) (gap_of l p o n)) (all_names l p o) n h (eq-eqb (gap_of l p o n) (gap_of l p o n) refl))
+
+  module _ (layers : List ℕ) (ready : IsReady l p o layers) where
+    child_gap : (c : ℕ) (side : Side) → c < length l.children → gap_beside p c side < p.layers + 1
+    child_gap c side h =
+        let column : layer_of p.layered (unit_of p c) < p.layers = column_there l p o layers ready (unit_of p c) (child_unit l p o layers ready c h) in
+        step side column
+      where
+        step : (side : Side) → layer_of p.layered (unit_of p c) < p.layers → gap_beside p c side < p.layers + 1
+        step North less = omega (arith, less)
+        step East less = omega (arith, less)
+        step South less = omega (arith, less)
+        step West less = omega (arith, less)
+
+    gap_there : (n : Name) → IsName l p o n → gap_of l p o n < p.layers + 1
+    gap_there (of_link k) h =
+        let less : layer_of p.layered (link_at p.layered.links k).head < p.layers = column_there l p o layers ready (link_at p.layered.links k).head (ready.sound.links_are k h).head in
+        omega (arith, less)
+    gap_there (of_dock n) h = child_gap _ _ (child_there l p o layers ready n.edge n.at_source h.0)
+    gap_there (of_loop e side) h = child_gap _ side (child_there l p o layers ready e true h.0)
+
+    pub leg_there : (shift : ℤ) (gaps : List PlainGap) → HoldNets l p o shift gaps → (n : Name) (from_a : Bool) → Has (all_names l p o) n → IsStepIn gaps (leg_step l p o n from_a)
+    leg_there shift gaps hold n from_a h =
+        let g = gap_of l p o n in
+        let there : g < length gaps = let less = gap_there n (name_is l p o n h) in let many = hold.as_many in omega (arith, less, many) in (
+          there,
+          subst (λ z. place_of_name (names_in l p o g) n < z) (sym (ap length (hold.nets g there) ∙ length-map (names_in l p o g) (net_of l p o shift))) (number_within n h),
+          hold.routes g there,
+        )

@@ -1,5 +1,0 @@
-use Rattle.level_reading.proofs.LevelLemmas.{levels_of_leaves_are_levels}
-use Rattle.level_reading.proofs.laws.levels_of_leaves_are_levels.Goals as goal
-
-pub returns : goal.returns
-returns c = levels_of_leaves_are_levels

@@ -1,4 +1,0 @@
-pub mod Grouping
-pub mod Indexed
-pub mod Read
-pub mod Levels

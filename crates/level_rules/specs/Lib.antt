@@ -1,4 +1,0 @@
-pub mod Routes
-pub mod Lawful
-pub mod Joins
-pub mod Nearness

@@ -1,5 +1,0 @@
-pub mod MapLemmas
-pub mod GapMoves
-pub mod PathMoves
-pub mod StepMoves
-pub mod DrawingMoves

@@ -1,0 +1,59 @@
+-- What the code has at hand when it gives units and links their heights and pins.
+use Rattle.std.proofs.Common.{◌≡◌, ℕ, Bool, List, [], length, ℤ, refl, sym, subst, arith, SFits, w64, to_z, of_z}
+use Rattle.std.proofs.lemmas.Int.{ints, to_z-of_z}
+use Rattle.elk_doc.specs.declared.document.Spacing.{Spacing}
+use Rattle.elk_layers.specs.declared.units.Unit.{Unit as LayerUnit}
+use Rattle.elk_layers.specs.declared.units.Link.{Link}
+use Rattle.elk_layers.specs.declared.units.Layered.{Layered}
+use Rattle.elk_layers.specs.declared.units.Order.{Order}
+use Rattle.elk_layers.specs.Layered.{Plain, AreRows, IsSound, IsSpacing, plain, rows_of}
+use Rattle.level_plan.specs.declared.level.LevelIn.{LevelIn}
+use Rattle.level_plan.specs.declared.table.Table.{Table}
+use Rattle.level_plan.specs.Conditions.{IsLevel, plain_level, plain_plan}
+use Rattle.level_plan.specs.Level.{Orders}
+use Rattle.level_plan.specs.Table.{IsTable}
+use Rattle.level_plan.specs.Units.{AreLinked, AreOrders}
+use Rattle.level_ends.specs.Bounds.{AreNumbersIn}
+use Rattle.level_plan.specs.Marks.{AreMarks}
+use Rattle.level_units.specs.Reading.{AreFittedLinks, AreFittedUnits}
+use Rattle.level_units.proofs.FittedLemmas.{IsTabled}
+
+pub tabled : (level : LevelIn) (layered : Layered) (order : Order) (reversed : List ℕ) (t : Table) (marks : List Bool) → IsLevel (plain_level level) → IsSound (plain layered) → AreRows (plain layered) (rows_of order)
+    → layered.node_node ≡ level.spacing.node_node → layered.edge_node ≡ level.spacing.edge_node → layered.edge_edge ≡ level.spacing.edge_edge
+    → ((layers : List ℕ) × AreLinked (plain_level level) (plain_plan layered order [] reversed) layers)
+    → (made : (o : Orders) × AreOrders (plain_level level) (plain_plan layered order [] reversed) o × IsTable (plain_level level) (plain_plan layered order [] reversed) o t)
+    → AreNumbersIn t → AreMarks reversed (length level.edges) marks → IsTabled (plain_level level) (plain_plan layered order [] reversed) made.0 t marks
+tabled level layered order reversed t marks is sound rows node_node edge_node edge_edge linked made numbers marked =
+    record {
+      level = is;
+      sound = sound;
+      rows = rows;
+      layers_are = refl;
+      node_node = node_node;
+      edge_node = edge_node;
+      edge_edge = edge_edge;
+      layers = linked.0;
+      linked = linked.1;
+      orders = made.1;
+      table = made.2;
+      numbers = numbers;
+      marks_are = marked;
+    }
+
+pub units_read : (s : Spacing) (t : Table) (xs units us : List LayerUnit) → xs ≡ units → AreFittedUnits s t.children xs (length xs) us → AreFittedUnits s t.children units (length units) us
+units_read s t xs units us same fit = subst (λ (ys : List LayerUnit). AreFittedUnits s t.children ys (length ys) us) same fit
+
+pub links_read : (s : Spacing) (t : Table) (marks : List Bool) (ys us : List LayerUnit) (xs links ks : List Link) → ys ≡ us → xs ≡ links → AreFittedLinks s t ys marks xs (length xs) ks → AreFittedLinks s t us marks links (length links) ks
+links_read s t marks ys us xs links ks units same fit =
+    subst (λ (zs : List Link). AreFittedLinks s t us marks zs (length zs) ks) same (subst (λ (zs : List LayerUnit). AreFittedLinks s t zs marks xs (length xs) ks) units fit)
+
+-- a distance that is handed on
+pub distance_read : (z : ℤ) → IsSpacing z → to_z w64 (of_z w64 z) ≡ z
+distance_read z is = let low = is.low in let high = is.high in let f : SFits w64 z = omega (arith, ints, low, high) in to_z-of_z w64 z f
+
+pub respaced : (P : Plain → Type 0) (a : Plain) (x y z : ℤ) → x ≡ a.node_node → y ≡ a.edge_node → z ≡ a.edge_edge → P a
+    → P (record { layers = a.layers; units = a.units; links = a.links; node_node = x; edge_node = y; edge_edge = z })
+respaced P a x y z e f g h =
+    subst (λ u. P (record { layers = a.layers; units = a.units; links = a.links; node_node = u; edge_node = y; edge_edge = z })) (sym e)
+    (subst (λ u. P (record { layers = a.layers; units = a.units; links = a.links; node_node = a.node_node; edge_node = u; edge_edge = z })) (sym f)
+    (subst (λ u. P (record { layers = a.layers; units = a.units; links = a.links; node_node = a.node_node; edge_node = a.edge_node; edge_edge = u })) (sym g) h))

@@ -1,0 +1,43 @@
+-- What the code has at hand when it gives links their ranks.
+use Rattle.std.proofs.Common.{◌≡◌, ℕ, Bool, List, [], map, length, refl, sym, subst, ◌∙◌}
+use Rattle.elk_layers.specs.declared.units.Unit.{Unit as LayerUnit}
+use Rattle.elk_layers.specs.declared.units.Link.{Link}
+use Rattle.elk_layers.specs.declared.units.Layered.{Layered}
+use Rattle.elk_layers.specs.declared.units.Order.{Order}
+use Rattle.elk_layers.specs.Layered.{IsSound, plain}
+use Rattle.level_plan.specs.declared.level.LevelIn.{LevelIn}
+use Rattle.level_plan.specs.declared.table.Table.{Table}
+use Rattle.level_plan.specs.Conditions.{IsLevel, plain_level, plain_plan}
+use Rattle.level_plan.specs.Level.{Orders, PlainLevel}
+use Rattle.level_plan.specs.Table.{IsTable}
+use Rattle.level_plan.specs.Units.{AreLinked, AreOrders}
+use Rattle.level_ends.specs.Bounds.{AreNumbersIn}
+use Rattle.level_plan.specs.Marks.{AreMarks}
+use Rattle.level_units.specs.declared.ports.PortRanks.{PortRanks}
+use Rattle.level_units.specs.Levels.{AreRanksTo}
+use Rattle.level_units.specs.Ports.{PlainRanks, plain_ranks}
+use Rattle.level_units.specs.RankReading.{AreRankedLinks}
+use Rattle.level_units.proofs.RankedLemmas.{IsMade}
+
+pub made_of : (level : LevelIn) (layered : Layered) (order : Order) (reversed : List ℕ) (t : Table) (marks : List Bool) (ranks read : List PortRanks) → IsLevel (plain_level level) → IsSound (plain layered)
+    → ((layers : List ℕ) × AreLinked (plain_level level) (plain_plan layered order [] reversed) layers)
+    → (made : (o : Orders) × AreOrders (plain_level level) (plain_plan layered order [] reversed) o × IsTable (plain_level level) (plain_plan layered order [] reversed) o t)
+    → AreNumbersIn t → AreMarks reversed (length level.edges) marks → AreRanksTo (plain_level level) marks (length level.children) (map plain_ranks ranks) → read ≡ ranks
+    → IsMade (plain_level level) (plain_plan layered order [] reversed) made.0 t marks (map plain_ranks read)
+made_of level layered order reversed t marks ranks read is sound linked made numbers marked ranked same =
+    record {
+      level = is;
+      sound = sound;
+      layers_are = refl;
+      layers = linked.0;
+      linked = linked.1;
+      orders = made.1;
+      table = made.2;
+      numbers = numbers;
+      marks_are = marked;
+      ranks = subst (λ (xs : List PortRanks). AreRanksTo (plain_level level) marks (length level.children) (map plain_ranks xs)) (sym same) ranked;
+    }
+
+pub links_read : (l : PlainLevel) (t : Table) (vs : List PlainRanks) (marks : List Bool) (ys us : List LayerUnit) (xs links ks : List Link) → ys ≡ us → xs ≡ links → AreRankedLinks l t vs ys marks xs (length xs) ks → AreRankedLinks l t vs us marks links (length links) ks
+links_read l t vs marks ys us xs links ks units same fit =
+    subst (λ (zs : List Link). AreRankedLinks l t vs us marks zs (length zs) ks) same (subst (λ (zs : List LayerUnit). AreRankedLinks l t vs zs marks xs (length xs) ks) units fit)

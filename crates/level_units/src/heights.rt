@@ -1,0 +1,104 @@
+//! Units with room for outlines and lanes.
+ghost use Rattle.std.specs.Prelude.{◌≡◌, ℕ, ◌-◌, ◌<◌, ◌≤◌, ◌^◌, length, pos, ◌+ℤ◌, ◌*ℤ◌, IfOk};
+ghost use Rattle.elk_doc.specs.Sound.{IsSoundSpacing, IsWithin};
+ghost use Rattle.elk_layers.specs.Layered.{unit_at};
+ghost use Rattle.level_plan.specs.Conditions.{plain_level};
+ghost use Rattle.level_ends.specs.Bounds.{IsLengthIn};
+ghost use Rattle.level_ends.specs.Lanes as spec;
+ghost use Rattle.level_units.specs.Reading.{AreFittedUnits, HasChildIn, IsReadable, roomy, unit_with};
+
+use crate::pins::{Fitting, entry_at};
+use elk_doc::document::Spacing;
+use elk_layers::Unit;
+use level_plan::ChildAt;
+use std::alloc::{AllocError, Global};
+
+// A distance, so many times.
+fn times(count: u32, distance: i64) -> i64
+    requires few { count ≤ 2 ^ 18 }
+    requires distance { IsWithin (pos 1) (pos (2 ^ 20)) distance }
+    ensures value { result ≡ pos count *ℤ distance }
+    ensures small { IsWithin (pos 0) (pos (2 ^ 38)) result }
+{
+    count as i64 * distance
+}
+
+// The room of one lane or more beside an outline.
+fn room_of(spacing: &Spacing, count: u32) -> i64
+    requires spacing { IsSoundSpacing spacing.now }
+    requires some { 0 < count }
+    requires few { count ≤ 2 ^ 18 }
+    ensures value { result ≡ spacing.now.edge_node +ℤ (pos (count - 1) *ℤ spacing.now.edge_edge) }
+    ensures small { IsWithin (pos 0) (pos (2 ^ 40)) result }
+{
+    let more = times(count - 1, spacing.edge_edge);
+    spacing.edge_node + more
+}
+
+/// The room of lanes beside an outline.
+pub(crate) fn room(spacing: &Spacing, count: u32) -> i64
+    requires spacing { IsSoundSpacing spacing.now }
+    requires few { count ≤ 2 ^ 18 }
+    ensures value { result ≡ spec.room spacing.now count }
+    ensures small { IsWithin (pos 0) (pos (2 ^ 40)) result }
+{
+    if count == 0 {
+        0
+    } else {
+        room_of(spacing, count)
+    }
+}
+
+// A child's unit with room for its outline and its lanes.
+fn with_room(spacing: &Spacing, unit: Unit, child: &ChildAt) -> Unit
+    requires spacing { IsSoundSpacing spacing.now }
+    requires north { child.now.north ≤ 2 ^ 17 }
+    requires south { child.now.south ≤ 2 ^ 17 }
+    requires height { IsLengthIn child.now.outline.height }
+    ensures { result ≡ roomy spacing.now child.now unit }
+{
+    let body_top = room(spacing, child.north);
+    let below = room(spacing, child.south);
+    let body_height = child.outline.height;
+    Unit {
+        layer: unit.layer,
+        child: unit.child,
+        height: body_top + body_height + below,
+        body_top,
+        body_height,
+        north: child.north,
+        south: child.south,
+    }
+}
+
+// A unit with its heights.
+fn fitted_unit(fitting: &Fitting<'_>, unit: Unit) -> Unit
+    requires fitting { IsReadable (plain_level fitting.now.level.now) fitting.now.table.now fitting.now.marks.now }
+    requires child { HasChildIn fitting.now.table.now unit }
+    ensures { result ≡ unit_with fitting.now.level.now.spacing fitting.now.table.now.children unit }
+{
+    match unit.child {
+        None => unit,
+        Some(child) => {
+            let entry = entry_at(fitting, child);
+            with_room(&fitting.level.spacing, unit, entry)
+        }
+    }
+}
+
+/// All units with their heights.
+pub(crate) fn fitted_units(
+    alloc: Global,
+    fitting: &Fitting<'_>,
+    units: &[Unit],
+) -> Result<Vec<Unit>, AllocError>
+    requires fitting { IsReadable (plain_level fitting.now.level.now) fitting.now.table.now fitting.now.marks.now }
+    requires children { (u : ℕ) → u < length units.now → HasChildIn fitting.now.table.now (unit_at units.now u) }
+    ensures { IfOk result (λ fitted. AreFittedUnits fitting.now.level.now.spacing fitting.now.table.now.children units.now (length units.now) fitted.items) }
+{
+    let mut fitted = Vec::with_capacity(alloc, units.len())?;
+    for (u, unit) in units.iter().enumerate() {
+        fitted.push(fitted_unit(fitting, *unit))?;
+    }
+    Ok(fitted)
+}

@@ -1,0 +1,120 @@
+//! The heights at which links leave and enter their units.
+ghost use Rattle.std.specs.Prelude.{◌≡◌, ℕ, ◌<◌, length, IfOk};
+ghost use Rattle.elk_layers.specs.Layered.{link_at};
+ghost use Rattle.level_plan.specs.Conditions.{plain_level};
+ghost use Rattle.level_plan.specs.Table.{child_in};
+ghost use Rattle.level_ends.specs.Bounds.{IsEndIn};
+ghost use Rattle.level_units.specs.Reading.{AreFittedLinks, IsLinkIn, IsReadable, end_of, is_on_lane, link_with, pin_at, pin_of};
+
+use crate::heights::room;
+use elk_doc::shape::Side;
+use elk_layers::{Link, Unit};
+use level_plan::{ChildAt, EndAt, LevelIn, Table};
+use std::alloc::{AllocError, Global};
+
+/// A level, its table, and by edge whether it is turned round.
+#[derive(Clone, Copy)]
+pub(crate) struct Fitting<'a> {
+    pub level: &'a LevelIn,
+    pub table: &'a Table,
+    pub marks: &'a [bool],
+}
+
+/// A child of the table.
+pub(crate) fn entry_at<'a>(fitting: &Fitting<'a>, child: u32) -> &'a ChildAt
+    requires { child < length fitting.now.table.now.children }
+    ensures { result.now ≡ child_in fitting.now.table.now.children child }
+{
+    fitting.table.children.at(child as usize)
+}
+
+// Whether the end of a link lies on its dock's lane, where the edge enters or leaves.
+fn is_on_lane(side: Side, enters: bool) -> bool
+    ensures { result ≡ is_on_lane side enters }
+{
+    match side {
+        Side::North => true,
+        Side::East => enters,
+        Side::South => true,
+        Side::West => !enters,
+    }
+}
+
+// The height of an end of a link below the top of its child's unit.
+fn pin_of(fitting: &Fitting<'_>, end: EndAt, enters: bool) -> i64
+    requires fitting { IsReadable (plain_level fitting.now.level.now) fitting.now.table.now fitting.now.marks.now }
+    requires dock { end.dock.node < length fitting.now.table.now.children }
+    requires near { IsEndIn end }
+    ensures { result ≡ pin_of fitting.now.level.now.spacing fitting.now.table.now end enters }
+{
+    if is_on_lane(end.dock.side, enters) {
+        return end.lane;
+    }
+    let child = entry_at(fitting, end.dock.node);
+    room(&fitting.level.spacing, child.north) - child.outline.y + end.anchor.y
+}
+
+// An end of an edge.
+fn end_of(fitting: &Fitting<'_>, edge: u32, at_source: bool) -> EndAt
+    requires fitting { IsReadable (plain_level fitting.now.level.now) fitting.now.table.now fitting.now.marks.now }
+    requires edge { edge < length fitting.now.level.now.edges }
+    ensures { result ≡ end_of fitting.now.table.now edge at_source }
+{
+    let first = 2 * edge as usize;
+    let place = if at_source { first } else { first + 1 };
+    *fitting.table.ends.at(place)
+}
+
+// The height of an end of a link below the top of its unit.
+fn pin_at(fitting: &Fitting<'_>, unit: Unit, edge: u32, at_source: bool, enters: bool) -> i64
+    requires fitting { IsReadable (plain_level fitting.now.level.now) fitting.now.table.now fitting.now.marks.now }
+    requires edge { edge < length fitting.now.level.now.edges }
+    ensures { result ≡ pin_at fitting.now.level.now.spacing fitting.now.table.now unit edge at_source enters }
+{
+    match unit.child {
+        None => 0,
+        Some(_) => {
+            let end = end_of(fitting, edge, at_source);
+            pin_of(fitting, end, enters)
+        }
+    }
+}
+
+// A link with its pins.
+fn fitted_link(fitting: &Fitting<'_>, units: &[Unit], link: Link) -> Link
+    requires fitting { IsReadable (plain_level fitting.now.level.now) fitting.now.table.now fitting.now.marks.now }
+    requires link { IsLinkIn (plain_level fitting.now.level.now) units.now link }
+    ensures { result ≡ link_with fitting.now.level.now.spacing fitting.now.table.now units.now fitting.now.marks.now link }
+{
+    let edge = link.edge;
+    let turned = fitting.marks[edge as usize];
+    let tail_at = pin_at(fitting, units[link.tail as usize], edge, !turned, false);
+    let head_at = pin_at(fitting, units[link.head as usize], edge, turned, true);
+    Link {
+        edge,
+        tail: link.tail,
+        head: link.head,
+        tail_rank: link.tail_rank,
+        head_rank: link.head_rank,
+        tail_at,
+        head_at,
+    }
+}
+
+/// All links with their pins.
+pub(crate) fn fitted_links(
+    alloc: Global,
+    fitting: &Fitting<'_>,
+    units: &[Unit],
+    links: &[Link],
+) -> Result<Vec<Link>, AllocError>
+    requires fitting { IsReadable (plain_level fitting.now.level.now) fitting.now.table.now fitting.now.marks.now }
+    requires links { (k : ℕ) → k < length links.now → IsLinkIn (plain_level fitting.now.level.now) units.now (link_at links.now k) }
+    ensures { IfOk result (λ fitted. AreFittedLinks fitting.now.level.now.spacing fitting.now.table.now units.now fitting.now.marks.now links.now (length links.now) fitted.items) }
+{
+    let mut fitted = Vec::with_capacity(alloc, links.len())?;
+    for (k, link) in links.iter().enumerate() {
+        fitted.push(fitted_link(fitting, units, *link))?;
+    }
+    Ok(fitted)
+}
