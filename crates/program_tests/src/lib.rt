@@ -1,9 +1,10 @@
-//! Tests of the program from its edge to its top call: sources and sinks, lines, words, and whole runs with and without faults. They
-//! stand above the crates that they call, so that none of those is proved again with its tests.
+//! Tests of the program that its runs can't show: sources and sinks that fail or give pieces, lines, a partner that waits, and the
+//! calls by which documents are read, laid out, judged and written. Whole runs without faults stand in `tests/runs/`. The tests stand
+//! above the crates that they call, so that none of those is proved again with its tests.
 #![tactic(auto)]
 
 #[cfg(test)]
-mod drawings;
+mod documents;
 #[cfg(test)]
 mod lines;
 #[cfg(test)]
@@ -11,8 +12,4 @@ mod partner;
 #[cfg(test)]
 mod runs;
 #[cfg(test)]
-mod separated;
-#[cfg(test)]
 mod streams;
-#[cfg(test)]
-mod words;

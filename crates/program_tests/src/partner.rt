@@ -1,7 +1,7 @@
 //! A partner of `batch` that waits for each reply before it writes the next line.
 ghost use Rattle.std.specs.Prelude.{None};
 
-use crate::drawings::status_of;
+use crate::runs::status_of;
 use elk_outer::{Failed, MemSink, Sink, Source};
 use std::cell::Cell;
 use std::rc::Rc;
