@@ -1,67 +1,21 @@
-//! Splits, turns and removals, worked by hand.
-use crate::incidence::{
-    add_node, connect, copied, empty, enter, has_degree, is_edge, is_node, joins, leave, reaches,
-    remove_edge, remove_node, reserve, reverse, split,
-};
+//! Splits, turns and removals, cycles and orders, worked by hand.
+use crate::steps::after;
 use std::test::Fail;
 
-#[test]
-fn split_goes_on_in_the_same_place(rt: HostRuntime) -> Result<(), Fail> {
-    let mut arena = empty(rt.alloc());
-    reserve(&mut arena, 4, 4)?;
-    let a = add_node(&mut arena)?;
-    let near = connect(&mut arena, a, a)?.ok_or("no node")?;
-    let copy = copied(&arena)?;
-    let (middle, far) = split(&mut arena, near)?.ok_or("no edge")?;
-    assert!(rt; !is_node(&copy, middle));
-    assert!(rt; joins(&arena, near, a, middle));
-    assert!(rt; joins(&arena, far, middle, a));
-    assert!(rt; enter(&arena, a, &[far]));
-    assert!(rt; reaches(&arena, 2, 2));
-    Ok(())
-}
+// A split goes on in the same place, and a copy doesn't see it. A turn puts the edge last. A loop counts twice. A node goes with its
+// edges. Of a cycle of three one edge is turned, and a loop stays.
+const WORKED: &str = "\
+room 4 4, node, edge 0 0, split 0, joins 0 0 1, joins 1 1 0, in 0 1, bounds 2 2
+node, node, edge 1 0, edge 0 1, turn 0, joins 0 0 1, out 0 1 0, in 1 1 0, has 0, cut 0, lost 0
+node, edge 0 0, degree 0 2
+node, node, node, edge 0 1, edge 1 2, edge 0 2, drop 1, gone 1, joins 2 0 2, out 0 2, in 2 2, degree 0 1, degree 2 1
+room 4 4, node, node, node, edge 0 1, edge 1 2, edge 2 0, cyclic, way 1 0 1 2, turned 1, order 3
+node, edge 0 0, cyclic, way 0 0, turned 0, has 0";
 
 #[test]
-fn reverse_puts_the_edge_last(rt: HostRuntime) -> Result<(), Fail> {
-    let mut arena = empty(rt.alloc());
-    let a = add_node(&mut arena)?;
-    let b = add_node(&mut arena)?;
-    let back = connect(&mut arena, b, a)?.ok_or("no node")?;
-    let ahead = connect(&mut arena, a, b)?.ok_or("no node")?;
-    reverse(&mut arena, back);
-    assert!(rt; joins(&arena, back, a, b));
-    assert!(rt; leave(&arena, a, &[ahead, back]));
-    assert!(rt; enter(&arena, b, &[ahead, back]));
-    assert!(rt; is_edge(&arena, back));
-    remove_edge(&mut arena, back);
-    assert!(rt; !is_edge(&arena, back));
-    Ok(())
-}
-
-#[test]
-fn a_loop_counts_twice(rt: HostRuntime) -> Result<(), Fail> {
-    let mut arena = empty(rt.alloc());
-    let a = add_node(&mut arena)?;
-    connect(&mut arena, a, a)?;
-    assert!(rt; has_degree(&arena, a, 2));
-    Ok(())
-}
-
-#[test]
-fn the_middle_node_goes_with_its_edges(rt: HostRuntime) -> Result<(), Fail> {
-    let mut arena = empty(rt.alloc());
-    let a = add_node(&mut arena)?;
-    let b = add_node(&mut arena)?;
-    let c = add_node(&mut arena)?;
-    connect(&mut arena, a, b)?;
-    connect(&mut arena, b, c)?;
-    let stays = connect(&mut arena, a, c)?.ok_or("no node")?;
-    remove_node(&mut arena, b);
-    assert!(rt; !is_node(&arena, b));
-    assert!(rt; joins(&arena, stays, a, c));
-    assert!(rt; leave(&arena, a, &[stays]));
-    assert!(rt; enter(&arena, c, &[stays]));
-    assert!(rt; has_degree(&arena, a, 1));
-    assert!(rt; has_degree(&arena, c, 1));
+fn worked_graphs(rt: HostRuntime) -> Result<(), Fail> {
+    for steps in WORKED.lines() {
+        after(rt.alloc(), steps)?;
+    }
     Ok(())
 }

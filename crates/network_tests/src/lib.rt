@@ -5,18 +5,16 @@
 #[cfg(test)]
 mod arena;
 #[cfg(test)]
-mod flows;
-#[cfg(test)]
 mod incidence;
-#[cfg(test)]
-mod mixed_parts;
 #[cfg(test)]
 mod networks;
 #[cfg(test)]
 mod orienting;
 #[cfg(test)]
-mod pivots;
-#[cfg(test)]
 mod plain;
 #[cfg(test)]
+mod solutions;
+#[cfg(test)]
 mod splitting;
+#[cfg(test)]
+mod steps;

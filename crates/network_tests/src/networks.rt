@@ -1,63 +1,49 @@
-//! Networks for tests, a check of what solvers ask of one, and the answer that is wanted.
+//! Networks of tests, read off texts, and a check of what solvers ask of one.
 ghost use Rattle.std.specs.Prelude.{IsTrue};
 ghost use Rattle.network_laws.specs.Network.{IsNetwork};
 
-use network_laws::{NetEdge, Network, Solution, is_sorted_network};
-use std::alloc::{AllocError, Global};
+use network_laws::{NetEdge, Network, is_sorted_network};
+use std::alloc::Global;
+use std::test::Fail;
 
-/// A network of edges that are given by tail, head, least and weight.
-pub fn network(
-    alloc: Global,
-    nodes: u32,
-    rows: &[(u32, u32, u64, u32)],
-) -> Result<Network, AllocError> {
-    let mut edges: Vec<NetEdge> = Vec::new(alloc);
-    for row in rows {
-        edges.push(NetEdge {
-            tail: row.0,
-            head: row.1,
-            least: row.2,
-            weight: row.3,
-        })?;
+/// The numbers of a text, with spaces between.
+pub fn numbers(alloc: Global, text: &str) -> Result<Vec<u32>, Fail> {
+    let mut numbers = Vec::new(alloc);
+    for word in text.split_whitespace() {
+        numbers.push(word.parse::<u32>()?)?;
     }
-    Ok(Network { nodes, edges })
+    Ok(numbers)
 }
 
-/// A network of edges of length and weight 1 that are given by tail and head.
-pub fn even_network(alloc: Global, nodes: u32, rows: &[(u32, u32)]) -> Result<Network, AllocError> {
-    let mut edges: Vec<NetEdge> = Vec::new(alloc);
-    for row in rows {
-        edges.push(NetEdge {
-            tail: row.0,
-            head: row.1,
-            least: 1,
-            weight: 1,
-        })?;
+/// A number of a list, or another one where the list ends before it.
+pub fn number_or(numbers: &[u32], place: usize, other: u32) -> u32 {
+    match numbers.get(place) {
+        Some(number) => *number,
+        None => other,
     }
-    Ok(Network { nodes, edges })
 }
 
-/// A network that needs one pivot.
-pub fn six_nodes(alloc: Global) -> Result<Network, AllocError> {
-    let rows = [(0, 1), (1, 4), (1, 5), (0, 2), (2, 3), (3, 4), (3, 5)];
-    even_network(alloc, 6, rows.as_slice())
+/// A network of edges that are written with commas between: tail, head, least length and weight, of which the last two may be
+/// left out where they are 1.
+pub fn network(alloc: Global, nodes: u32, text: &str) -> Result<Network, Fail> {
+    let mut edges = Vec::new(alloc);
+    for edge in text.split(',') {
+        let written = numbers(alloc, edge)?;
+        let numbers = written.as_slice();
+        if !numbers.is_empty() {
+            edges.push(NetEdge {
+                tail: number_or(numbers, 0, 1),
+                head: number_or(numbers, 1, 1),
+                least: u64::from(number_or(numbers, 2, 1)),
+                weight: number_or(numbers, 3, 1),
+            })?;
+        }
+    }
+    Ok(Network { nodes, edges })
 }
 
 pub fn is_sound(net: &Network) -> bool
     ensures { IsTrue result → IsNetwork net.now.nodes net.now.edges.items }
 {
     is_sorted_network(net.nodes, net.edges.as_slice())
-}
-
-/// Whether a solution has these layers and this cost.
-pub fn has_layers(solution: &Solution, layer: &[i64], cost: u128) -> bool {
-    if solution.layer.as_slice() != layer {
-        return false;
-    }
-    solution.cost == cost
-}
-
-/// Whether a solution has this flow.
-pub fn has_flow(solution: &Solution, flow: &[u64]) -> bool {
-    solution.flow.as_slice() == flow
 }

@@ -4,7 +4,8 @@ ghost use Rattle.graph_arena.specs.Graph.{Ends, ends_at, IsEdge, IsNode};
 ghost use Rattle.long_edges.specs.Chains.{chain_at};
 ghost use Rattle.long_edges.specs.Layers.{IsLayered};
 
-use crate::incidence::{add_node, connect, empty, leads_to};
+use crate::incidence::leads_to;
+use crate::steps::after;
 use graph_arena::{Arena, EdgeKey, NodeKey};
 use long_edges::{Chains, split_all};
 use std::alloc::{AllocError, Global};
@@ -71,13 +72,8 @@ fn split_if_layered(
 
 #[test]
 fn one_node_on_the_edge_over_two_layers(rt: HostRuntime) -> Result<(), Fail> {
-    let mut arena = empty(rt.alloc());
-    let a = add_node(&mut arena)?;
-    let b = add_node(&mut arena)?;
-    let c = add_node(&mut arena)?;
-    connect(&mut arena, a, b)?;
-    connect(&mut arena, b, c)?;
-    let long = connect(&mut arena, a, c)?.ok_or("no node")?;
+    let mut arena = after(rt.alloc(), "node, node, node, edge 0 1, edge 1 2, edge 0 2")?;
+    let long = EdgeKey { at: 2 };
     assert!(rt; arena.is_live_edge(long));
     let chains = split_if_layered(rt.alloc(), &mut arena, &[0, 1, 2])?.ok_or("no layers")?;
     let chain = chains.chain_of(long);
@@ -85,19 +81,14 @@ fn one_node_on_the_edge_over_two_layers(rt: HostRuntime) -> Result<(), Fail> {
     assert_eq!(rt; chain[0].at, long.at);
     assert_eq!(rt; chains.lanes().len(), 1);
     let lane = chains.lanes()[0];
-    assert_eq!(rt; lane.layer, 1);
-    assert_eq!(rt; lane.edge.at, long.at);
+    assert_eq!(rt; (lane.layer, lane.edge.at), (1, long.at));
     assert!(rt; leads_to(&arena, long, lane.node));
     Ok(())
 }
 
 #[test]
 fn one_node_on_each_layer_between(rt: HostRuntime) -> Result<(), Fail> {
-    let mut arena = empty(rt.alloc());
-    let a = add_node(&mut arena)?;
-    let b = add_node(&mut arena)?;
-    connect(&mut arena, a, b)?;
-    connect(&mut arena, a, b)?;
+    let mut arena = after(rt.alloc(), "node, node, edge 0 1, edge 0 1")?;
     let chains = split_if_layered(rt.alloc(), &mut arena, &[3, 7])?.ok_or("no layers")?;
     let layers = [4, 5, 6, 4, 5, 6];
     assert_eq!(rt; chains.lanes().len(), layers.len());

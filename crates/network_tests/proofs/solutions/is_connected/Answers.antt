@@ -1,5 +1,5 @@
 use Rattle.std.proofs.Common.{◌∙◌, arith, sym}
-use Rattle.network_tests.proofs.pivots.is_connected.Goals as goal
+use Rattle.network_tests.proofs.solutions.is_connected.Goals as goal
 
 pub returns : goal.returns
 returns c =
