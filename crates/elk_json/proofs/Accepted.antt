@@ -1,7 +1,7 @@
 -- The document of a list of elements that no rule refuses: its nodes by their places.
-use Rattle.std.proofs.Common.{◌≡◌, ℕ, zero, suc, ◌<◌, ◌≤◌, ⊎_elim, inl, inr, List, [], ◌∷◌, length, map, Bool, true, false, not, ◌&&◌, ◌||◌, Option, Some, None, refl, ap, sym, subst, ◌∙◌, arith, rules}
+use Rattle.std.proofs.Common.{◌≡◌, ℕ, zero, suc, ◌<◌, ◌≤◌, ⊎_elim, inl, inr, List, [], ◌∷◌, length, map, Bool, true, false, not, ◌||◌, Option, Some, None, refl, ap, sym, subst, ◌∙◌, arith, rules}
 use Rattle.std.specs.Prelude.{filter, slice_get, slice_index_or, option_map, unwrap_or, is_some, IsSome, IsNone, IsTrue}
-use Rattle.std.proofs.lemmas.Bool.{cases_eq, cases_Bool, eq-eqb}
+use Rattle.std.proofs.lemmas.Bool.{cases_eq, cases_Bool, eq-eqb, and_parts, and_from, or_left, or_right}
 use Rattle.std.proofs.lemmas.List.{length-map}
 use Rattle.std.proofs.lemmas.Option.{slice_get-map, slice_get_within, slice_get-get_or, get_or_from_slice_get}
 use Rattle.serde_json.specs.Data.{null}
@@ -150,31 +150,16 @@ sound_tree es r = record {
 
 -- ---- levels
 
-compound_by : (n r c : Bool) → n ≡ true → c ≡ true → (n && (r || c)) ≡ true
-compound_by true true c n h = refl
-compound_by true false c n h = h
-compound_by false r c n h = absurd cc
-
-root_compound_by : (n r c : Bool) → n ≡ true → r ≡ true → (n && (r || c)) ≡ true
-root_compound_by true true c n h = refl
-root_compound_by true false c n h = absurd cc
-root_compound_by false r c n h = absurd cc
-
 -- a node with children is compound
 pub compound_if : (e : Element) → is_node e ≡ true → has_children e.value ≡ true → is_compound e ≡ true
-compound_if e n h = compound_by (is_node e) (not (is_some e.owner)) (has_children e.value) n h
+compound_if e n h = and_from _ _ n (or_right (not (is_some e.owner)) (has_children e.value) h)
 
 pub root_compound : (e : Element) → is_node e ≡ true → e.owner ≡ None → is_compound e ≡ true
-root_compound e n h = root_compound_by (is_node e) (not (is_some e.owner)) (has_children e.value) n (ap (λ o. not (is_some o)) h)
-
-children_by : (n r c : Bool) → (n && (r || c)) ≡ true → r ≡ false → c ≡ true
-children_by true false c h e = h
-children_by true true c h e = absurd cc
-children_by false r c h e = absurd cc
+root_compound e n h = and_from _ _ n (or_left (not (is_some e.owner)) (has_children e.value) (ap (λ o. not (is_some o)) h))
 
 -- a compound node that is not the root has children
 pub children_if : (e : Element) (q : ℕ) → e.owner ≡ Some q → is_compound e ≡ true → has_children e.value ≡ true
-children_if e q own h = children_by (is_node e) (not (is_some e.owner)) (has_children e.value) h (ap (λ o. not (is_some o)) own)
+children_if e q own h = rw own at (and_parts (is_node e) (not (is_some e.owner) || has_children e.value) h).1
 
 level_there : (es : List Element) (i : ℕ) (x : Element) → slice_get es i ≡ Some x → is_node x ≡ true → is_compound x ≡ true → IsSome (node_at (doc_of es) (number is_node es i)).level
 level_there es i x at is c = some_there _ _ (ap (λ (n : Node). n.level) (node_value es i x at is) ∙ compound_level x is c)
@@ -216,10 +201,6 @@ ancestor_zero d (suc k) h = rw h (ancestor_zero d k h)
 ancestor_step : (d : Document) (k n m : ℕ) → parent_of d n ≡ m → ancestor d k m ≡ 0 → ancestor d (suc k) n ≡ 0
 unfolding ancestor
 ancestor_step d k n m e h = rw e h
-
-ancestor_none : (d : Document) (n : ℕ) → n ≡ 0 → ancestor d 0 n ≡ 0
-unfolding ancestor
-ancestor_none d n e = e
 
 root_itself : (es : List Element) → IsRooted es → parent_of (doc_of es) 0 ≡ 0
 root_itself es r = ap (λ o. unwrap_or o 0) (root_parent es r)

@@ -1,8 +1,9 @@
 -- What the rules that do not hold say where a document is built.
 use Rattle.std.proofs.Common.{◌≡◌, ℕ, suc, ◌+◌, ◌<◌, ◌≤◌, ◌^◌, ℤ, pos, neg_ℤ, List, [], ◌∷◌, length, get_or, Bool, true, false, cond, T, Option, Some, None, refl, ap, sym, subst, ◌∙◌, arith, map, drop, append_assoc, append-nil, ◌++◌}
-use Rattle.std.specs.Prelude.{slice_get, find, filter, option_map, codes}
+use Rattle.std.specs.Prelude.{All, slice_get, find, filter, option_map, codes}
 use Rattle.std.proofs.lemmas.Bool.{and_from}
 use Rattle.std.proofs.lemmas.List.{drop_more}
+use Rattle.std.proofs.lemmas.List.Elements.{All-push}
 use Rattle.std.proofs.lemmas.Int.{ints}
 use Rattle.serde_json.specs.Data.{Data}
 use Rattle.elk_doc.specs.Sound.{IsWithin, IsLength}
@@ -18,10 +19,9 @@ use Rattle.elk_doc.specs.Sound.{IsSound}
 use Rattle.elk_json.specs.declared.elements.Kind.{Kind}
 use Rattle.elk_json.specs.declared.elements.Kind.TheVariants as kinds
 use Rattle.elk_json.specs.Members.{is_node, is_port, is_edge, kind_is_node, kind_is_port, kind_is_edge, has_bad_option, whole_at}
-use Rattle.elk_json.specs.Document.{nodes_of, ports_of, edges_of}
+use Rattle.elk_json.specs.Document.{IsReady, nodes_of, ports_of, edges_of}
 use Rattle.elk_json.specs.Rules.{refused}
-use Rattle.elk_json.proofs.Collected.{length_seen}
-use Rattle.elk_json.specs.Ranges.{is_far, has_good_size, is_out_of_range}
+use Rattle.elk_json.specs.Ranges.{is_far, has_good_size, is_out_of_range, are_too_many}
 use Rattle.elk_json.proofs.NodeLaws.{sound_size}
 use Rattle.elk_json.proofs.PortLaws.{good_parts, far_place}
 use Rattle.elk_json.proofs.Soundness.{port_no_node, few_parts, accepted, all_good, sound_document}
@@ -41,7 +41,7 @@ kept_by : {E A : Type 0} (f : E → A) (passes : Bool) (x : E) (rest : List E) (
 kept_by f true x rest old new all before step = ap (λ l. l ++ map f rest) step ∙ append_assoc old (f x ∷ []) (map f rest) ∙ before
 kept_by f false x rest old new all before step = ap (λ l. l ++ map f rest) step ∙ append_assoc old [] (map f rest) ∙ before
 
-pub kept_next : {A : Type 0} (f : spec.Element → A) (test : spec.Element → Bool) (es : List Element) (i : ℕ) (e : Element) (old new all : List A) → i < length es → e ≡ get_or es i e
+kept_next : {A : Type 0} (f : spec.Element → A) (test : spec.Element → Bool) (es : List Element) (i : ℕ) (e : Element) (old new all : List A) → i < length es → e ≡ get_or es i e
     → old ++ map f (filter test (seen_list (drop i es))) ≡ all → new ≡ old ++ cond (test (seen e)) (f (seen e) ∷ []) []
     → new ++ map f (filter test (seen_list (drop (i + 1) es))) ≡ all
 kept_next f test es i e old new all h is before step =
@@ -49,12 +49,25 @@ kept_next f test es i e old new all h is before step =
     let first : old ++ map f (filter test (seen_list (e ∷ drop (i + 1) es))) ≡ all = ap (λ l. old ++ map f (filter test (seen_list l))) (sym here) ∙ before in
     kept_by f (test (seen e)) (seen e) (filter test (seen_list (drop (i + 1) es))) old new all first step
 
--- with a test whose outcome is known
-pub kept : {A : Type 0} (x : A) (passes : Bool) (old new : List A) → passes ≡ true → new ≡ old ++ x ∷ [] → new ≡ old ++ cond passes (x ∷ []) []
-kept x passes old new passed push = push ∙ ap (λ b. old ++ cond b (x ∷ []) []) (sym passed)
+-- the parts of a document that a loop has made before a place of the list, and what each of them has
+abbrev pub AreMade : {A : Type 0} → (spec.Element → A) → (spec.Element → Bool) → (A → Type 0) → List Element → ℕ → List A → Type 0
+AreMade f test P es i made = (made ++ map f (filter test (seen_list (drop i es))) ≡ map f (filter test (seen_list es))) × All P made
 
-pub left_out : {A : Type 0} (x : A) (passes : Bool) (old new : List A) → passes ≡ false → new ≡ old → new ≡ old ++ cond passes (x ∷ []) []
-left_out x passes old new failed same = same ∙ sym (append-nil old) ∙ ap (λ b. old ++ cond b (x ∷ []) []) (sym failed)
+-- one more, of an element that passes
+pub made_next : {A : Type 0} (f : spec.Element → A) (test : spec.Element → Bool) (P : A → Type 0) (es : List Element) (i : ℕ) (e : Element) (old new : List A) (x : A) → i < length es → e ≡ get_or es i e
+    → AreMade f test P es i old → test (seen e) ≡ true → new ≡ old ++ x ∷ [] → x ≡ f (seen e) → P x → AreMade f test P es (i + 1) new
+made_next f test P es i e old new x h is before passed push value has = (
+  kept_next f test es i e old new _ h is before.0 (push ∙ ap (λ y. old ++ y ∷ []) value ∙ ap (λ b. old ++ cond b (f (seen e) ∷ []) []) (sym passed)),
+  subst (All P) (sym push) (All-push P old x before.1 has),
+)
+
+-- and none, of any other
+pub made_same : {A : Type 0} (f : spec.Element → A) (test : spec.Element → Bool) (P : A → Type 0) (es : List Element) (i : ℕ) (e : Element) (old new : List A) → i < length es → e ≡ get_or es i e
+    → AreMade f test P es i old → test (seen e) ≡ false → new ≡ old → AreMade f test P es (i + 1) new
+made_same f test P es i e old new h is before failed same = (
+  kept_next f test es i e old new _ h is before.0 (same ∙ sym (append-nil old) ∙ ap (λ b. old ++ cond b (f (seen e) ∷ []) []) (sym failed)),
+  subst (All P) (sym same) before.1,
+)
 
 true_of : (b : Bool) → T b → b ≡ true
 true_of true h = refl
@@ -95,17 +108,6 @@ kinds_length : (xs : List spec.Element) → length xs ≡ length (filter is_node
 kinds_length [] = omega arith
 kinds_length (x ∷ xs) = kinds_by x.kind x xs refl (kinds_length xs)
 
-pub few_ready : (es : List Element) (d : Data) → seen_list es ≡ spec.elements d → refused d ≡ None → length es ≤ 8192
-few_ready es d same none =
-    let few = few_parts (spec.elements d) (accepted d none).few in
-    let sum = kinds_length (spec.elements d) in
-    let long : length (seen_list es) ≡ length es = length_seen es in
-    let equal : length (seen_list es) ≡ length (spec.elements d) = ap length same in
-    omega (arith, few.0, few.1, few.2, sum)
-
-pub range_ready : (es : List Element) (d : Data) → seen_list es ≡ spec.elements d → refused d ≡ None → find is_out_of_range (seen_list es) ≡ None
-range_ready es d same none = ap (find is_out_of_range) same ∙ (accepted d none).in_range
-
 none_by : (test : spec.Element → Bool) (x : spec.Element) (o : Option spec.Element) (b : Bool) → b ≡ false → o ≡ None → cond b (Some x) o ≡ None
 none_by test x o true e h = absurd cc
 none_by test x o false e h = h
@@ -114,8 +116,16 @@ none_at : (test : spec.Element → Bool) (xs : List spec.Element) → ((i : ℕ)
 none_at test [] h = refl
 none_at test (x ∷ xs) h = none_by test x (find test xs) (test x) (h 0 x refl) (none_at test xs (λ i y at. h (suc i) y at))
 
-pub good_ready : (es : List Element) (d : Data) → seen_list es ≡ spec.elements d → refused d ≡ None → find has_bad_option (seen_list es) ≡ None
-good_ready es d same none = ap (find has_bad_option) same ∙ none_at has_bad_option (spec.elements d) (λ i x at. all_good (spec.elements d) (accepted d none) i x at)
+few_elements : (es : List spec.Element) → are_too_many es ≡ false → length es ≤ 8192
+few_elements es h =
+    let few = few_parts es h in
+    omega (arith, few.0, few.1, few.2, kinds_length es)
+
+-- what no rule refuses can be built
+pub ready : (es : List spec.Element) (d : Data) → es ≡ spec.elements d → refused d ≡ None → IsReady es
+ready es d same none =
+    let a = accepted d none in
+    subst (λ xs. IsReady xs) (sym same) (record { few = few_elements _ a.few; in_range = a.in_range; good = none_at has_bad_option (spec.elements d) (all_good (spec.elements d) a) })
 
 pub sound_built : (es : List Element) (d : Data) (ns : List Node) (ps : List Port) (qs : List Edge) → seen_list es ≡ spec.elements d → refused d ≡ None
     → ns ≡ nodes_of (seen_list es) → ps ≡ ports_of (seen_list es) → qs ≡ edges_of (seen_list es) → IsSound (document ns ps qs)

@@ -82,8 +82,7 @@ items_last test es i count old new past end push before is =
 pub number_there : (test : spec.Element → Bool) (es : List spec.Element) (items ns : List ℕ) (i n : ℕ) → ns ≡ items → items ≡ counts test es → n ≡ get_or ns (min i (length ns - 1)) 0 → n ≡ number test es i
 number_there test es items ns i n slice is read = read ∙ count_there test es ns i (slice ∙ is)
 
-pub few_there : (test : spec.Element → Bool) (es : List Element) (i n : ℕ) → n ≡ number test (seen_list es) i → length es ≤ 8192 → n ≤ 8192
+pub few_there : (test : spec.Element → Bool) (es : List spec.Element) (i n : ℕ) → n ≡ number test es i → length es ≤ 8192 → n ≤ 8192
 few_there test es i n is few =
-    let long : length (seen_list es) ≡ length es = length_seen es in
-    let within : number test (seen_list es) i ≤ length (seen_list es) = number_within test (seen_list es) i in
+    let within : number test es i ≤ length es = number_within test es i in
     omega arith

@@ -3,7 +3,7 @@ use Rattle.std.proofs.Common.{◌≡◌, ℕ, zero, suc, ◌+◌, ◌<◌, ◌�
 use Rattle.std.specs.Prelude.{slice_get, option_map, option_and_then, unwrap_or, is_some, nat_eq, codes, filter}
 use Rattle.std.specs.Option.{option_map_or, option_eq}
 use Rattle.std.specs.List.{list_all}
-use Rattle.std.proofs.lemmas.Bool.{cases_Bool, and_parts, not-false, not-true}
+use Rattle.std.proofs.lemmas.Bool.{cases_Bool, and_parts, and_cases, or_parts, not-false, not-true}
 use Rattle.std.proofs.lemmas.List.{length-map}
 use Rattle.std.proofs.lemmas.Option.{same_Some, none-some}
 use Rattle.serde_json.specs.Data.{Data}
@@ -253,11 +253,8 @@ unfolding owner_of
 owner_is es i x at = rw at refl
 
 -- what it means not to cross levels
-pub cross_by : (s t a b x y : Bool) → (not s && not t || x || y) ≡ false → (x ≡ false) × (y ≡ false) × ((s ≡ true) ⊎ (t ≡ true))
-cross_by true t a b false false h = (refl, refl, inl refl)
-cross_by false true a b false false h = (refl, refl, inr refl)
-cross_by false false a b x y h = absurd cc
-cross_by true t a b true y h = absurd cc
-cross_by true t a b false true h = absurd cc
-cross_by false true a b true y h = absurd cc
-cross_by false true a b false true h = absurd cc
+pub cross_by : (s t x y : Bool) → (not s && not t || x || y) ≡ false → (x ≡ false) × (y ≡ false) × ((s ≡ true) ⊎ (t ≡ true))
+cross_by s t x y h =
+    let p = or_parts (not s && not t || x) y h in
+    let q = or_parts (not s && not t) x p.0 in
+    (q.1, p.1, ⊎_elim (λ e. inl (not-false s e)) (λ e. inr (not-false t e)) (and_cases (not s) (not t) q.0))

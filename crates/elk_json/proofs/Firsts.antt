@@ -4,6 +4,7 @@ use Rattle.std.specs.Prelude.{nat_lt, option_map, bytes_eq}
 use Rattle.std.specs.Option.{option_map_or, option_or}
 use Rattle.std.specs.List.{list_any}
 use Rattle.std.specs.Ordering.{int_eq}
+use Rattle.std.proofs.Math.Bool.{and-false}
 use Rattle.std.proofs.lemmas.Bool.{lt-ltb, le-ltb}
 use Rattle.std.proofs.lemmas.Bool.Decides.{Decides-int_eq, same_from_decides}
 use Rattle.std.proofs.lemmas.Slice.Eq.{bytes_eq-Decides}
@@ -36,7 +37,7 @@ id_from_same (id.Text a) (id.Whole n) h = absurd cc
 id_from_same (id.Whole m) (id.Text b) h = absurd cc
 id_from_same (id.Whole m) (id.Whole n) h = ap id.Whole ((Decides-int_eq m n).0 h)
 
-bytes_turn : (a b : List ℕ) → bytes_eq a b ≡ bytes_eq b a
+pub bytes_turn : (a b : List ℕ) → bytes_eq a b ≡ bytes_eq b a
 bytes_turn a b =
     let d = bytes_eq-Decides a b in
     let e = bytes_eq-Decides b a in
@@ -84,17 +85,13 @@ never : (test : Element → Bool) (n : ℕ) (es : List Element) → ((e : Elemen
 never test n [] h = refl
 never test n (e ∷ es) h = ap (λ b. if b then Some n else first_place test (n + 1) es) (h e) ∙ never test (n + 1) es h
 
-and_no : (a : Bool) → (a && false) ≡ false
-and_no true = refl
-and_no false = refl
-
 no_same : (o p : Option Id) → o ≡ None → is_some_same_id o p ≡ false
 no_same o p h = ap (λ q. is_some_same_id q p) h
 
 -- a reference that is no id names nothing
 pub named_none : (es : List Element) (d : Data) → to_id d ≡ None → named es d ≡ None
 unfolding named is_named
-named_none es d h = never (is_named d) 0 es (λ e. ap (λ b. not (is_edge e) && b) (no_same (to_id d) (id_of e.value) h) ∙ and_no (not (is_edge e)))
+named_none es d h = never (is_named d) 0 es (λ e. ap (λ b. not (is_edge e) && b) (no_same (to_id d) (id_of e.value) h) ∙ and-false (not (is_edge e)))
 
 -- and any other names the first node or port of its id
 pub named_first : (es : List Element) (d : Data) (i : Id) → to_id d ≡ Some i → named es d ≡ first_place (has_id false i) 0 es
@@ -134,7 +131,7 @@ pub double_none : (e : Element) (es : List Element) → id_of e.value ≡ None �
 unfolding is_double
 double_none e es h =
     any_same (is_double e) (λ _. false) es
-    (λ f. ap (λ b. (if is_edge e then is_edge f else not (is_edge f)) && b) (no_same (id_of e.value) (id_of f.value) h) ∙ and_no (if is_edge e then is_edge f else not (is_edge f)))
+    (λ f. ap (λ b. (if is_edge e then is_edge f else not (is_edge f)) && b) (no_same (id_of e.value) (id_of f.value) h) ∙ and-false (if is_edge e then is_edge f else not (is_edge f)))
     ∙ any_never es
 
 -- and any other doubles one before a place where its id stands first before it

@@ -1,20 +1,23 @@
 -- What the rules that do not hold say of a node.
-use Rattle.std.proofs.Common.{◌≡◌, ◌≢◌, ℕ, ◌<◌, ◌^◌, ℤ, pos, neg_ℤ, List, length, Bool, true, false, not, ◌&&◌, ◌||◌, Option, Some, None, if◌then◌else◌, refl, subst, rules}
+use Rattle.std.proofs.Common.{◌≡◌, ◌≢◌, ℕ, ◌<◌, ◌^◌, ℤ, pos, neg_ℤ, List, length, Bool, true, false, not, ◌&&◌, Option, Some, None, refl, subst, rules}
 use Rattle.std.specs.Prelude.{IsSome, IsNone, IfSome, IsTrue, IsFalse}
 use Rattle.std.specs.Int.Signed.{le_z_yes}
-use Rattle.std.proofs.lemmas.Bool.{and_parts}
+use Rattle.std.proofs.lemmas.Bool.{and_parts, and_from, or_parts, not-false, not_from_false}
 use Rattle.serde_json.specs.Data.{Data}
 use Rattle.elk_doc.specs.Document.{Document}
 use Rattle.elk_doc.specs.Level.{level_of_edge}
 use Rattle.elk_doc.specs.Sound.{IsWithin, IsSoundSize, IsSoundNode, IsSoundLevel}
 use Rattle.elk_options.specs.declared.names.OptionName.TheVariants as name
-use Rattle.elk_options.specs.declared.options.Role.{Role}
 use Rattle.elk_options.specs.Reading.{options_of, level_of}
 use Rattle.elk_json.specs.Elements.{Element}
-use Rattle.elk_json.specs.Members.{is_node, is_compound, is_between, node_role, options_at, options_data}
+use Rattle.elk_json.specs.Members.{is_node, is_compound, is_between, options_at, options_data}
 use Rattle.elk_json.specs.Ranges.{is_size, is_near, is_far, has_good_size, is_out_of_range}
 use Rattle.elk_json.specs.Document.{node_of, size_of}
 use Rattle.elk_options.proofs.OptionBounds.{holds, distance, twenty, sound_spacing, sound_padding}
+
+pub second : (a b : Bool) → a ≡ true → (a && b) ≡ false → b ≡ false
+second true b a h = h
+second false b a h = absurd cc
 
 pub between_parts : (low high z : ℤ) → is_between low high z ≡ true → IsWithin low high z
 between_parts low high z h =
@@ -41,36 +44,20 @@ sound_size d h =
 
 -- ---- levels
 
-level_by : (n c : Bool) (k : Role) (d : Data) → n ≡ true → c ≡ true → (options_of (if n then node_role c else k) d).level ≡ Some (level_of d)
-unfolding options_of
-level_by true true k d n c = refl
-level_by true false k d n c = absurd cc
-level_by false b k d n c = absurd cc
-
-leaf_by : (n c : Bool) (k : Role) (d : Data) → n ≡ true → c ≡ false → (options_of (if n then node_role c else k) d).level ≡ None
-unfolding options_of
-leaf_by true false k d n c = refl
-leaf_by true true k d n c = absurd cc
-leaf_by false b k d n c = absurd cc
-
 -- a node has a level exactly where it is compound
 pub compound_level : (e : Element) → is_node e ≡ true → is_compound e ≡ true → (options_at e).level ≡ Some (level_of (options_data e.value))
-compound_level e n c = level_by (is_node e) (is_compound e) _ (options_data e.value) n c
+unfolding options_of
+compound_level e n c = rw (c, n) refl
 
 pub leaf_level : (e : Element) → is_node e ≡ true → is_compound e ≡ false → (options_at e).level ≡ None
-leaf_level e n c = leaf_by (is_node e) (is_compound e) _ (options_data e.value) n c
+unfolding options_of
+leaf_level e n c = rw (c, n) refl
 
 -- ---- sizes
 
-good_by : (n c g rest : Bool) → n ≡ true → c ≡ false → ((n && not c && not g) || rest) ≡ false → g ≡ true
-good_by true false true rest n c h = refl
-good_by true false false rest n c h = absurd cc
-good_by true true g rest n c h = absurd cc
-good_by false c g rest n k h = absurd cc
-
 pub leaf_size : (e : Element) → is_node e ≡ true → is_compound e ≡ false → is_out_of_range e ≡ false → has_good_size e.value ≡ true
 unfolding is_out_of_range
-leaf_size e n c h = good_by (is_node e) (is_compound e) (has_good_size e.value) _ n c h
+leaf_size e n c h = not-false (has_good_size e.value) (second _ _ (and_from _ _ n (not_from_false (is_compound e) c)) (or_parts _ _ h).0)
 
 pub not_none : {X : Type 0} (o : Option X) (x : X) → o ≡ Some x → IsNone o → ⊥
 not_none o x e h = let bad : IsNone (Some x) = subst (λ v. IsNone v) e h in search rules

@@ -3,7 +3,7 @@ use Rattle.std.proofs.Common.{◌≡◌, ◌≢◌, ℕ, zero, suc, ◌+◌, ◌
 use Rattle.std.specs.Prelude.{slice_get, filter, find, max, is_none, IsTrue, IfSome, nat_eq}
 use Rattle.std.specs.Option.{option_or, option_map_or, option_eq}
 use Rattle.std.specs.List.{list_any}
-use Rattle.std.proofs.lemmas.Bool.{cases_lt, eqb-true, eqb-false, eq-eqb, ne_eqb, ltb-false, not-false}
+use Rattle.std.proofs.lemmas.Bool.{cases_lt, eqb-true, eqb-false, eq-eqb, ne_eqb, ltb-false, not-false, or_parts, and_from}
 use Rattle.std.proofs.lemmas.List.{length-map}
 use Rattle.std.proofs.lemmas.Option.{none-some, same_Some}
 use Rattle.serde_json.specs.Data.{Data}
@@ -14,15 +14,13 @@ use Rattle.elk_doc.specs.Document.{no_edge, node_at, port_at, edge_at, parent_of
 use Rattle.elk_doc.specs.Level.{node_of_end, source_node as doc_source, target_node as doc_target, level_of_edge as doc_level}
 use Rattle.elk_doc.specs.Sides.{side_from, side_by_place}
 use Rattle.elk_doc.specs.Sound.{IsSound, IsSoundNode, IsSoundPort, IsSoundLevel, IsSoundEdge, IsEndIn, HasLevels, HasPorts}
-use Rattle.elk_options.specs.declared.options.Role.{Role}
-use Rattle.elk_options.specs.declared.options.Role.TheVariants as role
 use Rattle.elk_options.specs.Reading.{options_of, level_of, weight_of}
 use Rattle.elk_options.proofs.OptionBounds.{sound_weight}
 use Rattle.elk_json.specs.declared.elements.Kind.{Kind}
 use Rattle.elk_json.specs.declared.elements.Kind.TheVariants as kinds
 use Rattle.elk_json.specs.declared.fault.Rule.{Rule}
 use Rattle.elk_json.specs.Elements.{Element, elements}
-use Rattle.elk_json.specs.Members.{is_node, is_port, is_edge, kind_is_node, kind_is_port, kind_is_edge, is_compound, is_at_compound, has_children, has_bad_option, options_at, options_data, role_of}
+use Rattle.elk_json.specs.Members.{is_node, is_port, is_edge, kind_is_node, kind_is_port, kind_is_edge, is_compound, is_at_compound, has_children, has_bad_option, options_at, options_data}
 use Rattle.elk_json.specs.Ranges.{is_out_of_range, are_too_many, is_too_deep, levels}
 use Rattle.elk_json.specs.Ends.{has_known_ends, is_hyperedge, is_cross_level, source_node, target_node, parent_of as owner_of, level_of_edge}
 use Rattle.elk_json.specs.Rules.{if_so, at as at_rule, first_at, is_badly_optioned, has_boxes_and_edges, is_port_inside, value_refusal, edge_refusal, option_refusal, refused}
@@ -30,7 +28,7 @@ use Rattle.elk_json.specs.Document.{node_of, port_of, edge_of, end_at, nodes_of,
 use Rattle.elk_json.proofs.Places.{number, number_rises, number_less, place_less, place_same, none_found}
 use Rattle.elk_json.proofs.Tree.{IsRooted, IsPlaced, rooted}
 use Rattle.elk_json.proofs.Accepted.{doc_of, Behind, behind, value_at, node_value, node_in, number_zero, below_root, parent_number, sound_tree, root_level, parent_level, only_children, deep_enough, root_compound}
-use Rattle.elk_json.proofs.NodeLaws.{sound_node, sound_level, compound_level}
+use Rattle.elk_json.proofs.NodeLaws.{second, sound_node, sound_level, compound_level}
 use Rattle.elk_json.proofs.EndLaws.{HasEnds, has_ends, source_stands, target_stands, owner_is, cross_by, past_first, port_value, port_node}
 use Rattle.elk_json.proofs.PortLaws.{IsKept, IsFine, sound_port}
 
@@ -116,10 +114,6 @@ first_none test n (y ∷ ys) (suc i) x none at =
     let here : n + 1 + i ≡ n + suc i = omega arith in
     subst (λ k. test k x ≡ false) here (first_none test (n + 1) ys i x (first_none_by test n y (first_at test (n + 1) ys) (test n y) refl none).1 at)
 
-or_parts : (a b : Bool) → (a || b) ≡ false → (a ≡ false) × (b ≡ false)
-or_parts false b h = (refl, h)
-or_parts true b h = absurd cc
-
 optioned : (es : List Element) (i : ℕ) (x : Element) → IsAccepted es → slice_get es i ≡ Some x → (has_bad_option x ≡ false) × (has_boxes_and_edges es i x ≡ false)
 unfolding is_badly_optioned
 optioned es i x a at =
@@ -128,10 +122,6 @@ optioned es i x a at =
 
 pub all_good : (es : List Element) → IsAccepted es → (i : ℕ) (x : Element) → slice_get es i ≡ Some x → has_bad_option x ≡ false
 all_good es a i x at = (optioned es i x a at).0
-
-second : (a b : Bool) → a ≡ true → (a && b) ≡ false → b ≡ false
-second true b a h = h
-second false b a h = absurd cc
 
 -- ---- edges
 
@@ -150,20 +140,9 @@ port_no_node kinds.Node h = absurd cc
 port_no_node kinds.Port h = refl
 port_no_node kinds.Edge h = absurd cc
 
-edge_role_by : (n p : Bool) (k l : Role) → n ≡ false → p ≡ false → (if n then k else (if p then l else role.Edge)) ≡ role.Edge
-edge_role_by false false k l n p = refl
-edge_role_by false true k l n p = absurd cc
-edge_role_by true p k l n q = absurd cc
-
-edge_role : (e : Element) → is_edge e ≡ true → role_of e ≡ role.Edge
-edge_role e h = edge_role_by (is_node e) (is_port e) _ _ (edge_no_node e.kind h) (edge_no_port e.kind h)
-
-edge_weight : (d : Data) → (options_of role.Edge d).weight ≡ weight_of d
-unfolding options_of
-edge_weight d = refl
-
 weight_is : (e : Element) → is_edge e ≡ true → (options_at e).weight ≡ weight_of (options_data e.value)
-weight_is e h = ap (λ r. (options_of r (options_data e.value)).weight) (edge_role e h) ∙ edge_weight (options_data e.value)
+unfolding options_of
+weight_is e h = rw (edge_no_node e.kind h, edge_no_port e.kind h) refl
 
 -- an edge of the document, with its ends
 pub record IsLevelEdge (es : List Element) (k : ℕ) : Type 0 where
@@ -208,7 +187,7 @@ crossing_at : (es : List Element) (k s t : ℕ) (l : IsLevelEdge es k) → sourc
 unfolding is_cross_level
 crossing_at es k s t l source target =
     let c = l.crossing in
-    cross_by (nat_eq s t) (option_eq nat_eq (owner_of es (Some s)) (owner_of es (Some t))) true true (nat_eq s 0) (nat_eq t 0) (rw (source, target) at c)
+    cross_by (nat_eq s t) (option_eq nat_eq (owner_of es (Some s)) (owner_of es (Some t))) (nat_eq s 0) (nat_eq t 0) (rw (source, target) at c)
 
 -- both ends stand below the root, with one parent
 pub record HasLevel (es : List Element) (k : ℕ) (l : IsLevelEdge es k) : Type 0 where
@@ -286,16 +265,11 @@ none_any test [] i x h at = absurd (none-some x at)
 none_any test (y ∷ ys) zero x h at = ap test (sym (same_Some y x at)) ∙ (or_parts (test y) _ h).0
 none_any test (y ∷ ys) (suc i) x h at = none_any test ys i x (or_parts (test y) _ h).1 at
 
-boxes_by : (c b e : Bool) → c ≡ true → b ≡ true → (c && b && e) ≡ false → e ≡ false
-boxes_by true true e c b h = h
-boxes_by true false e c b h = absurd cc
-boxes_by false b e c d h = absurd cc
-
 no_level_edge : (es : List Element) (i : ℕ) (x : Element) → is_compound x ≡ true → option_map_or (λ l. l.boxes) (options_at x).level false ≡ true → has_boxes_and_edges es i x ≡ false
     → (j : ℕ) (f : Element) → slice_get es j ≡ Some f → is_edge f ≡ true → level_of_edge es f.value ≡ Some i → ⊥
 unfolding has_boxes_and_edges
 no_level_edge es i x c b h j f at edge level =
-    let none = boxes_by _ _ _ c b h in
+    let none = second _ _ (and_from _ _ c b) h in
     let here = none_any (λ g. is_edge g && option_eq nat_eq (level_of_edge es g.value) (Some i)) es j f none at in
     let other : option_eq nat_eq (level_of_edge es f.value) (Some i) ≡ false = second (is_edge f) _ edge here in
     let same : option_eq nat_eq (level_of_edge es f.value) (Some i) ≡ true = rw level (eq-eqb i i refl) in cc

@@ -1,10 +1,10 @@
 -- The elements of a value stand in the order of a tree.
-use Rattle.std.proofs.Common.{◌≡◌, ℕ, zero, suc, ◌+◌, ◌<◌, ◌≤◌, ◌⊎◌, ⊎_elim, inl, inr, List, [], ◌∷◌, ◌++◌, length, map, Bool, true, false, Option, Some, None, Ordering, Less, Equal, Greater, is_eq, if◌then◌else◌, refl, ap, sym, subst, ◌∙◌, arith, append_assoc}
-use Rattle.std.specs.Prelude.{slice_get, bytes_eq, codes, nat_lt, nat_eq}
+use Rattle.std.proofs.Common.{◌≡◌, ℕ, zero, suc, ◌+◌, ◌<◌, ◌≤◌, ◌⊎◌, ⊎_elim, inl, inr, List, [], ◌∷◌, ◌++◌, length, map, Bool, true, false, Option, Some, None, Ordering, Less, Equal, Greater, is_eq, refl, ap, sym, subst, ◌∙◌, arith, append_assoc}
+use Rattle.std.specs.Prelude.{slice_get, bytes_eq, codes, nat_lt}
 use Rattle.std.specs.Option.{option_map_or, option_and_then}
 use Rattle.std.specs.Ordering.{nat_cmp, match_ordering}
 use Rattle.std.specs.Cmp.Lexicographic.{slice_cmp}
-use Rattle.std.proofs.lemmas.Bool.{lt-ltb, cases_lt, cases_eq, ne_eqb}
+use Rattle.std.proofs.lemmas.Bool.{lt-ltb, cases_lt, cases_eq, cond_both}
 use Rattle.std.proofs.lemmas.List.{length-append}
 use Rattle.std.proofs.lemmas.Map.Text.{is_eq-slice_cmp}
 use Rattle.std.proofs.lemmas.Option.{same_Some, slice_get_within}
@@ -15,20 +15,9 @@ use Rattle.elk_json.specs.declared.elements.Kind.TheVariants.{Node, Port, Edge}
 use Rattle.elk_json.specs.Elements.{Element, items_list, listed, part, own_elements, elements_at, elements_below, elements_within, elements_among, elements}
 use Rattle.elk_json.specs.Members.{is_node, kind_is_node, has_children}
 use Rattle.elk_json.specs.Ranges.{levels, levels_below, levels_within, levels_among}
+use Rattle.elk_json.proofs.Firsts.{bytes_turn}
 
 -- ---- the member of this key
-
-eqb_turn : (a b : ℕ) → nat_eq a b ≡ nat_eq b a
-eqb_turn a b =
-    ⊎_elim (λ (e : a ≡ b). rw e refl)
-    (λ (n : a ≡ b → ⊥). let m : b ≡ a → ⊥ = λ e. n (sym e) in ne_eqb a b n ∙ sym (ne_eqb b a m))
-    (cases_eq a b)
-
-bytes_turn : (xs ys : List ℕ) → bytes_eq xs ys ≡ bytes_eq ys xs
-bytes_turn [] [] = refl
-bytes_turn [] (y ∷ ys) = refl
-bytes_turn (x ∷ xs) [] = refl
-bytes_turn (x ∷ xs) (y ∷ ys) = rw (eqb_turn x y, bytes_turn xs ys) refl
 
 equal_picks : (o : Ordering) (a b : Option Data) → is_eq o ≡ true → match_ordering o a b a ≡ b
 equal_picks Less a b e = absurd cc
@@ -343,10 +332,6 @@ level_below (member k d ms) h =
     (λ e. rw e (level_within d (rw (listed_here k d ms e) at h)))
     (λ e. rw e (level_below ms (rw (listed_next k d ms e) at h)))
 
-either_placed : (b : Bool) (es : List Element) (low a : ℕ) (xs ys : List Element) → (b ≡ true → ArePlaced es low a xs) → (b ≡ false → ArePlaced es low a ys) → ArePlaced es low a (if b then xs else ys)
-either_placed true es low a xs ys on off = on refl
-either_placed false es low a xs ys on off = off refl
-
 holds_later : (es : List Element) (node place depth : ℕ) (keeper : Element) (xs : List Element) → Holds es node place depth keeper → Stands es place xs → ArePlaced es node place xs → Holds es node (place + length xs) depth keeper
 holds_later es node place depth keeper xs h s p = record {
   stands = h.stands;
@@ -387,7 +372,7 @@ mutual
       → listed (codes "children") holder ≡ listed (codes "children") (object ms) → depth + levels_below ms ≤ 50 → Stands es place (elements_below place node holder ms) → ArePlaced es node place (elements_below place node holder ms)
   placed_below no_members es node place depth holder keeper h same list deep s = tt
   placed_below (member k d ms) es node place depth holder keeper h same list deep s =
-      either_placed (bytes_eq k (codes "children")) es node place (elements_within place node holder d) (elements_below place node holder ms)
+      cond_both (bytes_eq k (codes "children")) (elements_within place node holder d) (elements_below place node holder ms) (ArePlaced es node place)
       (λ e. placed_within d es node place depth holder keeper h same (list ∙ listed_here k d ms e) (rw e at deep) (rw e at s))
       (λ e. placed_below ms es node place depth holder keeper h same (list ∙ listed_next k d ms e) (rw e at deep) (rw e at s))
 

@@ -1,5 +1,5 @@
 -- The document of a value.
-use Rattle.std.specs.Prelude.{◌≡◌, ℕ, List, take, length, filter, map, codes, Bool, false, if◌then◌else◌, Option, option_map, unwrap_or, pos}
+use Rattle.std.specs.Prelude.{◌≡◌, ℕ, ◌≤◌, List, take, length, filter, find, map, codes, Bool, false, if◌then◌else◌, Option, None, option_map, unwrap_or, pos}
 use Rattle.serde_json.specs.Data.{Data}
 use Rattle.elk_doc.specs.declared.document.Id.{Id}
 use Rattle.elk_doc.specs.declared.document.Id.TheVariants.{Whole}
@@ -13,7 +13,8 @@ use Rattle.elk_doc.specs.declared.document.End.TheVariants as end
 use Rattle.elk_doc.specs.Document.{Document, no_size}
 use Rattle.std.specs.Option.{option_map_or}
 use Rattle.elk_json.specs.Elements.{Element, elements}
-use Rattle.elk_json.specs.Members.{is_node, is_port, is_edge, is_compound, whole_at, id_of, options_at}
+use Rattle.elk_json.specs.Members.{is_node, is_port, is_edge, is_compound, whole_at, id_of, has_bad_option, options_at}
+use Rattle.elk_json.specs.Ranges.{is_out_of_range}
 use Rattle.elk_json.specs.Ends.{element_at, source_of, target_of}
 
 -- how many elements of a kind stand before a place: the number there of that kind
@@ -80,6 +81,12 @@ ports_of es = map (port_of es) (filter is_port es)
 
 abbrev pub edges_of : List Element → List Edge
 edges_of es = map (edge_of es) (filter is_edge es)
+
+-- elements whose document can be built
+pub record IsReady (es : List Element) : Type 0 where
+  pub few : length es ≤ 8192
+  pub in_range : find is_out_of_range es ≡ None
+  pub good : find has_bad_option es ≡ None
 
 -- the document of a value: its nodes, ports and edges, each in document order
 pub record IsDocument (doc : Document) (d : Data) : Type 0 where

@@ -1,7 +1,7 @@
 //! The parts of a document, each from its element.
-ghost use Rattle.std.specs.Prelude.{◌≡◌, ◌≤◌, length, codes, find, true, false, None, IfOk, All};
+ghost use Rattle.std.specs.Prelude.{◌≡◌, ◌≤◌, length, codes, true, false, IfOk, All};
 ghost use Rattle.serde_json.specs.View.{view};
-ghost use Rattle.elk_json.specs.Document.{edge_of as edge_spec, edges_of as edges_spec, end_at as end_spec, node_of as node_spec, node_size as node_size_spec, nodes_of as nodes_spec, owner_number as owner_number_spec, place_of as place_spec, port_of as port_spec, ports_of as ports_spec, size_of as size_spec, sure_id as sure_id_spec};
+ghost use Rattle.elk_json.specs.Document.{IsReady, edge_of as edge_spec, edges_of as edges_spec, end_at as end_spec, node_of as node_spec, node_size as node_size_spec, nodes_of as nodes_spec, owner_number as owner_number_spec, place_of as place_spec, port_of as port_spec, ports_of as ports_spec, size_of as size_spec, sure_id as sure_id_spec};
 ghost use Rattle.elk_json.specs.Members.{has_bad_option, is_node, is_port, options_at, whole_at as whole_test};
 ghost use Rattle.elk_json.specs.Ranges.{is_far as far_test, is_out_of_range};
 ghost use Rattle.elk_json.specs.Seen.{seen, seen_list};
@@ -62,7 +62,7 @@ fn options_of(element: &Element<'_>) -> Options
 
 // The number of an element's owner.
 fn owner_number(list: &Listed<'_, '_>, element: &Element<'_>) -> Option<u32>
-    requires { length list.now.elements.now ≤ 8192 }
+    requires { length (seen_list list.now.elements.now) ≤ 8192 }
     ensures { result ≡ owner_number_spec (seen_list list.now.elements.now) (seen element.now) }
 {
     match element.owner {
@@ -99,7 +99,7 @@ fn sure_id(alloc: Global, value: &Value) -> Result<Id, AllocError>
 }
 
 fn node_of(alloc: Global, list: &Listed<'_, '_>, element: &Element<'_>) -> Result<Node, AllocError>
-    requires few { length list.now.elements.now ≤ 8192 }
+    requires few { length (seen_list list.now.elements.now) ≤ 8192 }
     requires node { is_node (seen element.now) ≡ true }
     requires in_range { is_out_of_range (seen element.now) ≡ false }
     requires good { has_bad_option (seen element.now) ≡ false }
@@ -118,7 +118,7 @@ fn node_of(alloc: Global, list: &Listed<'_, '_>, element: &Element<'_>) -> Resul
 }
 
 fn port_of(alloc: Global, list: &Listed<'_, '_>, element: &Element<'_>) -> Result<Port, AllocError>
-    requires few { length list.now.elements.now ≤ 8192 }
+    requires few { length (seen_list list.now.elements.now) ≤ 8192 }
     requires port { is_port (seen element.now) ≡ true }
     requires in_range { is_out_of_range (seen element.now) ≡ false }
     requires good { has_bad_option (seen element.now) ≡ false }
@@ -139,7 +139,7 @@ fn port_of(alloc: Global, list: &Listed<'_, '_>, element: &Element<'_>) -> Resul
 
 // The node or port at a place, as the end of an edge.
 fn end_at(list: &Listed<'_, '_>, place: Option<usize>) -> End
-    requires { length list.now.elements.now ≤ 8192 }
+    requires { length (seen_list list.now.elements.now) ≤ 8192 }
     ensures { result ≡ end_spec (seen_list list.now.elements.now) place }
 {
     let place = place.unwrap_or(0);
@@ -151,7 +151,7 @@ fn end_at(list: &Listed<'_, '_>, place: Option<usize>) -> End
 }
 
 fn edge_of(alloc: Global, list: &Listed<'_, '_>, element: &Element<'_>) -> Result<Edge, AllocError>
-    requires few { length list.now.elements.now ≤ 8192 }
+    requires few { length (seen_list list.now.elements.now) ≤ 8192 }
     requires good { has_bad_option (seen element.now) ≡ false }
     ensures value { IfOk result (λ e. e ≡ edge_spec (seen_list list.now.elements.now) (seen element.now)) }
     ensures word { IfOk result (λ e. IsWord e.id) }
@@ -169,9 +169,7 @@ fn edge_of(alloc: Global, list: &Listed<'_, '_>, element: &Element<'_>) -> Resul
 
 // The nodes of a document, in document order.
 pub(crate) fn nodes_of(alloc: Global, list: &Listed<'_, '_>) -> Result<Vec<Node>, AllocError>
-    requires few { length list.now.elements.now ≤ 8192 }
-    requires in_range { find is_out_of_range (seen_list list.now.elements.now) ≡ None }
-    requires good { find has_bad_option (seen_list list.now.elements.now) ≡ None }
+    requires { IsReady (seen_list list.now.elements.now) }
     ensures value { IfOk result (λ ns. ns.items ≡ nodes_spec (seen_list list.now.elements.now)) }
     ensures words { IfOk result (λ ns. All (λ n. IsWordIfAny n.id) ns.items) }
 {
@@ -186,9 +184,7 @@ pub(crate) fn nodes_of(alloc: Global, list: &Listed<'_, '_>) -> Result<Vec<Node>
 
 // The ports of a document, in document order.
 pub(crate) fn ports_of(alloc: Global, list: &Listed<'_, '_>) -> Result<Vec<Port>, AllocError>
-    requires few { length list.now.elements.now ≤ 8192 }
-    requires in_range { find is_out_of_range (seen_list list.now.elements.now) ≡ None }
-    requires good { find has_bad_option (seen_list list.now.elements.now) ≡ None }
+    requires { IsReady (seen_list list.now.elements.now) }
     ensures value { IfOk result (λ ps. ps.items ≡ ports_spec (seen_list list.now.elements.now)) }
     ensures words { IfOk result (λ ps. All (λ p. IsWord p.id) ps.items) }
 {
@@ -203,8 +199,7 @@ pub(crate) fn ports_of(alloc: Global, list: &Listed<'_, '_>) -> Result<Vec<Port>
 
 // The edges of a document, in document order.
 pub(crate) fn edges_of(alloc: Global, list: &Listed<'_, '_>) -> Result<Vec<Edge>, AllocError>
-    requires few { length list.now.elements.now ≤ 8192 }
-    requires good { find has_bad_option (seen_list list.now.elements.now) ≡ None }
+    requires { IsReady (seen_list list.now.elements.now) }
     ensures value { IfOk result (λ es. es.items ≡ edges_spec (seen_list list.now.elements.now)) }
     ensures words { IfOk result (λ es. All (λ e. IsWord e.id) es.items) }
 {

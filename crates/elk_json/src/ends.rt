@@ -11,6 +11,7 @@ ghost use Rattle.elk_json.specs.Seen.{seen, seen_list};
 use crate::elements::{Element, Kind};
 use crate::key::key_from;
 use crate::listed::{Listed, first_of};
+use crate::members::is_of;
 use crate::shape::is_extended;
 use serde_json::Value;
 
@@ -24,15 +25,21 @@ fn named(list: &Listed<'_, '_>, id: &Value) -> Option<usize>
     }
 }
 
+fn element_at<'e, 'a>(list: &Listed<'e, 'a>, place: usize) -> Option<&'e Element<'a>>
+    ensures { option_map (λ e. seen e.now) result ≡ element_test (seen_list list.now.elements.now) place }
+{
+    list.elements.get(place)
+}
+
 // The node at the place, or the node that the port there stands at.
 #[tactic(auto, unfolding(crate::specs::Ends::node_at))]
 fn node_at(list: &Listed<'_, '_>, place: usize) -> Option<usize>
     ensures { result ≡ node_place (seen_list list.now.elements.now) place }
 {
-    match list.elements.get(place) {
+    match element_at(list, place) {
         None => None,
         Some(element) => {
-            if element.kind == Kind::Node {
+            if is_of(element, Kind::Node) {
                 Some(place)
             } else {
                 element.owner
@@ -44,9 +51,9 @@ fn node_at(list: &Listed<'_, '_>, place: usize) -> Option<usize>
 pub(crate) fn is_node_there(list: &Listed<'_, '_>, place: usize) -> bool
     ensures { result ≡ option_map_or is_node (element_test (seen_list list.now.elements.now) place) false }
 {
-    match list.elements.get(place) {
+    match element_at(list, place) {
         None => false,
-        Some(element) => element.kind == Kind::Node,
+        Some(element) => is_of(element, Kind::Node),
     }
 }
 
@@ -54,9 +61,9 @@ fn is_port_there(list: &Listed<'_, '_>, node: usize, place: usize) -> bool
     ensures { result ≡ option_map_or (λ e. is_port e && option_eq nat_eq e.owner (Some node))
         (element_test (seen_list list.now.elements.now) place) false }
 {
-    match list.elements.get(place) {
+    match element_at(list, place) {
         None => false,
-        Some(element) => element.kind == Kind::Port && element.owner == Some(node),
+        Some(element) => is_of(element, Kind::Port) && element.owner == Some(node),
     }
 }
 
@@ -216,7 +223,7 @@ fn parent_of(list: &Listed<'_, '_>, node: Option<usize>) -> Option<usize>
 {
     match node {
         None => None,
-        Some(place) => match list.elements.get(place) {
+        Some(place) => match element_at(list, place) {
             None => None,
             Some(element) => element.owner,
         },

@@ -5,14 +5,14 @@ ghost use Rattle.std.specs.List.{list_any};
 ghost use Rattle.serde_json.specs.View.{view, number_view};
 ghost use Rattle.serde_json.specs.Find.{as_integer};
 ghost use Rattle.elk_doc.specs.declared.document.Id.TheVariants.{Text, Whole};
-ghost use Rattle.elk_json.specs.Members.{is_edge, to_id, id_of as id_value};
+ghost use Rattle.elk_json.specs.Members.{to_id, id_of as id_value};
 ghost use Rattle.elk_json.specs.Ends.{is_double as double_test, first_double as first_double_of};
 ghost use Rattle.elk_json.specs.Seen.{seen, seen_list};
 ghost use Rattle.elk_json.specs.Words.{IsWordIfAny};
 
 use crate::elements::{Element, Kind};
 use crate::listed::{Listed, first_of};
-use crate::members::integer_of;
+use crate::members::{integer_of, is_of};
 use elk_doc::document::{Id, Name};
 use serde_json::{Number, Value};
 use std::alloc::{AllocError, Global};
@@ -27,19 +27,13 @@ fn is_before(first: Option<usize>, place: usize) -> bool
     }
 }
 
-fn is_an_edge(element: &Element<'_>) -> bool
-    ensures { result ≡ is_edge (seen element.now) }
-{
-    element.kind == Kind::Edge
-}
-
 // Whether the element's id stood before the place.
 fn stood_before<'a>(list: &Listed<'_, 'a>, element: &Element<'a>, place: usize) -> bool
     ensures { result ≡ list_any (double_test (seen element.now)) (seen_list (take place list.now.elements.now)) }
 {
     match element.key {
         None => false,
-        Some(key) => is_before(first_of(list, is_an_edge(element), key), place),
+        Some(key) => is_before(first_of(list, is_of(element, Kind::Edge), key), place),
     }
 }
 

@@ -1,45 +1,23 @@
 //! How many elements there are, and how deep levels nest.
 ghost use Rattle.std.specs.Prelude.{◌≡◌, ◌+◌, ◌≤◌, min, length, filter};
 ghost use Rattle.serde_json.specs.View.{view, items_view, members_view};
-ghost use Rattle.elk_json.specs.Members.{is_node, is_port, is_edge};
+ghost use Rattle.elk_json.specs.Counts.{of_kind};
 ghost use Rattle.elk_json.specs.Ranges.{are_too_many as many_test, levels, levels_below, levels_within, levels_among, is_too_deep as deep_test};
 ghost use Rattle.elk_json.specs.Seen.{seen_list};
 
 use crate::collect::is_key;
 use crate::elements::{Element, Kind};
+use crate::members::is_of;
 use serde_json::Value;
 use serde_json::value::Map;
 
-fn node_count(elements: &[Element<'_>]) -> usize
-    ensures { result ≡ length (filter is_node (seen_list elements.now)) }
+// How many elements are of the kind.
+fn count_of(kind: Kind, elements: &[Element<'_>]) -> usize
+    ensures { result ≡ length (filter (of_kind kind) (seen_list elements.now)) }
 {
     let mut count = 0;
     for element in elements {
-        if element.kind == Kind::Node {
-            count += 1;
-        }
-    }
-    count
-}
-
-fn port_count(elements: &[Element<'_>]) -> usize
-    ensures { result ≡ length (filter is_port (seen_list elements.now)) }
-{
-    let mut count = 0;
-    for element in elements {
-        if element.kind == Kind::Port {
-            count += 1;
-        }
-    }
-    count
-}
-
-fn edge_count(elements: &[Element<'_>]) -> usize
-    ensures { result ≡ length (filter is_edge (seen_list elements.now)) }
-{
-    let mut count = 0;
-    for element in elements {
-        if element.kind == Kind::Edge {
+        if is_of(element, kind) {
             count += 1;
         }
     }
@@ -49,7 +27,9 @@ fn edge_count(elements: &[Element<'_>]) -> usize
 pub(crate) fn are_too_many(elements: &[Element<'_>]) -> bool
     ensures { result ≡ many_test (seen_list elements.now) }
 {
-    node_count(elements) > 2048 || port_count(elements) > 4096 || edge_count(elements) > 2048
+    count_of(Kind::Node, elements) > 2048
+        || count_of(Kind::Port, elements) > 4096
+        || count_of(Kind::Edge, elements) > 2048
 }
 
 // The levels below, counted up to 51.

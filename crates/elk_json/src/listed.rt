@@ -7,10 +7,11 @@ ghost use Rattle.elk_json.specs.Keys.{key_id};
 ghost use Rattle.elk_json.specs.Tables.{IsTable, has_id};
 ghost use Rattle.elk_json.specs.Document.{number_at};
 ghost use Rattle.elk_json.specs.Members.{is_node, is_port};
-ghost use Rattle.elk_json.specs.Seen.{seen, seen_list};
+ghost use Rattle.elk_json.specs.Seen.{seen_list};
 
 use crate::elements::{Element, Kind};
 use crate::key::Key;
+use crate::members::is_of;
 use crate::table::{place_of, places_of};
 use indexmap::IndexMap;
 use std::alloc::{AllocError, Global};
@@ -28,16 +29,6 @@ pub(crate) struct Listed<'e, 'a> {
     pub ghost ports_counted: { ports.items ≡ counts (of_kind Port) (seen_list elements.now) },
     pub ghost ends_placed: { IsTable false ends (seen_list elements.now) },
     pub ghost edges_placed: { IsTable true edges (seen_list elements.now) },
-}
-
-fn is_of(element: &Element<'_>, kind: Kind) -> bool
-    ensures { result ≡ of_kind kind (seen element.now) }
-{
-    match kind {
-        Kind::Node => element.kind == Kind::Node,
-        Kind::Port => element.kind == Kind::Port,
-        Kind::Edge => element.kind == Kind::Edge,
-    }
 }
 
 // How many elements of the kind stand before each place, and before the end.
@@ -97,7 +88,7 @@ pub(crate) fn first_of<'a>(list: &Listed<'_, 'a>, edges: bool, key: Key<'a>) -> 
 
 // The number of a node by its place.
 pub(crate) fn node_number(list: &Listed<'_, '_>, place: usize) -> u32
-    requires { length list.now.elements.now ≤ 8192 }
+    requires { length (seen_list list.now.elements.now) ≤ 8192 }
     ensures { result ≡ number_at is_node (seen_list list.now.elements.now) place }
 {
     count_at(list.nodes.as_slice(), place) as u32
@@ -105,7 +96,7 @@ pub(crate) fn node_number(list: &Listed<'_, '_>, place: usize) -> u32
 
 // The number of a port by its place.
 pub(crate) fn port_number(list: &Listed<'_, '_>, place: usize) -> u32
-    requires { length list.now.elements.now ≤ 8192 }
+    requires { length (seen_list list.now.elements.now) ≤ 8192 }
     ensures { result ≡ number_at is_port (seen_list list.now.elements.now) place }
 {
     count_at(list.ports.as_slice(), place) as u32

@@ -1,5 +1,6 @@
 //! Ranges of sizes and places.
 ghost use Rattle.std.specs.Prelude.{◌≡◌, option_map, find, true, not, ◌&&◌};
+ghost use Rattle.std.specs.Option.{option_map_or};
 ghost use Rattle.serde_json.specs.View.{view};
 ghost use Rattle.elk_json.specs.Members.{holder_has_bad_option, holder_options, is_port};
 ghost use Rattle.elk_json.specs.Ranges.{is_size as size_test, is_near as near_test, is_far as far_test, has_good_size as good_size_test, is_fixed_pos as fixed_pos_test, along as along_test, has_good_pin as pin_test, has_good_place as place_test, is_out_of_range as out_test};
@@ -76,10 +77,16 @@ fn has_good_pin(element: &Element<'_>) -> bool
 {
     match options_in(element.value, role_of(element)) {
         Err(_) => true,
-        Ok(own) => match own.side {
-            None => true,
-            Some(side) => !has_fixed_pos(element) || is_near(along(side, element.value)),
-        },
+        Ok(own) => !has_fixed_pos(element) || is_near_along(own.side, element.value),
+    }
+}
+
+fn is_near_along(side: Option<Side>, value: &Value) -> bool
+    ensures { result ≡ option_map_or (λ s. near_test (along_test s (view value.now))) side true }
+{
+    match side {
+        None => true,
+        Some(side) => is_near(along(side, value)),
     }
 }
 

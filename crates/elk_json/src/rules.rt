@@ -195,11 +195,13 @@ fn option_refusal(alloc: Global, list: &Listed<'_, '_>) -> Result<Option<Refusal
 fn edge_refusal(alloc: Global, list: &Listed<'_, '_>) -> Result<Option<Refusal>, AllocError>
     ensures { IfOk result (λ r. r ≡ edge_refusal_of (seen_list list.now.elements.now)) }
 {
-    let double = refusal_at(alloc, Rule::DoubleId, first_double(list))?;
-    let unknown = refusal_at(alloc, Rule::UnknownEnd, first_unknown(list))?;
-    let hyperedge = refusal_at(alloc, Rule::Hyperedge, first_hyperedge(list))?;
     let cross = refusal_at(alloc, Rule::CrossLevel, first_cross_level(list))?;
-    Ok(double.or(unknown.or(hyperedge.or(cross))))
+    let hyperedge = refusal_at(alloc, Rule::Hyperedge, first_hyperedge(list))?;
+    let form = hyperedge.or(cross);
+    let unknown = refusal_at(alloc, Rule::UnknownEnd, first_unknown(list))?;
+    let end = unknown.or(form);
+    let double = refusal_at(alloc, Rule::DoubleId, first_double(list))?;
+    Ok(double.or(end))
 }
 
 // The first rule on the whole value that refuses it, and its place, or none.
@@ -212,9 +214,9 @@ pub(crate) fn value_refusal(
     requires { seen_list elements.now ≡ elements_spec (view value.now) }
     ensures { IfOk result (λ r. r ≡ value_refusal_of (view value.now)) }
 {
+    let range = refusal_at(alloc, Rule::OutOfRange, first_out_of_range(elements))?;
     let broken = refusal_if(Rule::NotWhole, !is_whole(value));
     let shape = refusal_if(Rule::BadShape, has_bad_shape(elements));
-    let range = refusal_at(alloc, Rule::OutOfRange, first_out_of_range(elements))?;
     let many = refusal_if(Rule::TooMany, are_too_many(elements));
     let deep = refusal_if(Rule::TooDeep, is_too_deep(value));
     Ok(broken.or(shape.or(range.or(many.or(deep)))))

@@ -10,4 +10,4 @@ returns-in-None c = sym (double_none (seen c.args.element.now) (seen_list (take 
 
 pub returns-in-Some : goal.returns-in-Some
 returns-in-Some c =
-    double_there c.args.element.now c.in-Some.key c.args.place c.args.list.now.elements.now c.is_an_edge.result c.first_of.result c.is_before.result c.in-Some.is c.is_an_edge.ensures c.first_of.ensures c.is_before.ensures
+    double_there c.args.element.now c.in-Some.key c.args.place c.args.list.now.elements.now c.is_of.result c.first_of.result c.is_before.result c.in-Some.is c.is_of.ensures c.first_of.ensures c.is_before.ensures

@@ -10,7 +10,7 @@ same c = number_there is_port (seen_list c.args.list.now.elements.now) c.args.li
 
 pub overflow_cast-result : goal.overflow_cast-result
 overflow_cast-result c =
-    let few : c.count_at.result ≤ 8192 = few_there is_port c.args.list.now.elements.now c.args.place c.count_at.result (same c) c.requires in
+    let few : c.count_at.result ≤ 8192 = few_there is_port (seen_list c.args.list.now.elements.now) c.args.place c.count_at.result (same c) c.requires in
     omega arith
 
 pub returns : goal.returns

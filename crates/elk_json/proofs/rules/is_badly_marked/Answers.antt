@@ -1,4 +1,4 @@
-use Rattle.std.proofs.Common.{◌≡◌, ℕ, ◌<◌, List, length, get_or, Bool, true, false, ◌&&◌, ◌||◌, refl, ap, sym, ◌∙◌, arith}
+use Rattle.std.proofs.Common.{◌≡◌, ℕ, ◌<◌, List, length, get_or, Bool, false, ◌&&◌, ◌||◌, ap, sym, ◌∙◌, arith}
 use Rattle.elk_json.specs.declared.elements.Element.{Element}
 use Rattle.elk_json.specs.Members.{has_bad_option}
 use Rattle.elk_json.specs.Marks.{AreMarkedElements, has_level_edge}
@@ -6,10 +6,6 @@ use Rattle.elk_json.specs.Rules.{has_boxes, is_badly_optioned, has_boxes_and_edg
 use Rattle.elk_json.specs.Seen.{seen, seen_list}
 use Rattle.elk_json.proofs.Collected.{length_seen}
 use Rattle.elk_json.proofs.rules.is_badly_marked.Goals as goal
-
-and_again : (a b c : Bool) → ((a && b) && c) ≡ (a && (b && c))
-and_again true b c = refl
-and_again false b c = refl
 
 -- the test by a mark is the test
 badly_is : (es : List Element) (marks : List Bool) (i : ℕ) (e : Element) (b : Bool) → AreMarkedElements (seen_list es) marks → i < length es
