@@ -16,10 +16,8 @@ use Rattle.elk_doc.specs.declared.drawing.Placed.{Placed}
 use Rattle.elk_doc.specs.Document.{Document, node_at, no_node, origin}
 use Rattle.elk_doc.specs.Drawing.{box_of as drawn_box, certificate_of, section_of, port_place, no_rect, no_section}
 use Rattle.elk_doc.specs.Fits.{Fits, FitsBox, FitsLevel, FitsCertificate}
-use Rattle.elk_options.specs.declared.options.Role.TheVariants as role
-use Rattle.elk_options.specs.Reading.{options_of}
 use Rattle.elk_json.specs.Elements.{Element}
-use Rattle.elk_json.specs.Members.{is_node, is_port, is_edge, is_compound, node_role, options_at, options_data}
+use Rattle.elk_json.specs.Members.{is_node, is_port, is_edge, is_compound, options_at}
 use Rattle.elk_json.specs.Document.{node_of, edge_of, nodes_of, edges_of}
 use Rattle.elk_write.specs.Values.{whole, sections_data, layering_data}
 use Rattle.elk_write.specs.Written.{AllFrom, IfThere, Has, HasLevel, IsNodeWritten, IsPortWritten, IsEdgeWritten, is_split}
@@ -27,6 +25,7 @@ use Rattle.elk_write.specs.Reading.{sections_in, certificate_in}
 use Rattle.elk_write.specs.Placing.{is_origin, rooted, node_size_in, box_of, box_in, level_in, box_at, level_at, place_at, section_at, given, IsGiven}
 use Rattle.elk_write.specs.ReadBack.{IsHeld, IsHeldLevel, AreHeld}
 use Rattle.elk_write.proofs.Returned.{AreFound, point_back, size_back, sections_back, certificate_back}
+use Rattle.elk_json.proofs.NodeLaws.{leaf_level}
 
 -- ---- lists
 
@@ -47,30 +46,24 @@ from_zero_at P xs h i x e = let n : 0 + i ≡ i = omega arith in subst (λ k. P 
 given_all : {A : Type 0} (read : ℕ → Element → Option A) (m : ℕ) (xs : List A) (es : List Element) → length xs ≡ length es
     → ((i : ℕ) (e : Element) → slice_get es i ≡ Some e → read (m + i) e ≡ slice_get xs i) → map (λ x. Some x) xs ≡ given read m es
 given_all read m [] [] l h = refl
-given_all read m [] (e ∷ es) l h = absurd (omega arith)
-given_all read m (x ∷ xs) [] l h = absurd (omega arith)
 given_all read m (x ∷ xs) (e ∷ es) l h =
     let n : m + 0 ≡ m = omega arith in
     let here : read m e ≡ Some x = sym (ap (λ k. read k e) n) ∙ h 0 e refl in
     let rest = given_all read (m + 1) xs es (omega arith) (λ i f at. let k : (m + 1) + i ≡ m + suc i = omega arith in ap (λ k. read k f) k ∙ h (suc i) f at) in
     ap (λ o. o ∷ map (λ x. Some x) xs) (sym here) ∙ ap (λ os. read m e ∷ os) rest
+given_all read m xs es l h = absurd (omega arith)
 
 given_from_zero : {A : Type 0} (read : ℕ → Element → Option A) (xs : List A) (es : List Element) → length xs ≡ length es
     → ((i : ℕ) (e : Element) → slice_get es i ≡ Some e → read i e ≡ slice_get xs i) → map (λ x. Some x) xs ≡ given read 0 es
 given_from_zero read xs es l h = given_all read 0 xs es l (λ i e at. let n : 0 + i ≡ i = omega arith in ap (λ k. read k e) n ∙ h i e at)
 
-given_ext : {A : Type 0} (f g : ℕ → Element → Option A) → ((n : ℕ) (e : Element) → f n e ≡ g n e) → (m : ℕ) (es : List Element) → given f m es ≡ given g m es
-given_ext f g h m [] = refl
-given_ext f g h m (e ∷ es) = ap (λ o. o ∷ given f (m + 1) es) (h m e) ∙ ap (λ os. g m e ∷ os) (given_ext f g h (m + 1) es)
-
 pub some_same : {A : Type 0} (xs ys : List A) → map (λ x. Some x) xs ≡ map (λ x. Some x) ys → xs ≡ ys
 some_same [] [] h = refl
-some_same [] (y ∷ ys) h = absurd (cc)
-some_same (x ∷ xs) [] h = absurd (cc)
 some_same (x ∷ xs) (y ∷ ys) h =
     let head : x ≡ y = (let s : Some x ≡ Some y = cc in cc) in
     let tail : map (λ x. Some x) xs ≡ map (λ x. Some x) ys = cc in
     ap (λ z. z ∷ xs) head ∙ ap (λ zs. y ∷ zs) (some_same xs ys tail)
+some_same xs ys h = absurd (cc)
 
 filter_if : (b : Bool) (test : Element → Bool) (n : ℕ) (y x : Element) (ys : List Element) → test y ≡ b → ((n : ℕ) → slice_get (filter test ys) n ≡ Some x → test x ≡ true)
     → slice_get (cond b (y ∷ filter test ys) (filter test ys)) n ≡ Some x → test x ≡ true
@@ -84,15 +77,9 @@ filter_passes test (y ∷ xs) n x e = filter_if (test y) test n y x xs refl (λ 
 
 -- ---- levels
 
-leaf_has_none : (x : Element) → is_node x ≡ true → is_compound x ≡ false → (options_at x).level ≡ None
-unfolding options_of
-leaf_has_none x node leaf =
-    subst (λ b. (options_of (if b then node_role (is_compound x) else (if is_port x then role.Port else role.Edge)) (options_data x.value)).level ≡ None) (sym node)
-    (subst (λ b. (options_of (node_role b) (options_data x.value)).level ≡ None) (sym leaf) refl)
-
 compound_if : (b : Bool) (x : Element) (o : LevelOptions) → is_node x ≡ true → is_compound x ≡ b → (options_at x).level ≡ Some o → b ≡ true
 compound_if true x o node is h = refl
-compound_if false x o node is h = let bad : None ≡ Some o = sym (leaf_has_none x node is) ∙ h in absurd (cc)
+compound_if false x o node is h = let bad : None ≡ Some o = sym (leaf_level x node is) ∙ h in absurd (cc)
 
 no_level : (doc : Document) (n : ℕ) (c : Option Certificate) → FitsLevel doc n None c → None ≡ c
 no_level doc n None h = refl

@@ -1,7 +1,8 @@
 -- The elements of an answer say the same as those of the value, but for the written members.
 use Rattle.std.proofs.Common.{◌≡◌, ℕ, List, [], ◌∷◌, Bool, true, false, not, ◌&&◌, ◌||◌, bytes_eq, refl, sym, ap, ◌∙◌, subst, Option, Some, None, option_map}
+use Rattle.std.proofs.lemmas.Bool.{or_parts}
 use Rattle.std.specs.Prelude.{codes, is_some, slice_get, if◌then◌else◌}
-use Rattle.serde_json.specs.Data.{Data, null, boolean, number, string, array, object, Members, no_members, member, put}
+use Rattle.serde_json.specs.Data.{Data, array, object, Members, no_members, member, put}
 use Rattle.serde_json.specs.Find.{get, get_member}
 use Rattle.serde_json.proofs.Views.{get_member-put_other}
 use Rattle.elk_doc.specs.declared.shape.Point.{Point}
@@ -27,7 +28,7 @@ use Rattle.elk_write.proofs.Inherited.{Each, each_keyed}
 use Rattle.elk_write.proofs.Kept.{kept_sorted, answered, answer_sorted}
 use Rattle.elk_write.proofs.Shape.{found, get_node, get_here, get_later, equal_bytes}
 use Rattle.elk_write.proofs.Pairs.{step_kind, Same, Pairs, Keeps, value_answer}
-use Rattle.elk_write.proofs.Known.{not_false, split_or, node_object, port_object, edge_object}
+use Rattle.elk_write.proofs.Known.{not_false, node_object, port_object, edge_object}
 
 -- ---- members that stay
 
@@ -47,9 +48,8 @@ pub record Alike (e f : Element) : Type 0 where
 
 abbrev pub AllAlike : List Element → List Element → Type 0
 AllAlike [] [] = Unit {0}
-AllAlike [] (f ∷ fs) = ⊥
-AllAlike (e ∷ es) [] = ⊥
 AllAlike (e ∷ es) (f ∷ fs) = Alike e f × AllAlike es fs
+AllAlike es fs = ⊥
 
 -- a member that is not removed is found
 but_if : (b c : Bool) (gone : List ℕ → Bool) (q l : List ℕ) (d : Data) (ms : Members) → gone q ≡ false → gone l ≡ b → bytes_eq q l ≡ c
@@ -88,12 +88,8 @@ same_map f (Some d) h = ap (λ x. Some x) (h d)
 -- an answered member of another key is as it was
 other_member : (doc : Document) (p : Placed) (at below : Numbers) (q : List ℕ) (d : Data) → bytes_eq q (codes "children") ≡ false → bytes_eq q (codes "ports") ≡ false → bytes_eq q (codes "edges") ≡ false
     → answer_member doc p at below q d ≡ d
-other_member doc p at below q null c r e = refl
-other_member doc p at below q (boolean b) c r e = refl
-other_member doc p at below q (number n) c r e = refl
-other_member doc p at below q (string s) c r e = refl
-other_member doc p at below q (object ms) c r e = refl
 other_member doc p at below q (array ds) c r e = rw (c, r, e) refl
+other_member doc p at below q d c r e = refl
 
 module _ (doc : Document) (p : Placed) (a : Numbers) (compound : Bool) (ms : Members) (below : Numbers) where
   answered_found : (q : List ℕ) → is_node_key compound q ≡ false → bytes_eq q (codes "children") ≡ false → bytes_eq q (codes "ports") ≡ false → bytes_eq q (codes "edges") ≡ false
@@ -112,8 +108,7 @@ stays_options false = refl
 
 not_edge : (k : Kind) → k ≡ Node → kind_is_edge k ≡ true → ⊥
 not_edge Node e h = absurd (cc)
-not_edge Port e h = absurd (cc)
-not_edge Edge e h = absurd (cc)
+not_edge k e h = absurd (cc)
 
 module _ (doc : Document) (p : Placed) (a : Numbers) (e f : Element) (same : Same doc p a e f) (keyed : IsKeyed e.value) (ms : Members) (is : e.value ≡ object ms) where
   keyed_members : AreMembersKeyed ms
@@ -200,11 +195,10 @@ alike_by doc p a e f Edge is same keyed good = let o = edge_object e.value (good
 
 all_alike : (doc : Document) (p : Placed) (a : Numbers) (es fs : List Element) → Pairs doc p a es fs → Each IsKeyed es → has_bad_shape es ≡ false → AllAlike es fs
 all_alike doc p a [] [] h k g = tt
-all_alike doc p a [] (f ∷ fs) h k g = absurd h
-all_alike doc p a (e ∷ es) [] h k g = absurd h
 all_alike doc p a (e ∷ es) (f ∷ fs) h k g =
-    let both = split_or (not (is_good e)) (has_bad_shape es) g in
+    let both = or_parts (not (is_good e)) (has_bad_shape es) g in
     (alike_by doc p a e f e.kind refl h.0 k.0 (not_false (is_good e) both.0), all_alike doc p (step_kind e.kind a) es fs h.1 k.1 both.1)
+all_alike doc p a es fs h k g = absurd h
 
 pub alike_whole : (doc : Document) (p : Placed) (v : Data) (fs : List Element) → IsKeyed v → has_bad_shape (elements v) ≡ false → Pairs doc p from_zero (elements v) fs → AllAlike (elements v) fs
 alike_whole doc p v fs k g pairs = all_alike doc p from_zero (elements v) fs pairs (each_keyed v k) g

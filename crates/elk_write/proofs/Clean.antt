@@ -1,8 +1,9 @@
 -- No float arises, and keys ascend.
-use Rattle.std.proofs.Common.{◌≡◌, ℕ, ◌+◌, ℤ, pos, negsuc, List, [], ◌∷◌, ◌++◌, map, Ordering, Less, Equal, Greater, Bool, true, false, not, bytes_eq, refl, Option, Some, None}
-use Rattle.std.specs.Prelude.{codes, ◌||◌, ◌&&◌, if◌then◌else◌, option_and_then, slice_get}
+use Rattle.std.proofs.Common.{◌≡◌, ℕ, ◌+◌, ℤ, pos, negsuc, List, [], ◌∷◌, ◌++◌, map, Ordering, Less, Equal, Greater, Bool, true, false, bytes_eq, refl, Option, Some, None, inl, inr}
+use Rattle.std.proofs.lemmas.Bool.{and_parts, or_from, or_parts, cases_Bool}
+use Rattle.std.specs.Prelude.{codes, ◌||◌, if◌then◌else◌, option_and_then, slice_get}
 use Rattle.std.specs.Ordering.{match_ordering}
-use Rattle.serde_json.specs.Data.{Num, unsigned, negative, float, Data, null, boolean, number, string, array, object, Items, no_items, item, Members, no_members, member, put}
+use Rattle.serde_json.specs.Data.{Data, number, string, array, object, Items, no_items, item, Members, no_members, member, put}
 use Rattle.serde_json.specs.Find.{is_float}
 use Rattle.serde_json.specs.View.{items_of}
 use Rattle.serde_json.specs.Written.{has_float, items_have_float, members_have_float}
@@ -26,6 +27,7 @@ use Rattle.elk_write.specs.Values.{whole, wholes, point_data, id_data, section_i
 use Rattle.elk_write.specs.Written.{is_split}
 use Rattle.elk_write.specs.Answered.{kept_into, with_point, port_answer, port_answers, with_sections, edge_answer, edge_answers, with_place, with_size, with_layering, with_node, answer_node, answer_into, answer_member, answer_children, parts_answer}
 use Rattle.elk_write.proofs.Puts.{cmp}
+use Rattle.elk_write.proofs.Known.{not_true}
 
 abbrev pub IsClean : Data → Type 0
 IsClean d = (has_float d ≡ false) × IsKeyed d
@@ -36,73 +38,47 @@ AreItemsClean ds = (items_have_float ds ≡ false) × AreItemsKeyed ds
 abbrev pub AreMembersClean : Members → Type 0
 AreMembersClean ms = (members_have_float ms ≡ false) × AreMembersKeyed ms
 
-join : (a b : Bool) → a ≡ false → b ≡ false → (a || b) ≡ false
-join a b h k = rw (h, k) refl
-
-pub left_of : (a b : Bool) → (a || b) ≡ false → a ≡ false
-left_of true b h = absurd (cc)
-left_of false b h = refl
-
-pub right_of : (a b : Bool) → (a || b) ≡ false → b ≡ false
-right_of true b h = absurd (cc)
-right_of false b h = h
-
 first_clean : (k : List ℕ) (d : Data) (ms : Members) → AreMembersClean (member k d ms) → IsClean d
-first_clean k d ms h = (left_of (has_float d) (members_have_float ms) h.0, h.1.1)
+first_clean k d ms h = ((or_parts (has_float d) (members_have_float ms) h.0).0, h.1.1)
 
 rest_clean : (k : List ℕ) (d : Data) (ms : Members) → AreMembersClean (member k d ms) → AreMembersClean ms
-rest_clean k d ms h = (right_of (has_float d) (members_have_float ms) h.0, h.1.2)
+rest_clean k d ms h = ((or_parts (has_float d) (members_have_float ms) h.0).1, h.1.2)
 
 item_clean : (d : Data) (ds : Items) → IsClean d → AreItemsClean ds → AreItemsClean (item d ds)
-item_clean d ds h k = (join (has_float d) (items_have_float ds) h.0 k.0, (h.1, k.1))
+item_clean d ds h k = (or_from (has_float d) (items_have_float ds) h.0 k.0, (h.1, k.1))
 
 member_clean : (key : List ℕ) (d : Data) (ms : Members) → IsBelow key ms → IsClean d → AreMembersClean ms → AreMembersClean (member key d ms)
-member_clean key d ms b h k = (join (has_float d) (members_have_float ms) h.0 k.0, (b, h.1, k.1))
+member_clean key d ms b h k = (or_from (has_float d) (members_have_float ms) h.0 k.0, (b, h.1, k.1))
 
 float_by : (o : Ordering) (k l : List ℕ) (d e : Data) (ms : Members) → has_float d ≡ false → members_have_float (member l e ms) ≡ false → members_have_float (put k d ms) ≡ false
     → members_have_float (match_ordering o (member k d (member l e ms)) (member l d ms) (member l e (put k d ms))) ≡ false
-float_by Less k l d e ms hd h ih = join (has_float d) (members_have_float (member l e ms)) hd h
-float_by Equal k l d e ms hd h ih = join (has_float d) (members_have_float ms) hd (right_of (has_float e) (members_have_float ms) h)
-float_by Greater k l d e ms hd h ih = join (has_float e) (members_have_float (put k d ms)) (left_of (has_float e) (members_have_float ms) h) ih
+float_by Less k l d e ms hd h ih = or_from (has_float d) (members_have_float (member l e ms)) hd h
+float_by Equal k l d e ms hd h ih = or_from (has_float d) (members_have_float ms) hd (or_parts (has_float e) (members_have_float ms) h).1
+float_by Greater k l d e ms hd h ih = or_from (has_float e) (members_have_float (put k d ms)) (or_parts (has_float e) (members_have_float ms) h).0 ih
 
 float_put : (k : List ℕ) (d : Data) (ms : Members) → has_float d ≡ false → members_have_float ms ≡ false → members_have_float (put k d ms) ≡ false
-float_put k d no_members hd h = join (has_float d) false hd refl
-float_put k d (member l e ms) hd h = float_by (cmp k l) k l d e ms hd h (float_put k d ms hd (right_of (has_float e) (members_have_float ms) h))
+float_put k d no_members hd h = or_from (has_float d) false hd refl
+float_put k d (member l e ms) hd h = float_by (cmp k l) k l d e ms hd h (float_put k d ms hd (or_parts (has_float e) (members_have_float ms) h).1)
 
 pub put_clean : (k : List ℕ) (d : Data) (ms : Members) → IsClean d → AreMembersClean ms → AreMembersClean (put k d ms)
 put_clean k d ms h hs = (float_put k d ms h.0 hs.0, keyed_put k d ms h.1 hs.1)
 
 -- ---- a whole value has no float
 
-unsigned_or : (n : Num) → not (is_float n) ≡ true → is_float n ≡ false
-unsigned_or (unsigned n) h = refl
-unsigned_or (negative z) h = refl
-unsigned_or (float x) h = absurd (cc)
-
-both_left : (a b : Bool) → (a && b) ≡ true → a ≡ true
-both_left true b h = refl
-both_left false b h = absurd (cc)
-
-both_right : (a b : Bool) → (a && b) ≡ true → b ≡ true
-both_right true b h = h
-both_right false b h = absurd (cc)
-
 mutual
   pub float_whole : (d : Data) → all_whole d ≡ true → has_float d ≡ false
-  float_whole null h = refl
-  float_whole (boolean b) h = refl
-  float_whole (number n) h = unsigned_or n h
-  float_whole (string s) h = refl
+  float_whole (number n) h = not_true (is_float n) h
   float_whole (array ds) h = float_items ds h
   float_whole (object ms) h = float_members ms h
+  float_whole d h = refl
 
   float_items : (ds : Items) → items_whole ds ≡ true → items_have_float ds ≡ false
   float_items no_items h = refl
-  float_items (item d ds) h = join (has_float d) (items_have_float ds) (float_whole d (both_left (all_whole d) (items_whole ds) h)) (float_items ds (both_right (all_whole d) (items_whole ds) h))
+  float_items (item d ds) h = or_from (has_float d) (items_have_float ds) (float_whole d (and_parts (all_whole d) (items_whole ds) h).0) (float_items ds (and_parts (all_whole d) (items_whole ds) h).1)
 
   float_members : (ms : Members) → members_whole ms ≡ true → members_have_float ms ≡ false
   float_members no_members h = refl
-  float_members (member k d ms) h = join (has_float d) (members_have_float ms) (float_whole d (both_left (all_whole d) (members_whole ms) h)) (float_members ms (both_right (all_whole d) (members_whole ms) h))
+  float_members (member k d ms) h = or_from (has_float d) (members_have_float ms) (float_whole d (and_parts (all_whole d) (members_whole ms) h).0) (float_members ms (and_parts (all_whole d) (members_whole ms) h).1)
 
 -- ---- written values
 
@@ -172,26 +148,20 @@ layering_clean doc false c =
 
 -- ---- ports and edges
 
-kept_if_clean : (b : Bool) (edge : Bool) (k : List ℕ) (d : Data) (ms into : Members) → is_flat_key edge k ≡ b → AreMembersClean into → IsClean d
-    → ((into : Members) → AreMembersClean into → AreMembersClean (kept_into edge into ms)) → AreMembersClean (kept_into edge into (member k d ms))
-kept_if_clean true edge k d ms into is h hd ih = rw is (ih into h)
-kept_if_clean false edge k d ms into is h hd ih = rw is (ih (put k d into) (put_clean k d into hd h))
-
 kept_clean : (edge : Bool) (ms into : Members) → AreMembersClean ms → AreMembersClean into → AreMembersClean (kept_into edge into ms)
 kept_clean edge no_members into h g = g
-kept_clean edge (member k d ms) into h g = kept_if_clean (is_flat_key edge k) edge k d ms into refl g (first_clean k d ms h) (λ i hi. kept_clean edge ms i (rest_clean k d ms h) hi)
+kept_clean edge (member k d ms) into h g = elim (cases_Bool (is_flat_key edge k)) [
+  | inl is ↦ rw is (kept_clean edge ms into (rest_clean k d ms h) g)
+  | inr is ↦ rw is (kept_clean edge ms (put k d into) (rest_clean k d ms h) (put_clean k d into (first_clean k d ms h) g))
+]
 
 with_point_clean : (o : Option Point) (ms : Members) → AreMembersClean ms → AreMembersClean (with_point o ms)
 with_point_clean None ms h = h
 with_point_clean (Some q) ms h = put_clean (codes "y") (whole q.y) (put (codes "x") (whole q.x) ms) (whole_clean q.y) (put_clean (codes "x") (whole q.x) ms (whole_clean q.x) h)
 
 port_clean : (o : Option Point) (d : Data) → IsClean d → IsClean (port_answer o d)
-port_clean o null h = h
-port_clean o (boolean b) h = h
-port_clean o (number n) h = h
-port_clean o (string s) h = h
-port_clean o (array ds) h = h
 port_clean o (object ms) h = with_point_clean o (kept_into false no_members ms) (kept_clean false ms no_members h none_clean)
+port_clean o d h = h
 
 with_sections_clean : (e : Option Edge) (s : Option Section) (ms : Members) → AreMembersClean ms → AreMembersClean (with_sections e s ms)
 with_sections_clean None s ms h = h
@@ -199,18 +169,14 @@ with_sections_clean (Some e) None ms h = h
 with_sections_clean (Some e) (Some s) ms h = put_clean (codes "sections") (sections_data e.id s) ms (sections_clean e.id s) h
 
 edge_clean : (e : Option Edge) (s : Option Section) (d : Data) → IsClean d → IsClean (edge_answer e s d)
-edge_clean e s null h = h
-edge_clean e s (boolean b) h = h
-edge_clean e s (number n) h = h
-edge_clean e s (string t) h = h
-edge_clean e s (array ds) h = h
 edge_clean e s (object ms) h = with_sections_clean e s (kept_into true no_members ms) (kept_clean true ms no_members h none_clean)
+edge_clean e s d h = h
 
 head_clean : (d : Data) (ds : Items) → AreItemsClean (item d ds) → IsClean d
-head_clean d ds h = (left_of (has_float d) (items_have_float ds) h.0, h.1.0)
+head_clean d ds h = ((or_parts (has_float d) (items_have_float ds) h.0).0, h.1.0)
 
 tail_clean : (d : Data) (ds : Items) → AreItemsClean (item d ds) → AreItemsClean ds
-tail_clean d ds h = (right_of (has_float d) (items_have_float ds) h.0, h.1.1)
+tail_clean d ds h = ((or_parts (has_float d) (items_have_float ds) h.0).1, h.1.1)
 
 ports_clean : (p : Placed) (n : ℕ) (ds : Items) → AreItemsClean ds → AreItemsClean (port_answers p n ds)
 ports_clean p n no_items h = h
@@ -255,37 +221,24 @@ children_clean : (b : Bool) (doc : Document) (p : Placed) (at below : Numbers) (
 children_clean true doc p at below k ds h ih = ih
 children_clean false doc p at below k ds h ih = parts_ports_clean (bytes_eq k (codes "ports")) (bytes_eq k (codes "edges")) doc p at ds h
 
-into_clean : (b : Bool) (doc : Document) (p : Placed) (at below : Numbers) (compound : Bool) (k : List ℕ) (d : Data) (ms into : Members) → is_node_key compound k ≡ b
-    → AreMembersClean into → IsClean (answer_member doc p at below k d)
-    → ((below : Numbers) (into : Members) → AreMembersClean into → AreMembersClean (answer_into doc p at compound below into ms))
-    → AreMembersClean (answer_into doc p at compound below into (member k d ms))
-into_clean true doc p at below compound k d ms into is h hd ih = rw is (ih below into h)
-into_clean false doc p at below compound k d ms into is h hd ih = rw is (ih (past_member k below d) (put k (answer_member doc p at below k d) into) (put_clean k (answer_member doc p at below k d) into hd h))
-
 mutual
   pub answer_clean : (d : Data) (doc : Document) (p : Placed) (at : Numbers) (root : Bool) → IsClean d → IsClean (answer_node doc p at root d)
-  answer_clean null doc p at root h = h
-  answer_clean (boolean b) doc p at root h = h
-  answer_clean (number n) doc p at root h = h
-  answer_clean (string s) doc p at root h = h
-  answer_clean (array ds) doc p at root h = h
   answer_clean (object ms) doc p at root h =
       with_node_clean (root || has_children (object ms)) doc p at.node (answer_into doc p at (root || has_children (object ms)) (past_own at (object ms)) no_members ms)
       (inside_clean ms doc p at (root || has_children (object ms)) (past_own at (object ms)) no_members h none_clean)
+  answer_clean d doc p at root h = h
 
   inside_clean : (ms : Members) (doc : Document) (p : Placed) (at : Numbers) (compound : Bool) (below : Numbers) (into : Members) → AreMembersClean ms → AreMembersClean into
       → AreMembersClean (answer_into doc p at compound below into ms)
   inside_clean no_members doc p at compound below into h g = g
-  inside_clean (member k d ms) doc p at compound below into h g =
-      into_clean (is_node_key compound k) doc p at below compound k d ms into refl g (one_clean d doc p at below k (first_clean k d ms h)) (λ b i hi. inside_clean ms doc p at compound b i (rest_clean k d ms h) hi)
+  inside_clean (member k d ms) doc p at compound below into h g = elim (cases_Bool (is_node_key compound k)) [
+    | inl is ↦ rw is (inside_clean ms doc p at compound below into (rest_clean k d ms h) g)
+    | inr is ↦ rw is (inside_clean ms doc p at compound (past_member k below d) (put k (answer_member doc p at below k d) into) (rest_clean k d ms h) (put_clean k (answer_member doc p at below k d) into (one_clean d doc p at below k (first_clean k d ms h)) g))
+  ]
 
   one_clean : (d : Data) (doc : Document) (p : Placed) (at below : Numbers) (k : List ℕ) → IsClean d → IsClean (answer_member doc p at below k d)
-  one_clean null doc p at below k h = h
-  one_clean (boolean b) doc p at below k h = h
-  one_clean (number n) doc p at below k h = h
-  one_clean (string s) doc p at below k h = h
-  one_clean (object ms) doc p at below k h = h
   one_clean (array ds) doc p at below k h = children_clean (bytes_eq k (codes "children")) doc p at below k ds h (each_clean ds doc p below h)
+  one_clean d doc p at below k h = h
 
   each_clean : (ds : Items) (doc : Document) (p : Placed) (at : Numbers) → AreItemsClean ds → AreItemsClean (answer_children doc p at ds)
   each_clean no_items doc p at h = h

@@ -1,7 +1,8 @@
 -- Where the elements give a whole drawing, none of them lacks a member.
-use Rattle.std.proofs.Common.{◌≡◌, ℕ, ◌+◌, List, [], ◌∷◌, ◌++◌, length, map, take, filter, Bool, true, false, ◌||◌, cond, Option, Some, None, if◌then◌else◌, refl, sym, ap, ◌∙◌, subst, append_assoc, append-nil}
+use Rattle.std.proofs.Common.{◌≡◌, ℕ, ◌+◌, List, [], ◌∷◌, ◌++◌, length, map, take, filter, Bool, true, false, cond, Option, Some, None, if◌then◌else◌, refl, sym, ap, ◌∙◌, subst, append_assoc, append-nil}
 use Rattle.std.specs.Prelude.{is_none}
 use Rattle.std.proofs.lemmas.List.{length-append}
+use Rattle.std.proofs.lemmas.Bool.{or_from}
 use Rattle.elk_doc.specs.declared.drawing.Placed.{Placed}
 use Rattle.elk_doc.specs.Document.{Document}
 use Rattle.elk_json.specs.declared.elements.Kind.{Kind}
@@ -48,15 +49,12 @@ take_front : {X : Type 0} (xs ys : List X) → take (length xs) (xs ++ ys) ≡ x
 take_front [] ys = refl
 take_front (x ∷ xs) ys = ap (λ zs. x ∷ zs) (take_front xs ys)
 
-or_false : (a b : Bool) → a ≡ false → b ≡ false → (a || b) ≡ false
-or_false a b h k = rw (h, k) refl
-
 module _ (doc : Document) (all : List Element) where
   unplaced_by : (k : Kind) (n m e : ℕ) (x : Element)
       → (kind_is_node k ≡ true → is_none (box_at doc n x) ≡ false) → (kind_is_node k ≡ true → is_none (level_at doc n x) ≡ false)
       → (kind_is_port k ≡ true → is_none (place_at m x) ≡ false) → (kind_is_edge k ≡ true → is_none (section_at doc e x) ≡ false)
       → lacks doc k (of_kind k n m e) x ≡ false
-  unplaced_by kind.Node n m e x a b c d = or_false (is_none (box_at doc n x)) (is_none (level_at doc n x)) (a refl) (b refl)
+  unplaced_by kind.Node n m e x a b c d = or_from (is_none (box_at doc n x)) (is_none (level_at doc n x)) (a refl) (b refl)
   unplaced_by kind.Port n m e x a b c d = c refl
   unplaced_by kind.Edge n m e x a b c d = d refl
 

@@ -3,17 +3,16 @@ use Rattle.std.proofs.Common.{◌≡◌, ℕ, suc, ◌+◌, List, [], ◌∷◌,
 use Rattle.std.specs.Prelude.{codes, option_and_then, unwrap_or, if◌then◌else◌, pos}
 use Rattle.std.specs.Option.{option_map_or}
 use Rattle.std.specs.List.{list_any}
-use Rattle.std.proofs.lemmas.Bool.{and_parts}
+use Rattle.std.proofs.lemmas.Bool.{and_parts, or_parts}
 use Rattle.std.proofs.lemmas.Bool.Decides.{Decides-int_eq}
 use Rattle.std.proofs.lemmas.List.{length-append}
 use Rattle.std.proofs.lemmas.Slice.Eq.{bytes_eq-Decides}
-use Rattle.serde_json.specs.Data.{Data, Num, unsigned, negative, float, null, boolean, number, string, array, object}
+use Rattle.serde_json.specs.Data.{Data, Num, float, number, string}
 use Rattle.serde_json.specs.Find.{get, is_float}
 use Rattle.elk_doc.specs.declared.document.Id.{Id}
 use Rattle.elk_doc.specs.declared.document.Id.TheVariants.{Text, Whole}
 use Rattle.elk_doc.specs.declared.document.Edge.{Edge as DocEdge}
-use Rattle.elk_json.specs.declared.elements.Kind.{Kind}
-use Rattle.elk_json.specs.declared.elements.Kind.TheVariants.{Node, Port, Edge}
+use Rattle.elk_json.specs.declared.elements.Kind.TheVariants.{Edge}
 use Rattle.elk_json.specs.declared.fault.Rule.TheVariants as rules
 use Rattle.elk_json.specs.Elements.{Element, elements}
 use Rattle.elk_json.specs.Members.{kind_is_edge, is_edge, is_id, to_id, id_of, there_and, absent_or, is_object}
@@ -24,9 +23,10 @@ use Rattle.elk_json.specs.Document.{edge_of, edges_of, sure_id}
 use Rattle.elk_json.specs.Rules.{refused, edge_refusal, value_refusal, at}
 use Rattle.elk_write.specs.Reading.{first_number}
 use Rattle.elk_write.specs.Written.{AllFrom}
-use Rattle.elk_write.proofs.Known.{not_false, split_or, or_left, or_right}
+use Rattle.elk_write.proofs.Known.{not_false, or_left, or_right, not_true}
 use Rattle.elk_write.proofs.Inherited.{Each, IsWhole, IfFound, whole_member}
 use Rattle.elk_write.proofs.Alike.{good_as}
+use Rattle.elk_write.proofs.Ready.{edge_kind}
 
 -- ---- ids
 
@@ -43,21 +43,13 @@ pub record HasId (e : Element) : Type 0 where
   pub is : id_of e.value ≡ Some id
 
 number_id : (n : Num) → is_float n ≡ false → (i : Id) × (to_id (number n) ≡ Some i)
-number_id (unsigned n) h = (_, refl)
-number_id (negative z) h = (_, refl)
 number_id (float x) h = absurd (cc)
-
-not_true : (b : Bool) → not b ≡ true → b ≡ false
-not_true true h = absurd (cc)
-not_true false h = refl
+number_id n h = (_, refl)
 
 id_there : (d : Data) → is_id d ≡ true → all_whole d ≡ true → (i : Id) × (to_id d ≡ Some i)
-id_there null h w = absurd (cc)
-id_there (boolean b) h w = absurd (cc)
 id_there (number n) h w = number_id n (not_true (is_float n) w)
 id_there (string s) h w = (_, refl)
-id_there (array ds) h w = absurd (cc)
-id_there (object ms) h w = absurd (cc)
+id_there d h w = absurd (cc)
 
 found_id : (o : Option Data) → option_map_or is_id o false ≡ true → IfFound IsWhole o → (i : Id) × (option_and_then to_id o ≡ Some i)
 found_id None h w = absurd (cc)
@@ -75,15 +67,10 @@ abbrev pub HaveIds : List Element → Type 0
 HaveIds [] = Unit {0}
 HaveIds (e ∷ es) = (kind_is_edge e.kind ≡ true → HasId e) × HaveIds es
 
-edge_kind : (k : Kind) → kind_is_edge k ≡ true → k ≡ Edge
-edge_kind Node h = absurd (cc)
-edge_kind Port h = absurd (cc)
-edge_kind Edge h = refl
-
 pub have_ids : (es : List Element) → has_bad_shape es ≡ false → Each IsWhole es → HaveIds es
 have_ids [] g w = tt
 have_ids (e ∷ es) g w =
-    let both = split_or (not (is_good e)) (has_bad_shape es) g in
+    let both = or_parts (not (is_good e)) (has_bad_shape es) g in
     (λ t. (let i = edge_id e.value (good_as e Edge (edge_kind e.kind t) (not_false (is_good e) both.0)) w.0 in record { id = i.0; is = i.1 }), have_ids es both.1 w.1)
 
 -- ---- no edge has the id of an earlier one
@@ -105,7 +92,7 @@ module _ (all : List Element) where
   misses : (id : Id) (n : ℕ) (xs ys : List DocEdge) → list_any (has_id id) xs ≡ false → first_number (has_id id) n (xs ++ ys) ≡ first_number (has_id id) (n + length xs) ys
   misses id n [] ys h = let same : n ≡ n + 0 = omega arith in ap (λ m. first_number (has_id id) m ys) same
   misses id n (x ∷ xs) ys h =
-      let both = split_or (has_id id x) (list_any (has_id id) xs) h in
+      let both = or_parts (has_id id x) (list_any (has_id id) xs) h in
       let same : (n + 1) + length xs ≡ n + suc (length xs) = omega arith in
       ap (λ b. if b then Some n else first_number (has_id id) (n + 1) (xs ++ ys)) both.0
       ∙ misses id (n + 1) xs ys both.1
@@ -136,7 +123,7 @@ module _ (all : List Element) where
   missed : (e : Element) (es : List Element) (a : HasId e) → kind_is_edge e.kind ≡ true → HaveIds es → list_any (is_double e) es ≡ false → list_any (has_id (sure_id e.value)) (stand es) ≡ false
   missed e [] a s b d = refl
   missed e (f ∷ es) a s b d =
-      let both = split_or (is_double e f) (list_any (is_double e) es) d in
+      let both = or_parts (is_double e f) (list_any (is_double e) es) d in
       missed_if (kind_is_edge f.kind) e f es a s b.0 refl both.0 (missed e es a s b.1 both.1)
 
   not_first : (b : Bool) (e : Element) (o : Option Element) → (if b then Some e else o) ≡ None → (b ≡ false) × (o ≡ None)

@@ -19,6 +19,7 @@ use Rattle.elk_doc.specs.Sound.{IsWithin}
 use Rattle.elk_doc.specs.Fits.{IsNear, FitsSection, FitsCertificate, IsAscending, MayBeListed, child_count, edge_count}
 use Rattle.elk_options.specs.Values.{if_within}
 use Rattle.elk_write.specs.Reading.{coordinate_in, length_in, integer_in, point_in, size_in, all_in, list_in, bends_in, route_in, section_in, is_sole, sole_section_in, sections_in, counted, are_from, is_ascending, is_listable, are_listable, listable, flow_in, layers_in, parts_in, reversed_in, span_in, certificate_in, edge_named}
+use Rattle.elk_write.proofs.Known.{not_true}
 
 -- ---- values that are there
 
@@ -124,8 +125,6 @@ counted_length n o ys e =
     subst (λ xs. length xs ≡ n) b.1 (eqb-true (length a.0) n b.0)
 
 rising : (low : ℕ) (ns : List ℕ) → are_from low ns ≡ true → (i : ℕ) → i + 1 < length ns → slice_index ns i < slice_index ns (i + 1)
-rising low [] h i lt = absurd (omega arith)
-rising low (n ∷ []) h i lt = absurd (omega arith)
 rising low (n ∷ m ∷ ms) h zero lt =
     let rest = (and_parts (nat_le low n) (are_from (n + 1) (m ∷ ms)) h).1 in
     let more : n + 1 ≤ m = leb-true (n + 1) m (and_parts (nat_le (n + 1) m) (are_from (m + 1) ms) rest).0 in
@@ -133,13 +132,10 @@ rising low (n ∷ m ∷ ms) h zero lt =
 rising low (n ∷ m ∷ ms) h (suc i) lt =
     let at : suc (i + 1) ≡ suc i + 1 = omega arith in
     subst (λ k. slice_index (n ∷ m ∷ ms) (suc i) < slice_index (n ∷ m ∷ ms) k) at (rising (n + 1) (m ∷ ms) (and_parts (nat_le low n) (are_from (n + 1) (m ∷ ms)) h).1 i (omega arith))
+rising low ns h i lt = absurd (omega arith)
 
 ascending : (ns : List ℕ) → is_ascending ns ≡ true → IsAscending ns
 ascending ns h i lt = rising 0 ns h i lt
-
-not_true : (b : Bool) → not b ≡ true → b ≡ false
-not_true true h = absurd (cc)
-not_true false h = refl
 
 different : (a b : ℕ) → (a == b) ≡ false → a ≢ b
 different a b h e = let bad : true ≡ false = sym (eq-eqb a b e) ∙ h in absurd (cc)

@@ -4,8 +4,9 @@ use Rattle.std.specs.Prelude.{codes, is_some, option_and_then, slice_get}
 use Rattle.std.specs.Option.{option_map_or}
 use Rattle.std.specs.List.{list_all}
 use Rattle.std.proofs.lemmas.Option.{same_Some, none-some}
+use Rattle.std.proofs.lemmas.Bool.{or_parts}
 use Rattle.std.specs.Prelude.{ℤ, pos, negsuc}
-use Rattle.serde_json.specs.Data.{Data, null, boolean, number, string, array, object, Items, Members}
+use Rattle.serde_json.specs.Data.{Data, array, object, Items, Members}
 use Rattle.serde_json.specs.Find.{get, get_member, as_array}
 use Rattle.elk_doc.specs.declared.drawing.Placed.{Placed}
 use Rattle.elk_doc.specs.Document.{Document}
@@ -24,7 +25,7 @@ use Rattle.elk_write.proofs.Inherited.{Each}
 use Rattle.elk_write.proofs.Kept.{answered, answer_sorted}
 use Rattle.elk_write.proofs.Shape.{get_node, children_found, ports_found, edges_found}
 use Rattle.elk_write.proofs.Pairs.{step_kind, Same, Pairs, value_answer}
-use Rattle.elk_write.proofs.Known.{not_false, split_or, node_object, port_object, edge_object}
+use Rattle.elk_write.proofs.Known.{not_false, node_object, port_object, edge_object}
 use Rattle.elk_write.proofs.Alike.{Alike, AllAlike, good_as}
 
 -- ---- arrays stay arrays, objects objects
@@ -37,12 +38,8 @@ by_three false false false x y z u = refl
 
 array_stays : (doc : Document) (p : Placed) (at below : Numbers) (k : List ℕ) (o : Option Data) → option_map_or is_array o true ≡ true → option_map_or is_array (option_map (answer_member doc p at below k) o) true ≡ true
 array_stays doc p at below k None h = refl
-array_stays doc p at below k (Some null) h = absurd (cc)
-array_stays doc p at below k (Some (boolean b)) h = absurd (cc)
-array_stays doc p at below k (Some (number n)) h = absurd (cc)
-array_stays doc p at below k (Some (string s)) h = absurd (cc)
-array_stays doc p at below k (Some (object ms)) h = absurd (cc)
 array_stays doc p at below k (Some (array ds)) h = by_three (bytes_eq k (codes "children")) (bytes_eq k (codes "ports")) (bytes_eq k (codes "edges")) _ _ _ _
+array_stays doc p at below k o h = absurd (cc)
 
 abbrev pub StaysArray : List ℕ → Element → Element → Type 0
 StaysArray q e f = absent_or is_array q e.value ≡ true → absent_or is_array q f.value ≡ true
@@ -58,9 +55,8 @@ pub record Shaped (e f : Element) : Type 0 where
 
 abbrev pub AllShaped : List Element → List Element → Type 0
 AllShaped [] [] = Unit {0}
-AllShaped [] (f ∷ fs) = ⊥
-AllShaped (e ∷ es) [] = ⊥
 AllShaped (e ∷ es) (f ∷ fs) = Shaped e f × AllShaped es fs
+AllShaped es fs = ⊥
 
 module _ (doc : Document) (p : Placed) (a : Numbers) (e f : Element) (same : Same doc p a e f) (keyed : IsKeyed e.value) (ms : Members) (is : e.value ≡ object ms) where
   node_shaped : e.kind ≡ Node → Shaped e f
@@ -106,11 +102,10 @@ shaped_by_kind doc p a e f Edge is same keyed good = let o = edge_object e.value
 
 pub all_shaped : (doc : Document) (p : Placed) (a : Numbers) (es fs : List Element) → Pairs doc p a es fs → Each IsKeyed es → has_bad_shape es ≡ false → AllShaped es fs
 all_shaped doc p a [] [] h k g = tt
-all_shaped doc p a [] (f ∷ fs) h k g = absurd h
-all_shaped doc p a (e ∷ es) [] h k g = absurd h
 all_shaped doc p a (e ∷ es) (f ∷ fs) h k g =
-    let both = split_or (not (is_good e)) (has_bad_shape es) g in
+    let both = or_parts (not (is_good e)) (has_bad_shape es) g in
     (shaped_by_kind doc p a e f e.kind refl h.0 k.0 (not_false (is_good e) both.0), all_shaped doc p (step_kind e.kind a) es fs h.1 k.1 both.1)
+all_shaped doc p a es fs h k g = absurd h
 
 -- ---- what stands at a place of both lists
 
@@ -123,16 +118,15 @@ pub record Mate (es : List Element) (i : ℕ) (f : Element) : Type 0 where
 
 pub mate_at : (es fs : List Element) → AllAlike es fs → AllShaped es fs → has_bad_shape es ≡ false → (i : ℕ) (f : Element) → slice_get fs i ≡ Some f → Mate es i f
 mate_at [] [] h s g i f at = absurd (none-some f at)
-mate_at [] (x ∷ fs) h s g i f at = absurd h
-mate_at (e ∷ es) [] h s g i f at = absurd h
 mate_at (e ∷ es) (x ∷ fs) h s g zero f at =
     let same : x ≡ f = same_Some x f at in
-    let both = split_or (not (is_good e)) (has_bad_shape es) g in
+    let both = or_parts (not (is_good e)) (has_bad_shape es) g in
     record { mate = e; at = refl; alike = subst (Alike e) same h.0; shaped = subst (Shaped e) same s.0; good = not_false (is_good e) both.0 }
 mate_at (e ∷ es) (x ∷ fs) h s g (suc i) f at =
-    let both = split_or (not (is_good e)) (has_bad_shape es) g in
+    let both = or_parts (not (is_good e)) (has_bad_shape es) g in
     let m = mate_at es fs h.1 s.1 both.1 i f at in
     record { mate = m.mate; at = m.at; alike = m.alike; shaped = m.shaped; good = m.good }
+mate_at es fs h s g i f at = absurd h
 
 -- ---- the shape of one element
 

@@ -117,18 +117,15 @@ module _ (doc : Document) (n : ℕ) (e : Element) where
 
 pub kind_hit_node : (k : Kind) (a b c : ℕ) → kind_is_node k ≡ true → of_kind k a b c ≡ a
 kind_hit_node kind.Node a b c h = refl
-kind_hit_node kind.Port a b c h = absurd (cc)
-kind_hit_node kind.Edge a b c h = absurd (cc)
+kind_hit_node k a b c h = absurd (cc)
 
 pub kind_hit_port : (k : Kind) (a b c : ℕ) → kind_is_port k ≡ true → of_kind k a b c ≡ b
-kind_hit_port kind.Node a b c h = absurd (cc)
 kind_hit_port kind.Port a b c h = refl
-kind_hit_port kind.Edge a b c h = absurd (cc)
+kind_hit_port k a b c h = absurd (cc)
 
 pub kind_hit_edge : (k : Kind) (a b c : ℕ) → kind_is_edge k ≡ true → of_kind k a b c ≡ c
-kind_hit_edge kind.Node a b c h = absurd (cc)
-kind_hit_edge kind.Port a b c h = absurd (cc)
 kind_hit_edge kind.Edge a b c h = refl
+kind_hit_edge k a b c h = absurd (cc)
 
 -- ---- the first element that lacks a member
 

@@ -1,10 +1,11 @@
 -- The ports of an answer stand where the drawing has them: in range, as rule 4 asks, and not inside a leaf with fixed
 -- positions, as rule 12 asks.
-use Rattle.std.proofs.Common.{◌≡◌, ℕ, zero, suc, ◌<◌, ◌^◌, List, length, filter, Bool, true, false, not, ◌&&◌, ◌||◌, T, refl, sym, ap, ◌∙◌, subst, Option, Some, None, option_map, ne_eqb, arith}
+use Rattle.std.proofs.Common.{◌≡◌, ℕ, zero, suc, ◌<◌, ◌^◌, List, length, filter, Bool, true, false, not, ◌&&◌, ◌||◌, refl, sym, ap, ◌∙◌, subst, Option, Some, None, option_map, ne_eqb, arith}
 use Rattle.std.specs.Prelude.{codes, is_some, is_none, option_and_then, slice_get, unwrap_or, ℤ, pos, negsuc, neg_ℤ, ◌==◌}
 use Rattle.std.specs.Option.{option_map_or}
 use Rattle.std.proofs.lemmas.Option.{same_Some, get_or_from_slice_get}
 use Rattle.std.proofs.lemmas.List.{length-map}
+use Rattle.std.proofs.lemmas.Bool.{and_from}
 use Rattle.serde_json.specs.Data.{Data}
 use Rattle.serde_json.specs.Find.{get, as_number, as_integer}
 use Rattle.elk_doc.specs.declared.shape.Point.{Point}
@@ -19,10 +20,8 @@ use Rattle.elk_doc.specs.Sides.{is_leaf}
 use Rattle.elk_doc.specs.Sound.{IsWithin}
 use Rattle.elk_options.specs.declared.options.Options.{Options}
 use Rattle.elk_options.specs.Reading.{options_of}
-use Rattle.elk_json.specs.declared.elements.Kind.{Kind}
-use Rattle.elk_json.specs.declared.elements.Kind.TheVariants.{Node as NodeKind, Port as PortKind, Edge as EdgeKind}
 use Rattle.elk_json.specs.Elements.{Element}
-use Rattle.elk_json.specs.Members.{kind_is_node, kind_is_port, is_node, is_port, is_compound, is_at_compound, has_children, whole_at, node_role, options_data, options_at, has_bad_option, holder_role, holder_options, holder_has_bad_option}
+use Rattle.elk_json.specs.Members.{is_node, is_port, is_compound, is_at_compound, has_children, whole_at, node_role, options_data, options_at, has_bad_option, holder_role, holder_options, holder_has_bad_option}
 use Rattle.elk_json.specs.Ranges.{is_near, is_far, is_fixed_pos, is_at_fixed_pos}
 use Rattle.elk_json.specs.Document.{number_at, node_of, port_of, ports_of}
 use Rattle.elk_json.proofs.Places.{number, at_number}
@@ -31,22 +30,19 @@ use Rattle.elk_json.proofs.Accepted.{doc_of, value_at, number_within, node_value
 use Rattle.elk_json.proofs.NodeLaws.{leaf_level}
 use Rattle.elk_write.specs.Values.{whole}
 use Rattle.elk_write.specs.Written.{Has, IfThere, AllFrom, IsPortWritten}
-use Rattle.elk_write.proofs.Depth.{both}
 use Rattle.elk_write.proofs.Again.{from_zero_at}
+use Rattle.elk_json.proofs.Soundness.{port_no_node}
+use Rattle.elk_write.proofs.Known.{true_by}
 
 -- ---- numbers in range
 
-true_by : (b : Bool) → T b → b ≡ true
-true_by true t = refl
-true_by false t = absurd t
-
 pub near_is : (z : ℤ) → IsWithin (neg_ℤ (pos (2 ^ 20))) (pos (2 ^ 20)) z → is_near z ≡ true
 unfolding is_near
-near_is z h = both _ _ (true_by _ h.above.le) (true_by _ h.below.le)
+near_is z h = and_from _ _ (true_by _ h.above.le) (true_by _ h.below.le)
 
 pub far_is : (z : ℤ) → IsWithin (neg_ℤ (pos (2 ^ 53))) (pos (2 ^ 53)) z → is_far z ≡ true
 unfolding is_far
-far_is z h = both _ _ (true_by _ h.above.le) (true_by _ h.below.le)
+far_is z h = and_from _ _ (true_by _ h.above.le) (true_by _ h.below.le)
 
 -- ---- a written place
 
@@ -71,11 +67,6 @@ port_stands p fs i f written at is =
     (from_zero_at (IsPortWritten p) (filter is_port fs) written (number is_port fs i) f (at_number is_port fs i f at is))
 
 -- ---- an element and the node at which it stands
-
-pub port_no_node : (k : Kind) → kind_is_port k ≡ true → kind_is_node k ≡ false
-port_no_node NodeKind h = absurd (cc)
-port_no_node PortKind h = refl
-port_no_node EdgeKind h = absurd (cc)
 
 -- a port is not the first element
 past_root : (es : List Element) (r : IsRooted es) (i : ℕ) (e : Element) → slice_get es i ≡ Some e → is_port e ≡ true → 0 < i
@@ -105,10 +96,8 @@ keeper_compound es r (suc q) keeper at is =
     ∙ ap (λ b. b || has_children keeper.value) (sym (ne_eqb (suc q) 0 (λ (z : suc q ≡ 0). omega arith)))
 
 fixed_rule : (r : PortRule) → is_fixed_pos r ≡ true → r ≡ rule.FixedPos
-fixed_rule rule.Free h = absurd (cc)
-fixed_rule rule.FixedSide h = absurd (cc)
-fixed_rule rule.FixedOrder h = absurd (cc)
 fixed_rule rule.FixedPos h = refl
+fixed_rule r h = absurd (cc)
 
 three_parts : (a b c : Bool) → (not a && not b && c) ≡ true → c ≡ true
 three_parts true b c h = absurd (cc)
@@ -117,10 +106,6 @@ three_parts false false c h = h
 
 is_none_of : {X : Type 0} (o : Option X) → o ≡ None → is_none o ≡ true
 is_none_of o h = rw h refl
-
-pub or_right_true : (a b : Bool) → b ≡ true → (a || b) ≡ true
-or_right_true true b h = refl
-or_right_true false b h = h
 
 -- ---- one port of the value: its number, and what the document says of its node
 

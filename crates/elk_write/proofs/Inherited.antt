@@ -1,10 +1,10 @@
 -- A fact that a value hands on to all that stands in it holds of each of its elements.
-use Rattle.std.proofs.Common.{◌≡◌, ℕ, ◌+◌, List, [], ◌∷◌, ◌++◌, length, map, Ordering, Less, Equal, Greater, Bool, true, false, bytes_eq, Option, Some, None}
+use Rattle.std.proofs.Common.{◌≡◌, ℕ, ◌+◌, List, [], ◌∷◌, ◌++◌, length, map, Ordering, Equal, Bool, true, false, bytes_eq, Option, Some, None}
 use Rattle.std.specs.Prelude.{codes, option_and_then, if◌then◌else◌}
 use Rattle.std.specs.Option.{option_map_or}
 use Rattle.std.specs.Ordering.{match_ordering}
 use Rattle.std.proofs.lemmas.Bool.{and_parts}
-use Rattle.serde_json.specs.Data.{Data, null, boolean, number, string, array, object, Items, no_items, item, Members, no_members, member}
+use Rattle.serde_json.specs.Data.{Data, array, object, Items, no_items, item, Members, no_members, member}
 use Rattle.serde_json.specs.Find.{get, get_member, as_array}
 use Rattle.elk_json.specs.declared.elements.Kind.{Kind}
 use Rattle.elk_json.specs.declared.elements.Kind.TheVariants.{Port, Edge}
@@ -30,9 +30,8 @@ module _ (P : Data → Type 0) where
   IfFound (Some d) = P d
 
   there_by : (o : Ordering) (a : Option Data) (d : Data) → IfFound a → P d → IfFound (match_ordering o a (Some d) a)
-  there_by Less a d h k = h
   there_by Equal a d h k = k
-  there_by Greater a d h k = h
+  there_by o a d h k = h
 
   module _ (PM : Members → Type 0) (PI : Items → Type 0)
       (in_object : (ms : Members) → P (object ms) → PM ms) (in_array : (ds : Items) → P (array ds) → PI ds)
@@ -47,13 +46,8 @@ module _ (P : Data → Type 0) where
     member_there q (member l d ms) k = there_by _ (get_member q ms) d (member_there q ms (later l d ms k)) (here l d ms k)
 
     each_found : (kind : Kind) (pl : ℕ) (h : Data) (o : Option Data) → IfFound o → Each (map (part kind pl h) (option_map_or items_list (option_and_then as_array o) []))
-    each_found kind pl h None k = tt
-    each_found kind pl h (Some null) k = tt
-    each_found kind pl h (Some (boolean b)) k = tt
-    each_found kind pl h (Some (number n)) k = tt
-    each_found kind pl h (Some (string s)) k = tt
-    each_found kind pl h (Some (object ms)) k = tt
     each_found kind pl h (Some (array ds)) k = each_part kind pl h ds (in_array ds k)
+    each_found kind pl h o k = tt
 
     each_own : (pl : ℕ) (owner : Option ℕ) (h : Data) (ms : Members) → P (object ms) → Each (own_elements pl owner h (object ms))
     each_own pl owner h ms k = (
@@ -65,14 +59,10 @@ module _ (P : Data → Type 0) where
 
     mutual
       pub each_at : (d : Data) (pl : ℕ) (owner : Option ℕ) (h : Data) → P d → Each (elements_at pl owner h d)
-      each_at null pl owner h k = (k, tt)
-      each_at (boolean b) pl owner h k = (k, tt)
-      each_at (number n) pl owner h k = (k, tt)
-      each_at (string s) pl owner h k = (k, tt)
-      each_at (array ds) pl owner h k = (k, tt)
       each_at (object ms) pl owner h k =
           each_append (own_elements pl owner h (object ms)) (elements_below (pl + length (own_elements pl owner h (object ms))) pl (object ms) ms)
           (each_own pl owner h ms k) (each_below ms (pl + length (own_elements pl owner h (object ms))) pl (object ms) (in_object ms k))
+      each_at d pl owner h k = (k, tt)
 
       each_below : (ms : Members) (pl owner : ℕ) (h : Data) → PM ms → Each (elements_below pl owner h ms)
       each_below no_members pl owner h k = tt
@@ -80,12 +70,8 @@ module _ (P : Data → Type 0) where
           each_if (bytes_eq l (codes "children")) (elements_within pl owner h d) (elements_below pl owner h ms) (each_within d pl owner h (here l d ms k)) (each_below ms pl owner h (later l d ms k))
 
       each_within : (d : Data) (pl owner : ℕ) (h : Data) → P d → Each (elements_within pl owner h d)
-      each_within null pl owner h k = tt
-      each_within (boolean b) pl owner h k = tt
-      each_within (number n) pl owner h k = tt
-      each_within (string s) pl owner h k = tt
-      each_within (object ms) pl owner h k = tt
       each_within (array ds) pl owner h k = each_among ds pl owner h (in_array ds k)
+      each_within d pl owner h k = tt
 
       each_among : (ds : Items) (pl owner : ℕ) (h : Data) → PI ds → Each (elements_among pl owner h ds)
       each_among no_items pl owner h k = tt
@@ -106,12 +92,8 @@ each_whole d k =
     (λ e ds h. (and_parts (all_whole e) (items_whole ds) h).0) (λ e ds h. (and_parts (all_whole e) (items_whole ds) h).1) d 0 None d k
 
 pub whole_member : (q : List ℕ) (d : Data) → IsWhole d → IfFound IsWhole (get q d)
-whole_member q null k = tt
-whole_member q (boolean b) k = tt
-whole_member q (number n) k = tt
-whole_member q (string s) k = tt
-whole_member q (array ds) k = tt
 whole_member q (object ms) k =
     member_there IsWhole (λ ms. members_whole ms ≡ true) (λ ds. items_whole ds ≡ true) (λ ms h. h) (λ ds h. h)
     (λ l e ms h. (and_parts (all_whole e) (members_whole ms) h).0) (λ l e ms h. (and_parts (all_whole e) (members_whole ms) h).1)
     (λ e ds h. (and_parts (all_whole e) (items_whole ds) h).0) (λ e ds h. (and_parts (all_whole e) (items_whole ds) h).1) q ms k
+whole_member q d k = tt

@@ -1,11 +1,12 @@
 -- What is known of a value that no rule refuses, of its document, and of a drawing that fits it.
-use Rattle.std.proofs.Common.{◌≡◌, ℕ, zero, suc, ◌+◌, ◌<◌, List, [], ◌∷◌, length, filter, Bool, true, false, not, cond, get_or, refl, sym, ap, ◌∙◌, subst, Option, Some, None, arith}
-use Rattle.std.specs.Prelude.{◌||◌, if◌then◌else◌, IsSome, option_and_then, option_map}
+use Rattle.std.proofs.Common.{◌≡◌, ℕ, zero, suc, ◌+◌, ◌<◌, List, [], ◌∷◌, length, filter, Bool, true, false, not, cond, get_or, refl, sym, ap, ◌∙◌, subst, Option, Some, None, arith, T}
+use Rattle.std.specs.Prelude.{if◌then◌else◌, IsSome, option_and_then, option_map}
 use Rattle.std.specs.List.{list_any, slice_get}
 use Rattle.std.specs.Option.{option_or}
 use Rattle.std.proofs.lemmas.List.{length-map}
 use Rattle.std.proofs.lemmas.Option.{slice_get_within, slice_get-get_or, slice_get-map, get_or_from_slice_get}
-use Rattle.serde_json.specs.Data.{Data, null, boolean, number, string, array, object, Members}
+use Rattle.std.proofs.lemmas.Bool.{or_parts}
+use Rattle.serde_json.specs.Data.{Data, object, Members}
 use Rattle.elk_doc.specs.declared.document.LevelOptions.{LevelOptions}
 use Rattle.elk_doc.specs.declared.drawing.Certificate.{Certificate}
 use Rattle.elk_doc.specs.declared.drawing.Placed.{Placed}
@@ -45,6 +46,14 @@ pub not_false : (b : Bool) → not b ≡ false → b ≡ true
 not_false true h = refl
 not_false false h = absurd (cc)
 
+pub not_true : (b : Bool) → not b ≡ true → b ≡ false
+not_true true h = absurd (cc)
+not_true false h = refl
+
+pub true_by : (b : Bool) → T b → b ≡ true
+true_by true t = refl
+true_by false t = absurd t
+
 pub no_value_refusal : (d : Data) → refused d ≡ None → value_refusal d ≡ None
 unfolding refused
 no_value_refusal d h = or_left (value_refusal d) (option_or (edge_refusal (elements d)) (option_refusal (elements d))) h
@@ -58,10 +67,6 @@ unfolding value_refusal
 shaped_by d h = so_false rules.BadShape (has_bad_shape (elements d)) (or_left (if_so rules.BadShape (has_bad_shape (elements d))) _ (or_right (if_so rules.NotWhole (not (all_whole d))) _ (no_value_refusal d h)))
 
 -- ---- each element is an object
-
-pub split_or : (a b : Bool) → (a || b) ≡ false → (a ≡ false) × (b ≡ false)
-split_or true b h = absurd (cc)
-split_or false b h = (refl, h)
 
 module _ (f test : Element → Bool) where
   abbrev Passes : List Element → ℕ → Element → Type 0
@@ -77,31 +82,19 @@ module _ (f test : Element → Bool) where
 
   pub passes : (xs : List Element) (n : ℕ) (x : Element) → list_any f xs ≡ false → Passes xs n x
   passes [] n x h e = let bad : None ≡ Some x = e in absurd (cc)
-  passes (y ∷ ys) n x h e = let both = split_or (f y) (list_any f ys) h in passes_if (test y) n y x ys refl both.0 (λ m. passes ys m x both.1) e
+  passes (y ∷ ys) n x h e = let both = or_parts (f y) (list_any f ys) h in passes_if (test y) n y x ys refl both.0 (λ m. passes ys m x both.1) e
 
 pub node_object : (root : Bool) (d : Data) → is_good_node root d ≡ true → (ms : Members) × (d ≡ object ms)
-node_object root null h = absurd (cc)
-node_object root (boolean b) h = absurd (cc)
-node_object root (number n) h = absurd (cc)
-node_object root (string s) h = absurd (cc)
-node_object root (array ds) h = absurd (cc)
 node_object root (object ms) h = (ms, refl)
+node_object root d h = absurd (cc)
 
 pub port_object : (d : Data) → is_good_port d ≡ true → (ms : Members) × (d ≡ object ms)
-port_object null h = absurd (cc)
-port_object (boolean b) h = absurd (cc)
-port_object (number n) h = absurd (cc)
-port_object (string s) h = absurd (cc)
-port_object (array ds) h = absurd (cc)
 port_object (object ms) h = (ms, refl)
+port_object d h = absurd (cc)
 
 pub edge_object : (d : Data) → is_good_edge d ≡ true → (ms : Members) × (d ≡ object ms)
-edge_object null h = absurd (cc)
-edge_object (boolean b) h = absurd (cc)
-edge_object (number n) h = absurd (cc)
-edge_object (string s) h = absurd (cc)
-edge_object (array ds) h = absurd (cc)
 edge_object (object ms) h = (ms, refl)
+edge_object d h = absurd (cc)
 
 -- ---- levels
 

@@ -2,7 +2,7 @@
 use Rattle.std.proofs.Common.{◌≡◌, ℕ, ◌≤◌, Bool, true, false, cond, ◌&&◌, List, [], ◌∷◌, ◌++◌, Some, option_and_then, if◌then◌else◌, None, refl, sym, ap, ap₂, ◌∙◌, subst, append_assoc, append-nil}
 use Rattle.std.specs.Str.{IsUtf8, is_utf8}
 use Rattle.std.proofs.lemmas.Str.{IsUtf8-append, is_utf8-from_IsUtf8}
-use Rattle.json.specs.Token.{Token, begin_object, end_object, begin_array, end_array, key, string, number, boolean, null, bad}
+use Rattle.json.specs.Token.{Token, begin_object, key, string, number, boolean, null, bad}
 use Rattle.json.specs.Word.{ends_word, word}
 use Rattle.json.specs.Lex.{Lexeme, token, comma, colon, string_token, lex, between, fresh, punctuate, tokens}
 use Rattle.json.specs.Print.{escape, quoted, token_text, begins, ends, print_from, print, IsPrintable, ArePrintable, ArePrintableOrBad}
@@ -23,12 +23,10 @@ use Rattle.elk_json.specs.Bytes.{reading}
 
 mutual
   numbers_of : (j : json.Json) (rest : List Token) → ArePrintableOrBad (json_tokens j ++ rest) → HasNumbers j × ArePrintableOrBad rest
-  numbers_of json.null rest h = (tt, h.1)
-  numbers_of (json.boolean b) rest h = (tt, h.1)
   numbers_of (json.number s) rest h = h
-  numbers_of (json.string s) rest h = (tt, h.1)
   numbers_of (json.array js) rest h = items_numbers js rest h.1
   numbers_of (json.object ms) rest h = members_numbers ms rest h.1
+  numbers_of j rest h = (tt, h.1)
 
   items_numbers : (js : json.Items) (rest : List Token) → ArePrintableOrBad (items_tokens js ++ rest) → ItemsHaveNumbers js × ArePrintableOrBad rest
   items_numbers json.no_items rest h = (tt, h.1)
@@ -61,10 +59,6 @@ passes_quoted s rest =
 
 token_passes : (t : Token) → IsPrintable t → (ls : List Lexeme) × ((rest : List ℕ) → (ends t ≡ true → ends_word rest ≡ true) → lex between (token_text t ++ rest) ≡ ls ++ lex between rest)
 unfolding lex word
-token_passes begin_object h = (token begin_object ∷ [], λ rest ended. refl)
-token_passes end_object h = (token end_object ∷ [], λ rest ended. refl)
-token_passes begin_array h = (token begin_array ∷ [], λ rest ended. refl)
-token_passes end_array h = (token end_array ∷ [], λ rest ended. refl)
 token_passes (key s) h = (token (string s) ∷ colon ∷ [], λ rest ended. ap (lex between) (append_assoc (quoted s) (58 ∷ []) rest) ∙ passes_quoted s (58 ∷ rest))
 token_passes (string s) h = (token (string s) ∷ [], λ rest ended. passes_quoted s rest)
 token_passes (number s) h = (token (number s) ∷ [], λ rest ended. lex-number s rest h (ended refl))
@@ -72,21 +66,14 @@ token_passes (boolean true) h = (token (boolean true) ∷ [], λ rest ended. ap�
 token_passes (boolean false) h = (token (boolean false) ∷ [], λ rest ended. ap₂ (λ b l. token (cond b (boolean false) bad) ∷ l) (ended refl) (in_word-ended rest (ended refl)))
 token_passes null h = (token null ∷ [], λ rest ended. ap₂ (λ b l. token (cond b null bad) ∷ l) (ended refl) (in_word-ended rest (ended refl)))
 token_passes bad h = absurd h
+token_passes t h = (token t ∷ [], λ rest ended. refl)
 
 -- after a value stands a comma, a closing bracket or what ends the text
 ends_there : (ts : List Token) (rest : List ℕ) → ends_word rest ≡ true → ends_word (print_from true ts ++ rest) ≡ true
 unfolding print_from
 ends_there [] rest h = h
 ends_there (begin_object ∷ ts) rest h = refl
-ends_there (end_object ∷ ts) rest h = refl
-ends_there (begin_array ∷ ts) rest h = refl
-ends_there (end_array ∷ ts) rest h = refl
-ends_there (key s ∷ ts) rest h = refl
-ends_there (string s ∷ ts) rest h = refl
-ends_there (number s ∷ ts) rest h = refl
-ends_there (boolean b ∷ ts) rest h = refl
-ends_there (null ∷ ts) rest h = refl
-ends_there (bad ∷ ts) rest h = refl
+ends_there ts rest h = refl
 
 comma_passes : (b : Bool) (rest : List ℕ) → lex between (cond b (44 ∷ []) [] ++ rest) ≡ cond b (comma ∷ []) [] ++ lex between rest
 unfolding lex

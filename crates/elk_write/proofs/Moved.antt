@@ -23,6 +23,7 @@ use Rattle.std.specs.Prelude.{filter}
 use Rattle.elk_write.specs.Reading.{sections_in, certificate_in, certificate_with, flow_in, layers_in, parts_in, reversed_in, span_in, is_listable, listable, is_ascending, edge_named, first_number, list_in, counted, large_in, small_in}
 use Rattle.elk_write.specs.Placing.{box_in, level_in, box_at, level_at, section_at, given, IsGiven}
 use Rattle.elk_write.specs.ReadBack.{without_place, SameButPlaces}
+use Rattle.elk_write.proofs.SameDocument.{and_ext}
 
 -- ---- ends and levels
 
@@ -39,10 +40,6 @@ count_same f g h (suc m) = ap (λ c. c + (if f m then 1 else 0)) (count_same f g
 all_same : (f g : ℕ → Bool) → ((n : ℕ) → f n ≡ g n) → (xs : List ℕ) → list_all f xs ≡ list_all g xs
 all_same f g h [] = refl
 all_same f g h (x ∷ xs) = ap (λ b. b && list_all f xs) (h x) ∙ ap (λ b. g x && b) (all_same f g h xs)
-
-and_ext : {A B : Type 0} (f g : A → Option B) (o : Option A) → ((x : A) → f x ≡ g x) → option_and_then f o ≡ option_and_then g o
-and_ext f g None h = refl
-and_ext f g (Some x) h = h x
 
 given_ext : {A : Type 0} (f g : ℕ → Element → Option A) → ((n : ℕ) (e : Element) → f n e ≡ g n e) → (m : ℕ) (es : List Element) → given f m es ≡ given g m es
 given_ext f g h m [] = refl

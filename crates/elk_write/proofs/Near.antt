@@ -1,5 +1,5 @@
 -- Where a drawing puts the ports of a leaf: within plus or minus 2^20.
-use Rattle.std.proofs.Common.{◌≡◌, ℕ, ◌<◌, ◌^◌, length, Bool, true, false, not, ◌&&◌, inl, inr, refl, sym, subst, arith}
+use Rattle.std.proofs.Common.{◌≡◌, ℕ, ◌<◌, ◌^◌, length, Bool, true, false, ◌&&◌, inl, inr, refl, sym, subst, arith}
 use Rattle.std.specs.Prelude.{pos, IsFalse, IsNone, is_some}
 use Rattle.std.proofs.lemmas.Int.{ints}
 use Rattle.std.proofs.lemmas.Bool.{cases_Bool}
@@ -19,6 +19,7 @@ use Rattle.elk_doc.specs.PortsKept.{across, side_length, flush, is_pinned}
 use Rattle.elk_doc.specs.Drawn.{Drawn}
 use Rattle.elk_doc.proofs.ShapeLaws.{half_of-bounds}
 use Rattle.elk_write.proofs.Redrawn.{port_kept, pinned_place}
+use Rattle.elk_write.proofs.Known.{not_true}
 
 -- a port that stands flush outside a box of such a size, with its anchor on the side
 flush_near : (s : Side) (box : Rect) (place : Point) (size : Size) → IsLength box.width → IsLength box.height → IsSoundSize size
@@ -36,10 +37,6 @@ flush_near West box place size w h z flat on =
     let half = half_of-bounds size.height z.height.above in
     record { x = record { above = omega (arith, ints); below = omega (arith, ints) }; y = record { above = omega (arith, ints); below = omega (arith, ints) } }
 
-flipped : (b : Bool) → not b ≡ true → b ≡ false
-flipped true h = absurd (cc)
-flipped false h = refl
-
 not_and : (a b : Bool) → a ≡ false → IsFalse (a && b)
 not_and a b h = rw h refl
 
@@ -49,7 +46,7 @@ leaf_near d p k sound drawn lt leaf =
     let in_nodes = sound.ports.nodes k lt in
     let kept = port_kept d p sound drawn k lt in
     let port = sound.ports.each k lt in
-    let none : IsNone (node_at d m).level = flipped (is_some (node_at d m).level) leaf in
+    let none : IsNone (node_at d m).level = not_true (is_some (node_at d m).level) leaf in
     let size = (sound.nodes m in_nodes).leaf none in
     let own = drawn.fits.leaves m in_nodes none in
     elim (cases_Bool (is_pinned d k)) [

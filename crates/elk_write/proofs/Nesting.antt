@@ -1,8 +1,9 @@
 -- How deep an answer nests: no deeper than its value, or than the written members of its levels.
-use Rattle.std.proofs.Common.{◌≡◌, ℕ, ◌+◌, ◌*◌, ◌≤◌, max, ℤ, pos, negsuc, List, [], ◌∷◌, ◌++◌, map, Ordering, Less, Equal, Greater, Bool, true, false, bytes_eq, refl, subst, Option, Some, None, arith}
+use Rattle.std.proofs.Common.{◌≡◌, ℕ, ◌+◌, ◌*◌, ◌≤◌, max, ℤ, pos, negsuc, List, [], ◌∷◌, ◌++◌, map, Ordering, Less, Bool, true, false, bytes_eq, refl, subst, Option, Some, None, arith, inl, inr}
+use Rattle.std.proofs.lemmas.Bool.{cases_Bool}
 use Rattle.std.specs.Prelude.{codes, ◌||◌, if◌then◌else◌, option_and_then, slice_get}
 use Rattle.std.specs.Ordering.{match_ordering}
-use Rattle.serde_json.specs.Data.{Data, null, boolean, number, string, array, object, Items, no_items, item, Members, no_members, member, put, depth, items_depth, members_depth}
+use Rattle.serde_json.specs.Data.{Data, array, object, Items, no_items, item, Members, no_members, member, put, depth, items_depth, members_depth}
 use Rattle.serde_json.specs.Read.{max_depth}
 use Rattle.serde_json.specs.View.{items_of}
 use Rattle.elk_doc.specs.declared.document.Id.{Id}
@@ -32,8 +33,7 @@ use Rattle.elk_write.proofs.NotRefused.{few_levels}
 deep_by : (o : Ordering) (k l : List ℕ) (d e : Data) (ms : Members) → members_depth (put k d ms) ≤ max (depth d) (members_depth ms)
     → members_depth (match_ordering o (member k d (member l e ms)) (member l d ms) (member l e (put k d ms))) ≤ max (depth d) (members_depth (member l e ms))
 deep_by Less k l d e ms h = omega arith
-deep_by Equal k l d e ms h = omega arith
-deep_by Greater k l d e ms h = omega arith
+deep_by o k l d e ms h = omega arith
 
 put_deep : (k : List ℕ) (d : Data) (ms : Members) → members_depth (put k d ms) ≤ max (depth d) (members_depth ms)
 put_deep k d no_members = omega arith
@@ -81,15 +81,12 @@ layering_deep doc false c = omega (arith, wholes_deep c.flow, wholes_deep c.laye
 
 -- ---- ports and edges
 
-kept_if : (b edge : Bool) (k : List ℕ) (d : Data) (ms into : Members) → is_flat_key edge k ≡ b
-    → ((into : Members) → members_depth (kept_into edge into ms) ≤ max (members_depth into) (members_depth ms))
-    → members_depth (kept_into edge into (member k d ms)) ≤ max (members_depth into) (members_depth (member k d ms))
-kept_if true edge k d ms into is ih = rw is (omega (arith, ih into))
-kept_if false edge k d ms into is ih = rw is (omega (arith, ih (put k d into), put_deep k d into))
-
 kept_deep : (edge : Bool) (ms into : Members) → members_depth (kept_into edge into ms) ≤ max (members_depth into) (members_depth ms)
 kept_deep edge no_members into = omega arith
-kept_deep edge (member k d ms) into = kept_if (is_flat_key edge k) edge k d ms into refl (kept_deep edge ms)
+kept_deep edge (member k d ms) into = elim (cases_Bool (is_flat_key edge k)) [
+  | inl is ↦ rw is (omega (arith, kept_deep edge ms into))
+  | inr is ↦ rw is (omega (arith, kept_deep edge ms (put k d into), put_deep k d into))
+]
 
 -- two numbers put into members
 numbers_deep : (k l : List ℕ) (y z : ℤ) (ms : Members) → members_depth (put k (whole y) (put l (whole z) ms)) ≤ members_depth ms
@@ -100,12 +97,8 @@ with_point_deep None ms = omega arith
 with_point_deep (Some q) ms = numbers_deep (codes "y") (codes "x") q.y q.x ms
 
 port_deep : (o : Option Point) (d : Data) → depth (port_answer o d) ≤ depth d
-port_deep o null = omega arith
-port_deep o (boolean b) = omega arith
-port_deep o (number n) = omega arith
-port_deep o (string s) = omega arith
-port_deep o (array ds) = omega arith
 port_deep o (object ms) = omega (arith, with_point_deep o (kept_into false no_members ms), kept_deep false ms no_members)
+port_deep o d = omega arith
 
 ports_deep : (p : Placed) (n : ℕ) (ds : Items) → items_depth (port_answers p n ds) ≤ items_depth ds
 ports_deep p n no_items = omega arith
@@ -117,12 +110,8 @@ with_sections_deep (Some e) None ms = omega arith
 with_sections_deep (Some e) (Some s) ms = omega (arith, put_deep (codes "sections") (sections_data e.id s) ms, sections_deep e.id s)
 
 edge_deep : (e : Option Edge) (s : Option Section) (d : Data) → depth (edge_answer e s d) ≤ max 5 (depth d)
-edge_deep e s null = omega arith
-edge_deep e s (boolean b) = omega arith
-edge_deep e s (number n) = omega arith
-edge_deep e s (string t) = omega arith
-edge_deep e s (array ds) = omega arith
 edge_deep e s (object ms) = omega (arith, with_sections_deep e s (kept_into true no_members ms), kept_deep true ms no_members)
+edge_deep e s d = omega arith
 
 edges_deep : (doc : Document) (p : Placed) (n : ℕ) (ds : Items) → items_depth (edge_answers doc p n ds) ≤ max 5 (items_depth ds)
 edges_deep doc p n no_items = omega arith
@@ -190,14 +179,10 @@ module _ (doc : Document) (p : Placed) where
 
   mutual
     answer_deep : (d : Data) (at : Numbers) (root : Bool) → IsKeyed d → depth (answer_node doc p at root d) ≤ max (depth d) (2 * levels d + 7)
-    answer_deep null at root h = omega arith
-    answer_deep (boolean b) at root h = omega arith
-    answer_deep (number n) at root h = omega arith
-    answer_deep (string s) at root h = omega arith
-    answer_deep (array ds) at root h = omega arith
     answer_deep (object ms) at root h =
         let compound = root || has_children (object ms) in
         omega (arith, with_node_deep compound doc p at.node (answer_into doc p at compound (past_own at (object ms)) no_members ms), inside_deep ms at compound (past_own at (object ms)) no_members h)
+    answer_deep d at root h = omega arith
 
     inside_deep : (ms : Members) (at : Numbers) (compound : Bool) (below : Numbers) (into : Members) → AreMembersKeyed ms
         → members_depth (answer_into doc p at compound below into ms) ≤ max (members_depth into) (max (members_depth ms) (2 * levels_below ms + 6))
@@ -207,12 +192,8 @@ module _ (doc : Document) (p : Placed) where
         (λ e. levels_none k ms (equal_bytes k (codes "children") e) h.0) (member_deep d at below k h.1) (λ b i. inside_deep ms at compound b i h.2)
 
     member_deep : (d : Data) (at below : Numbers) (k : List ℕ) → IsKeyed d → Within (bytes_eq k (codes "children")) (levels_within d) d (depth (answer_member doc p at below k d))
-    member_deep null at below k h = omega arith
-    member_deep (boolean b) at below k h = omega arith
-    member_deep (number n) at below k h = omega arith
-    member_deep (string s) at below k h = omega arith
-    member_deep (object ms) at below k h = omega arith
     member_deep (array ds) at below k h = one_deep (bytes_eq k (codes "children")) at below k ds (each_deep ds below h)
+    member_deep d at below k h = omega arith
 
     each_deep : (ds : Items) (at : Numbers) → AreItemsKeyed ds → items_depth (answer_children doc p at ds) ≤ max (items_depth ds) (2 * levels_among ds + 5)
     each_deep no_items at h = omega arith

@@ -32,7 +32,7 @@ use Rattle.elk_json.proofs.Tree.{IsRooted, rooted}
 use Rattle.elk_json.proofs.Accepted.{doc_of, behind, value_at}
 use Rattle.elk_json.proofs.NodeLaws.{leaf_size}
 use Rattle.elk_json.proofs.PortLaws.{good_parts}
-use Rattle.elk_json.proofs.Soundness.{accepted, tree_accepted, sound_document}
+use Rattle.elk_json.proofs.Soundness.{accepted, tree_accepted, sound_document, port_no_node}
 use Rattle.elk_write.specs.Numbers.{from_zero}
 use Rattle.elk_write.specs.Values.{whole}
 use Rattle.elk_write.specs.Written.{Has, IfThere, HasLevel, IsNodeWritten, IsPlacedBy}
@@ -49,9 +49,10 @@ use Rattle.elk_write.proofs.SameDocument.{same_compound, same_size, port_leaf}
 use Rattle.elk_write.proofs.Depth.{whole_float, same_levels}
 use Rattle.elk_write.proofs.SameRules.{no_double, same_many, same_known, same_simple, same_within, same_good}
 use Rattle.elk_write.proofs.GoodShape.{IsWritten, AllShaped, Mate, all_shaped, mate_at, number_there, node_good, port_good, edge_good}
-use Rattle.elk_write.proofs.InRange.{port_no_node, StandsAt, port_stands, whole_back}
+use Rattle.elk_write.proofs.InRange.{StandsAt, port_stands, whole_back}
 use Rattle.elk_write.proofs.PortsStand.{good_place, not_inside}
-use Rattle.elk_write.proofs.Redrawn.{same_point, HasPlaces, Redrawn, redrawn}
+use Rattle.elk_write.proofs.Redrawn.{HasPlaces, Redrawn, redrawn}
+use Rattle.elk_doc.proofs.ShapeLaws.{same_point}
 
 -- ---- rules and lists
 

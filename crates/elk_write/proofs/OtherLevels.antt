@@ -87,9 +87,8 @@ module _ (ns : List Node) (es : List Edge) (ps qs : List Port) (same : map witho
 
   fits_level : (n : ℕ) (o : Option LevelOptions) (c : Option Certificate) → FitsLevel doc n o c → FitsLevel other n o c
   fits_level n None None h = h
-  fits_level n None (Some c) h = h
-  fits_level n (Some o) None h = h
   fits_level n (Some o) (Some c) h = certificate_over n o c h
+  fits_level n o c h = h
 
   step_over : (n : ℕ) (c : Certificate) (a b : ℕ) → UnlistedStep doc n c a b → UnlistedStep other n c a b
   step_over n c a b h = record {

@@ -8,7 +8,7 @@ use Rattle.elk_doc.specs.declared.shape.Point.{Point}
 use Rattle.elk_doc.specs.declared.shape.Size.{Size}
 use Rattle.elk_doc.specs.declared.shape.Rect.{Rect}
 use Rattle.elk_doc.specs.declared.shape.Side.{Side}
-use Rattle.elk_doc.specs.declared.shape.Side.TheVariants.{North, East, South, West}
+use Rattle.elk_doc.specs.declared.shape.Side.TheVariants.{North}
 use Rattle.elk_doc.specs.declared.document.Node.{Node}
 use Rattle.elk_doc.specs.declared.document.Port.{Port}
 use Rattle.elk_doc.specs.declared.document.Edge.{Edge}
@@ -28,9 +28,7 @@ use Rattle.elk_write.proofs.OtherLevels.{child_back}
 -- the offset of a port's anchor is that of its place
 offset_is : (s : Side) (box : Rect) (place : Point) (size : Size) → offset_on s box (middle_of s (rect_at (moved_by box place) size)) ≡ along s place +ℤ half_of (size_along s size)
 offset_is North box place size = omega (arith, ints)
-offset_is East box place size = omega (arith, ints)
-offset_is South box place size = omega (arith, ints)
-offset_is West box place size = omega (arith, ints)
+offset_is s box place size = omega (arith, ints)
 
 less_or_same : (x y : ℤ) → x <ℤ y → x ≤ℤ y
 less_or_same x y h = omega (arith, ints)

@@ -2,7 +2,7 @@
 use Rattle.std.proofs.Common.{◌≡◌, ℕ, suc, ◌+◌, List, [], ◌∷◌, ◌++◌, length, map, Bool, true, false, not, bytes_eq, refl, sym, ap, ◌∙◌, subst, Option, Some, None, option_map, arith}
 use Rattle.std.specs.Prelude.{codes, ◌||◌, is_some, option_and_then, slice_get}
 use Rattle.std.specs.Option.{option_map_or}
-use Rattle.serde_json.specs.Data.{Data, null, boolean, number, string, array, object, Items, no_items, item, Members, no_members, member}
+use Rattle.serde_json.specs.Data.{Data, array, object, Items, no_items, item, Members, no_members, member}
 use Rattle.serde_json.specs.Find.{get_member, as_array}
 use Rattle.elk_doc.specs.declared.drawing.Placed.{Placed}
 use Rattle.elk_doc.specs.Document.{Document}
@@ -68,29 +68,25 @@ module _ (doc : Document) (p : Placed) where
   -- an answered node has children exactly where the node has
   abbrev pub Keeps : Kind → Data → Data → Type 0
   Keeps Node d w = has_children w ≡ has_children d
-  Keeps Port d w = Unit {0}
-  Keeps Edge d w = Unit {0}
+  Keeps k d w = Unit {0}
 
   abbrev pub Same : Numbers → Element → Element → Type 0
   Same a e f = (f.kind ≡ e.kind) × (f.owner ≡ e.owner) × (f.value ≡ value_answer e.kind a (not (is_some e.owner)) e.value) × Keeps e.kind e.value f.value
 
   abbrev pub Pairs : Numbers → List Element → List Element → Type 0
   Pairs a [] [] = Unit {0}
-  Pairs a [] (f ∷ fs) = ⊥
-  Pairs a (e ∷ es) [] = ⊥
   Pairs a (e ∷ es) (f ∷ fs) = Same a e f × Pairs (step_kind e.kind a) es fs
+  Pairs a es fs = ⊥
 
   pub pairs_append : (a : Numbers) (xs ys us vs : List Element) → Pairs a xs ys → Pairs (steps a xs) us vs → Pairs a (xs ++ us) (ys ++ vs)
   pairs_append a [] [] us vs h k = k
-  pairs_append a [] (y ∷ ys) us vs h k = absurd h
-  pairs_append a (x ∷ xs) [] us vs h k = absurd h
   pairs_append a (x ∷ xs) (y ∷ ys) us vs h k = (h.0, pairs_append (step_kind x.kind a) xs ys us vs h.1 k)
+  pairs_append a xs ys us vs h k = absurd h
 
   pub pairs_length : (a : Numbers) (xs ys : List Element) → Pairs a xs ys → length ys ≡ length xs
   pairs_length a [] [] h = refl
-  pairs_length a [] (y ∷ ys) h = absurd h
-  pairs_length a (x ∷ xs) [] h = absurd h
   pairs_length a (x ∷ xs) (y ∷ ys) h = ap suc (pairs_length (step_kind x.kind a) xs ys h.1)
+  pairs_length a xs ys h = absurd h
 
   port_pairs : (a : Numbers) (pl : ℕ) (h i : Data) (ds : Items) → Pairs a (map (part Port pl h) (items_list ds)) (map (part Port pl i) (items_list (port_answers p a.port ds)))
   port_pairs a pl h i no_items = tt
@@ -105,23 +101,13 @@ module _ (doc : Document) (p : Placed) where
 
   found_ports : (a at below : Numbers) (pl : ℕ) (h i : Data) (o : Option Data) → a.port ≡ at.port
       → Pairs a (map (part Port pl h) (in_list o)) (map (part Port pl i) (in_list (option_map (answer_member doc p at below (codes "ports")) o)))
-  found_ports a at below pl h i None e = tt
-  found_ports a at below pl h i (Some null) e = tt
-  found_ports a at below pl h i (Some (boolean b)) e = tt
-  found_ports a at below pl h i (Some (number n)) e = tt
-  found_ports a at below pl h i (Some (string s)) e = tt
-  found_ports a at below pl h i (Some (object ms)) e = tt
   found_ports a at below pl h i (Some (array ds)) e = subst (λ n. Pairs a (map (part Port pl h) (items_list ds)) (map (part Port pl i) (items_list (port_answers p n ds)))) e (port_pairs a pl h i ds)
+  found_ports a at below pl h i o e = tt
 
   found_edges : (a at below : Numbers) (pl : ℕ) (h i : Data) (o : Option Data) → a.edge ≡ at.edge
       → Pairs a (map (part Edge pl h) (in_list o)) (map (part Edge pl i) (in_list (option_map (answer_member doc p at below (codes "edges")) o)))
-  found_edges a at below pl h i None e = tt
-  found_edges a at below pl h i (Some null) e = tt
-  found_edges a at below pl h i (Some (boolean b)) e = tt
-  found_edges a at below pl h i (Some (number n)) e = tt
-  found_edges a at below pl h i (Some (string s)) e = tt
-  found_edges a at below pl h i (Some (object ms)) e = tt
   found_edges a at below pl h i (Some (array ds)) e = subst (λ n. Pairs a (map (part Edge pl h) (items_list ds)) (map (part Edge pl i) (items_list (edge_answers doc p n ds)))) e (edge_pairs a pl h i ds)
+  found_edges a at below pl h i o e = tt
 
   -- the answer of a node, as it stands
   abbrev answer_of : Numbers → Bool → Numbers → Members → Data
@@ -257,12 +243,8 @@ module _ (doc : Document) (p : Placed) where
   mutual
     pub pairs_node : (d : Data) (a : Numbers) (root : Bool) (pl : ℕ) (owner : Option ℕ) (h i : Data) → IsKeyed d → not (is_some owner) ≡ root
         → Both a (elements_at pl owner h d) (elements_at pl owner i (answer_node doc p a root d)) (past_node a d)
-    pairs_node null a root pl owner h i k r = alone a root pl owner h i null r refl refl refl
-    pairs_node (boolean b) a root pl owner h i k r = alone a root pl owner h i (boolean b) r refl refl refl
-    pairs_node (number n) a root pl owner h i k r = alone a root pl owner h i (number n) r refl refl refl
-    pairs_node (string s) a root pl owner h i k r = alone a root pl owner h i (string s) r refl refl refl
-    pairs_node (array ds) a root pl owner h i k r = alone a root pl owner h i (array ds) r refl refl refl
     pairs_node (object ms) a root pl owner h i k r = node_pairs a root pl owner h i ms (sorted_keyed ms k) r (λ at below compound pl owner h i. pairs_below ms at below compound pl owner h i k)
+    pairs_node d a root pl owner h i k r = alone a root pl owner h i d r refl refl refl
 
     pairs_below : (ms : Members) (at below : Numbers) (compound : Bool) (pl owner : ℕ) (h i : Data) → AreMembersKeyed ms
         → Both below (elements_below pl owner h ms) (elements_below pl owner i (answered doc p at compound below ms)) (past_members below ms)
@@ -273,12 +255,8 @@ module _ (doc : Document) (p : Placed) where
 
     pairs_within : (d : Data) (at below : Numbers) (l : List ℕ) (pl owner : ℕ) (h i : Data) → bytes_eq l (codes "children") ≡ true → IsKeyed d
         → Both below (elements_within pl owner h d) (elements_within pl owner i (answer_member doc p at below l d)) (past_member l below d)
-    pairs_within null at below l pl owner h i e k = (tt, refl)
-    pairs_within (boolean b) at below l pl owner h i e k = (tt, refl)
-    pairs_within (number n) at below l pl owner h i e k = (tt, refl)
-    pairs_within (string s) at below l pl owner h i e k = (tt, refl)
-    pairs_within (object ms) at below l pl owner h i e k = (tt, refl)
     pairs_within (array ds) at below l pl owner h i e k = children_pairs at below l pl owner h i ds e (pairs_among ds below pl owner h i k)
+    pairs_within d at below l pl owner h i e k = (tt, refl)
 
     pairs_among : (ds : Items) (a : Numbers) (pl owner : ℕ) (h i : Data) → AreItemsKeyed ds
         → Both a (elements_among pl owner h ds) (elements_among pl owner i (answer_children doc p a ds)) (past_children a ds)

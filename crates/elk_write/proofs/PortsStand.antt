@@ -3,7 +3,7 @@ use Rattle.std.proofs.Common.{◌≡◌, ℕ, ◌<◌, ◌^◌, inl, inr, List, 
 use Rattle.std.specs.Prelude.{codes, is_some, slice_get, pos, neg_ℤ, ◌+ℤ◌, int_lt, IsSome, IfSome, ◌==◌}
 use Rattle.std.specs.Option.{option_map_or}
 use Rattle.std.proofs.lemmas.Option.{same_Some}
-use Rattle.std.proofs.lemmas.Bool.{cases_Bool}
+use Rattle.std.proofs.lemmas.Bool.{cases_Bool, and_from, or_right}
 use Rattle.serde_json.specs.Data.{Data}
 use Rattle.serde_json.specs.Find.{get}
 use Rattle.elk_doc.specs.declared.shape.Point.{Point}
@@ -40,16 +40,16 @@ use Rattle.elk_write.proofs.Alike.{Alike, AllAlike}
 use Rattle.elk_write.proofs.SameDocument.{same_options, same_size, number_alike, port_leaf}
 use Rattle.elk_write.proofs.SameRules.{same_bad}
 use Rattle.elk_write.proofs.GoodShape.{AllShaped, mate_at}
-use Rattle.elk_write.proofs.Depth.{both}
-use Rattle.elk_write.proofs.Redrawn.{port_kept, same_point, pinned_place, pinned_leaf}
+use Rattle.elk_write.proofs.Redrawn.{port_kept, pinned_place, pinned_leaf}
 use Rattle.elk_write.proofs.Near.{leaf_near}
-use Rattle.elk_write.proofs.InRange.{or_right_true, near_is, far_is, whole_back, StandsAt, port_stands, port_placed, port_in, port_is, node_is, compound_is, leaf_is, fixed_is}
+use Rattle.elk_write.proofs.InRange.{near_is, far_is, whole_back, StandsAt, port_stands, port_placed, port_in, port_is, node_is, compound_is, leaf_is, fixed_is}
+use Rattle.elk_doc.proofs.ShapeLaws.{same_point}
 
 asked_side : (r : PortRule) (o : Option Side) (leaf : Bool) (x : Option Side) (b : Bool) (frame : Direction) (t : Side) → r ≡ rule.FixedPos → o ≡ Some t → side_or (side_from r o leaf x) b frame ≡ t
 asked_side r o leaf x b frame t e f = rw (e, f) refl
 
 asked_pinned : (r : PortRule) (o : Option Side) (leaf : Bool) (t : Side) → r ≡ rule.FixedPos → o ≡ Some t → pins r leaf (is_some o) ≡ true
-asked_pinned r o leaf t e f = rw (e, f) (or_right_true leaf true refl)
+asked_pinned r o leaf t e f = rw (e, f) (or_right leaf true refl)
 
 some_of : {X : Type 0} (o : Option X) (x : X) → o ≡ Some x → IsSome o
 some_of o x h = rw h refl
@@ -57,8 +57,7 @@ some_of o x h = rw h refl
 along_stands : (t : Side) (v : Data) (at : Point) → StandsAt v at → along_data t v ≡ along t at
 along_stands side.North v at h = whole_back (codes "x") v at.x h.x
 along_stands side.South v at h = whole_back (codes "x") v at.x h.x
-along_stands side.East v at h = whole_back (codes "y") v at.y h.y
-along_stands side.West v at h = whole_back (codes "y") v at.y h.y
+along_stands t v at h = whole_back (codes "y") v at.y h.y
 
 inside_by : (p c x : Bool) → (c ≡ false → x ≡ false) → (p && (not c && x)) ≡ false
 inside_by true true x h = refl
@@ -186,7 +185,7 @@ module _ (es fs : List Element) (h : AllAlike es fs) (shaped : AllShaped es fs) 
     unfolding has_good_pin
     good_pin compound =
         elim (cases_Bool (is_at_fixed_pos e)) [
-          | inl fixed ↦ or_right_true (not (is_at_fixed_pos f)) (option_map_or (λ t. is_near (along_data t f.value)) (options_at f).side true)
+          | inl fixed ↦ or_right (not (is_at_fixed_pos f)) (option_map_or (λ t. is_near (along_data t f.value)) (options_at f).side true)
               (ap (λ o. option_map_or (λ t. is_near (along_data t f.value)) o true) side_same ∙ pin_by (options_at e).side refl compound fixed)
           | inr free ↦ ap (λ b. not b || option_map_or (λ t. is_near (along_data t f.value)) (options_at f).side true) (fixed_same ∙ free)
         ]
@@ -198,11 +197,11 @@ module _ (es fs : List Element) (h : AllAlike es fs) (shaped : AllShaped es fs) 
           | inl compound ↦ (
               let near = drawn.fits.range.ports k origin (let c = drawn.fits.counts.ports in let l = inside in omega arith) in
               ap (λ b. if b then is_far (whole_at (codes "x") f.value) && is_far (whole_at (codes "y") f.value) && has_good_pin f else is_near (whole_at (codes "x") f.value) && is_near (whole_at (codes "y") f.value)) (at_compound ∙ compound)
-              ∙ both _ _ (both _ _ (ap is_far x_is ∙ far_is _ near.x) (ap is_far y_is ∙ far_is _ near.y)) (good_pin compound))
+              ∙ and_from _ _ (and_from _ _ (ap is_far x_is ∙ far_is _ near.x) (ap is_far y_is ∙ far_is _ near.y)) (good_pin compound))
           | inr leaf ↦ (
               let near = leaf_near d p k sound drawn inside (leaf_is es r i e at is leaf) in
               ap (λ b. if b then is_far (whole_at (codes "x") f.value) && is_far (whole_at (codes "y") f.value) && has_good_pin f else is_near (whole_at (codes "x") f.value) && is_near (whole_at (codes "y") f.value)) (at_compound ∙ leaf)
-              ∙ both _ _ (ap is_near x_is ∙ near_is _ near.x) (ap is_near y_is ∙ near_is _ near.y))
+              ∙ and_from _ _ (ap is_near x_is ∙ near_is _ near.x) (ap is_near y_is ∙ near_is _ near.y))
         ]
 
     -- ---- rule 12

@@ -1,8 +1,9 @@
 -- Members put into an object, one after the other.
-use Rattle.std.proofs.Common.{◌≡◌, ℕ, List, Ordering, Less, Equal, Greater, Bool, true, false, is_eq, bytes_eq, refl, sym, ap, ◌∙◌, nat_cmp}
+use Rattle.std.proofs.Common.{◌≡◌, ℕ, List, Ordering, Less, Equal, Greater, Bool, true, false, is_eq, bytes_eq, refl, sym, ap, ◌∙◌, nat_cmp, inl, inr}
 use Rattle.std.proofs.lemmas.Cmp.{nat_list_cmp_total}
 use Rattle.std.proofs.lemmas.Map.Text.{is_eq-slice_cmp}
 use Rattle.std.proofs.lemmas.Slice.Eq.{bytes_eq-Decides}
+use Rattle.std.proofs.lemmas.Bool.{cases_Bool}
 use Rattle.std.specs.Prelude.{if◌then◌else◌}
 use Rattle.std.specs.Ordering.{match_ordering, ordering_reverse}
 use Rattle.std.specs.Cmp.Lexicographic.{slice_cmp}
@@ -104,27 +105,14 @@ but_put gone k d (member l e ms) g = but_by (cmp k l) gone k l d e ms refl g (bu
 
 -- ---- what is kept
 
-below_if : (b : Bool) (gone : List ℕ → Bool) (k l : List ℕ) (d : Data) (ms : Members) → IsBelow k (member l d ms) → IsBelow k (members_but gone ms) → IsBelow k (if b then members_but gone ms else member l d (members_but gone ms))
-below_if true gone k l d ms h ih = ih
-below_if false gone k l d ms h ih = (h.0, ih)
-
 pub below_but : (gone : List ℕ → Bool) (k : List ℕ) (ms : Members) → IsBelow k ms → IsBelow k (members_but gone ms)
 below_but gone k no_members h = tt
-below_but gone k (member l d ms) h = below_if (gone l) gone k l d ms h (below_but gone k ms h.1)
-
-sorted_if : (b : Bool) (gone : List ℕ → Bool) (l : List ℕ) (d : Data) (ms : Members) → IsBelow l (members_but gone ms) → IsSorted (members_but gone ms) → IsSorted (if b then members_but gone ms else member l d (members_but gone ms))
-sorted_if true gone l d ms h ih = ih
-sorted_if false gone l d ms h ih = (h, ih)
+below_but gone k (member l d ms) h = elim (cases_Bool (gone l)) [ inl is ↦ rw is (below_but gone k ms h.1) | inr is ↦ rw is (h.0, below_but gone k ms h.1) ]
 
 pub sorted_but : (gone : List ℕ → Bool) (ms : Members) → IsSorted ms → IsSorted (members_but gone ms)
 sorted_but gone no_members h = tt
-sorted_but gone (member l d ms) h = sorted_if (gone l) gone l d ms (below_but gone l ms h.0) (sorted_but gone ms h.1)
-
-but_if : (b : Bool) (gone : List ℕ → Bool) (l : List ℕ) (d : Data) (ms : Members) → gone l ≡ b → members_but gone (members_but gone ms) ≡ members_but gone ms
-    → members_but gone (if b then members_but gone ms else member l d (members_but gone ms)) ≡ (if b then members_but gone ms else member l d (members_but gone ms))
-but_if true gone l d ms is ih = ih
-but_if false gone l d ms is ih = rw is (ap (member l d) ih)
+sorted_but gone (member l d ms) h = elim (cases_Bool (gone l)) [ inl is ↦ rw is (sorted_but gone ms h.1) | inr is ↦ rw is (below_but gone l ms h.0, sorted_but gone ms h.1) ]
 
 pub but_but : (gone : List ℕ → Bool) (ms : Members) → members_but gone (members_but gone ms) ≡ members_but gone ms
 but_but gone no_members = refl
-but_but gone (member l d ms) = but_if (gone l) gone l d ms refl (but_but gone ms)
+but_but gone (member l d ms) = elim (cases_Bool (gone l)) [ inl is ↦ rw is (but_but gone ms) | inr is ↦ rw (is, is) (ap (member l d) (but_but gone ms)) ]

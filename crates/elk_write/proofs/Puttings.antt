@@ -1,5 +1,6 @@
 -- The written members stand in the answer.
-use Rattle.std.proofs.Common.{◌≡◌, ℕ, List, Bool, true, false, bytes_eq, refl, sym, ap, ◌∙◌, Option, Some, None}
+use Rattle.std.proofs.Common.{◌≡◌, ℕ, List, Bool, true, false, bytes_eq, refl, sym, ap, ◌∙◌, Option, Some, None, inl, inr}
+use Rattle.std.proofs.lemmas.Bool.{cases_Bool}
 use Rattle.std.specs.Prelude.{codes, option_and_then, slice_get}
 use Rattle.serde_json.specs.Data.{Data, no_members, Members, member, put}
 use Rattle.serde_json.specs.Find.{get_member}
@@ -87,20 +88,12 @@ module _ (doc : Document) (p : Placed) (n : ℕ) (box : Rect) (at : slice_get p.
 pub edge_sections : (e : Edge) (s : Section) (ms : Members) → get_member (codes "sections") (with_sections (Some e) (Some s) ms) ≡ Some (sections_data e.id s)
 edge_sections e s ms = get_member-put (codes "sections") (sections_data e.id s) ms
 
--- a removed member is not found among those that are kept
-kept_none : (b : Bool) (q k : List ℕ) (d : Data) (into : Members) → is_flat_key true q ≡ true → is_flat_key true k ≡ b → b ≡ false → get_member q into ≡ None → get_member q (put k d into) ≡ None
-kept_none b q k d into gone is no_key none =
-    get_member-put_other q k d into (λ (e : q ≡ k). let bad : true ≡ false = sym gone ∙ ap (is_flat_key true) e ∙ is ∙ no_key in absurd (cc)) ∙ none
-
-kept_if : (b : Bool) (q k : List ℕ) (d : Data) (ms into : Members) → is_flat_key true q ≡ true → is_flat_key true k ≡ b
-    → ((into : Members) → get_member q into ≡ None → get_member q (kept_into true into ms) ≡ None)
-    → get_member q into ≡ None → get_member q (kept_into true into (member k d ms)) ≡ None
-kept_if true q k d ms into gone is ih none = rw is (ih into none)
-kept_if false q k d ms into gone is ih none = rw is (ih (put k d into) (kept_none false q k d into gone is refl none))
-
 kept_without : (q : List ℕ) (ms into : Members) → is_flat_key true q ≡ true → get_member q into ≡ None → get_member q (kept_into true into ms) ≡ None
 kept_without q no_members into gone none = none
-kept_without q (member k d ms) into gone none = kept_if (is_flat_key true k) q k d ms into gone refl (λ i. kept_without q ms i gone) none
+kept_without q (member k d ms) into gone none = elim (cases_Bool (is_flat_key true k)) [
+  | inl is ↦ rw is (kept_without q ms into gone none)
+  | inr is ↦ rw is (kept_without q ms (put k d into) gone (get_member-put_other q k d into (λ (e : q ≡ k). let bad : true ≡ false = sym gone ∙ ap (is_flat_key true) e ∙ is in absurd (cc)) ∙ none))
+]
 
 -- what another layout wrote is gone
 pub edge_without : (q : List ℕ) (e : Option Edge) (s : Option Section) (ms : Members) → is_flat_key true q ≡ true → bytes_eq q (codes "sections") ≡ false → get_member q (with_sections e s (kept_into true no_members ms)) ≡ None

@@ -28,48 +28,39 @@ use Rattle.elk_write.proofs.Puttings.{port_x, port_y, node_x, node_y, node_width
 
 pub node_kind : (k : Kind) → kind_is_node k ≡ true → k ≡ Node
 node_kind Node h = refl
-node_kind Port h = absurd (cc)
-node_kind Edge h = absurd (cc)
+node_kind k h = absurd (cc)
 
 pub port_kind : (k : Kind) → kind_is_port k ≡ true → k ≡ Port
-port_kind Node h = absurd (cc)
 port_kind Port h = refl
-port_kind Edge h = absurd (cc)
+port_kind k h = absurd (cc)
 
 pub edge_kind : (k : Kind) → kind_is_edge k ≡ true → k ≡ Edge
-edge_kind Node h = absurd (cc)
-edge_kind Port h = absurd (cc)
 edge_kind Edge h = refl
+edge_kind k h = absurd (cc)
 
 node_hit : (k : Kind) (a : Numbers) → kind_is_node k ≡ true → (step_kind k a).node ≡ a.node + 1
 node_hit Node a h = refl
-node_hit Port a h = absurd (cc)
-node_hit Edge a h = absurd (cc)
+node_hit k a h = absurd (cc)
 
 node_miss : (k : Kind) (a : Numbers) → kind_is_node k ≡ false → (step_kind k a).node ≡ a.node
 node_miss Node a h = absurd (cc)
-node_miss Port a h = refl
-node_miss Edge a h = refl
+node_miss k a h = refl
 
 port_hit : (k : Kind) (a : Numbers) → kind_is_port k ≡ true → (step_kind k a).port ≡ a.port + 1
-port_hit Node a h = absurd (cc)
 port_hit Port a h = refl
-port_hit Edge a h = absurd (cc)
+port_hit k a h = absurd (cc)
 
 port_miss : (k : Kind) (a : Numbers) → kind_is_port k ≡ false → (step_kind k a).port ≡ a.port
-port_miss Node a h = refl
 port_miss Port a h = absurd (cc)
-port_miss Edge a h = refl
+port_miss k a h = refl
 
 edge_hit : (k : Kind) (a : Numbers) → kind_is_edge k ≡ true → (step_kind k a).edge ≡ a.edge + 1
-edge_hit Node a h = absurd (cc)
-edge_hit Port a h = absurd (cc)
 edge_hit Edge a h = refl
+edge_hit k a h = absurd (cc)
 
 edge_miss : (k : Kind) (a : Numbers) → kind_is_edge k ≡ false → (step_kind k a).edge ≡ a.edge
-edge_miss Node a h = refl
-edge_miss Port a h = refl
 edge_miss Edge a h = absurd (cc)
+edge_miss k a h = refl
 
 -- ---- what is known of the elements of a value
 
@@ -97,8 +88,7 @@ pub record ReadyEdge (doc : Document) (p : Placed) (n : ℕ) (e : Element) : Typ
 module _ (doc : Document) (p : Placed) where
   keeps : (k : Kind) (d w : Data) → k ≡ Node → Keeps doc p k d w → has_children w ≡ has_children d
   keeps Node d w e h = h
-  keeps Port d w e h = absurd (cc)
-  keeps Edge d w e h = absurd (cc)
+  keeps k d w e h = absurd (cc)
 
   turn_node : (a : Numbers) (e f : Element) → kind_is_node e.kind ≡ true → Same doc p a e f → ReadyNode p a.node e → IsNodeWritten doc p a.node f
   turn_node a e f is same r =

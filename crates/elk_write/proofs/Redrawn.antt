@@ -6,12 +6,12 @@ use Rattle.std.proofs.Common.{eq-eqb}
 use Rattle.elk_doc.specs.declared.shape.Point.{Point}
 use Rattle.elk_doc.specs.declared.shape.Size.{Size}
 use Rattle.elk_doc.specs.declared.shape.Side.{Side}
-use Rattle.elk_doc.specs.declared.shape.Side.TheVariants.{North, East, South, West}
+use Rattle.elk_doc.specs.declared.shape.Side.TheVariants.{North, South}
 use Rattle.elk_doc.specs.declared.document.Node.{Node}
 use Rattle.elk_doc.specs.declared.document.Port.{Port}
 use Rattle.elk_doc.specs.declared.document.Edge.{Edge}
 use Rattle.elk_doc.specs.declared.document.PortRule.{PortRule}
-use Rattle.elk_doc.specs.declared.document.PortRule.TheVariants.{Free, FixedSide, FixedOrder, FixedPos}
+use Rattle.elk_doc.specs.declared.document.PortRule.TheVariants.{FixedPos}
 use Rattle.elk_doc.specs.declared.document.LevelOptions.{LevelOptions}
 use Rattle.elk_doc.specs.declared.drawing.Certificate.{Certificate}
 use Rattle.elk_doc.specs.declared.drawing.Placed.{Placed}
@@ -30,6 +30,7 @@ use Rattle.elk_write.proofs.OtherPlaces.{same_count, owner_same, size_same, aske
 use Rattle.elk_write.proofs.OtherLevels.{fits_over, apart_over, inside_over, routes_over, clears_over, shares_over, reversed_over, layering_over, least_over, flow_over}
 use Rattle.elk_write.proofs.OtherPorts.{kept_over}
 use Rattle.elk_write.proofs.OtherFitted.{fitted_over}
+use Rattle.elk_doc.proofs.ShapeLaws.{same_point}
 
 -- each port is given the place that the drawing has for it
 abbrev pub HasPlaces : Document → Placed → Type 0
@@ -65,15 +66,10 @@ module _ (d : Document) (p : Placed) (sound : IsSound d) (drawn : Drawn d p) whe
 
 -- ---- a pinned port of a leaf stands where it is given
 
-pub same_point : (a b : Point) → a.x ≡ b.x → a.y ≡ b.y → a ≡ b
-same_point a b x y =
-    ap (λ z. let q : Point = record { x = z; y = a.y } in q) x ∙ ap (λ z. let q : Point = record { x = b.x; y = z } in q) y
-
 by_side : (s : Side) (a b : Point) → along s a ≡ along s b → across s a ≡ across s b → a ≡ b
 by_side North a b x y = same_point a b x y
-by_side East a b x y = same_point a b y x
 by_side South a b x y = same_point a b x y
-by_side West a b x y = same_point a b y x
+by_side s a b x y = same_point a b y x
 
 pub pinned_place : (d : Document) (p : Placed) (k : ℕ) → KeepsPort d p k → is_pinned d k ≡ true → is_leaf d (node_of_port d k) ≡ true → port_place p k ≡ (port_at d k).place
 pinned_place d p k h pinned leaf =
@@ -88,12 +84,9 @@ past (q ∷ ps) zero h = absurd (h (omega arith))
 past (q ∷ ps) (suc k) h = past ps k (λ lt. h (omega arith))
 
 side_ext : (rule : PortRule) (asked : Option Side) (leaf : Bool) (x y : Option Side) → (rule ≡ FixedPos → leaf ≡ true → x ≡ y) → side_from rule asked leaf x ≡ side_from rule asked leaf y
-side_ext Free asked leaf x y h = refl
-side_ext FixedSide asked leaf x y h = refl
-side_ext FixedOrder asked leaf x y h = refl
-side_ext FixedPos (Some s) leaf x y h = refl
 side_ext FixedPos None true x y h = h refl refl
 side_ext FixedPos None false x y h = refl
+side_ext rule asked leaf x y h = refl
 
 pub pinned_leaf : (rule : PortRule) (leaf asked : Bool) → rule ≡ FixedPos → leaf ≡ true → pins rule leaf asked ≡ true
 pinned_leaf rule leaf asked a b = rw (a, b) refl

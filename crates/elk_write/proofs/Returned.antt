@@ -1,10 +1,11 @@
 -- What is written of a drawing's parts is read again.
-use Rattle.std.proofs.Common.{◌≡◌, ℕ, suc, ◌+◌, ◌<◌, ◌^◌, List, [], ◌∷◌, ◌++◌, length, map, Bool, true, false, not, ◌&&◌, T, Option, Some, None, option_map, if◌then◌else◌, ℤ, pos, negsuc, refl, ap, ◌∙◌, subst, arith, All, lt-ltb, le-leb, eq-eqb, ne_eqb, ◌≤◌}
+use Rattle.std.proofs.Common.{◌≡◌, ℕ, suc, ◌+◌, ◌<◌, ◌^◌, List, [], ◌∷◌, ◌++◌, length, map, Bool, true, false, not, ◌&&◌, Option, Some, None, option_map, if◌then◌else◌, ℤ, pos, negsuc, refl, ap, ◌∙◌, subst, arith, All, lt-ltb, le-leb, eq-eqb, ne_eqb, ◌≤◌}
 use Rattle.std.specs.Prelude.{option_and_then, int_le, nat_lt, nat_le, codes, slice_index, slice_get}
 use Rattle.std.specs.Option.{option_map_or}
 use Rattle.std.specs.List.{list_all}
 use Rattle.std.proofs.lemmas.List.Elements.{All-head, All-tail}
 use Rattle.std.proofs.lemmas.Option.{slice_get-get_or}
+use Rattle.std.proofs.lemmas.Bool.{and_from}
 use Rattle.serde_json.specs.Data.{Data, string, array, object, Members}
 use Rattle.serde_json.specs.Find.{get, get_member}
 use Rattle.serde_json.specs.View.{items_of}
@@ -26,18 +27,12 @@ use Rattle.elk_write.specs.Reading.{integer_in, coordinate_in, length_in, large_
 use Rattle.elk_write.specs.Written.{Has}
 use Rattle.elk_write.specs.ReadBack.{IsHeld}
 use Rattle.elk_write.proofs.Distinct.{has_id, same_bytes}
+use Rattle.elk_write.proofs.Known.{true_by}
 
 -- ---- numbers
 
-true_by : (b : Bool) → T b → b ≡ true
-true_by true t = refl
-true_by false t = absurd t
-
-and_true : (a b : Bool) → a ≡ true → b ≡ true → (a && b) ≡ true
-and_true a b e f = rw (e, f) refl
-
 within_yes : (low high z : ℤ) → IsWithin low high z → if_within low high z ≡ Some z
-within_yes low high z h = ap (λ b. if b then Some z else None) (and_true (int_le low z) (int_le z high) (true_by _ h.above.le) (true_by _ h.below.le))
+within_yes low high z h = ap (λ b. if b then Some z else None) (and_from (int_le low z) (int_le z high) (true_by _ h.above.le) (true_by _ h.below.le))
 
 integer_whole : (z : ℤ) → integer_in (whole z) ≡ Some z
 integer_whole (pos n) = refl
@@ -155,10 +150,10 @@ edges_back doc found (n ∷ ns) h =
     ∙ ap (λ o. option_map (λ ys. n ∷ ys) o) (edges_back doc found ns (All-tail (λ n. n < length doc.edges) n ns h))
 
 rising_back : (low n : ℕ) (ns : List ℕ) → low ≤ n → ((i : ℕ) → i + 1 < length (n ∷ ns) → slice_index (n ∷ ns) i < slice_index (n ∷ ns) (i + 1)) → are_from low (n ∷ ns) ≡ true
-rising_back low n [] le h = and_true (nat_le low n) true (le-leb low n le) refl
+rising_back low n [] le h = and_from (nat_le low n) true (le-leb low n le) refl
 rising_back low n (m ∷ ms) le h =
     let more : n < m = h 0 (omega arith) in
-    and_true (nat_le low n) (are_from (n + 1) (m ∷ ms)) (le-leb low n le) (rising_back (n + 1) m ms (omega arith) (λ i lt.
+    and_from (nat_le low n) (are_from (n + 1) (m ∷ ms)) (le-leb low n le) (rising_back (n + 1) m ms (omega arith) (λ i lt.
     let at : suc i + 1 ≡ suc (i + 1) = omega arith in
     subst (λ k. slice_index (n ∷ m ∷ ms) (suc i) < slice_index (n ∷ m ∷ ms) k) at (h (suc i) (omega arith))))
 
@@ -168,14 +163,14 @@ ascending_back (n ∷ ns) h = rising_back 0 n ns (omega arith) h
 
 listable_back : (doc : Document) (n e : ℕ) → MayBeListed doc n e → is_listable doc n e ≡ true
 listable_back doc n e h =
-    and_true (nat_lt e (length doc.edges) && is_edge_of doc n e) (not (is_loop doc e))
-    (and_true (nat_lt e (length doc.edges)) (is_edge_of doc n e) (lt-ltb e (length doc.edges) h.edge_in) (eq-eqb _ _ h.of_level))
+    and_from (nat_lt e (length doc.edges) && is_edge_of doc n e) (not (is_loop doc e))
+    (and_from (nat_lt e (length doc.edges)) (is_edge_of doc n e) (lt-ltb e (length doc.edges) h.edge_in) (eq-eqb _ _ h.of_level))
     (ap not (ne_eqb _ _ h.no_loop))
 
 all_listable : (doc : Document) (n : ℕ) (es : List ℕ) → All (MayBeListed doc n) es → list_all (is_listable doc n) es ≡ true
 all_listable doc n [] h = refl
 all_listable doc n (e ∷ es) h =
-    and_true (is_listable doc n e) (list_all (is_listable doc n) es)
+    and_from (is_listable doc n e) (list_all (is_listable doc n) es)
     (listable_back doc n e (All-head (MayBeListed doc n) e es h)) (all_listable doc n es (All-tail (MayBeListed doc n) e es h))
 
 listed_inside : (doc : Document) (n : ℕ) (es : List ℕ) → All (MayBeListed doc n) es → All (λ e. e < length doc.edges) es
@@ -230,7 +225,7 @@ module _ (doc : Document) (found : AreFound doc) (n : ℕ) (o : LevelOptions) (c
   reversed_back =
       ap (λ d. option_and_then (listable doc n) (option_and_then (list_in (edge_named doc)) d)) (reversed_there o.split)
       ∙ ap (option_and_then (listable doc n)) (edges_back doc found c.reversed (listed_inside doc n c.reversed fits.listed))
-      ∙ ap (λ b. if b then Some c.reversed else None) (and_true (is_ascending c.reversed) (list_all (is_listable doc n) c.reversed) (ascending_back c.reversed fits.ascending) (all_listable doc n c.reversed fits.listed))
+      ∙ ap (λ b. if b then Some c.reversed else None) (and_from (is_ascending c.reversed) (list_all (is_listable doc n) c.reversed) (ascending_back c.reversed fits.ascending) (all_listable doc n c.reversed fits.listed))
 
   span_back : span_in (layering_data doc o.split c) ≡ Some c.span
   span_back = ap (option_and_then large_in) (span_there o.split) ∙ large_whole c.span held.span

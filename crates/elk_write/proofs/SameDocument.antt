@@ -28,16 +28,13 @@ use Rattle.elk_json.specs.Document.{number_at, size_of, node_size, owner_number,
 use Rattle.elk_write.specs.Keys.{is_flat_key}
 use Rattle.elk_write.specs.ReadBack.{without_place}
 use Rattle.elk_write.proofs.Alike.{Gets, Alike, AllAlike}
+use Rattle.elk_write.proofs.Shape.{map_ext}
 
 -- ---- options
 
 pub and_ext : {A B : Type 0} (f g : A → Option B) (o : Option A) → ((x : A) → f x ≡ g x) → option_and_then f o ≡ option_and_then g o
 and_ext f g None h = refl
 and_ext f g (Some x) h = h x
-
-pub map_ext : {A B : Type 0} (f g : A → B) (o : Option A) → ((x : A) → f x ≡ g x) → option_map f o ≡ option_map g o
-map_ext f g None h = refl
-map_ext f g (Some x) h = ap (λ y. Some y) (h x)
 
 -- ---- one element
 
@@ -84,9 +81,8 @@ module _ (e f : Element) (a : Alike e f) where
 take_alike : (n : ℕ) (es fs : List Element) → AllAlike es fs → AllAlike (take n es) (take n fs)
 take_alike zero es fs h = tt
 take_alike (suc n) [] [] h = tt
-take_alike (suc n) [] (f ∷ fs) h = absurd h
-take_alike (suc n) (e ∷ es) [] h = absurd h
 take_alike (suc n) (e ∷ es) (f ∷ fs) h = (h.0, take_alike n es fs h.1)
+take_alike (suc n) es fs h = absurd h
 
 module _ (test : Kind → Bool) where
   abbrev of : Element → Bool
@@ -98,11 +94,10 @@ module _ (test : Kind → Bool) where
 
   pub count_alike : (es fs : List Element) → AllAlike es fs → length (filter of fs) ≡ length (filter of es)
   count_alike [] [] h = refl
-  count_alike [] (f ∷ fs) h = absurd h
-  count_alike (e ∷ es) [] h = absurd h
   count_alike (e ∷ es) (f ∷ fs) h =
       ap (λ k. length (cond (test k) (f ∷ filter of fs) (filter of fs))) h.0.kind
       ∙ count_if (test e.kind) e f (filter of es) (filter of fs) (count_alike es fs h.1)
+  count_alike es fs h = absurd h
 
   pub number_alike : (es fs : List Element) → AllAlike es fs → (n : ℕ) → number_at of fs n ≡ number_at of es n
   number_alike es fs h n = count_alike (take n es) (take n fs) (take_alike n es fs h)
@@ -115,20 +110,18 @@ module _ (test : Kind → Bool) where
   pub mapped : {Y : Type 0} (g h : Element → Y) → ((e f : Element) → Alike e f → test e.kind ≡ true → g f ≡ h e)
       → (es fs : List Element) → AllAlike es fs → map g (filter of fs) ≡ map h (filter of es)
   mapped g h one [] [] a = refl
-  mapped g h one [] (f ∷ fs) a = absurd a
-  mapped g h one (e ∷ es) [] a = absurd a
   mapped g h one (e ∷ es) (f ∷ fs) a =
       ap (λ k. map g (cond (test k) (f ∷ filter of fs) (filter of fs))) a.0.kind
       ∙ mapped_if g h (test e.kind) e f (filter of es) (filter of fs) (one e f a.0) (mapped g h one es fs a.1)
+  mapped g h one es fs a = absurd a
 
 -- a test that comes out the same on both
 pub found_alike : (test : Element → Bool) → ((e f : Element) → Alike e f → test f ≡ test e) → (es fs : List Element) → AllAlike es fs → (n : ℕ)
     → option_map_or test (slice_get fs n) false ≡ option_map_or test (slice_get es n) false
 found_alike test same [] [] h n = refl
-found_alike test same [] (f ∷ fs) h n = absurd h
-found_alike test same (e ∷ es) [] h n = absurd h
 found_alike test same (e ∷ es) (f ∷ fs) h zero = same e f h.0
 found_alike test same (e ∷ es) (f ∷ fs) h (suc n) = found_alike test same es fs h.1 n
+found_alike test same es fs h n = absurd h
 
 first_if : (t s : Bool) (n : ℕ) (x y : Option ℕ) → t ≡ s → x ≡ y → (if t then Some n else x) ≡ (if s then Some n else y)
 first_if t s n x y e h = ap (λ b. if b then Some n else x) e ∙ ap (λ z. if s then Some n else z) h
@@ -136,9 +129,8 @@ first_if t s n x y e h = ap (λ b. if b then Some n else x) e ∙ ap (λ z. if s
 first_alike : (test : Element → Bool) → ((e f : Element) → Alike e f → test f ≡ test e) → (es fs : List Element) → AllAlike es fs → (n : ℕ)
     → first_place test n fs ≡ first_place test n es
 first_alike test same [] [] h n = refl
-first_alike test same [] (f ∷ fs) h n = absurd h
-first_alike test same (e ∷ es) [] h n = absurd h
 first_alike test same (e ∷ es) (f ∷ fs) h n = first_if (test f) (test e) n _ _ (same e f h.0) (first_alike test same es fs h.1 (n + 1))
+first_alike test same es fs h n = absurd h
 
 named_one : (d : Data) (e f : Element) → Alike e f → is_named d f ≡ is_named d e
 unfolding is_named

@@ -27,21 +27,18 @@ find_if false u e f x y is h none = rw is (h none)
 
 find_alike : (t u : Element → Bool) → ((e f : Element) → Alike e f → u f ≡ t e) → (xs ys : List Element) → AllAlike xs ys → find t xs ≡ None → find u ys ≡ None
 find_alike t u same [] [] h none = refl
-find_alike t u same [] (f ∷ ys) h none = absurd h
-find_alike t u same (e ∷ xs) [] h none = absurd h
 find_alike t u same (e ∷ xs) (f ∷ ys) h none = find_if (t e) (u f) e f (find t xs) (find u ys) (same e f h.0) (find_alike t u same xs ys h.1) none
+find_alike t u same es fs h none = absurd h
 
 first_alike : (t u : ℕ → Element → Bool) → ((n : ℕ) (e f : Element) → Alike e f → u n f ≡ t n e) → (n : ℕ) (xs ys : List Element) → AllAlike xs ys → first_at t n xs ≡ None → first_at u n ys ≡ None
 first_alike t u same n [] [] h none = refl
-first_alike t u same n [] (f ∷ ys) h none = absurd h
-first_alike t u same n (e ∷ xs) [] h none = absurd h
 first_alike t u same n (e ∷ xs) (f ∷ ys) h none = find_if (t n e) (u n f) e f (first_at t (n + 1) xs) (first_at u (n + 1) ys) (same n e f h.0) (first_alike t u same (n + 1) xs ys h.1) none
+first_alike t u same n es fs h none = absurd h
 
 any_alike : (t u : Element → Bool) → ((e f : Element) → Alike e f → u f ≡ t e) → (xs ys : List Element) → AllAlike xs ys → list_any u ys ≡ list_any t xs
 any_alike t u same [] [] h = refl
-any_alike t u same [] (f ∷ ys) h = absurd h
-any_alike t u same (e ∷ xs) [] h = absurd h
 any_alike t u same (e ∷ xs) (f ∷ ys) h = ap (λ b. b || list_any u ys) (same e f h.0) ∙ ap (λ b. t e || b) (any_alike t u same xs ys h.1)
+any_alike t u same es fs h = absurd h
 
 -- ---- ids
 
@@ -55,18 +52,16 @@ double_alike e f a b h k =
 
 push_alike : (xs ys : List Element) (e f : Element) → AllAlike xs ys → Alike e f → AllAlike (xs ++ e ∷ []) (ys ++ f ∷ [])
 push_alike [] [] e f h k = (k, tt)
-push_alike [] (y ∷ ys) e f h k = absurd h
-push_alike (x ∷ xs) [] e f h k = absurd h
 push_alike (x ∷ xs) (y ∷ ys) e f h k = (h.0, push_alike xs ys e f h.1 k)
+push_alike xs ys e f h k = absurd h
 
 pub no_double : (earlier before xs ys : List Element) → AllAlike earlier before → AllAlike xs ys → first_double earlier xs ≡ None → first_double before ys ≡ None
 no_double earlier before [] [] k h none = refl
-no_double earlier before [] (f ∷ ys) k h none = absurd h
-no_double earlier before (e ∷ xs) [] k h none = absurd h
 no_double earlier before (e ∷ xs) (f ∷ ys) k h none =
     find_if (list_any (is_double e) earlier) (list_any (is_double f) before) e f (first_double (earlier ++ e ∷ []) xs) (first_double (before ++ f ∷ []) ys)
     (any_alike (is_double e) (is_double f) (λ a b r. double_alike e f a b h.0 r) earlier before k)
     (no_double (earlier ++ e ∷ []) (before ++ f ∷ []) xs ys (push_alike earlier before e f k h.0) h.1) none
+no_double earlier before xs ys k h none = absurd h
 
 -- ---- edges
 
@@ -89,10 +84,9 @@ hyper_from s t = (is_some s || is_some t) && not ((length (list_from s) == 1) &&
 
 element_and : {B : Type 0} (g : Element → Option B) → ((e f : Element) → Alike e f → g f ≡ g e) → (es fs : List Element) → AllAlike es fs → (n : ℕ) → option_and_then g (slice_get fs n) ≡ option_and_then g (slice_get es n)
 element_and g same [] [] h n = refl
-element_and g same [] (f ∷ fs) h n = absurd h
-element_and g same (e ∷ es) [] h n = absurd h
 element_and g same (e ∷ es) (f ∷ fs) h zero = same e f h.0
 element_and g same (e ∷ es) (f ∷ fs) h (suc n) = element_and g same es fs h.1 n
+element_and g same es fs h n = absurd h
 
 module _ (es fs : List Element) (h : AllAlike es fs) where
   pub same_many : are_too_many fs ≡ are_too_many es

@@ -1,12 +1,12 @@
 -- Where the parts of a node stand in its answer.
-use Rattle.std.proofs.Common.{◌≡◌, ℕ, suc, List, [], length, Ordering, Less, Equal, Greater, Bool, true, false, is_eq, bytes_eq, true≢false, refl, sym, ap, ◌∙◌, subst, Option, Some, None, option_map, nat_lt}
+use Rattle.std.proofs.Common.{◌≡◌, ℕ, suc, List, [], length, Ordering, Less, Equal, Bool, true, false, is_eq, bytes_eq, true≢false, refl, sym, ap, ◌∙◌, subst, Option, Some, None, option_map, nat_lt}
 use Rattle.std.specs.Prelude.{codes, option_and_then, slice_get}
 use Rattle.std.specs.Option.{option_map_or}
 use Rattle.std.proofs.lemmas.Cmp.{nat_list_cmp_total, tied_itself}
 use Rattle.std.proofs.lemmas.Map.Text.{is_eq-slice_cmp}
 use Rattle.std.proofs.lemmas.Slice.Eq.{bytes_eq-Decides}
 use Rattle.std.specs.Ordering.{match_ordering}
-use Rattle.serde_json.specs.Data.{Data, null, boolean, number, string, array, object, Items, no_items, item, Members, no_members, member, put}
+use Rattle.serde_json.specs.Data.{Data, null, array, object, Items, no_items, item, Members, no_members, member, put}
 use Rattle.serde_json.specs.Find.{get_member, as_array}
 use Rattle.serde_json.proofs.Views.{get_member-put_other}
 use Rattle.elk_doc.specs.declared.shape.Rect.{Rect}
@@ -34,9 +34,8 @@ pub get_here : (q : List ℕ) (d : Data) (ms : Members) → get_member q (member
 get_here q d ms = rw (same_cmp q) refl
 
 either : (o : Ordering) (a b : Option Data) → is_eq o ≡ false → match_ordering o a b a ≡ a
-either Less a b e = refl
 either Equal a b e = absurd (true≢false e)
-either Greater a b e = refl
+either o a b e = refl
 
 pub get_later : (q l : List ℕ) (d : Data) (ms : Members) → bytes_eq q l ≡ false → get_member q (member l d ms) ≡ get_member q ms
 get_later q l d ms h = either (cmp q l) (get_member q ms) (Some d) (is_eq-slice_cmp q l ∙ h)
@@ -54,9 +53,9 @@ turned k l h = turned_false (bytes_eq l k) k l refl h
 
 -- ---- the members of a node that is answered
 
-map_ext : (f g : Data → Data) (o : Option Data) → ((d : Data) → f d ≡ g d) → option_map f o ≡ option_map g o
+pub map_ext : {A B : Type 0} (f g : A → B) (o : Option A) → ((x : A) → f x ≡ g x) → option_map f o ≡ option_map g o
 map_ext f g None h = refl
-map_ext f g (Some d) h = ap Some (h d)
+map_ext f g (Some x) h = ap (λ y. Some y) (h x)
 
 module _ (doc : Document) (p : Placed) (at : Numbers) (compound : Bool) (q : List ℕ) (stays : is_node_key compound q ≡ false)
     (same : (l : List ℕ) (e : Data) (below : Numbers) → bytes_eq q l ≡ false → (d : Data) → answer_member doc p at (past_member l below e) q d ≡ answer_member doc p at below q d) where
@@ -88,12 +87,8 @@ module _ (doc : Document) (p : Placed) (at : Numbers) (compound : Bool) (q : Lis
 -- ---- numbers
 
 pub past_other : (k : List ℕ) (at : Numbers) (d : Data) → bytes_eq k (codes "children") ≡ false → past_member k at d ≡ at
-past_other k at null h = refl
-past_other k at (boolean b) h = refl
-past_other k at (number n) h = refl
-past_other k at (string s) h = refl
-past_other k at (object ms) h = refl
 past_other k at (array ds) h = rw h refl
+past_other k at d h = refl
 
 pub stays_children : (compound : Bool) → is_node_key compound (codes "children") ≡ false
 stays_children true = refl
@@ -110,19 +105,11 @@ stays_edges false = refl
 -- any numbers serve where the member is not the one of the children
 ports_same : (doc : Document) (p : Placed) (at a b : Numbers) (d : Data) → answer_member doc p at a (codes "ports") d ≡ answer_member doc p at b (codes "ports") d
 ports_same doc p at a b null = refl
-ports_same doc p at a b (boolean x) = refl
-ports_same doc p at a b (number n) = refl
-ports_same doc p at a b (string s) = refl
-ports_same doc p at a b (object ms) = refl
-ports_same doc p at a b (array ds) = refl
+ports_same doc p at a b d = refl
 
 edges_same : (doc : Document) (p : Placed) (at a b : Numbers) (d : Data) → answer_member doc p at a (codes "edges") d ≡ answer_member doc p at b (codes "edges") d
 edges_same doc p at a b null = refl
-edges_same doc p at a b (boolean x) = refl
-edges_same doc p at a b (number n) = refl
-edges_same doc p at a b (string s) = refl
-edges_same doc p at a b (object ms) = refl
-edges_same doc p at a b (array ds) = refl
+edges_same doc p at a b d = refl
 
 pub children_found : (doc : Document) (p : Placed) (at : Numbers) (compound : Bool) (ms : Members) (below : Numbers)
     → get_member (codes "children") (answered doc p at compound below ms) ≡ option_map (answer_member doc p at below (codes "children")) (get_member (codes "children") ms)
@@ -173,13 +160,8 @@ length_answers doc p at (item d ds) = ap suc (length_answers doc p (past_node at
 
 same_length : (doc : Document) (p : Placed) (at below : Numbers) (o : Option Data)
     → length (option_map_or items_list (option_and_then as_array (option_map (answer_member doc p at below (codes "children")) o)) []) ≡ length (option_map_or items_list (option_and_then as_array o) [])
-same_length doc p at below None = refl
-same_length doc p at below (Some null) = refl
-same_length doc p at below (Some (boolean b)) = refl
-same_length doc p at below (Some (number n)) = refl
-same_length doc p at below (Some (string s)) = refl
-same_length doc p at below (Some (object ms)) = refl
 same_length doc p at below (Some (array ds)) = length_answers doc p below ds
+same_length doc p at below o = refl
 
 pub same_children : (doc : Document) (p : Placed) (at below : Numbers) (compound : Bool) (n : ℕ) (ms : Members)
     → has_children (object (with_node compound doc p n (answered doc p at compound below ms))) ≡ has_children (object ms)

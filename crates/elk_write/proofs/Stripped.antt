@@ -1,7 +1,8 @@
 -- The answer without the written members is the value without them.
-use Rattle.std.proofs.Common.{◌≡◌, ℕ, ◌+◌, List, Bool, true, false, bytes_eq, refl, sym, ap, ◌∙◌, Option, Some, None}
+use Rattle.std.proofs.Common.{◌≡◌, ℕ, ◌+◌, List, Bool, true, false, bytes_eq, refl, sym, ap, ◌∙◌, Option, Some, None, inl, inr}
+use Rattle.std.proofs.lemmas.Bool.{cases_Bool}
 use Rattle.std.specs.Prelude.{codes, ◌||◌, option_and_then, slice_get}
-use Rattle.serde_json.specs.Data.{Data, null, boolean, number, string, array, object, Items, no_items, item, Members, no_members, member, put}
+use Rattle.serde_json.specs.Data.{Data, array, object, Items, no_items, item, Members, no_members, member, put}
 use Rattle.elk_doc.specs.declared.shape.Point.{Point}
 use Rattle.elk_doc.specs.declared.shape.Rect.{Rect}
 use Rattle.elk_doc.specs.declared.document.Edge.{Edge}
@@ -29,15 +30,11 @@ but_point None ms = refl
 but_point (Some at) ms = but_put (is_flat_key false) (codes "y") _ (put (codes "x") (whole at.x) ms) refl ∙ but_put (is_flat_key false) (codes "x") (whole at.x) ms refl
 
 but_port : (at : Option Point) (d : Data) → IsKeyed d → but (is_flat_key false) (port_answer at d) ≡ but (is_flat_key false) d
-but_port at null h = refl
-but_port at (boolean b) h = refl
-but_port at (number n) h = refl
-but_port at (string s) h = refl
-but_port at (array ds) h = refl
 but_port at (object ms) h =
     ap object (but_point at (kept_into false no_members ms)
     ∙ ap (members_but (is_flat_key false)) (kept_sorted false ms (sorted_keyed ms h))
     ∙ but_but (is_flat_key false) ms)
+but_port at d h = refl
 
 but_ports : (p : Placed) (n : ℕ) (ds : Items) → AreItemsKeyed ds → each_but (is_flat_key false) (port_answers p n ds) ≡ each_but (is_flat_key false) ds
 but_ports p n no_items h = refl
@@ -51,15 +48,11 @@ but_sections (Some e) None ms = refl
 but_sections (Some e) (Some s) ms = but_put (is_flat_key true) (codes "sections") _ ms refl
 
 but_edge : (edge : Option Edge) (s : Option Section) (d : Data) → IsKeyed d → but (is_flat_key true) (edge_answer edge s d) ≡ but (is_flat_key true) d
-but_edge edge s null h = refl
-but_edge edge s (boolean b) h = refl
-but_edge edge s (number n) h = refl
-but_edge edge s (string t) h = refl
-but_edge edge s (array ds) h = refl
 but_edge edge s (object ms) h =
     ap object (but_sections edge s (kept_into true no_members ms)
     ∙ ap (members_but (is_flat_key true)) (kept_sorted true ms (sorted_keyed ms h))
     ∙ but_but (is_flat_key true) ms)
+but_edge edge s d h = refl
 
 but_edges : (doc : Document) (p : Placed) (n : ℕ) (ds : Items) → AreItemsKeyed ds → each_but (is_flat_key true) (edge_answers doc p n ds) ≡ each_but (is_flat_key true) ds
 but_edges doc p n no_items h = refl
@@ -134,14 +127,6 @@ strip_array false doc p at below k ds e h ih =
     let answer : answer_member doc p at below k (array ds) ≡ parts_answer doc p at k ds = rw e refl in
     ap (strip_member k) answer ∙ strip_parts k e doc p at ds h
 
-strip_if : (b : Bool) (doc : Document) (p : Placed) (at below : Numbers) (compound : Bool) (k : List ℕ) (d : Data) (ms : Members) → is_node_key compound k ≡ b
-    → strip_member k (answer_member doc p at below k d) ≡ strip_member k d
-    → ((below : Numbers) → strip_members (is_node_key compound) (answered doc p at compound below ms) ≡ strip_members (is_node_key compound) ms)
-    → strip_members (is_node_key compound) (answered doc p at compound below (member k d ms)) ≡ strip_members (is_node_key compound) (member k d ms)
-strip_if true doc p at below compound k d ms is here ih = rw is (ih below)
-strip_if false doc p at below compound k d ms is here ih =
-    rw (is, is) (ap (λ e. member k e (strip_members (is_node_key compound) (answered doc p at compound (past_member k below d) ms))) here ∙ ap (member k (strip_member k d)) (ih (past_member k below d)))
-
 -- a node's own members, where those inside are known to be the same
 strip_own : (doc : Document) (p : Placed) (at : Numbers) (root : Bool) (ms : Members) → IsSorted ms
     → ((compound : Bool) (below : Numbers) → strip_members (is_node_key compound) (answered doc p at compound below ms) ≡ strip_members (is_node_key compound) ms)
@@ -155,25 +140,21 @@ strip_own doc p at root ms h ih =
 
 mutual
   pub strip_answer : (doc : Document) (p : Placed) (at : Numbers) (root : Bool) (d : Data) → IsKeyed d → strip_node root (answer_node doc p at root d) ≡ strip_node root d
-  strip_answer doc p at root null h = refl
-  strip_answer doc p at root (boolean b) h = refl
-  strip_answer doc p at root (number n) h = refl
-  strip_answer doc p at root (string s) h = refl
-  strip_answer doc p at root (array ds) h = refl
   strip_answer doc p at root (object ms) h = strip_own doc p at root ms (sorted_keyed ms h) (λ compound below. strip_inner doc p at compound ms below h)
+  strip_answer doc p at root d h = refl
 
   strip_inner : (doc : Document) (p : Placed) (at : Numbers) (compound : Bool) (ms : Members) (below : Numbers) → AreMembersKeyed ms
       → strip_members (is_node_key compound) (answered doc p at compound below ms) ≡ strip_members (is_node_key compound) ms
   strip_inner doc p at compound no_members below h = refl
-  strip_inner doc p at compound (member k d ms) below h = strip_if (is_node_key compound k) doc p at below compound k d ms refl (strip_one doc p at below k d h.1) (λ b. strip_inner doc p at compound ms b h.2)
+  strip_inner doc p at compound (member k d ms) below h = elim (cases_Bool (is_node_key compound k)) [
+    | inl is ↦ rw is (strip_inner doc p at compound ms below h.2)
+    | inr is ↦ rw (is, is) (ap (λ e. member k e (strip_members (is_node_key compound) (answered doc p at compound (past_member k below d) ms))) (strip_one doc p at below k d h.1)
+        ∙ ap (member k (strip_member k d)) (strip_inner doc p at compound ms (past_member k below d) h.2))
+  ]
 
   strip_one : (doc : Document) (p : Placed) (at below : Numbers) (k : List ℕ) (d : Data) → IsKeyed d → strip_member k (answer_member doc p at below k d) ≡ strip_member k d
-  strip_one doc p at below k null h = refl
-  strip_one doc p at below k (boolean b) h = refl
-  strip_one doc p at below k (number n) h = refl
-  strip_one doc p at below k (string s) h = refl
-  strip_one doc p at below k (object ms) h = refl
   strip_one doc p at below k (array ds) h = strip_array (bytes_eq k (codes "children")) doc p at below k ds refl h (strip_each doc p below ds h)
+  strip_one doc p at below k d h = refl
 
   strip_each : (doc : Document) (p : Placed) (at : Numbers) (ds : Items) → AreItemsKeyed ds → strip_children (answer_children doc p at ds) ≡ strip_children ds
   strip_each doc p at no_items h = refl

@@ -34,9 +34,8 @@ module _ (doc : Document) (p : Placed) (test : Kind → Bool) (number : Numbers 
 
   pub all_turned : (xs ys : List Element) (a : Numbers) → Pairs doc p a xs ys → AllFrom R (number a) (filter of_kind xs) → AllFrom W (number a) (filter of_kind ys)
   all_turned [] [] a h r = tt
-  all_turned [] (y ∷ ys) a h r = absurd h
-  all_turned (x ∷ xs) [] a h r = absurd h
   all_turned (x ∷ xs) (y ∷ ys) a h r = turned_step (test x.kind) a x y xs ys refl h.0 (all_turned xs ys (step_kind x.kind a) h.1) r
+  all_turned xs ys a h r = absurd h
 
 -- a fact of each index
 pub all_from : (P : ℕ → Element → Type 0) (xs : List Element) (m : ℕ) → ((i : ℕ) (x : Element) → slice_get xs i ≡ Some x → P (m + i) x) → AllFrom P m xs

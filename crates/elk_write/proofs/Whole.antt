@@ -28,6 +28,7 @@ use Rattle.elk_json.specs.Document.{node_of, port_of, edge_of, nodes_of, ports_o
 use Rattle.elk_write.specs.Reading.{point_in, sections_in, certificate_in}
 use Rattle.elk_write.specs.Placing.{is_origin, rooted, node_size_in, box_of, box_in, level_in, box_at, level_at, place_at, section_at, given, IsGiven}
 use Rattle.elk_write.proofs.Fitting.{and_some, map_some, near, FitsSize, fits_size, sections_fit, certificate_fits}
+use Rattle.elk_write.proofs.Known.{not_false}
 
 -- ---- lists that are given
 
@@ -72,10 +73,6 @@ origin_by p h =
 unless : {A : Type 0} (b : Bool) (z y : A) → (if b then None else Some z) ≡ Some y → (b ≡ false) × (z ≡ y)
 unless true z y e = let bad : None ≡ Some y = e in absurd (cc)
 unless false z y e = let h : Some z ≡ Some y = e in (refl, cc)
-
-not_false : (b : Bool) → not b ≡ false → b ≡ true
-not_false true h = refl
-not_false false h = absurd (cc)
 
 pub rooted_same : (n : ℕ) (p q : Point) → rooted n p ≡ Some q → p ≡ q
 rooted_same n p q e = (unless (n == 0 && not (is_origin p)) p q e).1

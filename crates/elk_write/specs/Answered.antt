@@ -1,6 +1,6 @@
 -- A value with the written members: each object is built anew, by putting members into an empty one.
 use Rattle.std.specs.Prelude.{ℕ, ◌+◌, List, codes, Bool, false, true, ◌||◌, bytes_eq, if◌then◌else◌, Option, Some, None, option_and_then, slice_get}
-use Rattle.serde_json.specs.Data.{Data, null, boolean, number, string, array, object, Items, no_items, item, Members, no_members, member, put}
+use Rattle.serde_json.specs.Data.{Data, array, object, Items, no_items, item, Members, no_members, member, put}
 use Rattle.elk_doc.specs.declared.shape.Point.{Point}
 use Rattle.elk_doc.specs.declared.shape.Rect.{Rect}
 use Rattle.elk_doc.specs.declared.document.Edge.{Edge}
@@ -27,12 +27,8 @@ with_point None ms = ms
 with_point (Some at) ms = put (codes "y") (whole at.y) (put (codes "x") (whole at.x) ms)
 
 abbrev pub port_answer : Option Point → Data → Data
-port_answer at null = null
-port_answer at (boolean b) = boolean b
-port_answer at (number n) = number n
-port_answer at (string s) = string s
-port_answer at (array ds) = array ds
 port_answer at (object ms) = object (with_point at (kept_into false no_members ms))
+port_answer at d = d
 
 abbrev pub with_sections : Option Edge → Option Section → Members → Members
 with_sections None section ms = ms
@@ -40,12 +36,8 @@ with_sections (Some e) None ms = ms
 with_sections (Some e) (Some s) ms = put (codes "sections") (sections_data e.id s) ms
 
 abbrev pub edge_answer : Option Edge → Option Section → Data → Data
-edge_answer edge section null = null
-edge_answer edge section (boolean b) = boolean b
-edge_answer edge section (number n) = number n
-edge_answer edge section (string s) = string s
-edge_answer edge section (array ds) = array ds
 edge_answer edge section (object ms) = object (with_sections edge section (kept_into true no_members ms))
+edge_answer edge section d = d
 
 abbrev pub port_answers : Placed → ℕ → Items → Items
 port_answers p n no_items = no_items
@@ -88,12 +80,8 @@ with_node compound doc p n ms = with_level compound doc p n (with_place (slice_g
 -- a node with the numbers `at`; its children have the numbers from `below` on
 abbrev mutual
   pub answer_node : Document → Placed → Numbers → Bool → Data → Data
-  answer_node doc p at root null = null
-  answer_node doc p at root (boolean b) = boolean b
-  answer_node doc p at root (number n) = number n
-  answer_node doc p at root (string s) = string s
-  answer_node doc p at root (array ds) = array ds
   answer_node doc p at root (object ms) = object (with_node (root || has_children (object ms)) doc p at.node (answer_into doc p at (root || has_children (object ms)) (past_own at (object ms)) no_members ms))
+  answer_node doc p at root d = d
 
   pub answer_into : Document → Placed → Numbers → Bool → Numbers → Members → Members → Members
   answer_into doc p at compound below into no_members = into
@@ -102,13 +90,9 @@ abbrev mutual
       else answer_into doc p at compound (past_member k below d) (put k (answer_member doc p at below k d) into) ms
 
   pub answer_member : Document → Placed → Numbers → Numbers → List ℕ → Data → Data
-  answer_member doc p at below k null = null
-  answer_member doc p at below k (boolean b) = boolean b
-  answer_member doc p at below k (number n) = number n
-  answer_member doc p at below k (string s) = string s
-  answer_member doc p at below k (object ms) = object ms
   answer_member doc p at below k (array ds) =
       if bytes_eq k (codes "children") then array (answer_children doc p below ds) else parts_answer doc p at k ds
+  answer_member doc p at below k d = d
 
   pub answer_children : Document → Placed → Numbers → Items → Items
   answer_children doc p at no_items = no_items

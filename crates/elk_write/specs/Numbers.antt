@@ -1,6 +1,6 @@
 -- The numbers of nodes, ports and edges in document order.
 use Rattle.std.specs.Prelude.{ℕ, ◌+◌, List, length, codes, bytes_eq, if◌then◌else◌}
-use Rattle.serde_json.specs.Data.{Data, null, boolean, number, string, array, object, Items, no_items, item, Members, no_members, member}
+use Rattle.serde_json.specs.Data.{Data, array, object, Items, no_items, item, Members, no_members, member}
 use Rattle.elk_json.specs.Elements.{listed}
 use Rattle.elk_write.specs.declared.numbers.Numbers.{Numbers}
 
@@ -18,24 +18,16 @@ past_own at d = record {
 -- the numbers that follow a node with all that stands in it
 abbrev mutual
   pub past_node : Numbers → Data → Numbers
-  past_node at null = past_own at null
-  past_node at (boolean b) = past_own at (boolean b)
-  past_node at (number n) = past_own at (number n)
-  past_node at (string s) = past_own at (string s)
-  past_node at (array ds) = past_own at (array ds)
   past_node at (object ms) = past_members (past_own at (object ms)) ms
+  past_node at d = past_own at d
 
   pub past_members : Numbers → Members → Numbers
   past_members at no_members = at
   past_members at (member k d ms) = past_members (past_member k at d) ms
 
   pub past_member : List ℕ → Numbers → Data → Numbers
-  past_member k at null = at
-  past_member k at (boolean b) = at
-  past_member k at (number n) = at
-  past_member k at (string s) = at
-  past_member k at (object ms) = at
   past_member k at (array ds) = if bytes_eq k (codes "children") then past_children at ds else at
+  past_member k at d = at
 
   pub past_children : Numbers → Items → Numbers
   past_children at no_items = at

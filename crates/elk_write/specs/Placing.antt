@@ -131,20 +131,16 @@ given_part doc kind.Edge n e = option_map (λ s. part.Edge s) (section_at doc n 
 -- the box, level, place and section that a part gives, if it gives one
 abbrev pub part_boxes : Part → List Rect
 part_boxes (part.Node box level) = box ∷ []
-part_boxes (part.Port at) = []
-part_boxes (part.Edge s) = []
+part_boxes q = []
 
 abbrev pub part_levels : Part → List (Option Certificate)
 part_levels (part.Node box level) = level ∷ []
-part_levels (part.Port at) = []
-part_levels (part.Edge s) = []
+part_levels q = []
 
 abbrev pub part_places : Part → List Point
-part_places (part.Node box level) = []
 part_places (part.Port at) = at ∷ []
-part_places (part.Edge s) = []
+part_places q = []
 
 abbrev pub part_sections : Part → List Section
-part_sections (part.Node box level) = []
-part_sections (part.Port at) = []
 part_sections (part.Edge s) = s ∷ []
+part_sections q = []

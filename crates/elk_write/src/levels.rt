@@ -6,7 +6,7 @@ ghost use Rattle.elk_json.specs.Ends.{is_same_id as same_id_test};
 ghost use Rattle.elk_json.specs.Keys.{key_id};
 ghost use Rattle.elk_write.specs.Reading.{all_in, are_listable as listable_test, certificate_in as certificate_spec, certificate_with as certificate_spec_of, counted, edge_named as edge_named_spec, first_number, flow_in as flow_spec, is_ascending as ascending_test, is_listable as one_listable_test, large_in as large_spec, layers_in as layers_spec, list_in, parts_in as parts_spec, reversed_in as reversed_spec, small_in as small_spec};
 
-use crate::reading::{large_in, small_in};
+use crate::reading::{large_in, read_each, small_in};
 use elk_doc::document::{Doc, Id};
 use elk_doc::drawing::Certificate;
 use elk_doc::form::{child_count, edge_count};
@@ -19,27 +19,13 @@ use std::alloc::{AllocError, Global};
 fn small_numbers(alloc: Global, items: &Vec<Value>) -> Result<Option<Vec<u32>>, AllocError>
     ensures { IfOk result (λ o. option_map (λ v. v.items) o ≡ all_in small_spec (items_view items.now.items)) }
 {
-    let mut numbers = Vec::with_capacity(alloc, items.len())?;
-    for item in items {
-        match small_in(item) {
-            None => return Ok(None),
-            Some(number) => numbers.push(number)?,
-        }
-    }
-    Ok(Some(numbers))
+    read_each(alloc, items, small_in)
 }
 
 fn large_numbers(alloc: Global, items: &Vec<Value>) -> Result<Option<Vec<u64>>, AllocError>
     ensures { IfOk result (λ o. option_map (λ v. v.items) o ≡ all_in large_spec (items_view items.now.items)) }
 {
-    let mut numbers = Vec::with_capacity(alloc, items.len())?;
-    for item in items {
-        match large_in(item) {
-            None => return Ok(None),
-            Some(number) => numbers.push(number)?,
-        }
-    }
-    Ok(Some(numbers))
+    read_each(alloc, items, large_in)
 }
 
 // So many numbers of a member, each of 32 bits.
@@ -148,14 +134,7 @@ fn edge_named(doc: &Doc, value: &Value) -> Option<u32>
 fn edges_named(alloc: Global, doc: &Doc, items: &Vec<Value>) -> Result<Option<Vec<u32>>, AllocError>
     ensures { IfOk result (λ o. option_map (λ v. v.items) o ≡ all_in (edge_named_spec doc.now) (items_view items.now.items)) }
 {
-    let mut numbers = Vec::with_capacity(alloc, items.len())?;
-    for item in items {
-        match edge_named(doc, item) {
-            None => return Ok(None),
-            Some(number) => numbers.push(number)?,
-        }
-    }
-    Ok(Some(numbers))
+    read_each(alloc, items, |item| edge_named(doc, item))
 }
 
 fn is_ascending(numbers: &[u32]) -> bool

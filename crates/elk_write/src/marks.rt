@@ -2,7 +2,7 @@
 ghost use Rattle.std.specs.Prelude.{◌≡◌, ◌++◌, IfOk, map, option_map};
 ghost use Rattle.serde_json.specs.Data.{put, array};
 ghost use Rattle.serde_json.specs.View.{view, members_view, items_of};
-ghost use Rattle.elk_write.specs.Values.{wholes, point_data, end_members, with_bends, sections_data, edge_id, edge_ids, layering_data};
+ghost use Rattle.elk_write.specs.Values.{wholes, point_data, end_members, with_bends, sections_data, edge_id, edge_ids, number_members as number_members_of, layering_data};
 
 use crate::ids::{id_value, section_name};
 use elk_doc::document::{Doc, Edge, Id};
@@ -123,6 +123,20 @@ fn with_id(alloc: Global, values: Vec<Value>, edge: Option<&Edge>) -> Result<Vec
     Ok(values)
 }
 
+// The members of a certificate that speak of nodes, or of edges by their numbers.
+fn number_members(
+    alloc: Global,
+    certificate: &Certificate,
+) -> Result<Map<String, Value>, AllocError>
+    ensures { IfOk result (λ m. members_view m.entries ≡ number_members_of certificate.now) }
+{
+    let flow = large_values(alloc, certificate.flow.as_slice())?;
+    let members = with_member(alloc, Map::new(alloc), "flow", flow)?;
+    let layers = small_values(alloc, certificate.layers.as_slice())?;
+    let members = with_member(alloc, members, "layers", layers)?;
+    with_member(alloc, members, "span", Value::from(certificate.span))
+}
+
 // The certificate of a level.
 pub(crate) fn layering_value(
     alloc: Global,
@@ -132,13 +146,9 @@ pub(crate) fn layering_value(
 ) -> Result<Value, AllocError>
     ensures { IfOk result (λ v. view v ≡ layering_data doc.now split certificate.now) }
 {
-    let flow = large_values(alloc, certificate.flow.as_slice())?;
-    let members = with_member(alloc, Map::new(alloc), "flow", flow)?;
-    let layers = small_values(alloc, certificate.layers.as_slice())?;
-    let members = with_member(alloc, members, "layers", layers)?;
+    let members = number_members(alloc, certificate)?;
     let reversed = id_values(alloc, doc, certificate.reversed.as_slice())?;
     let members = with_member(alloc, members, "reversed", reversed)?;
-    let members = with_member(alloc, members, "span", Value::from(certificate.span))?;
     if !split {
         return Ok(Value::Object(members));
     }

@@ -1,5 +1,8 @@
 // Numbers, points and sections as they stand in a placed value.
-ghost use Rattle.std.specs.Prelude.{◌≡◌, ◌^◌, pos, neg_ℤ, IfOk, option_map, option_and_then};
+ghost use Rattle.std.specs.Prelude.{◌≡◌, ◌^◌, pos, neg_ℤ, IfOk, Option, option_map, option_and_then};
+ghost use Rattle.std.specs.Fn.{FnReturnsAt};
+ghost use Rattle.serde_json.specs.Data.{Data};
+ghost use Rattle.serde_json.specs.declared.value.Value.{Value};
 ghost use Rattle.serde_json.specs.Find.{get};
 ghost use Rattle.serde_json.specs.View.{view, items_view};
 ghost use Rattle.elk_options.specs.Values.{if_within};
@@ -85,17 +88,30 @@ pub(crate) fn size_in(value: &Value) -> Option<Size>
     Some(Size { width, height })
 }
 
+// The items of an array, each read by `read`: none where one of them can't be.
+pub(crate) fn read_each<T: Drop, F: Fn(&Value) -> Option<T>>(
+    alloc: Global,
+    items: &Vec<Value>,
+    read: F,
+) -> Result<Option<Vec<T>>, AllocError>
+    requires { F.IsAlwaysCallable read }
+    ensures { (spec : Data → Option T) → ((v : Value) (r : Option T) → FnReturnsAt F.Fn read v r → r ≡ spec (view v))
+        → IfOk result (λ o. option_map (λ v. v.items) o ≡ all_in spec (items_view items.now.items)) }
+{
+    let mut parts = Vec::with_capacity(alloc, items.len())?;
+    for item in items {
+        match read(item) {
+            None => return Ok(None),
+            Some(part) => parts.push(part)?,
+        }
+    }
+    Ok(Some(parts))
+}
+
 fn points_in(alloc: Global, items: &Vec<Value>) -> Result<Option<Vec<Point>>, AllocError>
     ensures { IfOk result (λ o. option_map (λ v. v.items) o ≡ all_in point_spec (items_view items.now.items)) }
 {
-    let mut points = Vec::with_capacity(alloc, items.len())?;
-    for item in items {
-        match point_in(item) {
-            None => return Ok(None),
-            Some(point) => points.push(point)?,
-        }
-    }
-    Ok(Some(points))
+    read_each(alloc, items, point_in)
 }
 
 // The bends of a section: none where the member is absent.
