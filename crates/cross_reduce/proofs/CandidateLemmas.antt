@@ -14,19 +14,16 @@ use Rattle.cross_reduce.specs.declared.reducing.Counted.{Counted}
 use Rattle.cross_reduce.specs.declared.fans.Far.{Far}
 use Rattle.cross_reduce.specs.declared.fans.Towards.TheVariants.{Left, Right}
 use Rattle.cross_reduce.specs.Means.{CanOrder}
-use Rattle.cross_reduce.specs.Places.{NotesFirst, ArePlaces}
+use Rattle.elk_layers.specs.Places.{NotesFirst, ArePlaces}
+use Rattle.elk_layers.proofs.PlaceLemmas.{place_at}
 use Rattle.cross_reduce.specs.Rows.{IsRow}
 use Rattle.cross_reduce.specs.Exchanges.{IsState, FitKeys}
 use Rattle.cross_reduce.specs.Fans.{fan_at, fan_lists}
 use Rattle.cross_reduce.specs.Candidates.{IsCandidate, IsReordered, IsBestFrom}
-use Rattle.cross_reduce.proofs.ExchangeLemmas.{place_unique}
 use Rattle.cross_reduce.proofs.RowLemmas.{row_of, row_permuted, rows_permuted}
 use Rattle.cross_reduce.proofs.PlaceLemmas.{row_few}
 use Rattle.cross_reduce.proofs.SweepLaws.{can_order}
 use Rattle.cross_reduce.proofs.StateLemmas.{same_refl, same_trans, left_fits, right_fits}
-
-pub reordered_refl : (l : Plain) (s : State) → IsCandidate l s → IsReordered l s s
-reordered_refl l s c = record { candidate = c; same = same_refl (rows_of s.order) }
 
 pub reordered_trans : (l : Plain) (a b c : State) → IsReordered l a b → IsReordered l b c → IsReordered l a c
 reordered_trans l a b c s t = record { candidate = t.candidate; same = same_trans (rows_of a.order) (rows_of b.order) (rows_of c.order) s.same t.same }
@@ -62,7 +59,7 @@ module _ (l : Plain) (rows : List (List ℕ)) (place : List ℕ) (left right : L
           | inl e ↦
               let has = is.complete u hu e in
               let there : get_or new u 0 ≡ has.place = subst (λ x. get_or new x 0 ≡ has.place) has.unit_is (notes.noted has.place has.within) in
-              let here : place_in other u ≡ has.place = subst (λ x. place_in other x ≡ has.place) has.unit_is (place_unique other is.once has.place has.within) in
+              let here : place_in other u ≡ has.place = subst (λ x. place_in other x ≡ has.place) has.unit_is (place_at other is.once has.place has.within) in
               there ∙ sym here ∙ ap (λ (xs : List ℕ). place_in xs u) (sym (get_or-set_same rows r other [] hr)) ∙ ap (λ (g : ℕ). place_in (row_at (set rows r other) g) u) (sym e)
           | inr n ↦
               notes.kept u (λ i hi e. n (ap (layer_of l) (sym e) ∙ is.in_layer i hi)) ∙ s.places.place_is u hu
@@ -91,12 +88,6 @@ left_keys_fit l s r i c hr hi = left_fits l (rows_of s.order) s.place.items (fan
 
 pub right_keys_fit : (l : Plain) (s : State) (r i : ℕ) → IsCandidate l s → r < length (rows_of s.order) → i < length (row_at (rows_of s.order) r) → FitKeys s.place.items (fan_at (fan_lists s.right) (get_or (row_at (rows_of s.order) r) i 0))
 right_keys_fit l s r i c hr hi = right_fits l (rows_of s.order) s.place.items (fan_lists s.left) (fan_lists s.right) c (get_or (row_at (rows_of s.order) r) i 0) (unit_below l s r i c hr hi)
-
-pub left_known : (l : Plain) (s : State) (r i : ℕ) → IsCandidate l s → r < length (rows_of s.order) → i < length (row_at (rows_of s.order) r) → get_or (row_at (rows_of s.order) r) i 0 < length (fan_lists s.left)
-left_known l s r i c hr hi = let h = unit_below l s r i c hr hi in omega (arith, h, c.to_left.as_many)
-
-pub right_known : (l : Plain) (s : State) (r i : ℕ) → IsCandidate l s → r < length (rows_of s.order) → i < length (row_at (rows_of s.order) r) → get_or (row_at (rows_of s.order) r) i 0 < length (fan_lists s.right)
-right_known l s r i c hr hi = let h = unit_below l s r i c hr hi in omega (arith, h, c.to_right.as_many)
 
 pub left_can_order : (l : Plain) (s : State) (r : ℕ) → IsCandidate l s → r < length (rows_of s.order) → All (CanOrder (fan_lists s.left) s.place.items) (row_at (rows_of s.order) r)
 left_can_order l s r c hr = can_order l Left r (row_at (rows_of s.order) r) s.place.items (fan_lists s.left) c.sound (row_of l (rows_of s.order) r c.are_rows hr) c.to_left c.places.as_long

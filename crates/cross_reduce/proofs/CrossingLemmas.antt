@@ -1,6 +1,6 @@
 -- Crossings as a sum over all pairs, in any order of the links.
 use Rattle.std.proofs.Common.{◌≡◌, ℕ, zero, suc, ◌+◌, ◌<◌, ◌≤◌, List, [], ◌∷◌, length, get_or, take, drop, map, Bool, true, false, ◌&&◌, ◌||◌, cond, refl, arith, sym, ◌∙◌, ap, inl, inr, ltb, eqb, eq-eqb}
-use Rattle.std.proofs.lemmas.Bool.{cases_eq}
+use Rattle.std.proofs.lemmas.Bool.{cases_eq, ne_eqb, and_right}
 use Rattle.std.specs.List.{sum_by, count_by}
 use Rattle.std.specs.List.Sorted.{IsPermutation}
 use Rattle.std.proofs.lemmas.List.Sums.{sum_by-cons}
@@ -11,7 +11,6 @@ use Rattle.elk_layers.specs.Crossings.{cross, crossings_among, crossings}
 use Rattle.cross_reduce.specs.declared.counting.Pin.{Pin}
 use Rattle.cross_reduce.specs.Pins.{pin_of, pins_of, is_under, crossed}
 use Rattle.cross_reduce.proofs.Sums.{one_if, double, sum_same, sum_plus, sum_map}
-use Rattle.cross_reduce.proofs.ExchangeLemmas.{same_no}
 use Rattle.cross_reduce.proofs.PairLemmas.{any_pair}
 
 double_cons : {X : Type 0} (F : X → X → ℕ) (x : X) (xs : List X) → double F (x ∷ xs) ≡ (F x x + sum_by (λ b. F b x) xs) + (sum_by (λ a. F x a) xs + double F xs)
@@ -26,7 +25,7 @@ eqb_comm : (a b : ℕ) → eqb a b ≡ eqb b a
 eqb_comm a b =
     elim (cases_eq a b) [
       | inl e ↦ eq-eqb a b e ∙ sym (eq-eqb b a (sym e))
-      | inr n ↦ same_no a b n ∙ sym (same_no b a (λ k. n (sym k)))
+      | inr n ↦ ne_eqb a b n ∙ sym (ne_eqb b a (λ k. n (sym k)))
     ]
 
 not_less : (a b : ℕ) → ltb a b ≡ true → ltb b a ≡ true → ⊥
@@ -50,12 +49,8 @@ cross_is l rows a b =
     (either_way (eqb (gap_of l a) (gap_of l b)) (ltb (tail_key l rows a) (tail_key l rows b)) (ltb (head_key l rows b) (head_key l rows a)) (ltb (tail_key l rows b) (tail_key l rows a)) (ltb (head_key l rows a) (head_key l rows b))
     (not_less (tail_key l rows a) (tail_key l rows b)))
 
-and_never : (g h : Bool) → (g && (false && h)) ≡ false
-and_never true h = refl
-and_never false h = refl
-
 itself : (l : Plain) (rows : List (List ℕ)) (a : Link) → any_pair l rows a a ≡ 0
-itself l rows a = rw (never_less (tail_key l rows a), and_never (eqb (gap_of l a) (gap_of l a)) (ltb (head_key l rows a) (head_key l rows a))) refl
+itself l rows a = rw (never_less (tail_key l rows a), and_right (eqb (gap_of l a) (gap_of l a)) (false && (ltb (head_key l rows a) (head_key l rows a))) refl) refl
 
 among : (l : Plain) (rows : List (List ℕ)) (links : List Link) → crossings_among l rows links ≡ double (any_pair l rows) links
 among l rows [] = refl

@@ -1,4 +1,5 @@
 pub mod Sums
+pub mod ListLemmas
 pub mod RowLemmas
 pub mod ExchangeLemmas
 pub mod PairLemmas

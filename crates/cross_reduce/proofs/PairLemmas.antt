@@ -1,22 +1,24 @@
 -- What an exchange of two neighbours of a row does to each pair of links, and to all of them.
-use Rattle.std.proofs.Common.{◌≡◌, ◌≢◌, ℕ, pos, ◌+◌, ◌*◌, ◌<◌, List, [], length, get_or, Bool, true, false, ◌&&◌, refl, arith, sym, ◌∙◌, ap, subst, inl, inr, ltb, eqb, eq-eqb}
-use Rattle.std.proofs.lemmas.Bool.{cases_eq}
+use Rattle.std.proofs.Common.{◌≡◌, ◌≢◌, ℕ, ◌+◌, ◌*◌, ◌<◌, List, [], length, get_or, Bool, true, false, ◌&&◌, refl, arith, sym, ◌∙◌, ap, subst, inl, inr, ltb, eqb, eq-eqb}
+use Rattle.std.proofs.lemmas.Bool.{cases_eq, ne_eqb, and_right}
 use Rattle.std.specs.List.{swap, All}
 use Rattle.std.proofs.lemmas.List.{get_or-set_same, get_or-set_other}
 use Rattle.std.proofs.lemmas.List.Edits.{swapped_from_swap, length-swap}
-use Rattle.std.proofs.lemmas.List.Elements.{All-from_get_or, All-weaker}
+use Rattle.std.proofs.lemmas.List.Elements.{All-weaker}
 use Rattle.elk_layers.specs.declared.units.Link.{Link}
 use Rattle.elk_layers.specs.Layered.{Plain, IsSound, IsSoundLink, AreRows, row_at, layer_of, gap_of, place_in, place_of, tail_key, head_key}
 use Rattle.elk_layers.specs.Crossings.{exchanged}
-use Rattle.cross_reduce.specs.Places.{IsOnce}
+use Rattle.elk_layers.specs.Places.{IsOnce}
+use Rattle.elk_layers.proofs.PlaceLemmas.{place_at}
+use Rattle.cross_reduce.proofs.PlaceLemmas.{links_sound}
 use Rattle.cross_reduce.specs.Pins.{pin_of, is_under}
 use Rattle.cross_reduce.specs.Rows.{IsRow}
 use Rattle.cross_reduce.proofs.Sums.{one_if, double, quad, double_plus}
 use Rattle.cross_reduce.proofs.RowLemmas.{row_of, row_swapped}
-use Rattle.cross_reduce.proofs.ExchangeLemmas.{Moves, compared, place_unique, same_no}
+use Rattle.cross_reduce.proofs.ExchangeLemmas.{Moves, compared}
 
 stands : (row : List ℕ) (w p : ℕ) → IsOnce row → p < length row → get_or row p 0 ≡ w → place_in row w ≡ p
-stands row w p once h e = subst (λ x. place_in row x ≡ p) e (place_unique row once p h)
+stands row w p once h e = subst (λ x. place_in row x ≡ p) e (place_at row once p h)
 
 moves_in : (row row' : List ℕ) (i w p : ℕ) → IsOnce row → IsOnce row' → i + 1 < length row → row' ≡ swap row i (i + 1) → p < length row → get_or row p 0 ≡ w → Moves i (place_in row w) (place_in row' w)
 moves_in row row' i w p once once' hi is h e =
@@ -37,12 +39,12 @@ moves_in row row' i w p once once' hi is h e =
 at_place : (row : List ℕ) (w p i : ℕ) → IsOnce row → i < length row → p < length row → get_or row p 0 ≡ w → eqb w (get_or row i 0) ≡ eqb (place_in row w) i
 at_place row w p i once hi h e =
     let here : place_in row w ≡ p = stands row w p once h e in
-    let there : place_in row (get_or row i 0) ≡ i = place_unique row once i hi in
+    let there : place_in row (get_or row i 0) ≡ i = place_at row once i hi in
     elim (cases_eq (place_in row w) i) [
       | inl k ↦
           let same : w ≡ get_or row i 0 = sym e ∙ ap (λ x. get_or row x 0) (sym here ∙ k) in
           eq-eqb w (get_or row i 0) same ∙ sym (eq-eqb (place_in row w) i k)
-      | inr n ↦ same_no w (get_or row i 0) (λ q. n (ap (place_in row) q ∙ there)) ∙ sym (same_no (place_in row w) i n)
+      | inr n ↦ ne_eqb w (get_or row i 0) (λ q. n (ap (place_in row) q ∙ there)) ∙ sym (ne_eqb (place_in row w) i n)
     ]
 
 not_both : (x v y u : ℕ) (t : Bool) → (x ≡ v → y ≡ u → ⊥) → (eqb x v && (eqb y u && t)) ≡ false
@@ -50,14 +52,10 @@ not_both x v y u t never =
     elim (cases_eq x v) [
       | inl e ↦ elim (cases_eq y u) [
         | inl k ↦ absurd (never e k)
-        | inr n ↦ rw (same_no y u n) (and_no (eqb x v))
+        | inr n ↦ rw (ne_eqb y u n) (and_right (eqb x v) false refl)
       ]
-      | inr n ↦ rw (same_no x v n) refl
+      | inr n ↦ rw (ne_eqb x v n) refl
     ]
-  where
-    and_no : (b : Bool) → (b && false) ≡ false
-    and_no true = refl
-    and_no false = refl
 
 -- the pairs of links to the one side and to the other that cross where u stands above v
 abbrev pub left_pair : Plain → List (List ℕ) → ℕ → ℕ → Link → Link → ℕ
@@ -70,22 +68,13 @@ abbrev pub any_pair : Plain → List (List ℕ) → Link → Link → ℕ
 any_pair l rows b a = one_if (is_under (pin_of l rows b) (pin_of l rows a))
 
 mix_left : (t p q av bu au bv : Bool) → one_if p + one_if (av && bu) ≡ one_if q + one_if (au && bv) → one_if (t && p) + (one_if (bu && (av && t)) + 0) ≡ one_if (t && q) + (one_if (bv && (au && t)) + 0)
-mix_left true p q true true true true h = omega (arith, h)
-mix_left true p q true true true false h = omega (arith, h)
-mix_left true p q true true false true h = omega (arith, h)
-mix_left true p q true true false false h = omega (arith, h)
-mix_left true p q true false true true h = omega (arith, h)
-mix_left true p q true false true false h = omega (arith, h)
-mix_left true p q true false false true h = omega (arith, h)
-mix_left true p q true false false false h = omega (arith, h)
-mix_left true p q false true true true h = omega (arith, h)
-mix_left true p q false true true false h = omega (arith, h)
-mix_left true p q false true false true h = omega (arith, h)
-mix_left true p q false true false false h = omega (arith, h)
-mix_left true p q false false true true h = omega (arith, h)
-mix_left true p q false false true false h = omega (arith, h)
-mix_left true p q false false false true h = omega (arith, h)
-mix_left true p q false false false false h = omega (arith, h)
+mix_left true p q av bu au bv h = rw (turned bu av, turned bv au) (omega (arith, h))
+  where
+    turned : (x y : Bool) → (x && (y && true)) ≡ (y && x)
+    turned true true = refl
+    turned true false = refl
+    turned false true = refl
+    turned false false = refl
 mix_left false p q av bu au bv h = rw (none bu av, none bv au) refl
   where
     none : (x y : Bool) → (x && (y && false)) ≡ false
@@ -174,7 +163,7 @@ module _ (l : Plain) (rows : List (List ℕ)) (sound : IsSound l) (are : AreRows
   same_apart : (b a : Link) → IsSoundLink l b → IsSoundLink l a → gap_of l b ≢ gap_of l a → Same b a
   same_apart b a sb sa n =
       rw (
-        same_no (gap_of l b) (gap_of l a) n,
+        ne_eqb (gap_of l b) (gap_of l a) n,
         no_left (get_or (row_at rows r) (i + 1) 0) (get_or (row_at rows r) i 0) lower_layer upper_layer b a sb sa (λ e k. n (omega (arith, e, k))),
         no_left (get_or (row_at rows r) i 0) (get_or (row_at rows r) (i + 1) 0) upper_layer lower_layer b a sb sa (λ e k. n (omega (arith, e, k))),
         no_right (get_or (row_at rows r) (i + 1) 0) (get_or (row_at rows r) i 0) lower_layer upper_layer b a (λ e k. n (e ∙ sym k)),
@@ -233,9 +222,6 @@ module _ (l : Plain) (rows : List (List ℕ)) (sound : IsSound l) (are : AreRows
         | inr n ↦ same_apart b a sb sa n
       ]
 
-  links_sound : All (IsSoundLink l) l.links
-  links_sound = All-from_get_or (IsSoundLink l) l.links (record { edge = 0; tail = 0; head = 0; tail_rank = 0; head_rank = 0; tail_at = pos 0; head_at = pos 0 }) sound.links_are
-
   -- the crossings before and after differ by those between the two units
   pub exchange_changes :
       double (any_pair l rows) l.links + (double (left_pair l rows (get_or (row_at rows r) (i + 1) 0) (get_or (row_at rows r) i 0)) l.links + double (right_pair l rows (get_or (row_at rows r) (i + 1) 0) (get_or (row_at rows r) i 0)) l.links)
@@ -245,4 +231,4 @@ module _ (l : Plain) (rows : List (List ℕ)) (sound : IsSound l) (are : AreRows
       let v : ℕ = get_or (row_at rows r) (i + 1) 0 in
       rw (← double_plus (left_pair l rows v u) (right_pair l rows v u) l.links, ← double_plus (left_pair l rows u v) (right_pair l rows u v) l.links)
       (quad (any_pair l rows) (λ b a. left_pair l rows v u b a + right_pair l rows v u b a) (any_pair l (exchanged rows r i)) (λ b a. left_pair l rows u v b a + right_pair l rows u v b a) l.links
-      (All-weaker (IsSoundLink l) (λ a. All (λ b. Same b a) l.links) (λ a sa. All-weaker (IsSoundLink l) (λ b. Same b a) (λ b sb. same_pair b a sb sa) l.links links_sound) l.links links_sound))
+      (All-weaker (IsSoundLink l) (λ a. All (λ b. Same b a) l.links) (λ a sa. All-weaker (IsSoundLink l) (λ b. Same b a) (λ b sb. same_pair b a sb sa) l.links (links_sound l sound)) l.links (links_sound l sound)))

@@ -7,7 +7,7 @@ use Rattle.std.proofs.lemmas.List.Edits.{swapped_from_swap, length-swap, Swapped
 use Rattle.std.proofs.lemmas.List.Sorted.{IsPermutation-keeps}
 use Rattle.elk_layers.specs.Layered.{Plain, AreRows, HasUnit, row_at, layer_of}
 use Rattle.elk_layers.specs.Crossings.{HasSameRows}
-use Rattle.cross_reduce.specs.Places.{IsOnce}
+use Rattle.elk_layers.specs.Places.{IsOnce}
 use Rattle.cross_reduce.specs.Rows.{IsRow}
 
 -- a place after an exchange of a and b, and the place before from which its element comes

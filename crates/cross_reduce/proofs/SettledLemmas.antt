@@ -1,6 +1,6 @@
 -- Where no exchange in a row lowers the crossings, none does as long as that row and those beside it stay.
 use Rattle.std.proofs.Common.{◌≡◌, ◌≢◌, ℕ, ◌+◌, ◌-◌, ◌*◌, ◌<◌, List, [], length, get_or, set, replicate, cond, Bool, true, false, refl, arith, sym, ◌∙◌, ap, subst, inl, inr}
-use Rattle.std.proofs.lemmas.Bool.{cases_eq, cases_lt}
+use Rattle.std.proofs.lemmas.Bool.{cases_eq, cases_lt, ne_eqb, both_ways}
 use Rattle.std.specs.List.{swap, All}
 use Rattle.std.proofs.lemmas.List.{get_or-set_same, get_or-set_other, get_or-replicate, get_or_past, length-replicate, length-set}
 use Rattle.std.proofs.lemmas.List.Elements.{All-weaker}
@@ -9,7 +9,6 @@ use Rattle.elk_layers.specs.Layered.{Plain, IsSound, IsSoundLink, AreRows, row_a
 use Rattle.elk_layers.specs.Crossings.{exchanged}
 use Rattle.cross_reduce.specs.Exchanges.{IsTried, NoneInRow, KeepsOthers, AreSettled, unsettled}
 use Rattle.cross_reduce.proofs.Sums.{double, quad}
-use Rattle.cross_reduce.proofs.ExchangeLemmas.{same_no}
 use Rattle.cross_reduce.proofs.PairLemmas.{left_pair, right_pair, exchange_changes, upper_layer, lower_layer}
 use Rattle.cross_reduce.proofs.CrossingLemmas.{crossings_are}
 use Rattle.cross_reduce.proofs.PlaceLemmas.{links_sound}
@@ -40,9 +39,9 @@ module _ (l : Plain) (rows rows' : List (List ℕ)) (r s : ℕ) (sound : IsSound
                 key_stays b.tail b.tail_rank (λ q. apart (omega (arith, at_b, next_b, ev, q))),
                 key_stays a.tail a.tail_rank (λ q. apart (omega (arith, at_a, next_a, eu, q))),
               ) refl
-          | inr n ↦ rw (same_no a.head u n) refl
+          | inr n ↦ rw (ne_eqb a.head u n) refl
         ]
-        | inr n ↦ rw (same_no b.head v n) refl
+        | inr n ↦ rw (ne_eqb b.head v n) refl
       ]
 
   right_stays : (u v : ℕ) → layer_of l u ≡ s → layer_of l v ≡ s → s + 1 ≢ r → (b a : Link) → IsSoundLink l b → IsSoundLink l a → right_pair l rows' u v b a ≡ right_pair l rows u v b a
@@ -58,9 +57,9 @@ module _ (l : Plain) (rows rows' : List (List ℕ)) (r s : ℕ) (sound : IsSound
                 key_stays a.head a.head_rank (λ q. apart (omega (arith, at_a, next_a, ev, q))),
                 key_stays b.head b.head_rank (λ q. apart (omega (arith, at_b, next_b, eu, q))),
               ) refl
-          | inr n ↦ rw (same_no b.tail u n) refl
+          | inr n ↦ rw (ne_eqb b.tail u n) refl
         ]
-        | inr n ↦ rw (same_no a.tail v n) refl
+        | inr n ↦ rw (ne_eqb a.tail v n) refl
       ]
 
   all_left : (u v u' v' : ℕ) → layer_of l u ≡ s → layer_of l v ≡ s → s ≢ r + 1 → u' ≡ u → v' ≡ v → double (left_pair l rows' u' v') l.links ≡ double (left_pair l rows u v) l.links
@@ -100,15 +99,11 @@ module _ (l : Plain) (rows rows' : List (List ℕ)) (r s : ℕ) (sound : IsSound
       let before = none i hi in
       omega (arith, law, law', left_uv, left_vu, right_uv, right_vu, before, crossings_are l rows, crossings_are l rows', crossings_are l (exchanged rows s i), crossings_are l (exchanged rows' s i))
 
-false_not_true : (b : Bool) → b ≡ false → b ≡ true → ⊥
-false_not_true true e t = cc
-false_not_true false e t = cc
-
 pub settled_start : (l : Plain) (rows : List (List ℕ)) (n : ℕ) → n ≡ length rows → AreSettled l rows (replicate n false)
 settled_start l rows n e =
     record {
       as_many = length-replicate n false ∙ e;
-      none = λ r h t. absurd (false_not_true (get_or (replicate n false) r false) (get_or-replicate n r false false (omega (arith, h, e))) t);
+      none = λ r h t. absurd (both_ways (get_or (replicate n false) r false) (get_or-replicate n r false false (omega (arith, h, e))) t);
     }
 
 pub settled_more : (l : Plain) (rows : List (List ℕ)) (settled : List Bool) (r : ℕ) → AreSettled l rows settled → NoneInRow l rows r → AreSettled l rows (set settled r true)
@@ -131,7 +126,7 @@ unset_is xs at =
 unset_true : (xs : List Bool) (at g : ℕ) → get_or (set xs at false) g false ≡ true → (g ≢ at) × (get_or xs g false ≡ true)
 unset_true xs at g t =
     elim (cases_eq g at) [
-      | inl e ↦ absurd (false_not_true (get_or (set xs at false) at false) (unset_is xs at) (subst (λ (x : ℕ). get_or (set xs at false) x false ≡ true) e t))
+      | inl e ↦ absurd (both_ways (get_or (set xs at false) at false) (unset_is xs at) (subst (λ (x : ℕ). get_or (set xs at false) x false ≡ true) e t))
       | inr n ↦ (n, sym (get_or-set_other xs at g false false n) ∙ t)
     ]
 

@@ -1,6 +1,7 @@
 -- An order with its places and far ends, before and after an exchange.
-use Rattle.std.proofs.Common.{◌≡◌, ◌≢◌, ℕ, ◌+◌, ◌<◌, ◌≤◌, ◌^◌, List, [], ◌∷◌, length, get_or, set, map, Bool, true, false, ◌&&◌, ◌||◌, refl, arith, sym, ◌∙◌, ap, subst, inl, inr, ltb, eqb, eq-eqb}
-use Rattle.std.proofs.lemmas.Bool.{cases_eq}
+use Rattle.std.proofs.Common.{◌≡◌, ◌≢◌, ℕ, ◌+◌, ◌<◌, ◌≤◌, ◌^◌, List, [], length, get_or, set, map, Bool, true, false, ◌&&◌, ◌||◌, refl, arith, sym, ◌∙◌, ap, subst, inl, inr, ltb, eqb, eq-eqb}
+use Rattle.std.proofs.lemmas.Bool.{cases_eq, eqb-true, ltb-true, ltb-false}
+use Rattle.std.proofs.lemmas.Simd.{map-map}
 use Rattle.std.specs.List.{swap, filter}
 use Rattle.std.specs.List.Sorted.{IsPermutation}
 use Rattle.std.proofs.lemmas.List.{get_or-set_same, get_or-set_other, length-set, length-map}
@@ -13,29 +14,27 @@ use Rattle.elk_layers.specs.Crossings.{crossings, exchanged, HasSameRows}
 use Rattle.cross_reduce.specs.declared.fans.Towards.{Towards}
 use Rattle.cross_reduce.specs.declared.fans.Towards.TheVariants.{Left, Right}
 use Rattle.cross_reduce.specs.declared.fans.Far.{Far}
-use Rattle.cross_reduce.specs.Places.{ArePlaces, FitPlaces}
+use Rattle.elk_layers.specs.Places.{ArePlaces}
+use Rattle.elk_layers.proofs.PlaceLemmas.{place_at}
+use Rattle.cross_reduce.specs.Places.{FitPlaces}
 use Rattle.cross_reduce.specs.Fans.{fan_at, fan_of, near_unit, far_end, far_key, far_keys}
 use Rattle.cross_reduce.specs.Exchanges.{FitsKey, FitKeys, IsState, IsTried, crossed_above, crossed_between}
 use Rattle.cross_reduce.proofs.Sums.{one_if, double, descents_are, sum_swap}
-use Rattle.cross_reduce.proofs.ExchangeLemmas.{Moves, place_unique}
+use Rattle.cross_reduce.proofs.ExchangeLemmas.{Moves}
 use Rattle.cross_reduce.proofs.RowLemmas.{rows_permuted}
 use Rattle.cross_reduce.proofs.PairLemmas.{left_pair, right_pair, exchange_changes, moves, is_at, place_kept, is_row}
 use Rattle.cross_reduce.proofs.CrossingLemmas.{crossings_are}
 use Rattle.cross_reduce.proofs.PlaceLemmas.{map_same, links_sound, places_fit}
 
-map_map : {X Y Z : Type 0} (g : Y → Z) (f : X → Y) (xs : List X) → map g (map f xs) ≡ map (λ x. g (f x)) xs
-map_map g f [] = refl
-map_map g f (x ∷ xs) = ap (λ ys. g (f x) ∷ ys) (map_map g f xs)
-
 left_keys : (l : Plain) (rows : List (List ℕ)) (place : List ℕ) (u : ℕ) → IsSound l → ArePlaces l rows place → far_keys place (fan_of Left l.links u) ≡ map (tail_key l rows) (filter (λ k. eqb k.head u) l.links)
 left_keys l rows place u sound s =
-    map_map (far_key place) (far_end Left) (filter (λ k. eqb k.head u) l.links)
+    map-map (far_key place) (far_end Left) (filter (λ k. eqb k.head u) l.links)
     ∙ map_same (IsSoundLink l) (λ x. far_key place (far_end Left x)) (tail_key l rows) (filter (λ k. eqb k.head u) l.links)
     (All-filter (λ (k : Link). eqb k.head u) (IsSoundLink l) l.links (links_sound l sound)) (λ x k. rw (s.place_is x.tail k.tail) refl)
 
 right_keys : (l : Plain) (rows : List (List ℕ)) (place : List ℕ) (u : ℕ) → IsSound l → ArePlaces l rows place → far_keys place (fan_of Right l.links u) ≡ map (head_key l rows) (filter (λ k. eqb k.tail u) l.links)
 right_keys l rows place u sound s =
-    map_map (far_key place) (far_end Right) (filter (λ k. eqb k.tail u) l.links)
+    map-map (far_key place) (far_end Right) (filter (λ k. eqb k.tail u) l.links)
     ∙ map_same (IsSoundLink l) (λ x. far_key place (far_end Right x)) (head_key l rows) (filter (λ k. eqb k.tail u) l.links)
     (All-filter (λ (k : Link). eqb k.tail u) (IsSoundLink l) l.links (links_sound l sound)) (λ x k. rw (s.place_is x.head k.head) refl)
 
@@ -128,17 +127,14 @@ moved_not i p p' (inl a) n m = absurd (n a.0)
 moved_not i p p' (inr (inl a)) n m = absurd (m a.0)
 moved_not i p p' (inr (inr a)) n m = a.2
 
-eqb_false : (a b : ℕ) → a ≢ b → eqb a b ≡ true → ⊥
-eqb_false a b n e = grind (arith, n, e)
-
 module _ (l : Plain) (rows : List (List ℕ)) (sound : IsSound l) (are : AreRows l rows) (r i : ℕ) (hr : r < length rows) (hi : i + 1 < length (row_at rows r)) where
   stands_at : (k : ℕ) → k < length (row_at rows r) → place_of l rows (get_or (row_at rows r) k 0) ≡ k
   stands_at k h =
       let row = is_row l rows sound are r i hr hi in
-      subst (λ (g : ℕ). place_in (row_at rows g) (get_or (row_at rows r) k 0) ≡ k) (sym (row.in_layer k h)) (place_unique (row_at rows r) row.once k h)
+      subst (λ (g : ℕ). place_in (row_at rows g) (get_or (row_at rows r) k 0) ≡ k) (sym (row.in_layer k h)) (place_at (row_at rows r) row.once k h)
 
   not_at : (w k : ℕ) → w < length l.units → layer_of l w ≡ r → k < length (row_at rows r) → w ≢ get_or (row_at rows r) k 0 → place_of l rows w ≢ k
-  not_at w k hw e hk n q = eqb_false w (get_or (row_at rows r) k 0) n (is_at l rows sound are r i hr hi w k hw e hk ∙ eq-eqb (place_of l rows w) k q)
+  not_at w k hw e hk n q = n (eqb-true w (get_or (row_at rows r) k 0) (is_at l rows sound are r i hr hi w k hw e hk ∙ eq-eqb (place_of l rows w) k q))
 
   pub placed_after : (place : List ℕ) → ArePlaces l rows place → ArePlaces l (exchanged rows r i) (set (set place (get_or (row_at rows r) i 0) (i + 1)) (get_or (row_at rows r) (i + 1) 0) i)
   placed_after place s =
@@ -186,19 +182,13 @@ tried_more l a b c true false P Q R s t f = let e : crossings l c ≡ crossings 
 tried_more l a b c false true P Q R s t f = let e : crossings l b ≡ crossings l a = ap (crossings l) s.0 in omega (arith, t, e)
 tried_more l a b c false false P Q R s t f = (t.0 ∙ s.0, f s.1 (subst R s.0 t.1))
 
-less_from : (a b : ℕ) → ltb a b ≡ true → a < b
-less_from a b h = grind (arith, h)
-
-not_less_from : (a b : ℕ) → ltb a b ≡ false → b ≤ a
-not_less_from a b h = grind (arith, h)
-
 -- what the test of an exchange says
 pub try_then : (l : Plain) (rows : List (List ℕ)) (place : List ℕ) (left right : List (List Far)) (r i : ℕ) (b : Bool) → IsState l rows place left right → r < length rows → i + 1 < length (row_at rows r)
     → b ≡ ltb (crossed_between place left right (get_or (row_at rows r) (i + 1) 0) (get_or (row_at rows r) i 0)) (crossed_between place left right (get_or (row_at rows r) i 0) (get_or (row_at rows r) (i + 1) 0))
     → b ≡ true → crossings l (exchanged rows r i) < crossings l rows
 try_then l rows place left right r i b s hr hi e t =
     let law = exchange_law l rows place left right r i s hr hi in
-    let less = less_from _ _ (sym e ∙ t) in
+    let less = ltb-true _ _ (sym e ∙ t) in
     omega (arith, law, less)
 
 pub try_else : (l : Plain) (rows : List (List ℕ)) (place : List ℕ) (left right : List (List Far)) (r i : ℕ) (b : Bool) → IsState l rows place left right → r < length rows → i + 1 < length (row_at rows r)
@@ -206,12 +196,8 @@ pub try_else : (l : Plain) (rows : List (List ℕ)) (place : List ℕ) (left rig
     → b ≡ false → crossings l rows ≤ crossings l (exchanged rows r i)
 try_else l rows place left right r i b s hr hi e t =
     let law = exchange_law l rows place left right r i s hr hi in
-    let less = not_less_from _ _ (sym e ∙ t) in
+    let less = ltb-false _ _ (sym e ∙ t) in
     omega (arith, law, less)
-
-pub tried_fewer : (l : Plain) (a b : List (List ℕ)) (x : Bool) (P : Type 0) → IsTried l a b x P → crossings l b ≤ crossings l a
-tried_fewer l a b true P t = omega (arith, t)
-tried_fewer l a b false P t = let e : crossings l b ≡ crossings l a = ap (crossings l) t.0 in omega (arith, e)
 
 pub tried_same : (l : Plain) (a b : List (List ℕ)) (x : Bool) (P : List (List ℕ) → Type 0) → IsTried l a b x (P a) → x ≡ false → P b
 tried_same l a b true P t e = cc

@@ -1,41 +1,25 @@
 -- The links that one crosses stand together in the order by gap and tail key.
-use Rattle.std.proofs.Common.{◌≡◌, ◌≢◌, ℕ, ◌+◌, ◌-◌, ◌*◌, ◌<◌, ◌≤◌, List, length, get_or, take, drop, map, Bool, true, false, ◌&&◌, refl, arith, sym, ◌∙◌, ap, subst, inl, inr, ltb, eqb, eq-eqb}
-use Rattle.std.proofs.lemmas.Bool.{cases_eq, cases_lt}
+use Rattle.std.proofs.Common.{◌≡◌, ◌≢◌, ℕ, ◌+◌, ◌-◌, ◌*◌, ◌<◌, ◌≤◌, List, length, get_or, take, drop, map, Bool, false, ◌&&◌, refl, arith, sym, ◌∙◌, ap, subst, inl, inr, ltb, eqb, eq-eqb}
+use Rattle.std.proofs.lemmas.Bool.{cases_eq, cases_lt, ne_eqb, le-ltb, lt-ltb, and_right}
 use Rattle.std.specs.List.{All, count_by}
-use Rattle.std.specs.List.Sorted.{IsPermutation, IsNonDecreasingBy}
-use Rattle.std.proofs.lemmas.List.{drop_all, get_or_default, get_or-drop, get_or-take, length-drop, length-take, drop-map, take-map}
+use Rattle.std.specs.List.Sorted.{IsPermutation}
+use Rattle.std.proofs.lemmas.List.{drop_all, get_or-drop, get_or-take, length-drop, length-take, drop-map, take-map}
 use Rattle.std.proofs.lemmas.List.Elements.{All-get_or, All-from_get_or, All-map, All-weaker}
 use Rattle.std.proofs.lemmas.List.Sorted.{length_permutation, All-permutation}
 use Rattle.elk_layers.specs.Layered.{Plain, IsSound, IsSoundLink}
 use Rattle.elk_layers.specs.Crossings.{crossings}
 use Rattle.cross_reduce.specs.declared.counting.Pin.{Pin}
-use Rattle.cross_reduce.specs.Places.{ArePlaces, FitPlaces}
+use Rattle.elk_layers.specs.Places.{ArePlaces}
+use Rattle.cross_reduce.specs.Places.{FitPlaces}
 use Rattle.cross_reduce.specs.Pins.{pin_at, pin_of, pin_from, pins_of, start_of, is_under, crossed, HasSmallTail, IsBegin, EndsBelow}
-use Rattle.cross_reduce.proofs.ExchangeLemmas.{same_no}
 use Rattle.cross_reduce.proofs.CrossingLemmas.{count_drop, count_take, count_same, crossed_is, crossed_permuted}
 use Rattle.cross_reduce.proofs.PlaceLemmas.{map_same, links_sound}
 
-less_yes : (a b : ℕ) → a < b → ltb a b ≡ true
-less_yes a b h = grind (arith, h)
-
-less_no : (a b : ℕ) → b ≤ a → ltb a b ≡ false
-less_no a b h = grind (arith, h)
-
-pub less_from : (a b : ℕ) → ltb a b ≡ true → a < b
-less_from a b h = grind (arith, h)
-
-pub not_less_from : (a b : ℕ) → ltb a b ≡ false → b ≤ a
-not_less_from a b h = grind (arith, h)
-
-and_never : (g h : Bool) → (g && (false && h)) ≡ false
-and_never true h = refl
-and_never false h = refl
-
 other_gap : (b a : Pin) → b.gap ≢ a.gap → is_under b a ≡ false
-other_gap b a n = rw (same_no b.gap a.gap n) refl
+other_gap b a n = rw (ne_eqb b.gap a.gap n) refl
 
 not_above : (b a : Pin) → a.tail ≤ b.tail → is_under b a ≡ false
-not_above b a h = rw (less_no b.tail a.tail h) (and_never (eqb b.gap a.gap) (ltb a.head b.head))
+not_above b a h = rw (le-ltb b.tail a.tail h) (and_right (eqb b.gap a.gap) (false && (ltb a.head b.head)) refl)
 
 earlier : (b a : Pin) → start_of b < a.gap * 4294967296 → is_under b a ≡ false
 earlier b a h = other_gap b a (λ e. let f : b.gap * 4294967296 ≡ a.gap * 4294967296 = ap (λ g. g * 4294967296) e in omega (arith, h, f))
@@ -51,7 +35,7 @@ within : (b a : Pin) → HasSmallTail b → HasSmallTail a → a.gap * 429496729
 within b a hb ha low high =
     let same : b.gap ≡ a.gap = omega (arith, hb, ha, low, high) in
     let less : b.tail < a.tail = omega (arith, same, high) in
-    rw (eq-eqb b.gap a.gap same, less_yes b.tail a.tail less) refl
+    rw (eq-eqb b.gap a.gap same, lt-ltb b.tail a.tail less) refl
 
 pub window : (pins : List Pin) (pin : Pin) (first end : ℕ) → All HasSmallTail pins → HasSmallTail pin → end ≤ length pins
     → ((j : ℕ) → j < first → start_of (pin_at pins j) < pin.gap * 4294967296)
@@ -79,15 +63,6 @@ window pins pin first end all small bound before from below behind =
     in
     sym (one ∙ two ∙ three ∙ ap (count_by (λ x. ltb pin.head x)) (sym (take-map (λ (p : Pin). p.head) (end - first) (drop first pins)) ∙ ap (take (end - first)) (sym (drop-map (λ (p : Pin). p.head) first pins))))
 
-pub first_below_end : (pins : List Pin) (pin : Pin) (first end : ℕ) → first ≤ length pins
-    → ((j : ℕ) → j < first → start_of (pin_at pins j) < pin.gap * 4294967296)
-    → ((j : ℕ) → end ≤ j → j < length pins → start_of pin ≤ start_of (pin_at pins j)) → first ≤ end
-first_below_end pins pin first end bound before behind =
-    elim (cases_lt end first) [
-      | inl l ↦ absurd (let a = before end l in let b = behind end (omega arith) (omega (arith, l, bound)) in omega (arith, a, b))
-      | inr g ↦ g
-    ]
-
 pub pins_are : (l : Plain) (rows : List (List ℕ)) (place : List ℕ) → IsSound l → ArePlaces l rows place → map (pin_from l place) l.links ≡ pins_of l rows
 pins_are l rows place sound s =
     map_same (IsSoundLink l) (pin_from l place) (pin_of l rows) l.links (links_sound l sound) (λ x k. rw (s.place_is x.tail k.tail, s.place_is x.head k.head) refl)
@@ -108,22 +83,6 @@ few_pins l place pins sound p =
     let b = Rattle.std.proofs.lemmas.List.length-map l.links (pin_from l place) in
     omega (arith, a, b, sound.few_links)
 
--- none begins before the place 0
-pub begin_nowhere : (pins : List Pin) → IsBegin pins 0 0
-begin_nowhere pins = record { bound = omega arith; before = λ j h. absurd (omega (arith, h)); behind = λ j h l. omega arith }
-
--- where the neighbour before a pin begins before it
-pub begin_here : (pins : List Pin) (i : ℕ) (d : Pin) → IsNonDecreasingBy start_of pins → i < length pins → 1 ≤ i
-    → start_of (get_or pins (i - 1) d) < start_of (pin_at pins i) → IsBegin pins (start_of (pin_at pins i)) i
-begin_here pins i d rise h k less =
-    let e : Pin = record { gap = 0; tail = 0; head = 0 } in
-    let last : start_of (pin_at pins (i - 1)) < start_of (pin_at pins i) = subst (λ (p : Pin). start_of p < start_of (pin_at pins i)) (get_or_default pins (i - 1) d e (omega (arith, h))) less in
-    record {
-      bound = omega (arith, h);
-      before = λ j l. let up = rise j (i - 1) e (omega (arith, l)) (omega (arith, h)) in omega (arith, up, last);
-      behind = λ j l g. rise i j e l g;
-    }
-
 -- the window of a pin, by the counts of pins that begin before its gap and before it
 pub window_of : (pins : List Pin) (i gap first end : ℕ) → All HasSmallTail pins → i < length pins → gap ≡ (pin_at pins i).gap * 4294967296
     → IsBegin pins gap first → IsBegin pins (start_of (pin_at pins i)) end
@@ -133,16 +92,6 @@ window_of pins i gap first end all h same begin start =
     (subst (λ n. (j : ℕ) → j < first → start_of (pin_at pins j) < n) same begin.before)
     (subst (λ n. (j : ℕ) → first ≤ j → j < length pins → n ≤ start_of (pin_at pins j)) same begin.behind)
     start.before start.behind
-
-pub window_order : (pins : List Pin) (i gap first end : ℕ) → gap ≡ (pin_at pins i).gap * 4294967296
-    → IsBegin pins gap first → IsBegin pins (start_of (pin_at pins i)) end → first ≤ end
-window_order pins i gap first end same begin start =
-    first_below_end pins (pin_at pins i) first end begin.bound
-    (subst (λ n. (j : ℕ) → j < first → start_of (pin_at pins j) < n) same begin.before) start.behind
-
--- none of the heads was met yet
-pub ends_nowhere : (heads : List ℕ) (first top : ℕ) → EndsBelow heads first first top
-ends_nowhere heads first top = λ j low high. absurd (omega (arith, low, high))
 
 -- one more head
 pub ends_more : (heads : List ℕ) (first i top top' : ℕ) → top ≤ top' → get_or heads i 0 ≤ top' → EndsBelow heads first i top → EndsBelow heads first (i + 1) top'
@@ -177,7 +126,7 @@ ends_all heads first end i top short bound so =
 
 pub count_none : (xs : List ℕ) (key top : ℕ) → top ≤ key → All (λ h. h ≤ top) xs → 0 ≡ count_by (λ x. ltb key x) xs
 count_none xs key top low all =
-    sym (count_drop (λ x. ltb key x) 0 (length xs) xs (λ j less l. less_no key (get_or xs j 0) (let h = All-get_or (λ h. h ≤ top) xs j 0 l all in omega (arith, h, low)))
+    sym (count_drop (λ x. ltb key x) 0 (length xs) xs (λ j less l. le-ltb key (get_or xs j 0) (let h = All-get_or (λ h. h ≤ top) xs j 0 l all in omega (arith, h, low)))
     ∙ ap (count_by (λ x. ltb key x)) (drop_all (length xs) xs (omega arith)))
 
 -- no link begins before itself

@@ -6,7 +6,7 @@ use Rattle.elk_layers.specs.Layered.{Plain, IsSound, AreRows, row_at}
 use Rattle.elk_layers.specs.Crossings.{crossings, exchanged}
 use Rattle.cross_reduce.specs.declared.fans.Far.{Far}
 use Rattle.cross_reduce.specs.declared.fans.Towards.TheVariants.{Left, Right}
-use Rattle.cross_reduce.specs.Places.{ArePlaces}
+use Rattle.elk_layers.specs.Places.{ArePlaces}
 use Rattle.cross_reduce.specs.Fans.{AreFans, fan_at, far_keys, descents}
 
 -- the far ends have keys of 32 bits

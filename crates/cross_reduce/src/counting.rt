@@ -4,11 +4,11 @@ ghost use Rattle.std.specs.List.{All};
 ghost use Rattle.std.specs.List.Sorted.{IsNonDecreasingBy, IsPermutation};
 ghost use Rattle.elk_layers.specs.Layered.{plain, rows_of, IsSound, IsSoundLink, AreRows};
 ghost use Rattle.elk_layers.specs.Crossings as spec;
-ghost use Rattle.cross_reduce.specs.Places.{ArePlaces, FitPlaces};
+ghost use Rattle.elk_layers.specs.Places.{ArePlaces};
+ghost use Rattle.cross_reduce.specs.Places.{FitPlaces};
 ghost use Rattle.cross_reduce.specs.Pins.{pin_of, pin_at, start_of, is_under, crossed, pin_from, HasSmallTail, IsBegin, EndsBelow};
 
-use crate::places::places;
-use elk_layers::{Layered, Link, Order};
+use elk_layers::{Layered, Link, Order, places};
 use lane_count::count_above;
 use std::alloc::{AllocError, Global};
 

@@ -11,10 +11,9 @@ ghost use Rattle.cross_reduce.specs.Fans as fan;
 ghost use Rattle.cross_reduce.specs.Exchanges.{FitsKey, FitKeys, IsState, IsTried, IsNoBetter, NoneInRow, KeepsOthers, AreSettled, crossed_above, crossed_between};
 
 use crate::fans::{Fans, Far, Towards};
-use crate::places::places;
 use crate::settling::note_row;
 use crate::sweeping::fans_for;
-use elk_layers::{Layered, Order};
+use elk_layers::{Layered, Order, places};
 use lane_count::count_above;
 use std::alloc::{AllocError, Global};
 
@@ -353,7 +352,6 @@ pub(crate) fn exchanged_by(
     requires left { AreFans Left (plain layered.now).links (length (plain layered.now).units) (fan_lists left) }
     requires right { AreFans Right (plain layered.now).links (length (plain layered.now).units) (fan_lists right) }
     ensures same { IfOk result (λ o. HasSameRows (rows_of order) (rows_of o)) }
-    ensures fewer { IfOk result (λ o. crossing.crossings (plain layered.now) (rows_of o) ≤ crossing.crossings (plain layered.now) (rows_of order)) }
     ensures settled { IfOk result (λ o. NoBetterSwap (plain layered.now) (rows_of o)) }
     ensures lowered { IfOk result (λ o. LowersTo (plain layered.now) (rows_of order) (rows_of o)) }
 {
@@ -371,7 +369,6 @@ pub(crate) fn exchanged(alloc: Global, layered: &Layered, order: Order) -> Resul
     requires sound { IsSound (plain layered.now) }
     requires rows { AreRows (plain layered.now) (rows_of order) }
     ensures same { IfOk result (λ o. HasSameRows (rows_of order) (rows_of o)) }
-    ensures fewer { IfOk result (λ o. crossing.crossings (plain layered.now) (rows_of o) ≤ crossing.crossings (plain layered.now) (rows_of order)) }
     ensures settled { IfOk result (λ o. NoBetterSwap (plain layered.now) (rows_of o)) }
     ensures lowered { IfOk result (λ o. LowersTo (plain layered.now) (rows_of order) (rows_of o)) }
 {

@@ -1,11 +1,7 @@
-//! The places of units in their rows.
-ghost use Rattle.std.specs.Prelude.{◌≡◌, ◌<◌, ◌^◌, ◌≤◌, length, IfOk};
+//! The places of a row's units.
+ghost use Rattle.std.specs.Prelude.{◌<◌, ◌^◌, ◌≤◌, length};
 ghost use Rattle.std.specs.List.{All};
-ghost use Rattle.elk_layers.specs.Layered.{plain, rows_of, IsSound, AreRows};
-ghost use Rattle.cross_reduce.specs.Places.{IsOnce, NotesFirst, ArePlaces};
-
-use elk_layers::{Layered, Order};
-use std::alloc::{AllocError, Global};
+ghost use Rattle.elk_layers.specs.Places.{IsOnce, NotesFirst};
 
 /// Notes the place of each unit of the row.
 pub(crate) fn note_places(place: &mut [u32], row: &[u32])
@@ -16,32 +12,5 @@ pub(crate) fn note_places(place: &mut [u32], row: &[u32])
 {
     for (i, unit) in row.iter().enumerate() {
         place[*unit as usize] = i as u32;
-    }
-}
-
-/// The place of each unit in its row.
-pub(crate) fn places(
-    alloc: Global,
-    layered: &Layered,
-    order: &Order,
-) -> Result<Vec<u32>, AllocError>
-    requires sound { IsSound (plain layered.now) }
-    requires rows { AreRows (plain layered.now) (rows_of order.now) }
-    ensures { IfOk result (λ v. ArePlaces (plain layered.now) (rows_of order.now) v.items) }
-{
-    let mut place: Vec<u32> = vec![in alloc; 0; layered.units.len()]?;
-    note_rows(layered, order, place.as_mut_slice());
-    Ok(place)
-}
-
-/// Notes the places of the units of all rows.
-fn note_rows(layered: &Layered, order: &Order, place: &mut [u32])
-    requires sound { IsSound (plain layered.now) }
-    requires rows { AreRows (plain layered.now) (rows_of order.now) }
-    requires as_long { length place.old ≡ length (plain layered.now).units }
-    ensures { ArePlaces (plain layered.now) (rows_of order.now) place.new }
-{
-    for row in order.rows.iter() {
-        note_places(place, row.as_slice());
     }
 }

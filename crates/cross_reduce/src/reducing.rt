@@ -55,8 +55,6 @@ pub(crate) fn fewer(
     ensures rows { IfOk result (λ k. AreRows (plain layered.now) (rows_of k.order)) }
     ensures first { IfOk result (λ k. (orders : List (List (List ℕ))) → IsFirstOfFewest (plain layered.now) orders (rows_of kept.order) → IsFirstOfFewest (plain layered.now) (orders ++ rows_of new ∷ []) (rows_of k.order)) }
     ensures either { IfOk result (λ k. (rows_of k.order ≡ rows_of kept.order) ⊎ (spec.crossings (plain layered.now) (rows_of k.order) < spec.crossings (plain layered.now) (rows_of kept.order))) }
-    ensures at_most_kept { IfOk result (λ k. spec.crossings (plain layered.now) (rows_of k.order) ≤ spec.crossings (plain layered.now) (rows_of kept.order)) }
-    ensures at_most_new { IfOk result (λ k. spec.crossings (plain layered.now) (rows_of k.order) ≤ spec.crossings (plain layered.now) (rows_of new)) }
     ensures same { IfOk result (λ k. (start : List (List ℕ)) → HasSameRows start (rows_of kept.order) → HasSameRows start (rows_of new) → HasSameRows start (rows_of k.order)) }
 {
     let new = with_count(alloc, layered, new)?;
@@ -106,8 +104,6 @@ fn best_sweep(
     requires counted { start.crossings ≡ spec.crossings (plain layered.now) (rows_of start.order) }
     ensures same_rows { IfOk result (λ o. HasSameRows (rows_of start.order) (rows_of o)) }
     ensures first { IfOk result (λ o. IsFirstOfFewest (plain layered.now) (rows_of start.order ∷ sweep_orders (plain layered.now) (rows_of start.order)) (rows_of o)) }
-    ensures no_more { IfOk result (λ o. spec.crossings (plain layered.now) (rows_of o) ≤ spec.crossings (plain layered.now) (rows_of start.order)) }
-    ensures sweeps { IfOk result (λ o. All (λ swept. spec.crossings (plain layered.now) (rows_of o) ≤ spec.crossings (plain layered.now) swept) (sweep_orders (plain layered.now) (rows_of start.order))) }
 {
     let (one, two) = two_sweeps(alloc, layered, &start.order, left, right)?;
     let (three, four) = two_sweeps(alloc, layered, &two, left, right)?;

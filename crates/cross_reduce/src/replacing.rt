@@ -3,7 +3,7 @@ ghost use Rattle.std.specs.Prelude.{◌≡◌, ◌<◌, ◌+◌, ◌≤◌, ◌^
 ghost use Rattle.std.specs.List.{All};
 ghost use Rattle.std.specs.List.Sorted.{IsPermutation};
 ghost use Rattle.elk_layers.specs.Layered.{plain, rows_of, row_at};
-ghost use Rattle.cross_reduce.specs.Places.{IsOnce, NotesFirst};
+ghost use Rattle.elk_layers.specs.Places.{IsOnce, NotesFirst};
 ghost use Rattle.cross_reduce.specs.Candidates.{IsCandidate, IsReordered};
 
 use crate::exchanging::{State, exchange};

@@ -1,7 +1,7 @@
 -- Links between lanes that don't cross are chosen by every sweep.
 use Rattle.std.proofs.Common.{◌≡◌, ◌≢◌, ℕ, zero, suc, ◌+◌, ◌-◌, ◌*◌, ◌<◌, ◌≤◌, ◌==◌, ◌&&◌, ◌||◌, cond, not, nat_lt, nat_le, List, [], ◌∷◌, ◌++◌, length, map, drop, reverse, get_or, Bool, true, false, arith, refl, sym, ◌∙◌, ap, subst, inl, inr, ◌⊎◌, eq-eqb, ne_eqb, lt-ltb, ltb-true}
 use Rattle.std.specs.List.{filter, list_all, list_any, concat, range_with_len}
-use Rattle.std.proofs.lemmas.Bool.{cases_eq, cases_lt, cases_Bool, and_parts}
+use Rattle.std.proofs.lemmas.Bool.{cases_eq, cases_lt, cases_Bool, and_parts, and_from}
 use Rattle.std.proofs.lemmas.List.{get_or-reverse, length-reverse, get_or-drop, length-drop, length-append, append-nil, get_or_append_left, get_or-append_right}
 use Rattle.elk_layers.specs.declared.units.Link.{Link}
 use Rattle.elk_doc.specs.declared.document.Sweep.{Sweep}
@@ -17,9 +17,6 @@ use Rattle.row_alignment.specs.Lanes.{HaveOneLink, LanesKeepOrder, Holds}
 use Rattle.row_alignment.proofs.StraightLemmas.{first_cases, occurs_medians, ComesAfter, IsVisitOrder, IsChosenSoFar, of_unit, same_near, chosen_more, chosen_same, visits_in_order, apart_from}
 
 -- truth values
-
-both_true : (a b : Bool) → a ≡ true → b ≡ true → (a && b) ≡ true
-both_true a b p q = rw (p, q) refl
 
 or_true : (a : Bool) → (a || true) ≡ true
 or_true true = refl
@@ -39,7 +36,7 @@ clash f t = true_false (sym t ∙ f)
 
 all_from : (test : ℕ → Bool) (xs : List ℕ) → ((i : ℕ) → i < length xs → test (get_or xs i 0) ≡ true) → list_all test xs ≡ true
 all_from test [] h = refl
-all_from test (x ∷ xs) h = both_true (test x) (list_all test xs) (h 0 (omega arith)) (all_from test xs (λ i k. h (suc i) (omega (arith, k))))
+all_from test (x ∷ xs) h = and_from (test x) (list_all test xs) (h 0 (omega arith)) (all_from test xs (λ i k. h (suc i) (omega (arith, k))))
 
 any_from : {X : Type 0} (test : X → Bool) (d : X) (xs : List X) (i : ℕ) → i < length xs → test (get_or xs i d) ≡ true → list_any test xs ≡ true
 any_from test d [] i h t = absurd (omega (arith, h))
@@ -196,8 +193,8 @@ module _ (l : Plain) (rows : List (List ℕ)) (sweep : Sweep) (sound : IsSound l
     | inl t ↦ clash (order j k hj hk t inner) x
     | inr f ↦
         let test : Link → Bool = λ other. is_inner l other && cross l rows (link j) other in
-        let any : list_any test l.links ≡ true = any_from test _ l.links k hk (both_true (is_inner l (link k)) (cross l rows (link j) (link k)) inner x) in
-        clash un (both_true (not (is_inner l (link j))) (list_any test l.links) (rw f refl) any)
+        let any : list_any test l.links ≡ true = any_from test _ l.links k hk (and_from (is_inner l (link k)) (cross l rows (link j) (link k)) inner x) in
+        clash un (and_from (not (is_inner l (link j))) (list_any test l.links) (rw f refl) any)
   ]
 
   -- a link between lanes is free when its near end is visited
@@ -205,7 +202,7 @@ module _ (l : Plain) (rows : List (List ℕ)) (sweep : Sweep) (sound : IsSound l
       → ComesAfter l rows sweep sound are done (near_end sweep (link k)) → IsChosenSoFar l rows sweep sound are done chosen → Unmarked chosen
       → is_free l rows sweep chosen k ≡ true
   lane_is_free done chosen k hk inner after so un =
-      both_true (not (is_marked l rows (link k))) (list_all (apart_from l rows sweep sound are (link k)) chosen)
+      and_from (not (is_marked l rows (link k))) (list_all (apart_from l rows sweep sound are (link k)) chosen)
       (unmarked (is_inner l (link k)) _ inner)
       (all_from (apart_from l rows sweep sound are (link k)) chosen (λ i h. apart i h))
     where
@@ -242,7 +239,7 @@ module _ (l : Plain) (rows : List (List ℕ)) (sweep : Sweep) (sound : IsSound l
 
       apart : (i : ℕ) → i < length chosen → apart_from l rows sweep sound are (link k) (number i) ≡ true
       apart i h =
-          both_true (not (far_end sweep (link (number i)) == far_end sweep (link k))) _
+          and_from (not (far_end sweep (link (number i)) == far_end sweep (link k))) _
           (rw (ne_eqb (far_end sweep (link (number i))) (far_end sweep (link k)) (other_far i h)) refl)
           (elim (cases_eq (gap_of l (link (number i))) (gap_of l (link k))) [
             | inl e ↦ rw (is_past i h e) (or_true _)

@@ -59,12 +59,6 @@ less_mirrored a b ha hb = elim (cases_lt b a) [
   | inr g ↦ le-ltb (2 ^ 100 - a) (2 ^ 100 - b) (omega (arith, g, hb)) ∙ sym (le-ltb b a g)
 ]
 
-and_turned : (a b : Bool) → (a && b) ≡ (b && a)
-and_turned true true = refl
-and_turned true false = refl
-and_turned false true = refl
-and_turned false false = refl
-
 -- seen from the other side, what overtook is overtaken
 overtakes_mirrored : (a b : Pin) → IsLow a → IsLow b → overtakes (mirrored a) (mirrored b) ≡ overtakes b a
 overtakes_mirrored a b ha hb =

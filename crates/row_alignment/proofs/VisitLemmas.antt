@@ -69,9 +69,6 @@ rows_next s rows i at left row now next low h e f is so more =
     (more ∙ ap (λ xs. xs ++ visited_row s row) so ∙ ap (λ xs. concat (map (visited_row s) (take (i - 1) (rows_in_order s rows))) ++ visited_row s xs) here
     ∙ ap (λ xs. concat (map (visited_row s) (take (i - 1) (rows_in_order s rows))) ++ xs) (sym (append-nil (visited_row s (row_at (rows_in_order s rows) (i - 1))))))
 
-visits_are : (s : Sweep) (rows : List (List ℕ)) → concat (map (visited_row s) (rows_in_order s rows)) ≡ visits s rows
-visits_are s rows = refl
-
 pub rows_whole : (s : Sweep) (rows : List (List ℕ)) (i : ℕ) (now : List ℕ) → length rows ≤ i → now ≡ concat (map (visited_row s) (take (i - 1) (rows_in_order s rows))) → now ≡ visits s rows
 rows_whole s rows i now h so =
     let long = order_long s rows in

@@ -1,6 +1,5 @@
 -- Units are joined one after the other, from left to right.
 use Rattle.std.proofs.Common.{◌≡◌, ◌≢◌, ℕ, ◌<◌, ◌≤◌, ◌+◌, ℤ, pos, ◌+ℤ◌, ◌-ℤ◌, ◌≤ℤ◌, List, length, get_or, set, arith, refl, sym, ◌∙◌, ap, subst, inl, inr, Option, Some, None, length-set, get_or-set_same, get_or-set_other, IfSome}
-use Rattle.std.specs.List.{All}
 use Rattle.std.proofs.lemmas.Int.{ints}
 use Rattle.std.proofs.lemmas.Bool.{cases_eq}
 use Rattle.std.proofs.lemmas.List.Elements.{All-set, All-get_or}
@@ -35,9 +34,6 @@ module _ (l : Plain) (rows : List (List ℕ)) (into : List (Option ℕ)) (sound 
 
     unit_layer : layer_of l unit ≡ r
     unit_layer = are.in_layer r hr i hi
-
-    unit_place : place_of l rows unit ≡ i
-    unit_place = ap (λ g. place_in (row_at rows g) unit) unit_layer ∙ place_at (row_at rows r) (are.once r hr) i hi
 
     pub can_follow : IfSome (get_or into unit None) (λ k. CanFollow l offsets k)
     can_follow = by_entry (get_or into unit None) refl
@@ -174,20 +170,6 @@ module _ (l : Plain) (rows : List (List ℕ)) (into : List (Option ℕ)) (sound 
             let here : place_of l rows u ≡ has.place = ap (λ g. place_in (row_at rows g) u) e ∙ at in
             inr (e, omega (arith, here, within, long))
       ]
-
-  pub join_start : (names : List ℕ) (offsets : List ℤ) → length names ≡ length l.units → length offsets ≡ length l.units → All (λ n. n < length l.units) names → AreJoinedUpTo l rows into 0 0 names offsets
-  join_start names offsets a b all =
-      record {
-        names_long = a;
-        offsets_long = b;
-        in_range = all;
-        joined = λ u hu c. absurd (nothing u c);
-        near = λ u hu c. absurd (nothing u c);
-      }
-    where
-      nothing : (u : ℕ) → ComesBefore l rows 0 0 u → ⊥
-      nothing u (inl k) = omega (arith, k)
-      nothing u (inr k) = let q = k.1 in omega (arith, q)
 
   pub join_end : (r : ℕ) (names : List ℕ) (offsets : List ℤ) → length rows ≤ r → AreJoinedUpTo l rows into r 0 names offsets → AreAllJoined l into names offsets
   join_end r names offsets h so =

@@ -1,21 +1,19 @@
-use Rattle.std.proofs.Common.{arith, rules, subst, sym}
+use Rattle.std.proofs.Common.{rules, subst, sym}
 use Rattle.elk_layers.specs.Layered.{plain, rows_of}
 use Rattle.elk_layers.specs.Crossings.{NoBetterSwap}
 use Rattle.cross_reduce.specs.Reduced.{LowersTo, stay}
 use Rattle.cross_reduce.proofs.LoweringLemmas.{lowers_join}
-use Rattle.cross_reduce.proofs.StateLemmas.{same_refl, same_trans, tried_fewer, tried_same}
+use Rattle.cross_reduce.proofs.StateLemmas.{same_refl, same_trans, tried_same}
 use Rattle.cross_reduce.proofs.SettledLemmas.{settled_start}
 use Rattle.cross_reduce.proofs.exchanging.exchanged_by.Goals as goal
 
 pub loop-changed-preserved : goal.loop-changed-preserved
 loop-changed-preserved c =
-    let fewer = tried_fewer (plain c.args.layered.now) (rows_of c.loop-changed.state.order) (rows_of c.try_rows.new.state.order) c.in_ok-changed.changed (NoBetterSwap (plain c.args.layered.now) (rows_of c.loop-changed.state.order)) c.in_ok-changed.ensures.tried in
     record {
       state = c.in_ok-changed.ensures.state;
       flags = c.in_ok-changed.ensures.settled;
       same = same_trans (rows_of c.in_ok-state.state.order) (rows_of c.loop-changed.state.order) (rows_of c.try_rows.new.state.order) c.loop-changed.invariant.same c.in_ok-changed.ensures.same;
       lowered = lowers_join (plain c.args.layered.now) (rows_of c.in_ok-state.state.order) (rows_of c.loop-changed.state.order) (rows_of c.try_rows.new.state.order) c.loop-changed.invariant.lowered c.in_ok-changed.ensures.lowered;
-      fewer = omega (arith, fewer, c.loop-changed.invariant.fewer);
       settled = tried_same (plain c.args.layered.now) (rows_of c.loop-changed.state.order) (rows_of c.try_rows.new.state.order) c.in_ok-changed.changed (λ rows. NoBetterSwap (plain c.args.layered.now) rows) c.in_ok-changed.ensures.tried;
     }
 
@@ -30,6 +28,5 @@ loop-changed-init c =
           (settled_start (plain c.args.layered.now) (rows_of c.in_ok-state.state.order) _ (sym c.in_ok-state.ensures.state.are_rows.as_many));
       same = same_refl (rows_of c.in_ok-state.state.order);
       lowered = stay (rows_of c.in_ok-state.state.order);
-      fewer = omega arith;
       settled = λ e. absurd cc;
     }

@@ -1,4 +1,4 @@
-use Rattle.std.proofs.Common.{◌≡◌, ◌≤◌, ◌+◌, ◌*◌, false}
+use Rattle.std.proofs.Common.{◌≡◌, ◌+◌, ◌*◌, false}
 use Rattle.elk_layers.specs.Layered.{plain, rows_of}
 use Rattle.elk_layers.specs.Crossings.{HasSameRows, NoBetterSwap, crossings}
 use Rattle.cross_reduce.specs.Fans.{fan_lists}
@@ -14,7 +14,6 @@ invariant-loop-changed l =
       flags : AreSettled (plain l.layered) (rows_of l.state.order) l.settled.items;
       same : HasSameRows (rows_of l.initial.state.order) (rows_of l.state.order);
       lowered : LowersTo (plain l.layered) (rows_of l.initial.state.order) (rows_of l.state.order);
-      fewer : crossings (plain l.layered) (rows_of l.state.order) ≤ crossings (plain l.layered) (rows_of l.initial.state.order);
       settled : l.changed ≡ false → NoBetterSwap (plain l.layered) (rows_of l.state.order);
     }
 

@@ -1,4 +1,4 @@
-use Rattle.cross_reduce.proofs.PlaceLemmas.{notes_start, notes_more}
+use Rattle.elk_layers.proofs.RowLemmas.{notes_start, notes_more}
 use Rattle.cross_reduce.proofs.places.note_places.Goals as goal
 
 pub loop-i-init : goal.loop-i-init

@@ -1,4 +1,4 @@
-use Rattle.cross_reduce.specs.Places.{NotesFirst}
+use Rattle.elk_layers.specs.Places.{NotesFirst}
 use Rattle.cross_reduce.proofs.places.note_places.Given as goal
 
 abbrev pub invariant-loop-i : goal.invariant-loop-i

@@ -6,3 +6,6 @@ state_of-requires-clause-rows c = rw c.in_ok-copy.ensures c.requires.rows
 
 pub returns-clause-order : goal.returns-clause-order
 returns-clause-order c = c.in_ok-state.ensures.order ∙ c.in_ok-copy.ensures
+
+pub returns-clause-candidate : goal.returns-clause-candidate
+returns-clause-candidate c = c.in_ok-state.ensures.state
