@@ -1,5 +1,5 @@
 -- Rows that are filled box by box are the rows that the definition asks for, and the only ones.
-use Rattle.std.proofs.Common.{◌≡◌, ◌⊎◌, ⊎_elim, inl, inr, refl, sym, ap, subst, ◌∙◌, ℕ, zero, suc, ◌+◌, ◌<◌, ◌≤◌, Bool, true, false, List, length, ℤ, pos, ◌+ℤ◌, ◌≤ℤ◌, ◌<ℤ◌, arith}
+use Rattle.std.proofs.Common.{◌≡◌, ◌⊎◌, ⊎_elim, refl, sym, ap, subst, ◌∙◌, ℕ, zero, suc, ◌+◌, ◌<◌, ◌≤◌, Bool, true, false, List, length, ℤ, pos, ◌+ℤ◌, ◌≤ℤ◌, ◌<ℤ◌, arith}
 use Rattle.std.specs.Prelude.{int_lt}
 use Rattle.std.specs.Int.{int_max}
 use Rattle.std.proofs.lemmas.Int.{ints, clamps, by_lt_z}
@@ -12,6 +12,7 @@ use Rattle.box_pack.specs.Boxes.{size_at, point_at, right_of, bottom_of, reach_b
 use Rattle.box_pack.specs.Walk.{reach, overflows, below, row_or, row_for, before, spot, greatest_of, spot_right, spot_bottom, measured_to, long_at, strip_of, AreSpots, IsNear, IsStrip}
 use Rattle.box_pack.specs.Packed.{AreRows}
 use Rattle.box_pack.proofs.Filling.{near_row, near_before, same_point, lt_yes, lt_no}
+use Rattle.elk_doc.proofs.NumberLaws.{bool_cases}
 
 -- a row with a box in it is not empty
 started : (sizes : List Size) (r : Strip) → IsStrip r → EachSize sizes → (i : ℕ) → i < length sizes → pos 0 <ℤ (before sizes r (suc i)).x
@@ -130,15 +131,11 @@ tall_under sizes r i under tall =
           (cases_lt k (suc i));
     }
 
-tests_two : (b : Bool) → (b ≡ true) ⊎ (b ≡ false)
-tests_two true = inl refl
-tests_two false = inr refl
-
 tallest : (sizes : List Size) (r : Strip) → IsStrip r → EachSize sizes → (i : ℕ) → i < length sizes → IsTall sizes r i (before sizes r (suc i)).tall
 tallest sizes r strip are zero h = tall_first sizes r are h
 tallest sizes r strip are (suc i) h =
     ⊎_elim (λ over. tall_over sizes r strip are (suc i) h over) (λ under. tall_under sizes r i under (tallest sizes r strip are i (omega arith)))
-    (tests_two (overflows r (before sizes r (suc i)) (size_at sizes (suc i))))
+    (bool_cases (overflows r (before sizes r (suc i)) (size_at sizes (suc i))))
 
 -- boxes at these spots
 y_at : (sizes : List Size) (r : Strip) (at : List Point) (n i : ℕ) → AreSpots sizes r n at → i < n → (point_at at i).y ≡ (spot sizes r i).y

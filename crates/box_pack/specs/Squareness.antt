@@ -2,7 +2,6 @@
 use Rattle.std.specs.Prelude.{ℕ, List, ℤ, pos, ◌≤ℤ◌, ◌<ℤ◌}
 use Rattle.elk_doc.specs.declared.shape.Point.{Point}
 use Rattle.elk_doc.specs.declared.shape.Size.{Size}
-use Rattle.box_pack.specs.declared.packing.Rows.{Rows}
 use Rattle.box_pack.specs.declared.squarest.Squarest.{Squarest}
 use Rattle.box_pack.specs.Boxes.{IsPacked, HasExtent, long_side}
 use Rattle.box_pack.specs.Packed.{AreRows}

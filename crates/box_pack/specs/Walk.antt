@@ -6,7 +6,7 @@ use Rattle.elk_doc.specs.declared.shape.Size.{Size}
 use Rattle.box_pack.specs.declared.walk.Cursor.{Cursor}
 use Rattle.box_pack.specs.declared.walk.Strip.{Strip}
 use Rattle.box_pack.specs.declared.walk.Measured.{Measured}
-use Rattle.box_pack.specs.Boxes.{size_at, point_at, long_side, IsSize}
+use Rattle.box_pack.specs.Boxes.{size_at, point_at, long_side}
 
 -- how far a box would reach in the row; a row that is empty takes any box
 abbrev pub reach : Cursor → Size → ℤ

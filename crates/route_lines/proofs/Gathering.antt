@@ -1,7 +1,7 @@
 -- The points of a trace, as they are gathered.
 use Rattle.std.proofs.Common.{◌≡◌, List, [], ◌∷◌, ◌++◌, map, sym, ap, ◌∙◌, subst, ℕ, ◌+◌, ◌<◌, length, get_or, drop, Bool, true, false, ℤ, pos, arith}
 use Rattle.std.specs.List.{All}
-use Rattle.std.proofs.lemmas.List.{get_or-append-add, get_or_append_left, get_or-map, length-append, append_assoc, drop_more}
+use Rattle.std.proofs.lemmas.List.{get_or-append-add, get_or_append_left, get_or-map, length-append, drop_more}
 use Rattle.elk_doc.specs.declared.shape.Point.{Point}
 use Rattle.elk_doc.specs.Fits.{IsNear}
 use Rattle.route_slots.specs.declared.NetRoute.{NetRoute}
@@ -57,19 +57,6 @@ pub record IsTidiedBehind (whole ahead path : List Point) : Type 0 where
   pub split : whole ≡ ahead ++ rest
   pub tidied : IsTidied rest path
 
-pub taken_behind : (whole ahead less path next : List Point) (p : Point) → IsTidiedBehind whole ahead path → ahead ≡ less ++ p ∷ []
-    → ((ps : List Point) → IsTidied ps path → IsTidied (p ∷ ps) next) → IsTidiedBehind whole less next
-taken_behind whole ahead less path next p t e f =
-    record {
-      rest = p ∷ t.rest;
-      split = t.split ∙ ap (λ z. z ++ t.rest) e ∙ append_assoc less (p ∷ []) t.rest;
-      tidied = f t.rest t.tidied;
-    }
-
 pub all_behind : (whole path : List Point) (ahead : List Point) (p : Point) → whole ≡ ahead ++ p ∷ [] → path ≡ p ∷ [] → IsTidiedBehind whole ahead path
 all_behind whole path ahead p e f =
     record { rest = p ∷ []; split = e; tidied = subst (λ z. IsTidied (p ∷ []) z) (sym f) (one_tidied p) }
-
-pub none_ahead : (whole ahead path : List Point) → IsTidiedBehind whole ahead path → ahead ≡ [] → IsTidied whole path
-none_ahead whole ahead path t e =
-    subst (λ z. IsTidied z path) (sym (t.split ∙ ap (λ z. z ++ t.rest) e)) t.tidied

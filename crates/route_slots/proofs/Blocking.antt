@@ -1,6 +1,6 @@
 -- Nets that hold others back from an exchange.
 use Rattle.std.proofs.Common.{◌≡◌, ◌≢◌, ◌∙◌, ◌⊎◌, ⊎_elim, inl, inr, ℕ, ◌+◌, Bool, true, false, ◌&&◌, ◌||◌, List, refl, sym, ap, subst, if◌then◌else◌}
-use Rattle.std.proofs.lemmas.Bool.{cases_eq, eqb-true, ne_eqb, eq-eqb}
+use Rattle.std.proofs.lemmas.Bool.{cases_eq, eqb-true, ne_eqb, eq-eqb, and_parts, and_from, or_cases, or_left, or_right}
 use Rattle.std.proofs.lemmas.Bool.Decides.{Decides-int_eq}
 use Rattle.std.specs.Ordering.{int_eq}
 use Rattle.route_slots.specs.declared.Pin.{Pin}
@@ -10,26 +10,6 @@ use Rattle.route_slots.specs.declared.NetRoute.TheVariants.{Straight, One, Two}
 use Rattle.route_slots.specs.Pieces.{net_at, route_at}
 use Rattle.route_slots.specs.Standing.{StandsAt}
 use Rattle.route_slots.specs.Exchanges.{Blocks, at_a, at_b, meets, meets_in, blocks, holds_back}
-
-both : (a b : Bool) → (a && b) ≡ true → (a ≡ true) × (b ≡ true)
-both true b e = (refl, e)
-both false b e = absurd (let bad : false ≡ true = e in cc)
-
-either : (a b : Bool) → (a || b) ≡ true → (a ≡ true) ⊎ (b ≡ true)
-either true b e = inl refl
-either false b e = inr e
-
-and_true : (a b : Bool) → a ≡ true → b ≡ true → (a && b) ≡ true
-and_true true b e f = f
-and_true false b e f = absurd (let bad : false ≡ true = e in cc)
-
-or_left : (a b : Bool) → a ≡ true → (a || b) ≡ true
-or_left true b e = refl
-or_left false b e = absurd (let bad : false ≡ true = e in cc)
-
-or_right : (a b : Bool) → b ≡ true → (a || b) ≡ true
-or_right true b e = refl
-or_right false b e = e
 
 abbrev Meet : Pin → Pin → Type 0
 Meet p q = (p.on_left ≡ true) × (q.on_left ≡ false) × (p.height ≡ q.height)
@@ -75,25 +55,25 @@ meet_in : (p : Pin) (n : Net) (q : NetRoute) (t : ℕ) → meets_in p n q t ≡ 
 unfolding meets_in
 meet_in p n q t e =
     ⊎_elim
-    (λ x. let w = both (at_a q t) (meets p n.a) x in (n.a, stands_a n q t w.0, meet p n.a w.1))
-    (λ x. let w = both (at_b q t) (meets p n.b) x in (n.b, stands_b n q t w.0, meet p n.b w.1))
-    (either (at_a q t && meets p n.a) (at_b q t && meets p n.b) e)
+    (λ x. let w = and_parts (at_a q t) (meets p n.a) x in (n.a, stands_a n q t w.0, meet p n.a w.1))
+    (λ x. let w = and_parts (at_b q t) (meets p n.b) x in (n.b, stands_b n q t w.0, meet p n.b w.1))
+    (or_cases (at_a q t && meets p n.a) (at_b q t && meets p n.b) e)
 
 meet_in_back : (p : Pin) (n : Net) (q : NetRoute) (t : ℕ) (r : Pin) → StandsAt n q r t → Meet p r → meets_in p n q t ≡ true
 unfolding meets_in
 meet_in_back p n q t r x m =
     ⊎_elim
-    (λ (w : (n.a ≡ r) × (at_a q t ≡ true)). or_left (at_a q t && meets p n.a) (at_b q t && meets p n.b) (and_true (at_a q t) (meets p n.a) w.1 (subst (λ z. meets p z ≡ true) (sym w.0) (meet_back p r m))))
-    (λ (w : (n.b ≡ r) × (at_b q t ≡ true)). or_right (at_a q t && meets p n.a) (at_b q t && meets p n.b) (and_true (at_b q t) (meets p n.b) w.1 (subst (λ z. meets p z ≡ true) (sym w.0) (meet_back p r m))))
+    (λ (w : (n.a ≡ r) × (at_a q t ≡ true)). or_left (at_a q t && meets p n.a) (at_b q t && meets p n.b) (and_from (at_a q t) (meets p n.a) w.1 (subst (λ z. meets p z ≡ true) (sym w.0) (meet_back p r m))))
+    (λ (w : (n.b ≡ r) × (at_b q t ≡ true)). or_right (at_a q t && meets p n.a) (at_b q t && meets p n.b) (and_from (at_b q t) (meets p n.b) w.1 (subst (λ z. meets p z ≡ true) (sym w.0) (meet_back p r m))))
     (which n q r t x)
 
 block : (m : Net) (r : NetRoute) (n : Net) (q : NetRoute) (s : ℕ) → blocks m r n q s ≡ true → Blocks m r n q s
 unfolding blocks
 block m r n q s e =
     ⊎_elim
-    (λ x. let w = both (at_a r s) (meets_in m.a n q (s + 1)) x in from m.a (stands_a m r s w.0) (meet_in m.a n q (s + 1) w.1))
-    (λ x. let w = both (at_b r s) (meets_in m.b n q (s + 1)) x in from m.b (stands_b m r s w.0) (meet_in m.b n q (s + 1) w.1))
-    (either (at_a r s && meets_in m.a n q (s + 1)) (at_b r s && meets_in m.b n q (s + 1)) e)
+    (λ x. let w = and_parts (at_a r s) (meets_in m.a n q (s + 1)) x in from m.a (stands_a m r s w.0) (meet_in m.a n q (s + 1) w.1))
+    (λ x. let w = and_parts (at_b r s) (meets_in m.b n q (s + 1)) x in from m.b (stands_b m r s w.0) (meet_in m.b n q (s + 1) w.1))
+    (or_cases (at_a r s && meets_in m.a n q (s + 1)) (at_b r s && meets_in m.b n q (s + 1)) e)
   where
     from : (p : Pin) → StandsAt m r p s → MeetIn p n q (s + 1) → Blocks m r n q s
     from p x w = let o = w.2 in record { left = p; right = w.0; first = x; second = w.1; on_left = o.0; on_right = o.1; one_height = o.2 }
@@ -103,8 +83,8 @@ unfolding blocks
 block_back m r n q s b =
     let met = meet_in_back b.left n q (s + 1) b.right b.second (b.on_left, b.on_right, b.one_height) in
     ⊎_elim
-    (λ (w : (m.a ≡ b.left) × (at_a r s ≡ true)). or_left (at_a r s && meets_in m.a n q (s + 1)) (at_b r s && meets_in m.b n q (s + 1)) (and_true (at_a r s) (meets_in m.a n q (s + 1)) w.1 (subst (λ z. meets_in z n q (s + 1) ≡ true) (sym w.0) met)))
-    (λ (w : (m.b ≡ b.left) × (at_b r s ≡ true)). or_right (at_a r s && meets_in m.a n q (s + 1)) (at_b r s && meets_in m.b n q (s + 1)) (and_true (at_b r s) (meets_in m.b n q (s + 1)) w.1 (subst (λ z. meets_in z n q (s + 1) ≡ true) (sym w.0) met)))
+    (λ (w : (m.a ≡ b.left) × (at_a r s ≡ true)). or_left (at_a r s && meets_in m.a n q (s + 1)) (at_b r s && meets_in m.b n q (s + 1)) (and_from (at_a r s) (meets_in m.a n q (s + 1)) w.1 (subst (λ z. meets_in z n q (s + 1) ≡ true) (sym w.0) met)))
+    (λ (w : (m.b ≡ b.left) × (at_b r s ≡ true)). or_right (at_a r s && meets_in m.a n q (s + 1)) (at_b r s && meets_in m.b n q (s + 1)) (and_from (at_b r s) (meets_in m.b n q (s + 1)) w.1 (subst (λ z. meets_in z n q (s + 1) ≡ true) (sym w.0) met)))
     (which m r b.left s b.first)
 
 pub held : (nets : List Net) (routes : List NetRoute) (s j k : ℕ) → holds_back nets routes s j k ≡ true → (j ≢ k) × Blocks (net_at nets j) (route_at routes j) (net_at nets k) (route_at routes k) s

@@ -1,7 +1,7 @@
 -- Nets keep apart whose pieces stand in slots by their levels.
-use Rattle.std.proofs.Common.{◌≡◌, ◌≢◌, ◌∙◌, ◌⊎◌, ⊎_elim, inl, inr, List, [], ◌∷◌, ◌++◌, map, ℕ, zero, suc, ◌+◌, ◌<◌, ◌≤◌, Bool, true, false, not, ℤ, ◌≤ℤ◌, ◌<ℤ◌, length, refl, sym, ap, subst, arith, if◌then◌else◌, get_or}
+use Rattle.std.proofs.Common.{◌≡◌, ◌≢◌, ◌∙◌, ◌⊎◌, ⊎_elim, inl, inr, List, map, ℕ, zero, suc, ◌+◌, ◌<◌, ◌≤◌, Bool, true, false, not, ℤ, ◌≤ℤ◌, ◌<ℤ◌, length, refl, sym, ap, subst, arith, if◌then◌else◌, get_or}
 use Rattle.std.proofs.lemmas.Bool.{cases_lt, false_from_ne_true}
-use Rattle.std.proofs.lemmas.List.{length_push, length-map, get_or-map}
+use Rattle.std.proofs.lemmas.List.{length-map, get_or-map}
 use Rattle.std.proofs.lemmas.Int.{ints, clamps}
 use Rattle.std.specs.Int.{int_min, int_max}
 use Rattle.route_slots.specs.declared.Pin.{Pin}
@@ -19,7 +19,7 @@ use Rattle.route_slots.specs.Marks.{mark_at, LevelAt, AreNetMarks, other_end, pi
 use Rattle.route_slots.specs.declared.middles.Height.{Height}
 use Rattle.route_slots.specs.Middles.{AreMiddles}
 use Rattle.route_slots.proofs.Free.{AreKept, free}
-use Rattle.route_slots.proofs.Lists.{each_pushed, few_below}
+use Rattle.route_slots.proofs.Lists.{one_each, few_below}
 
 -- a place in the list of pieces is one of the two of some net
 halved : (i n : ℕ) → i < n + n → (k : ℕ) × (k < n) × ((i ≡ k + k) ⊎ (i ≡ k + k + 1))
@@ -366,16 +366,6 @@ module _ (nets : List Net) (ms : List Mark) (hs : List Height) (ps : List Piece)
           ),
         )
 
-    one_each : (n : ℕ) → n ≤ count → (ks : List ℕ) × (length ks ≡ n) × ((s : ℕ) → s < n → InSlot s (get_or ks s 0))
-    one_each zero l = ([], refl, λ s h. absurd (omega arith))
-    one_each (suc n) l =
-        let rest = one_each n (omega arith) in
-        let last = in_slot n (omega arith) in
-        let more = each_pushed ℕ 0 InSlot rest.0 (rest.0 ++ last.0 ∷ []) last.0 n rest.1 refl rest.2 last.1 in
-        let len = length_push rest.0 last.0 in
-        let was = rest.1 in
-        (rest.0 ++ last.0 ∷ [], omega arith, λ s h. more s (omega arith))
-
     -- nets that contain one height stand in different slots
     no_more : (h : ℤ) (ks : List ℕ) → MeetAt nets h ks → length ks ≤ count
     no_more h ks m =
@@ -411,7 +401,7 @@ module _ (nets : List Net) (ms : List Mark) (hs : List Height) (ps : List Piece)
 
     pub is_density : IsDensity nets count
     is_density =
-        let ks = one_each count (omega arith) in
+        let ks = one_each InSlot count in_slot count (omega arith) in
         let len = ks.1 in
         record {
           height = met.height;

@@ -10,10 +10,6 @@ use Rattle.route_slots.proofs.Swapping.{laid_after}
 true_false : {X : Type 0} → true ≡ false → X
 true_false e = absurd (let bad : true ≡ false = e in cc)
 
-pub kept_step : (nets : List Net) (count s : ℕ) (routes : List NetRoute) (changed : Bool) → changed ≡ false → AreLaid nets count routes → NoBetterAt nets routes s → IsStep nets count s routes routes changed
-kept_step nets count s routes changed e laid none =
-    record { laid = laid; fewer = λ f. true_false (sym f ∙ e); same = λ f. refl; none = λ f. none }
-
 pub made_step : (nets : List Net) (count s : ℕ) (old new : List NetRoute) (changed : Bool) → changed ≡ true → s + 1 < count → AreLaid nets count old → IsBetterAt nets old s → AreExchanged s old new
     → IsStep nets count s old new changed
 made_step nets count s old new changed e inside laid better swaps =
@@ -24,10 +20,6 @@ made_step nets count s old new changed e inside laid better swaps =
       same = λ f. true_false (sym e ∙ f);
       none = λ f. true_false (sym e ∙ f);
     }
-
-pub no_steps : (nets : List Net) (count : ℕ) (routes : List NetRoute) → AreLaid nets count routes → AreSteps nets count 1 routes routes false
-no_steps nets count routes laid =
-    record { laid = laid; most = omega arith; fewer = λ f. true_false (sym f); none = λ f t l. absurd (omega arith) }
 
 pub more_steps : (nets : List Net) (count s : ℕ) (first old new : List NetRoute) (was now both : Bool) → 1 ≤ s → AreSteps nets count s first old was → IsStep nets count (s - 1) old new now
     → (both ≡ true → (was ≡ true) ⊎ (now ≡ true)) → (both ≡ false → (was ≡ false) × (now ≡ false)) → AreSteps nets count (s + 1) first new both

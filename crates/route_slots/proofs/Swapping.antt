@@ -45,9 +45,6 @@ swap_back s t u e = by (place s t)
     by (at_second a b) = a ∙ sym (swap_first s) ∙ ap (swapped s) (sym b ∙ e)
     by (at_other m n b) = sym b ∙ ap (swapped s) (sym b ∙ e)
 
-swap_twice : (s t : ℕ) → swapped s (swapped s t) ≡ t
-swap_twice s t = sym (swap_back s t (swapped s t) refl)
-
 swap_below : (s t count : ℕ) → s + 1 < count → swapped s t < count → t < count
 swap_below s t count l h = by (place s t)
   where

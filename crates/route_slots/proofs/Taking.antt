@@ -256,6 +256,22 @@ module _ (ps : List Piece) (ss : List ℕ) (w v : BTreeSet Key) (row new : Row) 
             (fit.from h r b);
       }
 
+-- a key that waits is that of a piece
+pub key_inside : (ps : List Piece) (ss : List ℕ) (w : BTreeSet Key) (row : Row) → AreSlotted ps ss w row → (q : Key) → has_key w q ≡ true → q.1.1 < length ps
+key_inside ps ss w row t q member =
+    let at = t.from q member in subst (λ (k : Key). k.1.1 < length ps) (sym at.3) at.1
+
+pub key_slotted : (ps : List Piece) (ss : List ℕ) (w v : BTreeSet Key) (row new : Row) (q : Key) (s : ℕ) → AreSlotted ps ss w row → has_key w q ≡ true
+    → IsLowerBound key_cmp w q → Updates key_cmp w v q false → btree_set_len v + 1 ≡ btree_set_len w → Takes row new (piece_at ps q.1.1) s → new.level ≡ (piece_at ps q.1.1).level
+    → ((i : ℕ) → i < length ps → (piece_at ps i).low ≤ℤ (piece_at ps i).high) → AreSlotted ps (set ss q.1.1 s) v new
+key_slotted ps ss w v row new q s t member least takes fewer taken level proper =
+    let at = t.from q member in
+    let e : q.1.1 ≡ at.0 = ap (λ (k : Key). k.1.1) at.3 in
+    subst (λ z. AreSlotted ps (set ss z s) v new) (sym e)
+    (slotted_more ps ss w v row new at.0 s t (at.1, at.2) (subst (λ k. has_key w k ≡ true) at.3 member) (subst (λ k. IsLowerBound key_cmp w k) at.3 least)
+    (subst (λ k. Updates key_cmp w v k false) at.3 takes) fewer (subst (λ z. Takes row new (piece_at ps z) s) e taken) (subst (λ z. new.level ≡ (piece_at ps z).level) e level)
+    (proper at.0 at.1))
+
 -- when none waits, each piece has its slot
 pub all_slotted : (ps : List Piece) (ss : List ℕ) (w : BTreeSet Key) (row : Row) → AreSlotted ps ss w row → ((q : Key) → has_key w q ≡ false) → AreSlots ps ss row.count
 all_slotted ps ss w row t none =

@@ -1,4 +1,4 @@
-use Rattle.std.proofs.Common.{◌≡◌, ◌∙◌, ap, refl, ◌<◌, length, ℤ, pos, ◌<ℤ◌, ◌≤ℤ◌, rules, w64, to_z, of_z, FitsSigned}
+use Rattle.std.proofs.Common.{◌≡◌, ◌∙◌, ap, refl, ◌<◌, length, pos, ◌<ℤ◌, ◌≤ℤ◌, rules, w64, to_z, of_z, FitsSigned}
 use Rattle.std.specs.Int.{int_gap}
 use Rattle.std.proofs.lemmas.Int.{to_z-of_z}
 use Rattle.box_pack.specs.declared.walk.Measured.{Measured}
