@@ -1,5 +1,5 @@
 -- How a search begins, and what is kept where it ends.
-use Rattle.std.proofs.Common.{◌≡◌, ℕ, zero, suc, ◌<◌, ◌≤◌, cond, Bool, true, false, ℤ, List, [], ◌∷◌, length, get_or, set, replicate, arith, refl, sym, ap, subst, ◌∙◌, inl, inr}
+use Rattle.std.proofs.Common.{◌≡◌, ℕ, zero, suc, ◌<◌, ◌≤◌, cond, Bool, true, false, ℤ, List, [], ◌∷◌, length, get_or, set, replicate, arith, sym, ap, subst, ◌∙◌, inl, inr}
 use Rattle.std.proofs.lemmas.Int.{ints}
 use Rattle.std.proofs.lemmas.Bool.{cases_eq, cases_lt}
 use Rattle.std.proofs.lemmas.List.{get_or-set_same, get_or-set_other, get_or_past, get_or-replicate, length-set, length-replicate}
@@ -25,10 +25,6 @@ all_default n i d =
 
 clash : {P : Type 0} (b : Bool) → b ≡ true → b ≡ false → P
 clash b t f = let bad : true ≡ false = sym t ∙ f in absurd cc
-
-same_both : (b : Bool) (z : ℕ) → cond b z z ≡ z
-same_both true z = refl
-same_both false z = refl
 
 none_reached : (n : ℕ) (xs : List Bool) → length xs ≡ n → ((i : ℕ) → get_or xs i false ≡ false) → unreached xs ≡ n
 none_reached n [] l h = l

@@ -1,5 +1,5 @@
 -- The sources that wait: each node with a surplus is one, from the first on until none is left.
-use Rattle.std.proofs.Common.{◌≡◌, ◌≢◌, ℕ, zero, suc, ◌+◌, ◌<◌, ◌≤◌, ◌⊎◌, ℤ, pos, negsuc, Bool, ◌≤ℤ◌, ◌<ℤ◌, List, [], ◌∷◌, ◌++◌, length, arith, sym, ap, subst, ◌∙◌, inl, inr}
+use Rattle.std.proofs.Common.{◌≡◌, ℕ, zero, suc, ◌+◌, ◌<◌, ◌≤◌, ◌⊎◌, ℤ, pos, negsuc, Bool, ◌≤ℤ◌, ◌<ℤ◌, List, [], ◌∷◌, ◌++◌, arith, sym, ap, subst, ◌∙◌, inl, inr}
 use Rattle.std.proofs.lemmas.Int.{ints}
 use Rattle.std.proofs.lemmas.Bool.{cases_eq, cases_lt}
 use Rattle.std.specs.List.{Contains}
@@ -10,16 +10,12 @@ use Rattle.network_laws.specs.declared.network.NetEdge.{NetEdge}
 use Rattle.network_laws.specs.Layering.{layer_of}
 use Rattle.flow_dual.specs.declared.Label.{Label}
 use Rattle.flow_dual.specs.declared.sources.Source.{Source}
-use Rattle.flow_dual.specs.Searching.{IsBetween}
-use Rattle.flow_dual.specs.Augmented.{AreDrained, AreWaiting, IsDrained, IsDrainingAll}
+use Rattle.flow_dual.specs.Augmented.{AreWaiting, IsDrained, IsDrainingAll}
 
 -- the nodes below a number with a surplus are listed, and no others
 pub record AreListed (nodes : ℕ) (excess : List ℤ) (i : ℕ) (sources : List Source) : Type 0 where
   pub in_range : (s : Source) → Contains sources s → s.node < nodes
   pub waits : (v : ℕ) → v < i → pos 0 <ℤ layer_of excess v → (s : Source) × Contains sources s × (s.node ≡ v)
-
-pub none_listed : (nodes : ℕ) (excess : List ℤ) → AreListed nodes excess 0 []
-none_listed nodes excess = record { in_range = λ s h. absurd (omega (arith, h.1)); waits = λ v l _. absurd (omega (arith, l)) }
 
 one_of : (x s : Source) → Contains (x ∷ []) s → x ≡ s
 one_of x s (zero, l, e) = e
@@ -50,9 +46,6 @@ one_passed nodes excess i sources none a = record {
         absurd (omega (arith, ints, x, more, none))
   ];
 }
-
-pub all_listed : (nodes : ℕ) (excess : List ℤ) (sources : List Source) → AreListed nodes excess nodes sources → AreWaiting nodes excess sources
-all_listed nodes excess sources a = record { in_range = a.in_range; waits = a.waits }
 
 -- in whatever order they stand
 pub waiting_moved : (nodes : ℕ) (excess : List ℤ) (old new : List Source) → IsPermutation old new → AreWaiting nodes excess old → AreWaiting nodes excess new
@@ -86,17 +79,4 @@ all_more nodes edges all rest s before excess layers flow reached labels dist e 
       ]
     ];
   };
-}
-
--- none waits, so none has a surplus
-pub all_drained : (nodes : ℕ) (edges : List NetEdge) (layers : List ℤ) (flow : List ℕ) (excess : List ℤ) (reached : List Bool) (labels : List Label) (dist : List ℕ) (sources : List Source) → sources ≡ [] → IsDrainingAll nodes edges sources layers flow excess reached labels dist → AreDrained nodes edges layers flow excess reached labels dist
-all_drained nodes edges layers flow excess reached labels dist sources e d = record {
-  between = d.between;
-  none_left = λ v l. elim (more_or_none (layer_of excess v)) [
-    | inl more ↦
-        let x = d.waiting.waits v l more in
-        let z = ap length e in
-        absurd (omega (arith, x.1.1, z))
-    | inr none ↦ none
-  ];
 }

@@ -26,9 +26,7 @@ use Rattle.net_simplex.proofs.Pivoting.{length_shifted, shifted_at, slack_is}
 use Rattle.net_simplex.proofs.TreeGrowth.{growth_keeps}
 use Rattle.net_simplex.proofs.Hanging.{from_tail, from_head}
 use Rattle.net_simplex.proofs.Planting.{holding_room, holding_all, planted_root, planted_more, all_planted, root_held}
-
-clash : {P : Type 0} (b : Bool) → b ≡ true → b ≡ false → P
-clash b t f = let bad : true ≡ false = sym t ∙ f in absurd cc
+use Rattle.net_simplex.proofs.Walking.{clash}
 
 -- what a choice tells
 pub tells_some : (size : ℕ → ℕ) (o : Option ℕ) (c : Choice) → Tells size o (Some c) → o ≡ Some c.edge
@@ -445,14 +443,7 @@ module _ (nodes : ℕ) (edges : List NetEdge) (net : IsNetwork nodes edges) wher
         Joined' w at = Joins w k at count layers order place parent layers' order' place' parent' by'
 
         lists_are : (w : ℕ) (at : ℤ) → Joined' w at → IsGrown nodes edges (count + 1) (set tree k true) marked (layer_of layers w -ℤ at) (set layers w at) (set order count w) (set place w count) (set parent w k) → IsGrown nodes edges (count + 1) tree' reached' by' layers' order' place' parent'
-        lists_are w at j g =
-            subst (λ x. IsGrown nodes edges (count + 1) x reached' by' layers' order' place' parent') (sym t.tree_is)
-            (subst (λ x. IsGrown nodes edges (count + 1) (set tree k true) x by' layers' order' place' parent') (sym t.reached_is)
-            (subst (λ x. IsGrown nodes edges (count + 1) (set tree k true) marked x layers' order' place' parent') (sym j.by_is)
-            (subst (λ x. IsGrown nodes edges (count + 1) (set tree k true) marked (layer_of layers w -ℤ at) x order' place' parent') (sym j.layers_are)
-            (subst (λ x. IsGrown nodes edges (count + 1) (set tree k true) marked (layer_of layers w -ℤ at) (set layers w at) x place' parent') (sym j.order_is)
-            (subst (λ x. IsGrown nodes edges (count + 1) (set tree k true) marked (layer_of layers w -ℤ at) (set layers w at) (set order count w) x parent') (sym j.place_is)
-            (subst (λ x. IsGrown nodes edges (count + 1) (set tree k true) marked (layer_of layers w -ℤ at) (set layers w at) (set order count w) (set place w count) x) (sym j.parent_is) g))))))
+        lists_are w at j g = rw (t.tree_is, t.reached_is, j.by_is, j.layers_are, j.order_is, j.place_is, j.parent_is) g
 
         once_are : (w : ℕ) (at : ℤ) → Joined' w at → growing_of (set tree k true) marked (layer_of layers w -ℤ at) (set layers w at) ≡ grown_once edges (growing_of tree reached by layers) → growing_of tree' reached' by' layers' ≡ grown_once edges (growing_of tree reached by layers)
         once_are w at j g =
@@ -484,9 +475,7 @@ module _ (nodes : ℕ) (edges : List NetEdge) (net : IsNetwork nodes edges) wher
               others = λ v l ne. let nw : v ≢ w = λ e. ne (e ∙ sym first) in (others v l nw, get_or-set_other layers w v at (pos 0) nw);
             }
             in
-            subst (λ x. IsJoined nodes count reached layers x reached' layers') (sym j.order_is)
-            (subst (λ x. IsJoined nodes count reached layers (set order count w) x layers') (sym t.reached_is)
-            (subst (λ x. IsJoined nodes count reached layers (set order count w) marked x) (sym j.layers_are) is))
+            rw (j.order_is, t.reached_is, j.layers_are) is
 
         pub attached_joined : IsJoined nodes count reached layers order' reached' layers'
         attached_joined = elim (cases_Bool (is_in reached e.tail)) [
@@ -550,14 +539,7 @@ module _ (nodes : ℕ) (edges : List NetEdge) (net : IsNetwork nodes edges) (som
   root_only = set (replicate nodes false) 0 true
 
   pub made_grown : IsGrown nodes edges 1 tree (set reached 0 true) by layers order' place' (set parent 0 (length edges))
-  made_grown =
-      subst (λ x. IsGrown nodes edges 1 x (set reached 0 true) by layers order' place' (set parent 0 (length edges))) (sym tree_is)
-      (subst (λ x. IsGrown nodes edges 1 blank (set x 0 true) by layers order' place' (set parent 0 (length edges))) (sym reached_is)
-      (subst (λ x. IsGrown nodes edges 1 blank root_only x layers order' place' (set parent 0 (length edges))) (sym by_is)
-      (subst (λ x. IsGrown nodes edges 1 blank root_only (layer_of start 0) x order' place' (set parent 0 (length edges))) (sym layers_are)
-      (subst (λ x. IsGrown nodes edges 1 blank root_only (layer_of start 0) (set start 0 (pos 0)) x place' (set parent 0 (length edges))) (sym order_is)
-      (subst (λ x. IsGrown nodes edges 1 blank root_only (layer_of start 0) (set start 0 (pos 0)) (set order 0 0) x (set parent 0 (length edges))) (sym place_is)
-      (start_grown nodes edges net some start g up order place parent lo lp la))))))
+  made_grown = rw (tree_is, reached_is, by_is, layers_are, order_is, place_is) (start_grown nodes edges net some start g up order place parent lo lp la)
 
   pub made_seed : growing_of tree (set reached 0 true) by layers ≡ seed nodes edges start
   made_seed =

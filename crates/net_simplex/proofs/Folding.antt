@@ -13,9 +13,7 @@ use Rattle.net_simplex.specs.Cuts.{sum_in, size_of, sizes, TellsWeights, Lifts, 
 use Rattle.net_simplex.proofs.Cutting.{tail_parts_cut}
 use Rattle.net_simplex.proofs.Lifting.{size_plus, sizes_set, sum_set, sum_one, cut_turned}
 use Rattle.net_simplex.proofs.Hanging.{ne_eqb, same_place, above_there, from_tail, from_head, before_same, cut_uncrossed, parent_once, hung_node}
-
-clash : {P : Type 0} (b : Bool) → b ≡ true → b ≡ false → P
-clash b t f = let bad : true ≡ false = sym t ∙ f in absurd cc
+use Rattle.net_simplex.proofs.Walking.{clash}
 
 both_in : (a b : Bool) (x y : ℤ) → a ≡ b → cond a (x +ℤ y) (pos 0) ≡ cond a x (pos 0) +ℤ cond b y (pos 0)
 both_in true true x y h = refl

@@ -13,9 +13,6 @@ use Rattle.net_simplex.specs.Outward.{rise_of, ComesFirst, LeadsOut, IsNearest, 
 use Rattle.net_simplex.proofs.Choosing.{least_is, none_chosen}
 use Rattle.net_simplex.proofs.Pivoting.{shifted_at, slack_is}
 
-clash : {P : Type 0} (b : Bool) → b ≡ true → b ≡ false → P
-clash b t f = let bad : true ≡ false = sym t ∙ f in absurd cc
-
 module _ (edges : List NetEdge) (reached : List Bool) (by : ℤ) (layers : List ℤ) (ends : EndsBelow (length layers) edges) (layering : IsLayering edges (shifted (is_in reached) by layers)) where
   abbrev real : List ℤ
   real = shifted (is_in reached) by layers

@@ -1,5 +1,5 @@
 -- The queue of the edges that lead out of the tree.
-use Rattle.std.proofs.Common.{◌≡◌, ◌≢◌, ℕ, suc, ◌<◌, Bool, true, false, ◌⊎◌, ℤ, List, ◌∷◌, length, get_or, Some, arith, refl, sym, ap, subst, ◌∙◌, inl, inr}
+use Rattle.std.proofs.Common.{◌≡◌, ◌≢◌, ℕ, suc, ◌<◌, Bool, true, false, ◌⊎◌, ℤ, List, [], ◌∷◌, length, get_or, Some, None, arith, refl, sym, ap, subst, ◌∙◌, inl, inr}
 use Rattle.std.proofs.lemmas.Int.{ints}
 use Rattle.std.specs.List.{Contains}
 use Rattle.std.specs.List.Sorted.{IsPermutation}
@@ -16,9 +16,7 @@ use Rattle.net_simplex.specs.declared.waiting.Waiting.{Waiting}
 use Rattle.net_simplex.specs.Pivots.{is_in}
 use Rattle.net_simplex.specs.Grown.{IsJoined}
 use Rattle.net_simplex.specs.Outward.{rise_of, ComesFirst, entry, Adds, IsFirst, Loses, LeadsOut, AreWaiting, IsNearest, IsQueue, IsQueueBut}
-
-clash : {P : Type 0} (b : Bool) → b ≡ true → b ≡ false → P
-clash b t f = let bad : true ≡ false = sym t ∙ f in absurd cc
+use Rattle.net_simplex.proofs.Walking.{clash}
 
 module _ (edges : List NetEdge) (end : End) (reached : List Bool) (layers : List ℤ) where
   -- a later number: the edges between are of other nodes, and edge i waits if it leads out
@@ -97,6 +95,13 @@ module _ (edges : List NetEdge) (end : End) (reached : List Bool) (layers : List
             (subst (λ x. ComesFirst t.rise.0 t.edge.0 h.0.rise.0 x) h.2 (f.first h.0 h.1))),
       )
 
+  -- nothing waits, so nothing leads out
+  pub none_nearest : (queue : List Waiting) → queue ≡ [] → AreWaiting edges end reached layers 0 (length edges) queue → IsNearest edges end reached layers None
+  none_nearest queue e w = λ i l leads.
+      let there = (w.waits i l leads (λ _. l)).1.1 in
+      let none = ap length e in
+      absurd (omega (arith, there, none))
+
   -- an edge whose far end is reached too is taken out
   pub first_dropped : (v i : ℕ) (old new : List Waiting) (t : Waiting) → IsFirst old t → Loses old new → is_in reached (far_of end (edge_at edges t.edge.0)) ≡ true → AreWaiting edges end reached layers v i old → AreWaiting edges end reached layers v i new
   first_dropped v i old new t f loses reaches w =
@@ -119,7 +124,7 @@ queue_falls old new t f loses = let l = length_permutation old (t ∷ new) (lose
 
 -- one node more is reached
 module _ (nodes : ℕ) (edges : List NetEdge) (ends : EndsBelow nodes edges) (end : End) where
-  both_below : (end' : End) (k : ℕ) → k < length edges → (end_of end' (edge_at edges k) < nodes) × (far_of end' (edge_at edges k) < nodes)
+  pub both_below : (end' : End) (k : ℕ) → k < length edges → (end_of end' (edge_at edges k) < nodes) × (far_of end' (edge_at edges k) < nodes)
   both_below Tail k l = ends k l
   both_below Head k l = ((ends k l).1, (ends k l).0)
 

@@ -109,7 +109,7 @@ both_true : (a b : Bool) → (not a && b) ≡ true → (a ≡ false) × (b ≡ t
 both_true true b h = absurd cc
 both_true false b h = (refl, h)
 
-first_true : (a b : Bool) → (a && b) ≡ true → a ≡ true
+pub first_true : (a b : Bool) → (a && b) ≡ true → a ≡ true
 first_true true b h = refl
 first_true false b h = h
 

@@ -7,9 +7,7 @@ use Rattle.network_laws.specs.Network.{edge_at, EndsBelow}
 use Rattle.network_laws.specs.Linked.{is_marked}
 use Rattle.net_simplex.specs.Rooted.{beyond, holding, HangsBy, IsPlanted, IsRooted, all_held}
 use Rattle.net_simplex.proofs.Hanging.{beyond_is_end}
-
-clash : {P : Type 0} (b : Bool) → b ≡ true → b ≡ false → P
-clash b t f = let bad : true ≡ false = sym t ∙ f in absurd cc
+use Rattle.net_simplex.proofs.Walking.{clash}
 
 abbrev pub one : Bool → ℕ
 one b = cond b 1 0

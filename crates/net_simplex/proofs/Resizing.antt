@@ -5,16 +5,13 @@ use Rattle.std.proofs.lemmas.List.{get_or-set_same, get_or-set_other, length-set
 use Rattle.net_simplex.specs.Walks.{part, IsWalk}
 use Rattle.net_simplex.specs.Turning.{AreResized, AreResizedTo}
 use Rattle.net_simplex.proofs.Walking.{before_it, own, alone, earlier, passes}
+use Rattle.network_laws.proofs.PathSums.{cond_le}
 
 counted : (b : Bool) (n : ℕ) → b ≡ true → cond b n 0 ≡ n
 counted b n h = ap (λ z. cond z n 0) h
 
 left_out : (b : Bool) (n : ℕ) → b ≡ false → cond b n 0 ≡ 0
 left_out b n h = ap (λ z. cond z n 0) h
-
-at_most : (b : Bool) (n : ℕ) → cond b n 0 ≤ n
-at_most true n = omega arith
-at_most false n = omega arith
 
 module _ (nodes : ℕ) (order place size : List ℕ) (up : ℕ → ℕ) (w : IsWalk nodes order place size up) (many q to : ℕ) (lq : q < nodes) (lt : to < nodes) (enough : (v : ℕ) → v < nodes → part place size v q ≡ true → many ≤ get_or size v 0) where
   abbrev at : ℕ → ℕ
@@ -43,9 +40,6 @@ module _ (nodes : ℕ) (order place size : List ℕ) (up : ℕ → ℕ) (w : IsW
     module _ (later : at high < at low) where
       pub low_late : 0 < at low
       low_late = omega (arith, later)
-
-      abbrev low_up : ℕ
-      low_up = up low
 
       low_own : D low low ≡ true
       low_own = own nodes order place size up w low s.low_there
@@ -109,7 +103,7 @@ module _ (nodes : ℕ) (order place size : List ℕ) (up : ℕ → ℕ) (w : IsW
           let e = s.sizes high s.high_there in
           let a = counted (D high high) many high_own in
           let b = left_out (D high low) many (before_it (at high) (wide high) (at low) high_later) in
-          let c = at_most (D high to) many in
+          let c = cond_le (D high to) many in
           let f = w.fits high s.high_there in
           omega (arith, e, a, b, c, f)
 

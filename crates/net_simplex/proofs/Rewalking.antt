@@ -525,21 +525,8 @@ module _ (nodes : ℕ) (edges : List NetEdge) (order place size parent : List �
 
       pub way_goes_on : (z link low held many : ℕ) (place3 size3 parent3 next3 : List ℕ) → z ≡ upper_v → link ≡ get_or parent v 0 → low ≡ get_or place v 0 → held ≡ get_or size v 0 → many ≡ get_or size child 0 → TurnsNext order z link low held base many place1 size1 parent1 next1 place3 size3 parent3 next3 → IsTurnedTo nodes place size parent (above edges parent) child from base by z resized place3 size3 parent3 next3
       way_goes_on z link low held many place3 size3 parent3 next3 ez el eo eh em r =
-          let at = get_or place v 0 in
-          let wide = get_or size v 0 in
-          let r1 : TurnsNext order upper_v (get_or parent v 0) at wide base (get_or size child 0) place1 size1 parent1 next1 place3 size3 parent3 next3 =
-          subst (λ j. TurnsNext order upper_v (get_or parent v 0) at wide base j place1 size1 parent1 next1 place3 size3 parent3 next3) em
-          (subst (λ j. TurnsNext order upper_v (get_or parent v 0) at j base many place1 size1 parent1 next1 place3 size3 parent3 next3) eh
-          (subst (λ j. TurnsNext order upper_v (get_or parent v 0) j held base many place1 size1 parent1 next1 place3 size3 parent3 next3) eo
-          (subst (λ j. TurnsNext order upper_v j low held base many place1 size1 parent1 next1 place3 size3 parent3 next3) el
-          (subst (λ j. TurnsNext order j link low held base many place1 size1 parent1 next1 place3 size3 parent3 next3) ez r))))
-          in
-          let p : Plants order (get_or place upper_v 0) at (base + wide) next1 place1 r1.next_between r1.place_between = subst (λ j. Plants order j at (base + wide) next1 place1 r1.next_between r1.place_between) up_place r1.before in
-          let q : Plants order (at + wide) (get_or place upper_v 0 + get_or size upper_v 0) (base + wide + (at - get_or place upper_v 0)) r1.next_between r1.place_between next3 place3 =
-          subst (λ j. Plants order (at + wide) (get_or place upper_v 0 + j) (base + wide + (at - get_or place upper_v 0)) r1.next_between r1.place_between next3 place3) up_size
-          (subst (λ j. Plants order (at + wide) (j + get_or size1 upper_v 0) (base + wide + (at - j)) r1.next_between r1.place_between next3 place3) up_place r1.behind)
-          in
-          let m = way_more nodes order place size above_v y.walk parent child from base by y.child_there y.child_hangs y.from_there y.from_below resized v place1 size1 parent1 next1 t ne r1.next_between r1.place_between next3 place3 p q in
-          subst (λ j. IsTurnedTo nodes place size parent (above edges parent) child from base by j resized place3 size3 parent3 next3) (sym ez)
-          (subst (λ j. IsTurnedTo nodes place size parent (above edges parent) child from base by upper_v resized place3 j parent3 next3) (sym r1.size_is)
-          (subst (λ j. IsTurnedTo nodes place size parent (above edges parent) child from base by upper_v resized place3 (set size1 upper_v (get_or size child 0 - wide)) j next3) (sym r1.parent_is) m))
+          let r1 = rw (ez, el, eo, eh, em) at r in
+          let p = rw up_place at r1.before in
+          let q = rw (up_place, up_size) at r1.behind in
+          rw (ez, r1.size_is, r1.parent_is)
+          (way_more nodes order place size above_v y.walk parent child from base by y.child_there y.child_hangs y.from_there y.from_below resized v place1 size1 parent1 next1 t ne r1.next_between r1.place_between next3 place3 p q)

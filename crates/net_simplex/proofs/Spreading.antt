@@ -9,21 +9,19 @@ use Rattle.network_laws.specs.Linked.{is_marked, HasMarked, LinkedBy}
 use Rattle.flow_dual.specs.Rounds.{all_least}
 use Rattle.net_simplex.specs.Tree.{State, IsState, IsCut, tail_part}
 use Rattle.net_simplex.proofs.Cutting.{tail_parts_cut}
+use Rattle.std.proofs.lemmas.Bool.{and_from, and_right}
+use Rattle.network_laws.proofs.PathSums.{cond_le}
 
 -- the sum of `least` over the edges that pass a test of their number
 abbrev pub least_over : List NetEdge → (ℕ → Bool) → ℕ
 least_over [] test = 0
 least_over (e ∷ es) test = cond (test 0) e.least 0 + least_over es (λ k. test (suc k))
 
-one_le : (b : Bool) (n : ℕ) → cond b n 0 ≤ n
-one_le true n = omega arith
-one_le false n = omega arith
-
 least_over_le : (edges : List NetEdge) (test : ℕ → Bool) → least_over edges test ≤ all_least edges
 least_over_le [] test = omega arith
 least_over_le (e ∷ es) test =
     let r = least_over_le es (λ k. test (suc k)) in
-    let a = one_le (test 0) e.least in
+    let a = cond_le (test 0) e.least in
     let s = sum_by-cons (λ (e : NetEdge). e.least) e es in
     omega (arith, r, a, s)
 
@@ -48,13 +46,6 @@ least_over_more (e ∷ es) test test' (suc j) l t f h =
     let a = one_same (test 0) (test' 0) e.least (h 0 (omega arith) (omega arith)) in
     omega (arith, r, a)
 
-both : (b i : Bool) → b ≡ true → i ≡ true → (b && i) ≡ true
-both b i h k = rw (h, k) refl
-
-not_both : (b i : Bool) → i ≡ false → (b && i) ≡ false
-not_both true i h = h
-not_both false i h = refl
-
 if_both : (b i i' : Bool) → (b ≡ true → i ≡ i') → (b && i) ≡ (b && i')
 if_both true i i' h = h refl
 if_both false i i' h = refl
@@ -76,7 +67,7 @@ module _ (nodes : ℕ) (edges : List NetEdge) (s : State) (ends : EndsBelow node
       let e = edge_at edges j in
       let c = cut_at j l m in
       let t = is.tight j l m in
-      let a = least_over_more edges (holds e.tail) (holds e.head) j l (both (is_marked s.tree j) (tail_part nodes edges s.tree j e.tail) m c.tail_in) (not_both (is_marked s.tree j) (tail_part nodes edges s.tree j e.head) c.head_out)
+      let a = least_over_more edges (holds e.tail) (holds e.head) j l (and_from (is_marked s.tree j) (tail_part nodes edges s.tree j e.tail) m c.tail_in) (and_right (is_marked s.tree j) (tail_part nodes edges s.tree j e.head) c.head_out)
       (λ k lk ne. if_both (is_marked s.tree k) (tail_part nodes edges s.tree k e.tail) (tail_part nodes edges s.tree k e.head) (λ mk. (cut_at k lk mk).others j l m (λ q. ne (sym q))))
       in
       omega (arith, ints, t, a)

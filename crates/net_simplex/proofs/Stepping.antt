@@ -19,17 +19,10 @@ use Rattle.net_simplex.specs.Kept.{kept_state, IsKept, StandsFor}
 use Rattle.net_simplex.proofs.Choosing.{Chosen, least_chosen, none_chosen}
 use Rattle.net_simplex.proofs.Cutting.{tail_parts_cut}
 use Rattle.net_simplex.proofs.Exchanging.{all_or_none}
-use Rattle.net_simplex.proofs.Pivoting.{length_shifted, shifted_at, slack_is, pivot_keeps, pivot_goes_on}
+use Rattle.net_simplex.proofs.Pivoting.{length_shifted, shifted_at, slack_is, pivot_keeps, pivot_goes_on, first_true}
 use Rattle.net_simplex.proofs.Spreading.{near_root}
-use Rattle.net_simplex.proofs.Walking.{before_it, between_is, between_not, own, alone}
+use Rattle.net_simplex.proofs.Walking.{clash, before_it, between_is, between_not, own, alone}
 use Rattle.net_simplex.proofs.Hanging.{ne_eqb, root_place, not_root, above_there, from_tail, from_head, along, before_same, edge_hangs, hung_node}
-
-clash : {P : Type 0} (b : Bool) → b ≡ true → b ≡ false → P
-clash b t f = let bad : true ≡ false = sym t ∙ f in absurd cc
-
-first_of : (a b : Bool) → (a && b) ≡ true → a ≡ true
-first_of true b h = refl
-first_of false b h = h
 
 -- tests that agree, and sizes that agree, make one choice
 lesser_same : (test test' : ℕ → Bool) (size size' : ℕ → ℕ) (n : ℕ) (o : Option ℕ) → test n ≡ test' n → size n ≡ size' n → ((k : ℕ) → o ≡ Some k → size k ≡ size' k) → lesser test size n o ≡ lesser test' size' n o
@@ -138,7 +131,7 @@ module _ (nodes : ℕ) (edges : List NetEdge) (net : IsNetwork nodes edges) (tre
   out_there = chosen.0
 
   pub out_marked : is_marked tree out ≡ true
-  out_marked = first_of (is_marked tree out) _ chosen.1
+  out_marked = first_true (is_marked tree out) _ chosen.1
 
   lt : e.tail < nodes
   lt = (net.ends out out_there).0
@@ -432,17 +425,6 @@ module _ (nodes : ℕ) (edges : List NetEdge) (net : IsNetwork nodes edges) (tre
               | inr nq ↦ get_or-set_other (set tree out false) by k true false nq ∙ (get_or-set_other tree out k false false (λ q. ne (q ∙ sym child_hung)) ∙ m)
             ];
           }
-
--- none of the numbers passes
-pub no_more : (test : ℕ → Bool) (k : ℕ) → ((j : ℕ) → j < k → test j ≡ false) → test k ≡ false → (j : ℕ) → j < k + 1 → test j ≡ false
-no_more test k before f j l =
-    elim (cases_eq j k) [
-      | inl e ↦ ap test e ∙ f
-      | inr ne ↦ before j (omega (arith, l, ne))
-    ]
-
-pub none_before : (test : ℕ → Bool) (k n : ℕ) → n ≤ k → ((j : ℕ) → j < k → test j ≡ false) → least_of test (λ i. 0) n ≡ None
-none_before test k n l before = none_chosen test (λ i. 0) n (λ j b. before j (omega (arith, b, l)))
 
 -- the nodes at the places from `low` to before i are moved
 pub record IsShifted (place : List ℕ) (low : ℕ) (by : ℤ) (old : List ℤ) (i : ℕ) (new : List ℤ) : Type 0 where

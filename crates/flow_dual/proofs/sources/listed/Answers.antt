@@ -1,7 +1,6 @@
-use Rattle.std.proofs.Common.{List, length, sym, subst, ap, refl, arith}
+use Rattle.std.proofs.Common.{length, refl, arith}
 use Rattle.std.proofs.lemmas.Int.{ints}
-use Rattle.flow_dual.specs.declared.sources.Source.{Source}
-use Rattle.flow_dual.proofs.Waiting.{AreListed, one_listed, one_passed, all_listed}
+use Rattle.flow_dual.proofs.Waiting.{one_listed, one_passed}
 use Rattle.flow_dual.proofs.sources.listed.Goals.{then-excess-v-gt0+in_ok-push, else-excess-v-gt0}
 use Rattle.flow_dual.proofs.sources.listed.Goals as goal
 

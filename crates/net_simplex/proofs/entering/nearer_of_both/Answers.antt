@@ -7,6 +7,16 @@ use Rattle.net_simplex.specs.Outward.{IsNearest}
 use Rattle.net_simplex.proofs.Nearness.{only_up, only_down, nearer_wins}
 use Rattle.net_simplex.proofs.entering.nearer_of_both.Goals as goal
 
+pub with_slack-requires : goal.with_slack-requires
+with_slack-requires c =
+    let m = subst (λ o. IsNearest c.args.edges.now Tail c.args.reached.now c.args.layers.now o) c.in-Some.is c.requires.up in
+    rw (to_z-of_z w64 c.args.by c.ranges.by) (record { there = m.0; marks = c.requires.marks; ends = c.requires.ends; layering = c.requires.layering })
+
+pub with_slack-requires-in-Some-down : goal.with_slack-requires-in-Some-down
+with_slack-requires-in-Some-down c =
+    let m = subst (λ o. IsNearest c.args.edges.now Head c.args.reached.now c.args.layers.now o) c.in-Some-down.is c.requires.down in
+    rw (to_z-of_z w64 c.args.by c.ranges.by) (record { there = m.0; marks = c.requires.marks; ends = c.requires.ends; layering = c.requires.layering })
+
 pub returns-in-Some-down : goal.returns-in-Some-down
 returns-in-Some-down c =
     let edges = c.args.edges.now in

@@ -7,6 +7,20 @@ use Rattle.net_simplex.specs.Pivots.{is_in, shifted}
 use Rattle.net_simplex.proofs.Looking.{slack_value, moved_layer}
 use Rattle.net_simplex.proofs.entering.with_slack.Goals as goal
 
+pub slack_between-slack-requires : goal.slack_between-slack-requires
+slack_between-slack-requires c =
+    let low = c.layer_in-low.result in
+    let high = c.layer_in-high.result in
+    let fl : FitsSigned w128 low = search rules in
+    let fg : FitsSigned w128 high = search rules in
+    rw (to_z-of_z w128 low fl, to_z-of_z w128 high fg)
+    (record {
+      low_from = c.layer_in-low.ensures.from;
+      low_to = c.layer_in-low.ensures.to;
+      high_from = c.layer_in-high.ensures.from;
+      high_to = c.layer_in-high.ensures.to;
+    })
+
 pub returns-clause-slack : goal.returns-clause-slack
 returns-clause-slack c =
     let layers = c.args.layers.now in
