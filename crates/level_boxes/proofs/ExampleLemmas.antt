@@ -1,5 +1,5 @@
 -- The level of four boxes is a level.
-use Rattle.std.proofs.Common.{◌≡◌, ℕ, zero, suc, ◌<◌, ◌≤◌, sym, subst, arith}
+use Rattle.std.proofs.Common.{◌≡◌, ℕ, ◌≤◌, sym, subst, arith}
 use Rattle.std.proofs.lemmas.Int.{ints}
 use Rattle.elk_doc.specs.declared.document.Direction.{Direction}
 use Rattle.elk_doc.specs.Sound.{IsSoundSpacing}
@@ -7,13 +7,7 @@ use Rattle.level_plan.specs.Conditions.{IsLevel, IsLevelChild}
 use Rattle.level_plan.specs.Examples.{spacing}
 use Rattle.level_plan.specs.Level.{PlainLevel, child_at}
 use Rattle.level_boxes.specs.Examples.{box_of, four_boxes}
-
-below4 : (P : ℕ → Type 0) → P 0 → P 1 → P 2 → P 3 → (n : ℕ) → n < 4 → P n
-below4 P a b c e zero h = a
-below4 P a b c e (suc zero) h = b
-below4 P a b c e (suc (suc zero)) h = c
-below4 P a b c e (suc (suc (suc zero))) h = e
-below4 P a b c e (suc (suc (suc (suc n)))) h = absurd (omega (arith, h))
+use Rattle.level_plan.proofs.ExampleLemmas.{below4}
 
 a_box : (way : Direction) (width height : ℕ) → width ≤ 100 → height ≤ 100 → IsLevelChild (box_of way width height)
 a_box way width height w h =

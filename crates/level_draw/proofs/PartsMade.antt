@@ -1,18 +1,15 @@
 -- What is made for a level are the parts of its drawing.
-use Rattle.std.proofs.Common.{◌≡◌, ℕ, ◌+◌, ◌≤◌, List, [], length, pos, refl, sym, subst, ap, ◌∙◌}
+use Rattle.std.proofs.Common.{◌≡◌, ℕ, ◌+◌, ◌≤◌, List, length, pos, refl, sym, subst, ap, ◌∙◌}
 use Rattle.std.specs.List.{All}
 use Rattle.elk_doc.specs.declared.shape.Rect.{Rect}
 use Rattle.elk_doc.specs.declared.shape.Size.{Size}
 use Rattle.elk_doc.specs.declared.drawing.Section.{Section}
 use Rattle.level_plan.specs.Level.{Orders}
 use Rattle.level_plan.specs.FromPlan.{LevelDrawing, IsDrawnFrom}
-use Rattle.level_plan.specs.Table.{IsTable}
-use Rattle.level_plan.specs.Units.{AreOrders}
 use Rattle.level_plan.specs.Ready.{IsReady}
 use Rattle.level_frame.specs.Reach.{IsNear}
 use Rattle.level_frame.specs.Ranges.{IsFarGap, IsFarPoint, IsFarSection, IsFarTrace}
-use Rattle.level_ends.specs.Bounds.{AreNumbersIn}
-use Rattle.level_ends.specs.Tops.{with_tops}
+use Rattle.level_units.specs.Tabled.{IsTableOf}
 use Rattle.level_nets.specs.declared.routing.Routing.{Routing}
 use Rattle.level_nets.specs.Parts as nets
 use Rattle.level_nets.specs.Held.{plain_gaps}
@@ -31,11 +28,10 @@ use Rattle.level_draw.proofs.FarParts.{far_boxes, far_gaps, far_sections, far_tr
 use Rattle.level_draw.proofs.Assembled.{drawing_of, drawn_from}
 use Rattle.level_draw.proofs.Outlined.{are_nearby, outlines_are, outlines_near}
 
-module _ (s : nets.Parts) (rows : List (List ℕ)) (layers : List ℕ) (drawable : IsDrawable s.level (nets.plan_of s rows) layers) (q : Orders) (orders : AreOrders s.level (with_tops (nets.plan_of s rows) []) q)
-    (table : IsTable s.level (with_tops (nets.plan_of s rows) []) q s.table) (numbers : AreNumbersIn s.table) (r : Routing) (many : length r.gaps ≡ s.layered.layers + 1) (gaps : AreGapsOf s r.gaps) (legs : AreLegsOf s r)
+module _ (s : nets.Parts) (rows : List (List ℕ)) (layers : List ℕ) (drawable : IsDrawable s.level (nets.plan_of s rows) layers) (table : IsTableOf s.level (nets.plan_of s rows) s.table) (r : Routing) (many : length r.gaps ≡ s.layered.layers + 1) (gaps : AreGapsOf s r.gaps) (legs : AreLegsOf s r)
     (within : AreGapsIn r.gaps) (v : Routes) (routes : AreRoutesOf s r v) where
   planned_by : (o : Orders) (ls : List ℕ) → IsReady s.level (nets.plan_of s rows) o ls → nets.ArePlanned s rows o ls
-  planned_by o ls ready = record { ready = ready; table = table_fits s.level (nets.plan_of s rows) o q ls s.table ready orders table }
+  planned_by o ls ready = record { ready = ready; table = table_fits s.level (nets.plan_of s rows) o ls s.table ready table }
 
   planned : nets.ArePlanned s rows drawable.orders layers
   planned = planned_by drawable.orders layers drawable.ready
@@ -44,13 +40,13 @@ module _ (s : nets.Parts) (rows : List (List ℕ)) (layers : List ℕ) (drawable
   few = few_layers s.level (nets.plan_of s rows) layers drawable
 
   pub traces_joinable : AreJoinable r.gaps v.traces.items
-  traces_joinable = joining.joinable s rows drawable.orders layers planned drawable.bottoms few numbers r many gaps legs within v routes
+  traces_joinable = joining.joinable s rows drawable.orders layers planned drawable.bottoms few table.numbers r many gaps legs within v routes
 
   box_count : length v.boxes.items ≡ length s.table.children
   box_count = (routes rows drawable.orders layers planned (legs rows drawable.orders layers planned)).box_count ∙ sym planned.table.child_count
 
   pub boxes_nearby : All IsBoxPoint v.boxes.items → AreNearby s.table.children v.boxes.items
-  boxes_nearby near = are_nearby s.table v.boxes.items box_count numbers near
+  boxes_nearby near = are_nearby s.table v.boxes.items box_count table.numbers near
 
   module _ (near : All IsBoxPoint v.boxes.items) (sections : List Section) (joined : AreJoined r.gaps v.traces.items (length v.traces.items) sections) (outlines : List Rect)
       (outlined : AreOutlines s.table.children v.boxes.items (length s.table.children) outlines) where
@@ -73,10 +69,10 @@ module _ (s : nets.Parts) (rows : List (List ℕ)) (layers : List ℕ) (drawable
               ∙ outlines_are s.level (nets.plan_of s rows) drawable.orders (d extent) s.table outlines planned.table (drawn drawable.orders layers extent drawable.ready) outlined
               ∙ ap (outlines_in s.level) (same extent);
           far = record {
-            gaps = subst (λ gs. All IsFarGap (plain_gaps gs)) (sym is_gaps) (far_gaps s rows drawable.orders layers planned drawable.bottoms few numbers r many gaps legs within);
-            traces = subst (λ ts. All IsFarTrace (plain_traces ts)) (sym is_traces) (far_traces s rows drawable.orders layers planned drawable.bottoms few numbers r many gaps legs within v routes);
+            gaps = subst (λ gs. All IsFarGap (plain_gaps gs)) (sym is_gaps) (far_gaps s rows drawable.orders layers planned drawable.bottoms few table.numbers r many gaps legs within);
+            traces = subst (λ ts. All IsFarTrace (plain_traces ts)) (sym is_traces) (far_traces s rows drawable.orders layers planned drawable.bottoms few table.numbers r many gaps legs within v routes);
             boxes = subst (All IsFarPoint) (sym is_boxes) (far_boxes v.boxes.items near);
             sections = subst (All IsFarSection) (sym is_sections) (far_sections r.gaps v.traces.items sections traces_joinable joined);
-            outlines = subst (All IsNear) (sym is_outlines) (outlines_near s.table v.boxes.items outlines box_count numbers near outlined);
+            outlines = subst (All IsNear) (sym is_outlines) (outlines_near s.table v.boxes.items outlines box_count table.numbers near outlined);
           };
         }

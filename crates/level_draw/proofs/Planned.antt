@@ -6,7 +6,9 @@ use Rattle.level_plan.specs.Level.{PlainLevel, PlainPlan, Orders}
 use Rattle.level_plan.specs.Table.{IsTable}
 use Rattle.level_plan.specs.Units.{AreLinked, AreOrders, HasChain, IsLaneUnit, IsLinkOf, IsUnitOf}
 use Rattle.level_plan.specs.Ready.{IsReady}
+use Rattle.level_ends.specs.Bounds.{AreNumbersIn}
 use Rattle.level_ends.specs.Tops.{with_tops}
+use Rattle.level_units.specs.Tabled.{IsTableOf}
 use Rattle.level_nets.specs.Parts.{IsGiven, Parts, plan_of}
 use Rattle.level_units.proofs.LayerLemmas.{few_counted}
 use Rattle.level_draw.specs.Drawing.{IsDrawable}
@@ -44,20 +46,27 @@ module _ (l : PlainLevel) (p : PlainPlan) (tops : List ℤ) where
         links = λ k m. link_kept k (h.links k m);
       }
 
-pub table_fits : (l : PlainLevel) (p : PlainPlan) (o q : Orders) (layers : List ℕ) (t : Table) → IsReady l p o layers → AreOrders l (with_tops p []) q → IsTable l (with_tops p []) q t
-    → IsTable l p o t
-table_fits l p o q layers t ready orders table =
-    need_no_orders l p q o t ready.level (no_tops.orders l (with_tops p []) q p.tops orders) ready.units.orders
-    (no_tops.table l (with_tops p []) q p.tops t table)
+-- a table that was made before places are known belongs to the plan
+pub tabled : (l : PlainLevel) (p : PlainPlan) (q : Orders) (t : Table) → AreOrders l (with_tops p []) q → IsTable l (with_tops p []) q t → AreNumbersIn t → IsTableOf l p t
+tabled l p q t orders table numbers =
+    record {
+      orders = q;
+      are_orders = no_tops.orders l (with_tops p []) q p.tops orders;
+      table = no_tops.table l (with_tops p []) q p.tops t table;
+      numbers = numbers;
+    }
+
+-- it is one for any orders of the level's sides
+pub table_fits : (l : PlainLevel) (p : PlainPlan) (o : Orders) (layers : List ℕ) (t : Table) → IsReady l p o layers → IsTableOf l p t → IsTable l p o t
+table_fits l p o layers t ready of = need_no_orders l p of.orders o t ready.level of.are_orders ready.units.orders of.table
 
 -- a plan has no layer but those that are listed, and these are below 2,048
 pub few_layers : (l : PlainLevel) (p : PlainPlan) (layers : List ℕ) → IsDrawable l p layers → p.layers ≤ 2048
 few_layers l p layers drawable = few_counted l p.reversed layers p.layers drawable.layering drawable.layer_count
 
 -- so the level is one whose gaps and routes are wanted
-pub is_given : (s : Parts) (rows : List (List ℕ)) (layers : List ℕ) (q : Orders) → IsDrawable s.level (plan_of s rows) layers
-    → AreOrders s.level (with_tops (plan_of s rows) []) q → IsTable s.level (with_tops (plan_of s rows) []) q s.table → IsGiven s
-is_given s rows layers q drawable orders table =
+pub is_given : (s : Parts) (rows : List (List ℕ)) (layers : List ℕ) → IsDrawable s.level (plan_of s rows) layers → IsTableOf s.level (plan_of s rows) s.table → IsGiven s
+is_given s rows layers drawable of =
     record {
       few_layers = few_layers s.level (plan_of s rows) layers drawable;
       bottoms = drawable.bottoms;
@@ -65,6 +74,6 @@ is_given s rows layers q drawable orders table =
         rows = rows;
         orders = drawable.orders;
         layers = layers;
-        planned = record { ready = drawable.ready; table = table_fits s.level (plan_of s rows) drawable.orders q layers s.table drawable.ready orders table };
+        planned = record { ready = drawable.ready; table = table_fits s.level (plan_of s rows) drawable.orders layers s.table drawable.ready of };
       };
     }

@@ -1,3 +1,4 @@
+pub mod Draft
 pub mod Drawing
 pub mod Joined
 pub mod Outlines

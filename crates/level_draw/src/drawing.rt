@@ -1,16 +1,20 @@
 //! The drawing of a level.
-ghost use Rattle.std.specs.Prelude.{ℕ, List, IfOk};
-ghost use Rattle.level_plan.specs.Conditions.{plain_level, plain_plan};
+ghost use Rattle.std.specs.Prelude.{ℕ, List, IfOk, length};
+ghost use Rattle.level_plan.specs.Conditions.{plain_level};
+ghost use Rattle.level_plan.specs.Marks.{AreMarks};
+ghost use Rattle.level_units.specs.Tabled.{IsTableOf};
+ghost use Rattle.level_draw.specs.Draft.{plan_in};
 ghost use Rattle.level_draw.specs.Drawing.{IsDrawable, IsDrawn, IsMadeFrom, plan_from};
 ghost use Rattle.level_draw.specs.Sketched.{IsSketch};
 
-use crate::parts::{Parts, parts_of};
+use crate::parts::{Draft, Parts, parts_of};
 use crate::shifting::{reach_in, shifted, size_of};
 use elk_doc::drawing::{Certificate, Section};
 use elk_doc::list::Items;
 use elk_doc::shape::{Point, Size};
 use elk_layers::{Layered, Lines, Order};
-use level_plan::LevelIn;
+use level_ends::table_of;
+use level_plan::{LevelIn, Table, marks_of};
 use route_lines::{Gap, Trace};
 use std::alloc::{AllocError, Global};
 
@@ -45,23 +49,71 @@ struct Sketch {
 }
 
 // The parts of a level's drawing, moved so that it begins at 0.
-fn sketch_of(
-    alloc: Global,
-    level: &LevelIn,
-    layered: &Layered,
-    order: &Order,
-    lines: &Lines,
-    reversed: &[u32],
-) -> Result<Sketch, AllocError>
-    requires { (layers : List ℕ) × IsDrawable (plain_level level.now) (plain_plan layered.now order.now lines.now.top.items reversed.now) layers }
-    ensures { IfOk result (IsSketch (plain_level level.now) (plain_plan layered.now order.now lines.now.top.items reversed.now)) }
+fn sketch_of(alloc: Global, draft: &Draft<'_>, table: Table) -> Result<Sketch, AllocError>
+    requires drawable { (layers : List ℕ) × IsDrawable (plain_level draft.now.level.now) (plan_in draft.now) layers }
+    requires marked { AreMarks draft.now.reversed.now (length draft.now.level.now.edges) draft.now.turned.now }
+    requires table { IsTableOf (plain_level draft.now.level.now) (plan_in draft.now) table }
+    ensures { IfOk result (IsSketch (plain_level draft.now.level.now) (plan_in draft.now)) }
 {
-    let parts = parts_of(alloc, level, layered, order, lines, reversed)?;
+    let parts = parts_of(alloc, draft, table)?;
     let reach = reach_in(&parts);
     let moved = shifted(alloc, parts, reach.low)?;
     Ok(Sketch {
         parts: moved,
         extent: size_of(reach),
+    })
+}
+
+/// What a level is drawn from: its units and links, the rows that these began with, their order and the tops of units.
+#[derive(Drop)]
+pub struct Basis {
+    pub layered: Layered,
+    pub start: Order,
+    pub order: Order,
+    pub lines: Lines,
+}
+
+/// The drawing of a level as [`draw`] has it, from a table of its docks, anchors and lanes that was made before, and the marks
+/// of the edges that are turned round.
+pub fn draw_by_table(
+    alloc: Global,
+    level: &LevelIn,
+    certificate: Certificate,
+    basis: Basis,
+    turned: &[bool],
+    table: Table,
+) -> Result<LevelOut, AllocError>
+    requires drawable { IsDrawable (plain_level level.now) (plan_from certificate basis.layered basis.order basis.lines) certificate.layers }
+    requires marked { AreMarks certificate.reversed (length level.now.edges) turned.now }
+    requires table { IsTableOf (plain_level level.now) (plan_from certificate basis.layered basis.order basis.lines) table }
+    ensures given { IfOk result (IsMadeFrom certificate basis.layered basis.start basis.order basis.lines) }
+    ensures drawn { IfOk result (IsDrawn (plain_level level.now) (plan_from certificate basis.layered basis.order basis.lines) certificate.layers) }
+{
+    let draft = Draft {
+        level,
+        layered: &basis.layered,
+        order: &basis.order,
+        lines: &basis.lines,
+        reversed: certificate.reversed.as_slice(),
+        turned,
+    };
+    let sketch = sketch_of(alloc, &draft, table)?;
+    let extent = sketch.extent;
+    let parts = sketch.parts;
+    Ok(LevelOut {
+        plan: Plan {
+            layered: basis.layered,
+            start: basis.start,
+            order: basis.order,
+            lines: basis.lines,
+            gaps: Items::from_vec(parts.gaps),
+            traces: Items::from_vec(parts.traces),
+        },
+        boxes: Items::from_vec(parts.boxes),
+        ports: Items::from_vec(parts.ports),
+        sections: Items::from_vec(parts.sections),
+        certificate,
+        extent,
     })
 }
 
@@ -84,22 +136,14 @@ pub fn draw(
     ensures drawn { IfOk result (IsDrawn (plain_level level.now) (plan_from certificate layered order lines) certificate.layers) }
 {
     let reversed = certificate.reversed.as_slice();
-    let sketch = sketch_of(alloc, level, &layered, &order, &lines, reversed)?;
-    let extent = sketch.extent;
-    let parts = sketch.parts;
-    Ok(LevelOut {
-        plan: Plan {
-            layered,
-            start,
-            order,
-            lines,
-            gaps: Items::from_vec(parts.gaps),
-            traces: Items::from_vec(parts.traces),
-        },
-        boxes: Items::from_vec(parts.boxes),
-        ports: Items::from_vec(parts.ports),
-        sections: Items::from_vec(parts.sections),
-        certificate,
-        extent,
-    })
+    let marks = marks_of(alloc, reversed, level.edges.len())?;
+    let turned = marks.as_slice();
+    let table = table_of(alloc, level, &layered, &order, reversed, turned)?;
+    let basis = Basis {
+        layered,
+        start,
+        order,
+        lines,
+    };
+    draw_by_table(alloc, level, certificate, basis, turned, table)
 }

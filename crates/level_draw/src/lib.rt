@@ -8,4 +8,4 @@ mod parts;
 mod sections;
 mod shifting;
 
-pub use drawing::{LevelOut, Plan, draw};
+pub use drawing::{Basis, LevelOut, Plan, draw, draw_by_table};

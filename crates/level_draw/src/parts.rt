@@ -1,7 +1,10 @@
 //! The parts of a drawing before it is moved.
-ghost use Rattle.std.specs.Prelude.{◌≡◌, ℕ, List, IfOk};
-ghost use Rattle.level_plan.specs.Conditions.{plain_level, plain_plan};
+ghost use Rattle.std.specs.Prelude.{◌≡◌, ℕ, List, IfOk, length};
+ghost use Rattle.level_plan.specs.Conditions.{plain_level};
+ghost use Rattle.level_plan.specs.Marks.{AreMarks};
+ghost use Rattle.level_units.specs.Tabled.{IsTableOf};
 ghost use Rattle.level_draw.specs.Drawing.{IsDrawable};
+ghost use Rattle.level_draw.specs.Draft.{plan_in};
 ghost use Rattle.level_draw.specs.Parts.{AreLevelParts, ports_in};
 
 use crate::outlines::outlines_of;
@@ -10,10 +13,9 @@ use elk_doc::drawing::Section;
 use elk_doc::list::Items;
 use elk_doc::shape::{Point, Rect};
 use elk_layers::{Layered, Lines, Order};
-use level_ends::table_of;
 use level_nets::gaps_of;
 use level_nets::sheet::Sheet;
-use level_plan::{ChildAt, LevelIn, marks_of};
+use level_plan::{ChildAt, LevelIn, Table};
 use level_traces::routes_of;
 use route_lines::{Gap, Trace};
 use std::alloc::{AllocError, Global};
@@ -40,27 +42,30 @@ fn ports_of(alloc: Global, children: Vec<ChildAt>) -> Result<Vec<Items<Point>>, 
     Ok(ports)
 }
 
+/// A level, its units and links, its rows and lines, and the edges that are turned round, by list and by edge.
+#[derive(Clone, Copy)]
+pub(crate) struct Draft<'a> {
+    pub level: &'a LevelIn,
+    pub layered: &'a Layered,
+    pub order: &'a Order,
+    pub lines: &'a Lines,
+    pub reversed: &'a [u32],
+    pub turned: &'a [bool],
+}
+
 /// The parts of a level's drawing, where its first gap begins at 0 and its units stand at their tops.
-pub(crate) fn parts_of(
-    alloc: Global,
-    level: &LevelIn,
-    layered: &Layered,
-    order: &Order,
-    lines: &Lines,
-    reversed: &[u32],
-) -> Result<Parts, AllocError>
-    requires { (layers : List ℕ) × IsDrawable (plain_level level.now) (plain_plan layered.now order.now lines.now.top.items reversed.now) layers }
-    ensures { IfOk result (AreLevelParts (plain_level level.now) (plain_plan layered.now order.now lines.now.top.items reversed.now)) }
+pub(crate) fn parts_of(alloc: Global, draft: &Draft<'_>, table: Table) -> Result<Parts, AllocError>
+    requires drawable { (layers : List ℕ) × IsDrawable (plain_level draft.now.level.now) (plan_in draft.now) layers }
+    requires marked { AreMarks draft.now.reversed.now (length draft.now.level.now.edges) draft.now.turned.now }
+    requires table { IsTableOf (plain_level draft.now.level.now) (plan_in draft.now) table }
+    ensures { IfOk result (AreLevelParts (plain_level draft.now.level.now) (plan_in draft.now)) }
 {
-    let marks = marks_of(alloc, reversed, level.edges.len())?;
-    let turned = marks.as_slice();
-    let table = table_of(alloc, level, layered, order, reversed, turned)?;
     let sheet = Sheet {
-        level,
-        layered,
-        tops: lines.top.as_slice(),
-        reversed,
-        turned,
+        level: draft.level,
+        layered: draft.layered,
+        tops: draft.lines.top.as_slice(),
+        reversed: draft.reversed,
+        turned: draft.turned,
         table: &table,
     };
     let routing = gaps_of(alloc, &sheet)?;

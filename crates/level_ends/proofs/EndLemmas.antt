@@ -1,9 +1,10 @@
 -- Ends in document order, and their places among some of them.
-use Rattle.std.proofs.Common.{◌≡◌, ℕ, zero, suc, ◌+◌, ◌≤◌, ◌==◌, List, [], ◌∷◌, ◌++◌, length, Bool, true, false, not, cond, refl, sym, ◌∙◌, ap, arith, add-zero, append_assoc, ne_eqb, eq-eqb}
+use Rattle.std.proofs.Common.{◌≡◌, ℕ, zero, suc, ◌+◌, ◌≤◌, ◌==◌, List, [], ◌∷◌, ◌++◌, length, Bool, true, false, not, cond, refl, sym, ◌∙◌, ap, arith, add-zero, append_assoc, ne_eqb}
 use Rattle.std.specs.List.{filter, All, range_with_len}
 use Rattle.std.proofs.lemmas.Bool.{and_left, and_right}
 use Rattle.std.proofs.lemmas.List.Elements.{All-nil, All-cons, All-head, All-tail, All-filter, All-weaker}
 use Rattle.level_plan.specs.Level.{End, end_at, end_eq, ends_of_edges, place_of_end}
+use Rattle.level_plan.proofs.NumberedSpots.{end_eq-self}
 
 -- no two ends of the list are the same
 abbrev pub Differ : List End → Type 0
@@ -75,20 +76,13 @@ pub differ_filter : (test : End → Bool) (ns : List End) → Differ ns → Diff
 differ_filter test [] d = tt
 differ_filter test (n ∷ ns) d = cons_filter test (test n) n ns (All-filter test (λ m. end_eq n m ≡ false) ns d.0) (differ_filter test ns d.1)
 
-end_same : (n : End) → end_eq n n ≡ true
-end_same n = rw (eq-eqb n.edge n.edge refl) (same n.at_source)
-  where
-    same : (b : Bool) → cond b b (not b) ≡ true
-    same true = refl
-    same false = refl
-
 middle : (P : End → Type 0) (pre : List End) (n : End) (post : List End) → All P (pre ++ n ∷ post) → P n
 middle P [] n post all = All-head P n post all
 middle P (m ∷ pre) n post all = middle P pre n post (All-tail P m (pre ++ n ∷ post) all)
 
 -- an end's place among ends that differ is the number of those before it
 pub place_there : (pre : List End) (n : End) (post : List End) → Differ (pre ++ n ∷ post) → place_of_end (pre ++ n ∷ post) n ≡ length pre
-place_there [] n post d = rw (end_same n) refl
+place_there [] n post d = rw (end_eq-self n) refl
 place_there (m ∷ pre) n post d =
     let rest = place_there pre n post d.1 in
     let other : end_eq m n ≡ false = middle (λ k. end_eq m k ≡ false) pre n post d.0 in

@@ -8,7 +8,6 @@ use Rattle.std.proofs.lemmas.Bool.Decides.{Decides-int_eq}
 use Rattle.std.proofs.lemmas.List.{get_or-set_same, get_or-set_other, length-set}
 use Rattle.std.proofs.lemmas.List.Elements.{filter-append}
 use Rattle.elk_doc.specs.declared.shape.Side.{Side}
-use Rattle.elk_doc.specs.declared.shape.Side.TheVariants.{North, East, South, West}
 use Rattle.elk_doc.specs.declared.shape.Dock.{Dock}
 use Rattle.elk_doc.specs.PortsKept.{is_side}
 use Rattle.level_plan.specs.Level.{first_or}
@@ -16,30 +15,7 @@ use Rattle.level_ends.specs.Lanes.{AreFirstSpots, NotesFirstSpot, first_same, fi
 use Rattle.level_ends.specs.Outlines.{dock_in}
 use Rattle.level_ends.proofs.EndLemmas.{range_more}
 use Rattle.level_ends.proofs.SpotLemmas.{filter_yes, filter_no}
-
-pub side_self : (s : Side) → is_side s s ≡ true
-side_self North = refl
-side_self East = refl
-side_self South = refl
-side_self West = refl
-
-pub side_same : (s t : Side) → is_side s t ≡ true → s ≡ t
-side_same North North h = refl
-side_same North East h = absurd cc
-side_same North South h = absurd cc
-side_same North West h = absurd cc
-side_same East North h = absurd cc
-side_same East East h = refl
-side_same East South h = absurd cc
-side_same East West h = absurd cc
-side_same South North h = absurd cc
-side_same South East h = absurd cc
-side_same South South h = refl
-side_same South West h = absurd cc
-side_same West North h = absurd cc
-side_same West East h = absurd cc
-side_same West South h = absurd cc
-side_same West West h = refl
+use Rattle.port_order.proofs.OrderLemmas.{side_same, side_itself}
 
 pub side_other : (s t : Side) → s ≢ t → is_side s t ≡ false
 side_other s t ne = elim (cases_Bool (is_side s t)) [ inl passed ↦ absurd (ne (side_same s t passed)) | inr no_side ↦ no_side ]
@@ -97,13 +73,13 @@ first_found test a (suc m) d =
 -- ---- docks that are the same
 
 pub same_self : (d : Dock) → same_dock d d ≡ true
-same_self d = and_from (is_side d.side d.side) (int_eq d.offset d.offset) (side_self d.side) (int_self d.offset)
+same_self d = and_from (is_side d.side d.side) (int_eq d.offset d.offset) (side_itself d.side) (int_self d.offset)
 
 pub same_parts : (d k : Dock) → same_dock d k ≡ true → (d.side ≡ k.side) × (d.offset ≡ k.offset)
 same_parts d k h = let parts = and_parts (is_side d.side k.side) (int_eq d.offset k.offset) h in (side_same d.side k.side parts.0, (Decides-int_eq d.offset k.offset).0 parts.1)
 
 pub same_from : (d k : Dock) → d.side ≡ k.side → d.offset ≡ k.offset → same_dock d k ≡ true
-same_from d k s o = and_from (is_side d.side k.side) (int_eq d.offset k.offset) (subst (λ x. is_side d.side x ≡ true) s (side_self d.side)) ((Decides-int_eq d.offset k.offset).1 o)
+same_from d k s o = and_from (is_side d.side k.side) (int_eq d.offset k.offset) (subst (λ x. is_side d.side x ≡ true) s (side_itself d.side)) ((Decides-int_eq d.offset k.offset).1 o)
 
 -- the first spot with the dock of a spot
 pub record IsFirstSpot (docks : List Dock) (i j : ℕ) : Type 0 where
@@ -158,7 +134,7 @@ pub seen_here : (docks : List Dock) (side : Side) (i : ℕ) → (dock_in docks i
 seen_here docks side i is =
     let test = seen_test docks side (dock_in docks i).offset in
     let passed : seen_test docks side (dock_in docks i).offset i ≡ true =
-    and_from (is_side (dock_in docks i).side side) (int_eq (dock_in docks i).offset (dock_in docks i).offset) (subst (λ x. is_side (dock_in docks i).side x ≡ true) is (side_self (dock_in docks i).side)) (int_self (dock_in docks i).offset)
+    and_from (is_side (dock_in docks i).side side) (int_eq (dock_in docks i).offset (dock_in docks i).offset) (subst (λ x. is_side (dock_in docks i).side x ≡ true) is (side_itself (dock_in docks i).side)) (int_self (dock_in docks i).offset)
     in
     ap first_some (filter_more_yes (seen_test docks side (dock_in docks i).offset) i passed) ∙ some_first (filter (seen_test docks side (dock_in docks i).offset) (range_with_len 0 i)) i
 
@@ -171,7 +147,7 @@ seen_beside docks side i z ne = filter_more_no (seen_test docks side z) i (and_l
 -- ---- spot by spot
 
 pub cases_side : (s t : Side) → (s ≡ t) ⊎ (s ≢ t)
-cases_side s t = elim (cases_Bool (is_side s t)) [ inl passed ↦ inl (side_same s t passed) | inr other ↦ inr (λ e. true≢false (sym (subst (λ x. is_side s x ≡ true) e (side_self s)) ∙ other)) ]
+cases_side s t = elim (cases_Bool (is_side s t)) [ inl passed ↦ inl (side_same s t passed) | inr other ↦ inr (λ e. true≢false (sym (subst (λ x. is_side s x ≡ true) e (side_itself s)) ∙ other)) ]
 
 abbrev SeenTo : List Dock → Side → ℕ → (ℤ → Option ℕ) → Type 0
 SeenTo docks side i seen = (z : ℤ) → seen z ≡ first_some (filter (seen_test docks side z) (range_with_len 0 i))
@@ -224,26 +200,6 @@ long_more docks side i old new seen seen_now step = elim (cases_side (dock_in do
   | inl on ↦ ap length (step.noted on) ∙ length-set old i (unwrap_or (seen (dock_in docks i).offset) i)
   | inr beside ↦ ap length (step.beside beside)
 ]
-
--- ---- all four sides
-
-abbrev Noted : List Dock → Side → List ℕ → Type 0
-Noted docks side new = (i : ℕ) → i < length docks → (dock_in docks i).side ≡ side → get_or new i 0 ≡ first_same docks i
-
-abbrev Kept : List Dock → Side → List ℕ → List ℕ → Type 0
-Kept docks side old new = (i : ℕ) → (dock_in docks i).side ≢ side → get_or new i 0 ≡ get_or old i 0
-
-pub four_sides : (docks : List Dock) (p1 p2 p3 p4 : List ℕ) → length p4 ≡ length docks → Noted docks North p1 → Noted docks East p2 → Noted docks South p3 → Noted docks West p4 → Kept docks East p1 p2 → Kept docks South p2 p3 → Kept docks West p3 p4 → AreFirstSpots docks p4
-four_sides docks p1 p2 p3 p4 long n e s w ke ks kw = record { as_long = long; first_is = λ i h. on (dock_in docks i).side i h refl }
-  where
-    other : (side wanted : Side) (i : ℕ) → (dock_in docks i).side ≡ side → side ≢ wanted → (dock_in docks i).side ≢ wanted
-    other side wanted i is ne q = ne (sym is ∙ q)
-
-    on : (side : Side) (i : ℕ) → i < length docks → (dock_in docks i).side ≡ side → get_or p4 i 0 ≡ first_same docks i
-    on North i h is = kw i (other North West i is (λ bad. absurd cc)) ∙ ks i (other North South i is (λ bad. absurd cc)) ∙ ke i (other North East i is (λ bad. absurd cc)) ∙ n i h is
-    on East i h is = kw i (other East West i is (λ bad. absurd cc)) ∙ ks i (other East South i is (λ bad. absurd cc)) ∙ e i h is
-    on South i h is = kw i (other South West i is (λ bad. absurd cc)) ∙ s i h is
-    on West i h is = w i h is
 
 -- the first spot of a dock is a spot
 pub first_within : (docks : List Dock) (firsts : List ℕ) (i : ℕ) → AreFirstSpots docks firsts → i < length docks → get_or firsts i 0 < length docks

@@ -1,12 +1,11 @@
 -- The links of edges.
-use Rattle.std.proofs.Common.{◌≡◌, ℕ, suc, ◌+◌, ◌-◌, ◌<◌, ◌==◌, List, [], ◌∷◌, length, get_or, set, take, Bool, true, false, ◌||◌, ◌&&◌, cond, refl, sym, ◌∙◌, ap, inl, inr, arith, eq-eqb, ne_eqb}
+use Rattle.std.proofs.Common.{◌≡◌, ℕ, suc, ◌+◌, ◌-◌, ◌<◌, ◌==◌, List, [], ◌∷◌, length, get_or, set, Bool, true, false, ◌&&◌, cond, refl, sym, ◌∙◌, ap, inl, inr, arith, eq-eqb, ne_eqb}
 use Rattle.std.specs.List.{filter, range_with_len}
 use Rattle.std.proofs.lemmas.Bool.{cases_eq, and_right}
-use Rattle.std.proofs.lemmas.List.{get_or-set_same, get_or-set_other, length-set, take_more}
-use Rattle.std.proofs.lemmas.List.Folds.{list_any-append}
+use Rattle.std.proofs.lemmas.List.{get_or-set_same, get_or-set_other, length-set}
 use Rattle.elk_layers.specs.Layered.{Plain, link_at, is_child}
-use Rattle.level_plan.specs.Level.{first_or, holds}
-use Rattle.level_ends.specs.Flows.{AreFirst, AreFirstFrom, HaveEdges, first_from, is_near, near_unit}
+use Rattle.level_plan.specs.Level.{first_or}
+use Rattle.level_ends.specs.Flows.{AreFirstFrom, HaveEdges, first_from, is_near, near_unit}
 
 -- ---- the first number that passes a test
 
@@ -18,14 +17,6 @@ first_cons test k bound h =
     pick : (b : Bool) → first_or (cond b (k ∷ filter test (range_with_len (k + 1) (bound - (k + 1)))) (filter test (range_with_len (k + 1) (bound - (k + 1))))) 0 ≡ cond b k (first_from test (k + 1) bound)
     pick true = refl
     pick false = refl
-
-pub firsts_start : (test : ℕ → ℕ → Bool) (bound count : ℕ) (firsts : List ℕ) → length firsts ≡ count → ((e : ℕ) → e < count → get_or firsts e 0 ≡ 0) → AreFirstFrom test bound bound count firsts
-firsts_start test bound count firsts long zero_all =
-    let none : bound - bound ≡ 0 = omega arith in
-    record {
-      as_long = long;
-      first_is = λ e h. zero_all e h ∙ sym (ap (λ m. first_or (filter (test e) (range_with_len bound m)) 0) none);
-    }
 
 -- the number before passes the test of one, or no test
 pub firsts_hit : (test : ℕ → ℕ → Bool) (k bound count at : ℕ) (firsts : List ℕ) → ((e : ℕ) → test e k ≡ (at == e)) → k < bound → at < count → AreFirstFrom test (k + 1) bound count firsts → AreFirstFrom test k bound count (set firsts at k)
@@ -49,14 +40,6 @@ firsts_miss test k bound count firsts none h are =
     record {
       as_long = are.as_long;
       first_is = λ e less. are.first_is e less ∙ sym (first_cons (test e) k bound h ∙ ap (λ b. cond b k (first_from (test e) (k + 1) bound)) (none e));
-    }
-
-pub firsts_whole : (test : ℕ → ℕ → Bool) (k bound count : ℕ) (firsts : List ℕ) → k ≡ 0 → AreFirstFrom test k bound count firsts → AreFirst test bound count firsts
-firsts_whole test k bound count firsts e are =
-    let all : bound - 0 ≡ bound = omega arith in
-    record {
-      as_long = are.as_long;
-      first_is = λ x h. are.first_is x h ∙ ap (λ m. first_from (test x) m bound) e ∙ ap (λ m. first_or (filter (test x) (range_with_len 0 m)) 0) all;
     }
 
 -- ---- links by edge

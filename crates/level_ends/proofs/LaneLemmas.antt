@@ -14,12 +14,9 @@ use Rattle.level_ends.specs.Lanes.{AreAsked, AreFirstSpots, AreLanePlaces, Numbe
 use Rattle.level_ends.specs.Outlines.{dock_in}
 use Rattle.level_ends.proofs.EndLemmas.{range_more}
 use Rattle.level_ends.proofs.FirstLemmas.{filter_more_no, filter_more_yes, first_of_same, first_spot, same_from, same_parts}
+use Rattle.level_ends.proofs.SpotLemmas.{or_false}
 
-or_false : (b : Bool) → (b || false) ≡ b
-or_false true = refl
-or_false false = refl
-
-or_true : (b : Bool) → (b || true) ≡ true
+pub or_true : (b : Bool) → (b || true) ≡ true
 or_true true = refl
 or_true false = refl
 
@@ -129,9 +126,6 @@ lanes_few side sides (suc j) =
       | inl passed ↦ let more = lanes_yes side sides j passed in subst (λ x. lanes_to side sides x ≤ x) (sym e) (omega (arith, h, more))
       | inr none ↦ let same = lanes_no side sides j none in subst (λ x. lanes_to side sides x ≤ x) (sym e) (omega (arith, h, same))
     ]
-
-pub numbers_start : (side : Side) (sides : List (Option Side)) (start : ℕ) (old : List ℕ) → NumbersLanes side sides start 0 old old
-numbers_start side sides start old = record { as_long = refl; numbered = λ j h. absurd (omega (arith, h)); kept = λ j h. refl }
 
 pub numbers_yes : (side : Side) (sides : List (Option Side)) (start j next : ℕ) (old new : List ℕ) → j < length old → is_on side (lane_in sides j) ≡ true → next ≡ start + lanes_to side sides j
     → NumbersLanes side sides start j old new → NumbersLanes side sides start (j + 1) old (set new j next)

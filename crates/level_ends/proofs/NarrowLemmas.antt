@@ -212,13 +212,6 @@ second_false a false h = refl
 pub face_near : (c : Child) (side : Side) (k : ℕ) → IsNarrow c → k < length c.ports → IsOffset (face_of c side k)
 face_near c side k is h = face_bool c side k (is_pinned c k && not c.compound) is h (second_false (is_pinned c k) c.compound)
 
-no_size_small : IsSmall no_size
-no_size_small = record { width = record { above = omega (arith, ints); below = omega (arith, ints) }; height = record { above = omega (arith, ints); below = omega (arith, ints) } }
-
--- the side's line
-pub line_near : (c : Child) (side : Side) → IsNarrow c → IsOffset (outer_face side c.size no_size)
-line_near c side is = face_outer side c.size no_size is.child.size no_size_small is.width is.height (omega (arith, ints)) (omega (arith, ints))
-
 -- ---- rectangles
 
 start_span : (offset half len size : ℤ) → IsOffset offset → IsWithin (pos 0) len half → len ≤ℤ pos (2 ^ 46) → pos 0 ≤ℤ size → size ≤ℤ pos (2 ^ 46) → IsNearSpan (offset -ℤ half) size

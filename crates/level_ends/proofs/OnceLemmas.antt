@@ -13,11 +13,7 @@ use Rattle.level_ends.specs.Lanes.{first_same, same_dock}
 use Rattle.level_ends.specs.Outlines.{dock_in}
 use Rattle.level_ends.proofs.EndLemmas.{range_split}
 use Rattle.level_ends.proofs.FirstLemmas.{filter_more_no, filter_more_yes, first_found}
-use Rattle.level_ends.proofs.LaneLemmas.{any_more}
-
-or_true : (b : Bool) → (b || true) ≡ true
-or_true true = refl
-or_true false = refl
+use Rattle.level_ends.proofs.LaneLemmas.{any_more, or_true}
 
 once_bits : (test : Dock → Bool) (d : Dock) (b c : Bool) → test d ≡ not c → filter test (cond b [] (d ∷ [])) ≡ cond (c || b) [] (d ∷ [])
 once_bits test d true c e = sym (ap (λ x. cond x [] (d ∷ [])) (or_true c))

@@ -1,10 +1,8 @@
 -- Outlines and ports by the docks of a child's spots.
-use Rattle.std.proofs.Common.{◌≡◌, ℕ, suc, ℤ, ◌+◌, ◌-◌, ◌<◌, ◌^◌, pos, List, [], length, get_or, sym, ◌∙◌, ap, arith, SFits, w64, to_z, of_z, neg_ℤ, ◌+ℤ◌, ◌-ℤ◌, ◌≤ℤ◌}
+use Rattle.std.proofs.Common.{◌≡◌, ℕ, suc, ℤ, ◌+◌, ◌-◌, ◌<◌, ◌^◌, pos, List, length, get_or, sym, ◌∙◌, ap, arith, w64, to_z, of_z, neg_ℤ}
 use Rattle.std.specs.List.{All, range_with_len}
-use Rattle.std.proofs.lemmas.Int.{ints, clamps, to_z-of_z}
-use Rattle.std.proofs.lemmas.List.{get_or_default}
+use Rattle.std.proofs.lemmas.Int.{ints, to_z-of_z}
 use Rattle.std.proofs.lemmas.List.Elements.{All-get_or}
-use Rattle.std.specs.Int.{int_min, int_max}
 use Rattle.elk_doc.specs.declared.shape.Point.{Point}
 use Rattle.elk_doc.specs.declared.shape.Rect.{Rect}
 use Rattle.elk_doc.specs.declared.shape.Side.{Side}
@@ -15,15 +13,9 @@ use Rattle.elk_doc.specs.Sound.{IsPlaceWithin, IsWithin}
 use Rattle.port_order.specs.declared.children.Child.{Child}
 use Rattle.port_order.specs.Child.{port_at}
 use Rattle.port_order.specs.Places.{on_side, place_of_port}
-use Rattle.level_ends.specs.Narrow.{IsNearSpan, IsOffset}
+use Rattle.level_ends.specs.Narrow.{IsOffset}
 use Rattle.level_ends.specs.Outlines.{dock_in, outline_by}
 use Rattle.level_ends.proofs.PartLemmas.{offset_fits}
-
-pub outline_start : (c : Child) (docks : List Dock) (n : ℕ) → outline_by c docks (range_with_len n (n - n)) ≡ rect_at (record { x = pos 0; y = pos 0 }) c.size
-outline_start c docks n = let none : n - n ≡ 0 = omega arith in ap (λ m. outline_by c docks (range_with_len n m)) none
-
-pub outline_whole : (c : Child) (docks : List Dock) (k n : ℕ) → k ≡ 0 → outline_by c docks (range_with_len k (n - k)) ≡ outline_by c docks (range_with_len 0 n)
-outline_whole c docks k n e = let all : n - 0 ≡ n = omega arith in ap (λ m. outline_by c docks (range_with_len m (n - m))) e ∙ ap (λ m. outline_by c docks (range_with_len 0 m)) all
 
 -- the outline with the port before
 pub outline_more : (c : Child) (docks : List Dock) (k j n : ℕ) (d : Dock) (r q s : Rect) → j ≡ k + 1 → k < n → d ≡ dock_in docks k → r ≡ outline_by c docks (range_with_len j (n - j)) → q ≡ rect_at (place_of_port c d.side k d.offset) (port_at c k).size → s ≡ hull r q
@@ -35,33 +27,8 @@ outline_more c docks k j n d r q s next h is outline rect joined =
     ∙ ap (hull (outline_by c docks (range_with_len (k + 1) (n - (k + 1))))) (rect ∙ ap (λ (x : Dock). rect_at (place_of_port c x.side k x.offset) (port_at c k).size) is)
     ∙ sym (ap (λ m. outline_by c docks (range_with_len k m)) count)
 
--- a dock that is read
-pub dock_read : (docks : List Dock) (i : ℕ) (d : Dock) → i < length docks → get_or docks i d ≡ dock_in docks i
-dock_read docks i d h = get_or_default docks i d (dock_in [] 0) h
-
 pub dock_offset : (docks : List Dock) (i : ℕ) (d : Dock) → i < length docks → All (λ (x : Dock). IsOffset x.offset) docks → IsOffset (get_or docks i d).offset
 dock_offset docks i d h all = All-get_or (λ (x : Dock). IsOffset x.offset) docks i d h all
-
--- the hull of two stretches, as the code computes it
-pub hull_computed : (a s b t : ℤ) → IsNearSpan a s → IsNearSpan b t → (SFits w64 (int_max (a +ℤ s) (b +ℤ t) -ℤ int_min a b)) × (SFits w64 (a +ℤ s)) × (SFits w64 (b +ℤ t))
-hull_computed a s b t x y =
-    let p = x.low_end.above in
-    let q = x.low_end.below in
-    let r = y.low_end.above in
-    let u = y.low_end.below in
-    let p2 = x.high_end.above in
-    let q2 = x.high_end.below in
-    let r2 = y.high_end.above in
-    let u2 = y.high_end.below in
-    let high : (int_max (a +ℤ s) (b +ℤ t) ≤ℤ pos (2 ^ 48)) × (neg_ℤ (pos (2 ^ 48)) ≤ℤ int_max (a +ℤ s) (b +ℤ t)) = (omega (arith, ints, clamps, q2, u2), omega (arith, ints, clamps, p2, r2)) in
-    let low : (int_min a b ≤ℤ pos (2 ^ 48)) × (neg_ℤ (pos (2 ^ 48)) ≤ℤ int_min a b) = (omega (arith, ints, clamps, q, u), omega (arith, ints, clamps, p, r)) in (
-      fits (int_max (a +ℤ s) (b +ℤ t)) (int_min a b) high.0 high.1 low.0 low.1,
-      omega (arith, ints, p2, q2),
-      omega (arith, ints, r2, u2),
-    )
-  where
-    fits : (h m : ℤ) → h ≤ℤ pos (2 ^ 48) → neg_ℤ (pos (2 ^ 48)) ≤ℤ h → m ≤ℤ pos (2 ^ 48) → neg_ℤ (pos (2 ^ 48)) ≤ℤ m → SFits w64 (h -ℤ m)
-    fits h m a b c d = omega (arith, ints, a, b, c, d)
 
 -- an anchor lies near
 pub anchor_near : (side : Side) (face offset : ℤ) → IsOffset face → IsOffset offset → IsPlaceWithin (2 ^ 48) (on_side side face offset)

@@ -17,8 +17,9 @@ use Rattle.level_plan.specs.Lanes.{asks_lane, dock_eq, docks_with_lane, has_lane
 use Rattle.level_ends.specs.Ends.{AreEndDocks, loop_on, loops_to}
 use Rattle.level_ends.specs.Lanes.{AreLaneSides, asked, first_same, is_on, lane_in, lanes_to, loop_lane_on, same_dock, side_by}
 use Rattle.level_ends.specs.Outlines.{dock_in}
-use Rattle.level_ends.proofs.FirstLemmas.{IsFirstSpot, first_spot, same_self, side_self}
+use Rattle.level_ends.proofs.FirstLemmas.{IsFirstSpot, first_spot, same_self}
 use Rattle.level_ends.proofs.OnceLemmas.{any_list, any_same, eq_same, filter_map, filter_same, filter_twice, once_all, place_tested}
+use Rattle.port_order.proofs.OrderLemmas.{side_itself}
 
 -- the docks of a child's spots
 pub record AreChildDocks (l : PlainLevel) (p : PlainPlan) (o : Orders) (c : ℕ) (docks : List Dock) : Type 0 where
@@ -174,6 +175,6 @@ pub loop_place : (l : PlainLevel) (p : PlainPlan) (o : Orders) (c : ℕ) (docks 
 loop_place l p o c docks ends side sides e are ends_are sides_are h on =
     let place = place_tested [] (loop_line side) (loop_on l ends side c) (length l.edges) e (map (dock_line docks) (filter (on_side side sides) (range_with_len 0 (length docks)))) h on (All-nil (λ k. line_eq k (loop_lane e side) ≡ false))
     (λ m less. and_left (m == e) (is_side side side) (ne_eqb m e (λ q. omega (arith, less, q))))
-    (and_from (e == e) (is_side side side) (eq-eqb e e refl) (side_self side))
+    (and_from (e == e) (is_side side side) (eq-eqb e e refl) (side_itself side))
     in
     ap (λ ms. place_of_line ms (loop_lane e side)) (lanes_are l p o c docks ends side sides are ends_are sides_are) ∙ omega (arith, place)

@@ -1,7 +1,7 @@
 -- A spot with one more end.
 use Rattle.std.proofs.Common.{◌≡◌, ℕ, ◌+◌, List, [], ◌∷◌, ◌++◌, length, map, Bool, true, false, not, cond, ◌||◌, Option, Some, IsFalse, refl, sym, ◌∙◌, ap, inl, inr, arith, append-nil, length-append}
 use Rattle.std.specs.List.{filter, list_any}
-use Rattle.std.proofs.lemmas.Bool.{cases_Bool}
+use Rattle.std.proofs.lemmas.Bool.{cases_Bool, not_from_true, not_from_false}
 use Rattle.std.proofs.lemmas.List.{map-append}
 use Rattle.std.proofs.lemmas.List.Elements.{filter-append}
 use Rattle.std.proofs.lemmas.List.Folds.{list_any-append}
@@ -32,7 +32,7 @@ filter_yes test x t = rw t refl
 pub filter_no : {X : Type 0} (test : X → Bool) (x : X) → test x ≡ false → filter test (x ∷ []) ≡ []
 filter_no test x f = rw f refl
 
-or_false : (b : Bool) → (b || false) ≡ b
+pub or_false : (b : Bool) → (b || false) ≡ b
 or_false true = refl
 or_false false = refl
 
@@ -75,12 +75,6 @@ link_more p port number ms n t enters_is place =
     (any_more (λ m. enters p m) ms n ∙ ap (λ b. list_any (λ m. enters p m) ms || b) (sym enters_is))
     (mean_more p ms n t.place place)
 
-not_loop : (b : Bool) → b ≡ false → not b ≡ true
-not_loop b e = ap not e
-
-is_loop_no : (b : Bool) → b ≡ true → not b ≡ false
-is_loop_no b e = ap not e
-
 -- a spot's ends with one more
 pub spot_more : (l : PlainLevel) (p : PlainPlan) (port : Option ℕ) (number : ℕ) (ns : List End) (n : End) (t : Told) → IsTold l p n t
     → spot l p port number (ns ++ n ∷ []) ≡ with_end t (spot l p port number ns)
@@ -89,19 +83,16 @@ spot_more l p port number ns n t told =
     let split : linked l (ns ++ n ∷ []) ≡ linked l ns ++ linked l (n ∷ []) = filter-append (λ m. not (is_loop l m.edge)) ns (n ∷ []) in
     elim (cases_Bool (is_loop l n.edge)) [
       | inl passed ↦
-          let none : linked l (n ∷ []) ≡ [] = filter_no (λ m. not (is_loop l m.edge)) n (is_loop_no (is_loop l n.edge) passed) in
+          let none : linked l (n ∷ []) ≡ [] = filter_no (λ m. not (is_loop l m.edge)) n (not_from_true (is_loop l n.edge) passed) in
           let ends : linked l (ns ++ n ∷ []) ≡ linked l ns = split ∙ ap (λ ms. linked l ns ++ ms) none ∙ append-nil (linked l ns) in
           ap (spot_from p port number) ends ∙ sym (ap (λ b. cond b (spot l p port number ns) (with_link t (spot l p port number ns))) (told.looped ∙ passed))
       | inr no_loop ↦
-          let one : linked l (n ∷ []) ≡ n ∷ [] = filter_yes (λ m. not (is_loop l m.edge)) n (not_loop (is_loop l n.edge) no_loop) in
+          let one : linked l (n ∷ []) ≡ n ∷ [] = filter_yes (λ m. not (is_loop l m.edge)) n (not_from_false (is_loop l n.edge) no_loop) in
           let ends : linked l (ns ++ n ∷ []) ≡ linked l ns ++ n ∷ [] = split ∙ ap (λ ms. linked l ns ++ ms) one in
           ap (spot_from p port number) ends
           ∙ link_more p port number (linked l ns) n t told.enters_is (told.place no_loop)
           ∙ sym (ap (λ b. cond b (spot l p port number ns) (with_link t (spot l p port number ns))) (told.looped ∙ no_loop))
     ]
-
-pub spot_bare : (l : PlainLevel) (p : PlainPlan) (port : Option ℕ) (number : ℕ) → spot l p port number [] ≡ bare port number
-spot_bare l p port number = refl
 
 pub spot_one : (l : PlainLevel) (p : PlainPlan) (port : Option ℕ) (number : ℕ) (n : End) (t : Told) → IsTold l p n t → spot l p port number (n ∷ []) ≡ with_end t (bare port number)
 spot_one l p port number n t told = spot_more l p port number [] n t told

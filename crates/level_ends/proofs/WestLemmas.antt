@@ -1,5 +1,5 @@
 -- The level of two children is what a table asks for.
-use Rattle.std.proofs.Common.{◌≡◌, ◌≢◌, ◌⊎◌, ℕ, zero, suc, ◌<◌, ◌==◌, pos, ◌≤ℤ◌, List, [], ◌∷◌, length, get_or, true, Some, IsFalse, refl, sym, subst, inr, arith}
+use Rattle.std.proofs.Common.{◌≡◌, ◌≢◌, ◌⊎◌, ℕ, ◌<◌, ◌==◌, pos, ◌≤ℤ◌, List, [], ◌∷◌, length, get_or, true, Some, IsFalse, refl, sym, subst, inr, arith}
 use Rattle.std.proofs.lemmas.Int.{ints}
 use Rattle.std.proofs.lemmas.List.Sums.{count_by-le-length}
 use Rattle.elk_layers.specs.declared.units.Unit.{Unit as LayerUnit}
@@ -10,15 +10,7 @@ use Rattle.level_plan.specs.Level.{PlainLevel, PlainPlan, child_at, is_loop}
 use Rattle.level_plan.specs.Units.{AreLinked, HasChain, IsLaneUnit, IsLinkOf, IsUnitOf}
 use Rattle.level_plan.specs.Nets.{unit_of}
 use Rattle.level_ends.specs.Examples.{west, west_layers, west_plan}
-
-below_one : (P : ℕ → Type 0) → P 0 → (k : ℕ) → k < 1 → P k
-below_one P a zero h = a
-below_one P a (suc k) h = absurd (omega (arith, h))
-
-below_two : (P : ℕ → Type 0) → P 0 → P 1 → (k : ℕ) → k < 2 → P k
-below_two P a b zero h = a
-below_two P a b (suc zero) h = b
-below_two P a b (suc (suc k)) h = absurd (omega (arith, h))
+use Rattle.elk_doc.proofs.ExampleLaws.{below1, below2}
 
 box_small : IsSmall (child_at west 0).size
 box_small = record { width = record { above = omega (arith, ints); below = omega (arith, ints) }; height = record { above = omega (arith, ints); below = omega (arith, ints) } }
@@ -43,8 +35,8 @@ first_near =
 first_child : IsLevelChild (child_at west 0)
 first_child =
     record {
-      sound = record { size = box_small; ports = below_one (IsChildPort (child_at west 0)) first_port };
-      near = below_one (IsNearPort (child_at west 0)) first_near;
+      sound = record { size = box_small; ports = below1 (IsChildPort (child_at west 0)) first_port };
+      near = below1 (IsNearPort (child_at west 0)) first_near;
     }
 
 second_child : IsLevelChild (child_at west 1)
@@ -56,8 +48,8 @@ west_level =
       few_children = omega arith;
       few_ports = omega arith;
       few_edges = omega arith;
-      children = below_two (λ c. IsLevelChild (child_at west c)) first_child second_child;
-      edges = below_one (IsLevelEdge west) (record {
+      children = below2 (λ c. IsLevelChild (child_at west c)) first_child second_child;
+      edges = below1 (IsLevelEdge west) (record {
         source = record { child = omega arith; port = omega arith };
         target = record { child = omega arith; port = tt };
         weight_above = omega arith;
@@ -77,7 +69,7 @@ west_level =
 
 body : (u : ℕ) → u < 2 → HasBodyWithin (unit_at west_plan.layered.units u)
 body =
-    below_two (λ u. HasBodyWithin (unit_at west_plan.layered.units u))
+    below2 (λ u. HasBodyWithin (unit_at west_plan.layered.units u))
     (record { top = omega (arith, ints); height = omega (arith, ints); bottom = omega (arith, ints) })
     (record { top = omega (arith, ints); height = omega (arith, ints); bottom = omega (arith, ints) })
 
@@ -89,26 +81,26 @@ west_sound =
       edge_edge_is = record { low = omega (arith, ints); high = omega (arith, ints) };
       few_units = omega arith;
       few_links = omega arith;
-      layers_are = below_two (λ u. layer_of west_plan.layered u < 2) (omega arith) (omega arith);
+      layers_are = below2 (λ u. layer_of west_plan.layered u < 2) (omega arith) (omega arith);
       few_in_layer = λ g. omega (arith, count_by-le-length (λ (u : LayerUnit). u.layer == g) west_plan.layered.units);
-      links_are = below_one (λ k. IsSoundLink west_plan.layered (link_at west_plan.layered.links k))
+      links_are = below1 (λ k. IsSoundLink west_plan.layered (link_at west_plan.layered.links k))
           (record { tail = omega arith; head = omega arith; next_layer = refl; tail_rank = omega arith; head_rank = omega arith; tail_at = (omega (arith, ints), omega (arith, ints)); head_at = (omega (arith, ints), omega (arith, ints)) });
-      heights = below_two (λ u. pos 0 ≤ℤ (unit_at west_plan.layered.units u).height) (omega (arith, ints)) (omega (arith, ints));
+      heights = below2 (λ u. pos 0 ≤ℤ (unit_at west_plan.layered.units u).height) (omega (arith, ints)) (omega (arith, ints));
       together = omega (arith, ints);
-      lanes_are_flat = below_two (λ u. is_lane west_plan.layered u ≡ true → (unit_at west_plan.layered.units u).height ≡ pos 0) (λ bad. absurd cc) (λ bad. absurd cc);
-      bodies = below_two (λ u. is_child west_plan.layered u ≡ true → HasBodyWithin (unit_at west_plan.layered.units u)) (λ t. body 0 (omega arith)) (λ t. body 1 (omega arith));
+      lanes_are_flat = below2 (λ u. is_lane west_plan.layered u ≡ true → (unit_at west_plan.layered.units u).height ≡ pos 0) (λ bad. absurd cc) (λ bad. absurd cc);
+      bodies = below2 (λ u. is_child west_plan.layered u ≡ true → HasBodyWithin (unit_at west_plan.layered.units u)) (λ t. body 0 (omega arith)) (λ t. body 1 (omega arith));
     }
 
 pub west_rows : AreRows west_plan.layered west_plan.rows
 west_rows =
     record {
       as_many = refl;
-      in_range = below_two (λ r. (i : ℕ) → i < length (row_at west_plan.rows r) → get_or (row_at west_plan.rows r) i 0 < 2) (below_one (λ i. get_or (0 ∷ []) i 0 < 2) (omega arith)) (below_one (λ i. get_or (1 ∷ []) i 0 < 2) (omega arith));
-      in_layer = below_two (λ r. (i : ℕ) → i < length (row_at west_plan.rows r) → layer_of west_plan.layered (get_or (row_at west_plan.rows r) i 0) ≡ r)
-          (below_one (λ i. layer_of west_plan.layered (get_or (0 ∷ []) i 0) ≡ 0) refl)
-          (below_one (λ i. layer_of west_plan.layered (get_or (1 ∷ []) i 0) ≡ 1) refl);
-      complete = below_two (λ u. HasUnit (row_at west_plan.rows (layer_of west_plan.layered u)) u) (record { place = 0; within = omega arith; unit_is = refl }) (record { place = 0; within = omega arith; unit_is = refl });
-      once = below_two (λ r. (i j : ℕ) → i < j → j < length (row_at west_plan.rows r) → get_or (row_at west_plan.rows r) i 0 ≢ get_or (row_at west_plan.rows r) j 0)
+      in_range = below2 (λ r. (i : ℕ) → i < length (row_at west_plan.rows r) → get_or (row_at west_plan.rows r) i 0 < 2) (below1 (λ i. get_or (0 ∷ []) i 0 < 2) (omega arith)) (below1 (λ i. get_or (1 ∷ []) i 0 < 2) (omega arith));
+      in_layer = below2 (λ r. (i : ℕ) → i < length (row_at west_plan.rows r) → layer_of west_plan.layered (get_or (row_at west_plan.rows r) i 0) ≡ r)
+          (below1 (λ i. layer_of west_plan.layered (get_or (0 ∷ []) i 0) ≡ 0) refl)
+          (below1 (λ i. layer_of west_plan.layered (get_or (1 ∷ []) i 0) ≡ 1) refl);
+      complete = below2 (λ u. HasUnit (row_at west_plan.rows (layer_of west_plan.layered u)) u) (record { place = 0; within = omega arith; unit_is = refl }) (record { place = 0; within = omega arith; unit_is = refl });
+      once = below2 (λ r. (i j : ℕ) → i < j → j < length (row_at west_plan.rows r) → get_or (row_at west_plan.rows r) i 0 ≢ get_or (row_at west_plan.rows r) j 0)
           (λ i j less h. absurd (omega (arith, less, h)))
           (λ i j less h. absurd (omega (arith, less, h)));
     }
@@ -116,13 +108,13 @@ west_rows =
 pub west_linked : AreLinked west west_plan west_layers
 west_linked =
     record {
-      children = below_two (λ c. IsUnitOf west_plan (get_or west_layers c 0) c)
-          (record { in_range = omega arith; child = refl; alone = below_two (λ u. (unit_at west_plan.layered.units u).child ≡ Some 0 → u ≡ 0) (λ e. refl) (λ bad. absurd cc); layer_is = refl })
-          (record { in_range = omega arith; child = refl; alone = below_two (λ u. (unit_at west_plan.layered.units u).child ≡ Some 1 → u ≡ 1) (λ bad. absurd cc) (λ e. refl); layer_is = refl });
-      units = below_two (λ u. (IsLaneUnit west_plan u) ⊎ ((c : ℕ) × (c < 2) × (u ≡ unit_of west_plan c))) (inr (0, omega arith, refl)) (inr (1, omega arith, refl));
-      chains = below_one (λ e. IsFalse (is_loop west e) → HasChain west west_plan e)
+      children = below2 (λ c. IsUnitOf west_plan (get_or west_layers c 0) c)
+          (record { in_range = omega arith; child = refl; alone = below2 (λ u. (unit_at west_plan.layered.units u).child ≡ Some 0 → u ≡ 0) (λ e. refl) (λ bad. absurd cc); layer_is = refl })
+          (record { in_range = omega arith; child = refl; alone = below2 (λ u. (unit_at west_plan.layered.units u).child ≡ Some 1 → u ≡ 1) (λ bad. absurd cc) (λ e. refl); layer_is = refl });
+      units = below2 (λ u. (IsLaneUnit west_plan u) ⊎ ((c : ℕ) × (c < 2) × (u ≡ unit_of west_plan c))) (inr (0, omega arith, refl)) (inr (1, omega arith, refl));
+      chains = below1 (λ e. IsFalse (is_loop west e) → HasChain west west_plan e)
           (λ no_loop. record { long = refl; some = omega arith; from = refl; to = refl; joined = λ i h. absurd (omega (arith, h)); lanes = λ i h. absurd (omega (arith, h)) });
-      links = below_one (IsLinkOf west west_plan) (record { edge_in = omega arith; no_loop = refl });
+      links = below1 (IsLinkOf west west_plan) (record { edge_in = omega arith; no_loop = refl });
     }
 
 -- a level, a layered drawing and rows that are these

@@ -65,10 +65,6 @@ one_way : (b : Bool) → (list_any (λ (x : Bool). not x) (b ∷ []) && list_any
 one_way true = refl
 one_way false = refl
 
-or_no : (b : Bool) → cond b true false ≡ b
-or_no true = refl
-or_no false = refl
-
 implicit_one_way : (p : PlainPlan) (b : Bool) (n : End) → (list_any (λ m. not (enters p m)) (cond b (n ∷ []) []) && list_any (λ m. enters p m) (cond b (n ∷ []) [])) ≡ false
 implicit_one_way p false n = refl
 implicit_one_way p true n = by (enters p n)

@@ -1,5 +1,5 @@
 -- Nets and routes that are moved up together stay free.
-use Rattle.std.proofs.Common.{◌≡◌, ◌≢◌, ◌↔◌, ⊎_elim, inl, inr, ℕ, ◌+◌, ◌<◌, Bool, List, map, length, ℤ, pos, ◌+ℤ◌, ◌-ℤ◌, ◌≤ℤ◌, ◌<ℤ◌, arith, refl, sym, ◌∙◌, ap, ap₂, subst}
+use Rattle.std.proofs.Common.{◌≡◌, ◌≢◌, ◌↔◌, ⊎_elim, inl, inr, ℕ, ◌+◌, ◌<◌, List, map, length, ℤ, pos, ◌+ℤ◌, ◌-ℤ◌, ◌≤ℤ◌, ◌<ℤ◌, arith, refl, sym, ◌∙◌, ap, ap₂, subst}
 use Rattle.std.proofs.lemmas.Int.{ints, clamps}
 use Rattle.std.proofs.lemmas.List.{get_or-map, length-map}
 use Rattle.std.specs.Int.{int_min, int_max}
@@ -16,16 +16,16 @@ use Rattle.level_frame.specs.Moved.{moved_pin, moved_net, moved_route}
 same_height : (a b y : ℤ) → a -ℤ y ≡ b -ℤ y → a ≡ b
 same_height a b y e = omega (arith, ints, e)
 
-less_min : (a b z y : ℤ) → int_min a b ≤ℤ z → int_min (a -ℤ y) (b -ℤ y) ≤ℤ (z -ℤ y)
+pub less_min : (a b z y : ℤ) → int_min a b ≤ℤ z → int_min (a -ℤ y) (b -ℤ y) ≤ℤ (z -ℤ y)
 less_min a b z y h = omega (arith, ints, clamps, h)
 
 less_max : (a b z y n : ℤ) → z ≤ℤ (int_max a b +ℤ n) → (z -ℤ y) ≤ℤ (int_max (a -ℤ y) (b -ℤ y) +ℤ n)
 less_max a b z y n h = omega (arith, ints, clamps, h)
 
-min_moves : (a b y : ℤ) → int_min (a -ℤ y) (b -ℤ y) ≡ int_min a b -ℤ y
+pub min_moves : (a b y : ℤ) → int_min (a -ℤ y) (b -ℤ y) ≡ int_min a b -ℤ y
 min_moves a b y = omega (arith, ints, clamps)
 
-max_moves : (a b y : ℤ) → int_max (a -ℤ y) (b -ℤ y) ≡ int_max a b -ℤ y
+pub max_moves : (a b y : ℤ) → int_max (a -ℤ y) (b -ℤ y) ≡ int_max a b -ℤ y
 max_moves a b y = omega (arith, ints, clamps)
 
 less_back : (a b y : ℤ) → (a -ℤ y) <ℤ (b -ℤ y) → a <ℤ b
@@ -43,14 +43,6 @@ over_back a b c d y h =
     less_back _ _ y m
 
 -- pins
-
-same_pin : (p q : Pin) → p.on_left ≡ q.on_left → p.height ≡ q.height → p ≡ q
-same_pin p q e f =
-    let at : Bool → ℤ → Pin = λ l h. record { on_left = l; height = h } in
-    ap (λ l. at l p.height) e ∙ ap (λ h. at q.on_left h) f
-
-pin_back : (y : ℤ) (p q : Pin) → moved_pin y p ≡ moved_pin y q → p ≡ q
-pin_back y p q e = same_pin p q (ap (λ z. z.on_left) e) (same_height p.height q.height y (ap (λ z. z.height) e))
 
 has_pin : (y : ℤ) (n : Net) (p : Pin) → HasPin n p → HasPin (moved_net y n) (moved_pin y p)
 has_pin y n p h = ⊎_elim (λ e. inl (ap (moved_pin y) e)) (λ e. inr (ap (moved_pin y) e)) h

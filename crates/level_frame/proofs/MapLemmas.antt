@@ -25,12 +25,6 @@ change_next f xs ys i d z e h is =
     let here : z ≡ f (get_or xs i d) = is ∙ ap (λ zs. f (get_or zs i d)) e ∙ ap f (get_changed f xs i d) in
     ap (λ zs. set zs i z) e ∙ ap (set (changed f xs i) i) here ∙ set_changed f xs i d h ∙ ap (changed f xs) (next i)
 
-pub length_changed : {X : Type 0} (f : X → X) (xs : List X) (i : ℕ) → length (changed f xs i) ≡ length xs
-length_changed f [] zero = refl
-length_changed f [] (suc i) = refl
-length_changed f (x ∷ xs) zero = refl
-length_changed f (x ∷ xs) (suc i) = ap suc (length_changed f xs i)
-
 pub all_changed : {X : Type 0} (f : X → X) (xs : List X) (i : ℕ) → length xs ≡ i → changed f xs i ≡ map f xs
 all_changed f [] zero e = refl
 all_changed f [] (suc i) e = refl

@@ -2,7 +2,7 @@
 use Rattle.std.proofs.Common.{◌≡◌, ⊎_elim, inl, inr, ℕ, zero, suc, ◌<◌, Bool, true, false, List, [], ◌∷◌, ◌++◌, map, length, ℤ, pos, ◌+ℤ◌, ◌-ℤ◌, ◌*ℤ◌, ◌≤ℤ◌, neg_ℤ, arith, refl, sym, ◌∙◌, ap, ap₂, subst}
 use Rattle.std.proofs.lemmas.Int.{ints, clamps}
 use Rattle.std.proofs.lemmas.Bool.{cases_lt}
-use Rattle.std.specs.Int.{int_min, int_max}
+use Rattle.std.specs.Int.{int_max}
 use Rattle.std.proofs.lemmas.List.{get_or-map, get_or_past, length-map, map-append, map_push}
 use Rattle.elk_doc.specs.declared.shape.Point.{Point}
 use Rattle.elk_doc.specs.declared.drawing.Section.{Section}
@@ -16,15 +16,13 @@ use Rattle.route_lines.specs.declared.Step.TheVariants.{Lane, Leg}
 use Rattle.route_lines.specs.Points.{PlainGap, gap_in, stand, point_at, leg_points, net_leg, height_next, last_point, points_on, step_points, trace_points}
 use Rattle.route_lines.specs.Tidied.{IsMiddle, Drops, equal, middle, later, DropsSome, none, more, IsTidied, IsSectionOf, one, many}
 use Rattle.level_frame.specs.Moved.{moved_point, moved_route, moved_gap, moved_step, moved_section}
+use Rattle.level_frame.proofs.GapMoves.{less_min}
 
 -- dropping points
 
 between_moves : (a b z x : ℤ) → IsBetween a b z → IsBetween (a -ℤ x) (b -ℤ x) (z -ℤ x)
-between_moves a b z x h = (low a b z x h.0, high a b z x h.1)
+between_moves a b z x h = (less_min a b z x h.0, high a b z x h.1)
   where
-    low : (a b z x : ℤ) → int_min a b ≤ℤ z → int_min (a -ℤ x) (b -ℤ x) ≤ℤ (z -ℤ x)
-    low a b z x h = omega (arith, ints, clamps, h)
-
     high : (a b z x : ℤ) → z ≤ℤ int_max a b → (z -ℤ x) ≤ℤ int_max (a -ℤ x) (b -ℤ x)
     high a b z x h = omega (arith, ints, clamps, h)
 
@@ -99,9 +97,6 @@ module _ (x y : ℤ) (gs : List PlainGap) where
 
   pub gap_is : (g : ℕ) → g < length gs → gap_in gs' g ≡ moved_gap x y (gap_in gs g)
   gap_is g h = get_or-map (moved_gap x y) gs g _ _ h
-
-  abbrev place : Point → Point
-  place p = moved_point x y p
 
   -- the route of a net that is moved
   route_moves : (r : List NetRoute) (n : ℕ) → route_at (map (moved_route y) r) n ≡ moved_route y (route_at r n)

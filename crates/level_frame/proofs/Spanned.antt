@@ -7,13 +7,8 @@ use Rattle.elk_doc.proofs.ShapeLaws.{same_point}
 use Rattle.level_frame.specs.declared.spanning.Reach.{Reach}
 use Rattle.level_frame.specs.Reach.{least, greatest, abscissae, heights, IsReach, ReachMovesBy}
 use Rattle.level_frame.specs.Walk.{joined, reach_over}
+use Rattle.level_frame.proofs.GapMoves.{max_moves, min_moves}
 use Rattle.level_frame.proofs.Growing.{same_reach}
-
-min_moves : (a b x : ℤ) → int_min (a -ℤ x) (b -ℤ x) ≡ int_min a b -ℤ x
-min_moves a b x = omega (arith, ints, clamps)
-
-max_moves : (a b x : ℤ) → int_max (a -ℤ x) (b -ℤ x) ≡ int_max a b -ℤ x
-max_moves a b x = omega (arith, ints, clamps)
 
 least_moves : (x z : ℤ) (zs : List ℤ) → least (map (λ a. a -ℤ x) (z ∷ zs)) ≡ least (z ∷ zs) -ℤ x
 unfolding least

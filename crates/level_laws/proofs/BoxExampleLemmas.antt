@@ -1,5 +1,5 @@
 -- The example of a document that runs up, by computing.
-use Rattle.std.proofs.Common.{◌≡◌, ◌≢◌, ℕ, zero, suc, ◌<◌, inl, ⊎_elim, ℤ, pos, ◌≤ℤ◌, refl, arith, IsTrue}
+use Rattle.std.proofs.Common.{◌≡◌, ◌≢◌, ℕ, ◌<◌, inl, ⊎_elim, ℤ, pos, ◌≤ℤ◌, refl, arith, IsTrue}
 use Rattle.std.proofs.lemmas.Int.{ints}
 use Rattle.elk_doc.specs.declared.document.Direction.TheVariants.{Up}
 use Rattle.elk_doc.specs.declared.shape.Side.{Side}
@@ -18,21 +18,7 @@ use Rattle.level_plan.specs.Apart.{ChildrenApart, drawn_port}
 use Rattle.level_frame.specs.Turned.{child_number, edge_number, port_number, turned_place, box_size}
 use Rattle.level_frame.specs.Drawing.{IsTurnedChild, IsTurnedSection}
 use Rattle.level_laws.specs.BoxExamples.{upward, upward_drawn, upward_framed, upward_level, upward_move, UpwardFits}
-
-below1 : (P : ℕ → Type 0) → P 0 → (k : ℕ) → k < 1 → P k
-below1 P a zero h = a
-below1 P a (suc k) h = absurd (omega (arith, h))
-
-below2 : (P : ℕ → Type 0) → P 0 → P 1 → (k : ℕ) → k < 2 → P k
-below2 P a b zero h = a
-below2 P a b (suc zero) h = b
-below2 P a b (suc (suc k)) h = absurd (omega (arith, h))
-
-below3 : (P : ℕ → Type 0) → P 0 → P 1 → P 2 → (k : ℕ) → k < 3 → P k
-below3 P a b c zero h = a
-below3 P a b c (suc zero) h = b
-below3 P a b c (suc (suc zero)) h = c
-below3 P a b c (suc (suc (suc k))) h = absurd (omega (arith, h))
+use Rattle.elk_doc.proofs.ExampleLaws.{below1, below2, below3}
 
 -- no port is pinned
 none_pinned : (s t : Side) (k : ℕ) → IsPinnedOn upward upward_drawn 0 s t k → ⊥

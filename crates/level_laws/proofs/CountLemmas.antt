@@ -1,7 +1,7 @@
 -- How many elements a list holds, by numbers that tell them apart.
-use Rattle.std.proofs.Common.{◌≡◌, inl, inr, ℕ, zero, suc, ◌+◌, ◌<◌, ◌≤◌, cond, Bool, true, false, List, [], ◌∷◌, map, length, refl, subst, ap, arith}
+use Rattle.std.proofs.Common.{◌≡◌, inl, inr, ℕ, zero, suc, ◌+◌, ◌<◌, ◌≤◌, cond, Bool, true, false, List, [], ◌∷◌, map, length, refl, subst, arith}
 use Rattle.std.proofs.lemmas.List.{length-map}
-use Rattle.std.specs.List.{filter, range_with_len}
+use Rattle.std.specs.List.{range_with_len}
 use Rattle.elk_doc.specs.Numbers.{numbers_below, count_below}
 use Rattle.elk_doc.proofs.NumberLaws.{numbers_below-at, count_below-lt, length-numbers_below}
 use Rattle.level_plan.proofs.Lists.{Has, map_has, has_at, range_has}
@@ -29,15 +29,6 @@ has_number p m x h e =
     let many = length-numbers_below p m in
     let less = count_below-lt p x m h e in
     subst (Has (numbers_below p m)) (numbers_below-at p x m 0 h e) (has_at (numbers_below p m) (count_below p x) 0 (omega (arith, many, less)))
-
-pub filtered_map : {X Y : Type 0} (test : Y → Bool) (f : X → Y) (xs : List X) → length (filter test (map f xs)) ≡ length (filter (λ x. test (f x)) xs)
-filtered_map test f [] = refl
-filtered_map test f (x ∷ xs) = step (test (f x)) (filtered_map test f xs)
-  where
-    step : (b : Bool) → length (filter test (map f xs)) ≡ length (filter (λ y. test (f y)) xs)
-        → length (cond b (f x ∷ filter test (map f xs)) (filter test (map f xs))) ≡ length (cond b (x ∷ filter (λ y. test (f y)) xs) (filter (λ y. test (f y)) xs))
-    step true e = ap suc e
-    step false e = e
 
 -- a number for an edge and one of its ends
 abbrev pub end_code : ℕ → Bool → ℕ

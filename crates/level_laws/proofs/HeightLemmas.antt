@@ -9,13 +9,14 @@ use Rattle.elk_doc.specs.declared.shape.Side.TheVariants.{North, South}
 use Rattle.elk_layers.specs.declared.units.Unit.{Unit as LayerUnit}
 use Rattle.elk_layers.specs.Layered.{link_at, total_height, unit_at}
 use Rattle.row_blocks.specs.Constraints.{stacked_height}
+use Rattle.level_laws.proofs.CountLemmas.{distinct_range}
 use Rattle.level_plan.specs.Level.{End, Orders, PlainLevel, PlainPlan, all_ends, edge_at, outline, spoke}
 use Rattle.level_plan.specs.Lanes.{lanes, unit_height}
 use Rattle.level_plan.specs.Nets.{is_number, unit_of}
 use Rattle.level_plan.specs.Units.{IsLaneUnit}
 use Rattle.level_plan.specs.Ready.{IsReady}
-use Rattle.level_plan.proofs.FirstPlaces.{Distinct, no_more}
-use Rattle.level_plan.proofs.Lists.{Has, below_has, has_left, has_map, has_range, has_right, range_has}
+use Rattle.level_plan.proofs.FirstPlaces.{no_more}
+use Rattle.level_plan.proofs.Lists.{Has, below_has, has_left, has_map, has_range, has_right}
 use Rattle.level_nets.proofs.ListLemmas.{range_split}
 use Rattle.level_units.proofs.ReadLemmas.{number_some}
 use Rattle.level_units.proofs.TotalLemmas.{IsCounted, first, total_within}
@@ -46,10 +47,6 @@ first_over f (suc n) =
     summed a b c g s t e h k m = omega (arith, ints, e, h, k, m)
 
 -- ---- how many units there are
-
-distinct_range : (a n : ℕ) → Distinct (range_with_len a n)
-distinct_range a zero = tt
-distinct_range a (suc n) = (λ has. let low = (range_has (a + 1) n a has).0 in absurd (omega (arith, low)), distinct_range (a + 1) n)
 
 module _ (l : PlainLevel) (p : PlainPlan) (o : Orders) (layers : List ℕ) (ready : IsReady l p o layers) where
   abbrev of_children : List ℕ

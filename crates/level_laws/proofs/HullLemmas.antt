@@ -41,11 +41,6 @@ hull_swap : (r s t : Rect) → hull (hull r s) t ≡ hull (hull r t) s
 hull_swap r s t =
     same_rect _ _ (low_swap r.x s.x t.x) (low_swap r.y s.y t.y) (size_swap r.x r.width s.x s.width t.x t.width) (size_swap r.y r.height s.y s.height t.y t.height)
 
-hulls_inner : (r s : Rect) (f : ℕ → Rect) (ks : List ℕ) → hulls (hull r s) f ks ≡ hull (hulls r f ks) s
-unfolding hulls
-hulls_inner r s f [] = refl
-hulls_inner r s f (k ∷ ks) = ap (λ z. hull z (f k)) (hulls_inner r s f ks) ∙ hull_swap (hulls r f ks) s (f k)
-
 pub hulls_push : (r : Rect) (f : ℕ → Rect) (ks : List ℕ) (k : ℕ) → hulls r f (ks ++ k ∷ []) ≡ hull (hulls r f ks) (f k)
 unfolding hulls
 hulls_push r f [] k = refl

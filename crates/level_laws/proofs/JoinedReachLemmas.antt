@@ -1,5 +1,5 @@
 -- The parts lie where they stand, and the whole begins at 0 with a tight extent.
-use Rattle.std.proofs.Common.{◌≡◌, ◌≢◌, ◌⊎◌, inl, inr, ⊎_elim, ℕ, ◌+◌, ◌<◌, ◌≤◌, List, [], ◌∷◌, length, map, slice_index, ℤ, pos, ◌+ℤ◌, ◌-ℤ◌, ◌≤ℤ◌, refl, sym, ap, ◌∙◌, subst, subst₂, arith}
+use Rattle.std.proofs.Common.{◌≡◌, ◌≢◌, ◌⊎◌, inl, inr, ⊎_elim, ℕ, ◌<◌, ◌≤◌, List, [], ◌∷◌, length, map, slice_index, ℤ, pos, ◌+ℤ◌, ◌-ℤ◌, ◌≤ℤ◌, refl, sym, ap, ◌∙◌, subst, subst₂, arith}
 use Rattle.std.specs.List.{range_with_len}
 use Rattle.std.specs.Int.{int_min, int_max}
 use Rattle.std.proofs.lemmas.Bool.{cases_lt}
@@ -29,7 +29,7 @@ use Rattle.level_parts.specs.Divided.{edge_keys}
 use Rattle.level_parts.proofs.LevelLemmas.{many_children, many_edges}
 use Rattle.level_parts.proofs.SplitLemmas.{keys_below}
 use Rattle.level_laws.specs.Outlines.{shifted}
-use Rattle.level_laws.proofs.ReachLemmas.{greatest_high, greatest_in, least_in, least_low}
+use Rattle.level_laws.proofs.ReachLemmas.{corners_has, greatest_high, greatest_in, has_corners, least_in, least_low}
 use Rattle.level_frame.specs.Drawing.{plus}
 use Rattle.level_laws.specs.Joined.{AreDrawn, AreInRows, IsJoined, part_rect}
 use Rattle.level_laws.proofs.PartLemmas as parts
@@ -41,24 +41,6 @@ upper r = record { x = r.x; y = r.y }
 
 abbrev pub lower : Rect → Point
 lower r = record { x = right_of r; y = bottom_of r }
-
-has_corner : (rs : List Rect) (r : Rect) → Has rs r → Has (corners_of rs) (upper r) × Has (corners_of rs) (lower r)
-unfolding corners_of
-has_corner [] r h = absurd h
-has_corner (s ∷ rs) r h =
-    ⊎_elim
-    (λ e. (inl (ap upper e), inr (inl (ap lower e))))
-    (λ rest. let k = has_corner rs r rest in (inr (inr k.0), inr (inr k.1)))
-    h
-
-corner_has : (rs : List Rect) (q : Point) → Has (corners_of rs) q → (r : Rect) × Has rs r × ((upper r ≡ q) ⊎ (lower r ≡ q))
-unfolding corners_of
-corner_has [] q h = absurd h
-corner_has (s ∷ rs) q h =
-    ⊎_elim
-    (λ e. (s, inl refl, inl e))
-    (λ other. ⊎_elim (λ e. (s, inl refl, inr e)) (λ rest. let k = corner_has rs q rest in (k.0, inr k.1, k.2)) other)
-    h
 
 has_along : (ss : List Section) (s : Section) (q : Point) → Has ss s → Has (points_along s) q → Has (points_of ss) q
 unfolding points_of
@@ -92,9 +74,9 @@ outline_there l v c h = has_map (drawn_outline l v) (range_with_len 0 (length l.
 
 pub reached_has : (l : PlainLevel) (v : LevelDrawing) (q : Point) → IsReached l v q → Has (all l v) q
 reached_has l v q (at_upper c h e) =
-    has_left (corners_of (outlines_in l v)) (points_of v.sections) q (subst (λ z. Has (corners_of (outlines_in l v)) z) e (has_corner (outlines_in l v) (drawn_outline l v c) (outline_there l v c h)).0)
+    has_left (corners_of (outlines_in l v)) (points_of v.sections) q (subst (λ z. Has (corners_of (outlines_in l v)) z) e (corners_has (outlines_in l v) (drawn_outline l v c) (outline_there l v c h)).0)
 reached_has l v q (at_lower c h e) =
-    has_left (corners_of (outlines_in l v)) (points_of v.sections) q (subst (λ z. Has (corners_of (outlines_in l v)) z) e (has_corner (outlines_in l v) (drawn_outline l v c) (outline_there l v c h)).1)
+    has_left (corners_of (outlines_in l v)) (points_of v.sections) q (subst (λ z. Has (corners_of (outlines_in l v)) z) e (corners_has (outlines_in l v) (drawn_outline l v c) (outline_there l v c h)).1)
 reached_has l v q (on_route e i h k is) =
     has_right (corners_of (outlines_in l v)) (points_of v.sections) q
     (has_along v.sections (section_at v e) q (has_at v.sections e _ h) (subst (λ z. Has (points_along (section_at v e)) z) is (has_at (points_along (section_at v e)) i origin k)))
@@ -104,7 +86,7 @@ has_reached l v q h = ⊎_elim by_corner by_point (append_has (corners_of (outli
   where
     by_corner : Has (corners_of (outlines_in l v)) q → IsReached l v q
     by_corner k =
-        let found = corner_has (outlines_in l v) q k in
+        let found = has_corners (outlines_in l v) q k in
         let child = map_has (drawn_outline l v) (range_with_len 0 (length l.children)) found.0 found.1 in
         let there = below_has (length l.children) child.0 child.1 in
         ⊎_elim (λ e. at_upper child.0 there (ap upper child.2 ∙ e)) (λ e. at_lower child.0 there (ap lower child.2 ∙ e)) found.2
@@ -190,16 +172,7 @@ box_held l v c [] = record { left = same _; top = same _; right = same _; bottom
 box_held l v c (q ∷ qs) = hull_holds (drawn_outline_from l v c qs) _ (drawn_box l v c) (box_held l v c qs)
 
 holds_more : (p q r : Rect) → Holds p q → Holds q r → Holds p r
-holds_more p q r h k =
-    let a = h.left in
-    let b = h.top in
-    let c = h.right in
-    let d = h.bottom in
-    let x = k.left in
-    let y = k.top in
-    let z = k.right in
-    let w = k.bottom in
-    record { left = omega (arith, ints, a, x); top = omega (arith, ints, b, y); right = omega (arith, ints, c, z); bottom = omega (arith, ints, d, w) }
+holds_more p q r h k = omega (arith, ints, h, k)
 
 moved_in : (at : Point) (w h : ℤ) (q : Point) → LiesIn w h q → Holds (rect_at at (record { width = w; height = h })) (point_rect (plus at q))
 moved_in at w h q lies =

@@ -1,5 +1,6 @@
 -- All rules of a level together.
-use Rattle.std.proofs.Common.{ℕ, ◌<◌, Bool, true, false, length, arith}
+use Rattle.std.proofs.Common.{arith}
+use Rattle.level_plan.proofs.SpotLemmas.{spoke_there}
 use Rattle.level_plan.specs.Level.{Orders, PlainLevel, PlainPlan, end_at, spoke}
 use Rattle.level_plan.specs.Conditions.{IsLevel}
 use Rattle.level_plan.specs.FromPlan.{LevelDrawing, IsDrawnFrom}
@@ -21,12 +22,8 @@ pub ports_placed : (l : PlainLevel) (plan : PlainPlan) (orders : Orders) (v : Le
 ports_placed l plan orders v level drawn =
     record {
       ports = λ c k there h. (drawn.children c there).ports k h;
-      boxes = λ e t h. (drawn.children (spoke l (end_at e t)).child (end_there e t h)).box;
+      boxes = λ e t h. (drawn.children (spoke l (end_at e t)).child (spoke_there l e t level h).child).box;
     }
-  where
-    end_there : (e : ℕ) (t : Bool) → e < length l.edges → (spoke l (end_at e t)).child < length l.children
-    end_there e true h = (level.edges e h).source.child
-    end_there e false h = (level.edges e h).target.child
 
 pub anchored : (l : PlainLevel) (plan : PlainPlan) (orders : Orders) (v : LevelDrawing) → ArePortsPlaced l plan orders v → RoutesKept l plan orders v → IsAnchored l plan orders v
 anchored l plan orders v placed routes =

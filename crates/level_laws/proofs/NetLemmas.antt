@@ -12,6 +12,7 @@ use Rattle.network_laws.specs.Network.{edge_at as net_at, HasEdge, InOnePart as 
 use Rattle.network_laws.specs.Layering.{IsSolution, layer_of}
 use Rattle.network_laws.specs.Parts.{ArePartNumbers}
 use Rattle.network_laws.proofs.Duality.{over_nodes}
+use Rattle.level_nets.proofs.ListLemmas.{map_same}
 use Rattle.level_plan.specs.declared.level.LevelEdge.{LevelEdge}
 use Rattle.level_plan.specs.Level.{PlainLevel, edge_at, holds, is_loop}
 use Rattle.level_layers.specs.Certificate.{flow_at, link_flows, links, net_edge, network, oriented, source_of, target_of}
@@ -25,7 +26,7 @@ use Rattle.level_parts.specs.Parts.{InOnePart, IsJoined as IsJoinedBy}
 use Rattle.level_parts.proofs.LevelLemmas.{child_in as number_in, edge_is, many_children}
 use Rattle.level_parts.proofs.PartLemmas.{one_part}
 use Rattle.level_laws.specs.CertificateJoined.{AreCertificates, IsJoined, spans_to}
-use Rattle.level_laws.proofs.ListLemmas.{filter_alike, filter_map, filter_swap, map_alike, map_twice, picked_map}
+use Rattle.level_laws.proofs.ListLemmas.{filter_alike, filter_map, filter_swap, map_twice, picked_map}
 use Rattle.level_laws.proofs.JoinedEdgeLemmas as edges
 use Rattle.level_laws.proofs.TurnLemmas.{are_reversed}
 
@@ -144,19 +145,19 @@ module _ (l : PlainLevel) (numbers : List ℕ) (count : ℕ) (own : ℕ → Cert
 
   edges_are : (k : ℕ) → part_edges numbers net k ≡ network (part k) (own k).reversed
   edges_are k =
-      map_alike (λ i. renumbered numbers (net_at net i)) (λ i. renumbered numbers (net_edge l c.reversed (get_or (links l) i 0))) (links_of numbers net k)
+      map_same (λ i. renumbered numbers (net_at net i)) (λ i. renumbered numbers (net_edge l c.reversed (get_or (links l) i 0))) (links_of numbers net k)
       (λ i h. ap (renumbered numbers) (net_is i (subst (λ n. i < n) net_count (below_has (length net) i (filter_has (λ e. slice_index numbers (net_at net e).tail == k) (range_with_len 0 (length net)) i h).0))))
       ∙ in_part (λ e. renumbered numbers (net_edge l c.reversed e)) k
-      ∙ map_alike (λ j. renumbered numbers (net_edge l c.reversed (edge_of k j))) (net_edge (part k) (own k).reversed) (links (part k)) (λ j h. same_edge k j (link_below k j h))
+      ∙ map_same (λ j. renumbered numbers (net_edge l c.reversed (edge_of k j))) (net_edge (part k) (own k).reversed) (links (part k)) (λ j h. same_edge k j (link_below k j h))
 
   -- ---- layers and flow
 
   flow_is : (k : ℕ) → part_flow numbers net (link_flows l c.flow) k ≡ link_flows (part k) (own k).flow
   flow_is k =
-      map_alike (slice_index (link_flows l c.flow)) (λ i. flow_at c.flow (get_or (links l) i 0)) (links_of numbers net k)
+      map_same (slice_index (link_flows l c.flow)) (λ i. flow_at c.flow (get_or (links l) i 0)) (links_of numbers net k)
       (λ i h. get_or-map (flow_at c.flow) (links l) i 0 0 (subst (λ n. i < n) net_count (below_has (length net) i (filter_has (λ e. slice_index numbers (net_at net e).tail == k) (range_with_len 0 (length net)) i h).0)))
       ∙ in_part (flow_at c.flow) k
-      ∙ map_alike (λ j. flow_at c.flow (edge_of k j)) (flow_at (own k).flow) (links (part k))
+      ∙ map_same (λ j. flow_at c.flow (edge_of k j)) (flow_at (own k).flow) (links (part k))
       (λ j h. let less = link_below k j h in
       joined.flow (edge_of k j) (edges.here l numbers count own c are joined k j less)
       ∙ ap₂ (λ q i. slice_index (own q).flow i) (node_in keys k j less).1 (place_node keys k j less))

@@ -1,5 +1,5 @@
 -- The example of a document that runs up, by computing.
-use Rattle.std.proofs.Common.{◌≡◌, ℕ, zero, suc, ◌<◌, ◌≤◌, length, Bool, true, false, refl, arith, rules}
+use Rattle.std.proofs.Common.{◌≡◌, ℕ, ◌<◌, ◌≤◌, length, Bool, true, false, refl, arith, rules}
 use Rattle.std.proofs.lemmas.Int.{ints}
 use Rattle.std.specs.Prelude.{IsSome, IsNone, IfSome, IsTrue}
 use Rattle.elk_doc.specs.declared.document.Direction.TheVariants.{Up}
@@ -18,21 +18,7 @@ use Rattle.level_laws.specs.BoxExamples.{upward, upward_drawn, upward_level, upw
 use Rattle.level_laws.proofs.BoxExampleLemmas.{upward_fits}
 use Rattle.level_laws.specs.DockLaws.{IsFromLevel, IsAnchored}
 use Rattle.level_laws.specs.PortExamples.{upward_plan, upward_orders, upward_gapped, UpwardStands}
-
-below1 : (P : ℕ → Type 0) → P 0 → (k : ℕ) → k < 1 → P k
-below1 P a zero h = a
-below1 P a (suc k) h = absurd (omega (arith, h))
-
-below2 : (P : ℕ → Type 0) → P 0 → P 1 → (k : ℕ) → k < 2 → P k
-below2 P a b zero h = a
-below2 P a b (suc zero) h = b
-below2 P a b (suc (suc k)) h = absurd (omega (arith, h))
-
-below3 : (P : ℕ → Type 0) → P 0 → P 1 → P 2 → (k : ℕ) → k < 3 → P k
-below3 P a b c zero h = a
-below3 P a b c (suc zero) h = b
-below3 P a b c (suc (suc zero)) h = c
-below3 P a b c (suc (suc (suc k))) h = absurd (omega (arith, h))
+use Rattle.elk_doc.proofs.ExampleLaws.{below1, below2, below3}
 
 -- ---- the document
 

@@ -91,7 +91,7 @@ upper r = record { x = r.x; y = r.y }
 abbrev lower : Rect → Point
 lower r = record { x = right_of r; y = bottom_of r }
 
-corners_has : (rs : List Rect) (r : Rect) → Has rs r → Has (corners_of rs) (upper r) × Has (corners_of rs) (lower r)
+pub corners_has : (rs : List Rect) (r : Rect) → Has rs r → Has (corners_of rs) (upper r) × Has (corners_of rs) (lower r)
 unfolding corners_of
 corners_has [] r h = absurd h
 corners_has (s ∷ rs) r h =
@@ -100,7 +100,7 @@ corners_has (s ∷ rs) r h =
     (λ rest. let k = corners_has rs r rest in (inr (inr k.0), inr (inr k.1)))
     h
 
-has_corners : (rs : List Rect) (q : Point) → Has (corners_of rs) q → (r : Rect) × Has rs r × ((upper r ≡ q) ⊎ (lower r ≡ q))
+pub has_corners : (rs : List Rect) (q : Point) → Has (corners_of rs) q → (r : Rect) × Has rs r × ((upper r ≡ q) ⊎ (lower r ≡ q))
 unfolding corners_of
 has_corners [] q h = absurd h
 has_corners (s ∷ rs) q h =

@@ -20,7 +20,7 @@ use Rattle.drawing_laws.specs.Turning.{turned_point, turned_side}
 use Rattle.drawing_laws.specs.Frames.{point_back}
 use Rattle.drawing_laws.proofs.FrameLaws.{backs, paths}
 use Rattle.port_order.specs.declared.children.Child.{Child}
-use Rattle.level_plan.specs.Level.{PlainLevel, PlainPlan, Orders, end_at}
+use Rattle.level_plan.specs.Level.{PlainLevel, PlainPlan, Orders}
 use Rattle.level_plan.specs.FromPlan.{LevelDrawing, point_or, section_at}
 use Rattle.level_plan.specs.Apart.{drawn_box, drawn_outline}
 use Rattle.level_plan.specs.PortsKept.{ArePortsPlaced}

@@ -1,5 +1,5 @@
 -- Ports and routes of the whole keep the rules, since those of the parts do.
-use Rattle.std.proofs.Common.{◌≡◌, ◌≢◌, ◌⊎◌, inl, inr, ℕ, ◌+◌, ◌-◌, ◌<◌, ◌≤◌, Bool, true, false, List, [], ◌∷◌, length, map, slice_index, ℤ, pos, ◌≤ℤ◌, ◌<ℤ◌, None, refl, sym, ap, ap₂, ◌∙◌, subst, subst₂, arith}
+use Rattle.std.proofs.Common.{◌≡◌, ◌≢◌, ◌⊎◌, inl, inr, ℕ, ◌+◌, ◌<◌, Bool, true, false, List, length, map, slice_index, ℤ, pos, ◌≤ℤ◌, ◌<ℤ◌, None, refl, sym, ap, ap₂, ◌∙◌, subst, subst₂, arith}
 use Rattle.std.proofs.lemmas.Bool.{cases_eq}
 use Rattle.elk_doc.specs.declared.shape.Point.{Point}
 use Rattle.elk_doc.specs.declared.shape.Rect.{Rect}
@@ -19,6 +19,8 @@ use Rattle.port_order.specs.declared.children.Child.{Child}
 use Rattle.port_order.specs.Child.{is_pinned}
 use Rattle.port_order.specs.Order.{ClockwiseFirst, clockwise}
 use Rattle.port_order.specs.Sides.{is_forward}
+use Rattle.level_plan.proofs.SpotLemmas.{spoke_there}
+use Rattle.level_plan.proofs.SameLines.{same_dock}
 use Rattle.level_plan.specs.FromPlan.{LevelDrawing, IsDrawnFrom, anchor, box_place, point_or, section_at}
 use Rattle.level_plan.specs.Level.{Orders, PlainLevel, PlainPlan, anchor_of_spot, child_at, dock_of, end_at, holds, port_place, spoke, spot_of}
 use Rattle.level_plan.specs.Routes.{KeepsClear, KeepsRoute, KeepsSharing, RoutesKept, end_child, end_dock, route_count, route_path, route_point}
@@ -121,15 +123,11 @@ module _ (l : PlainLevel) (numbers : List ℕ) (count : ℕ) (plans : ℕ → Pl
       ∙ ((drawn k h).children i inside).ports q (subst (λ (c : Child). q < length c.ports) (sym same.child) there)
       ∙ same.port q
 
-  end_there : (e : ℕ) (t : Bool) → e < length l.edges → (spoke l (end_at e t)).child < length l.children
-  end_there e true h = (are.level.edges e h).source.child
-  end_there e false h = (are.level.edges e h).target.child
-
   pub ports_placed : ArePortsPlaced l p o v
   ports_placed =
       record {
         ports = λ c q hc there. parts.by_child l numbers at own v are.level are.numbered joined PortsAt (λ k i is less. ports_at k i (part_below k i is less) less) c hc q there;
-        boxes = λ e t h. sym (places.boxes_are (spoke l (end_at e t)).child (end_there e t h));
+        boxes = λ e t h. sym (places.boxes_are (spoke l (end_at e t)).child (spoke_there l e t are.level h).child);
       }
 
   -- ---- ends
@@ -154,7 +152,7 @@ module _ (l : PlainLevel) (numbers : List ℕ) (count : ℕ) (plans : ℕ → Pl
       let i = inner_child k j t in
       let inside = parts.in_part l numbers at own v are.level are.numbered joined k i same.child_in in
       let box : box_place l p o v (outer_child k j t) ≡ plus (at k) (box_place (part k) (plans k) (orders k) (own k) i) =
-      places.boxes_are (outer_child k j t) (end_there (edge_of k j) t (parts.edge_there l numbers at own v are.level are.numbered joined k j less))
+      places.boxes_are (outer_child k j t) (spoke_there l (edge_of k j) t are.level (parts.edge_there l numbers at own v are.level are.numbered joined k j less)).child
       ∙ ap (point_or v.boxes) (sym same.child)
       ∙ parts.box_at l numbers at own v are.level are.numbered joined k i same.child_in
       ∙ ap (plus (at k)) ((drawn k h).children i inside).box
@@ -168,13 +166,6 @@ module _ (l : PlainLevel) (numbers : List ℕ) (count : ℕ) (plans : ℕ → Pl
   same_number : (k a b : ℕ) → a < some k → b < some k → child_of k a ≡ child_of k b → a ≡ b
   same_number k a b ha hb e =
       sym (parts.place_is l numbers at own v are.level are.numbered joined k a ha) ∙ ap (place_of numbers) e ∙ parts.place_is l numbers at own v are.level are.numbered joined k b hb
-
-  same_dock : (a b : Dock) → a.node ≡ b.node → a.side ≡ b.side → a.offset ≡ b.offset → a ≡ b
-  same_dock a b n s z =
-      let f : ℕ → Dock = λ x. record { node = x; side = a.side; offset = a.offset } in
-      let g : Side → Dock = λ x. record { node = b.node; side = x; offset = a.offset } in
-      let h : ℤ → Dock = λ x. record { node = b.node; side = b.side; offset = x } in
-      ap f n ∙ ap g s ∙ ap h z
 
   -- docks of one part are the same in the part exactly where they are in the whole
   docks_down : (k i j : ℕ) (s t : Bool) → k < count → i < many k → j < many k → dock_of l p o (end_at (edge_of k i) s) ≡ dock_of l p o (end_at (edge_of k j) t)

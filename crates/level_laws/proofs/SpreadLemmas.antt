@@ -36,7 +36,6 @@ use Rattle.level_plan.proofs.Lists.{Has, has_left, has_right, has_map, filter_ha
 use Rattle.level_plan.proofs.FirstPlaces.{distinct_filter}
 use Rattle.level_plan.proofs.NumberedSpots.{implicit_distinct}
 use Rattle.level_plan.proofs.NameLemmas.{ends_edge}
-use Rattle.level_plan.proofs.SameLines.{is_side-self, is_side-same}
 use Rattle.level_frame.specs.Turned.{level_of, child_number, edge_number, port_number, ports_of, place_of_port, spoke_of}
 use Rattle.level_frame.proofs.NumberedLemmas.{levels_are_listed}
 use Rattle.level_laws.specs.DockLaws.{IsFromLevel, IsAnchored}
@@ -44,15 +43,17 @@ use Rattle.level_laws.proofs.Numbering.{child_there, child_back, edge_there, edg
 use Rattle.level_laws.proofs.SideLemmas.{end_side_turns}
 use Rattle.level_laws.specs.PortLaws.{PortsTurnBack}
 use Rattle.level_laws.proofs.SideGeometry.{length_turned}
-use Rattle.level_laws.proofs.CountLemmas.{distinct_range, no_more_by, has_number, filtered_map, end_code, codes_differ}
+use Rattle.level_laws.proofs.CountLemmas.{distinct_range, no_more_by, has_number, end_code, codes_differ}
 use Rattle.level_laws.proofs.KeptLemmas.{port_in, size_is, pinned_is, side_is, offset_is, port_kept, end_spoke, end_offset_is, end_kept, order_kept}
+use Rattle.port_order.proofs.OrderLemmas.{side_same, side_itself}
+use Rattle.level_nets.proofs.Gaps.{filter_mapped}
 
 -- sides that agree in the frame do so in the document
 side_injective : (way : Direction) (s t : Side) → turned_side way s ≡ turned_side way t → s ≡ t
 side_injective way s t e = sym (backs.side way s).0 ∙ ap (side_back way) e ∙ (backs.side way t).0
 
 side_test : (way : Direction) (s t x : Side) → turned_side way s ≡ x → is_side x (turned_side way t) ≡ true → is_side s t ≡ true
-side_test way s t x turn e = subst (λ y. is_side s y ≡ true) (side_injective way s t (turn ∙ is_side-same x (turned_side way t) e)) (is_side-self s)
+side_test way s t x turn e = subst (λ y. is_side s y ≡ true) (side_injective way s t (turn ∙ side_same x (turned_side way t) e)) (side_itself s)
 
 at_node-from : (x : DocumentEnd) (m : ℕ) → x ≡ AtNode m → is_at_node x m ≡ true
 at_node-from x m e = rw e (eq-eqb m m refl)
@@ -176,8 +177,8 @@ module _ (d : Document) (p : Placed) (n : ℕ) (o : LevelOptions) (plan : PlainP
       let at_ports = map (port_spot l plan i) (range_with_len 0 (length child.ports)) in
       let at_ends = map (implicit_spot l plan i) (implicit_ends l i) in
       let parts = ap length (filter-append test at_ports at_ends) ∙ length-append (filter test at_ports) (filter test at_ends) in
-      let ports = filtered_map test (port_spot l plan i) (range_with_len 0 (length child.ports)) in
-      let ends = filtered_map test (implicit_spot l plan i) (implicit_ends l i) in
+      let ports = filter_mapped test (port_spot l plan i) (range_with_len 0 (length child.ports)) in
+      let ends = filter_mapped test (implicit_spot l plan i) (implicit_ends l i) in
       let few_ports = few_ports_spread s in
       let few_ends = few_ends_spread s in
       omega (arith, parts, ports, ends, few_ports, few_ends)
@@ -222,7 +223,7 @@ module _ (d : Document) (p : Placed) (n : ℕ) (o : LevelOptions) (plan : PlainP
       let q = and_parts (eqb (node_of_port d k) m) (not (is_document_pinned d k) && is_side (side_of_port d p k) s) h.1 in
       let r = and_parts (not (is_document_pinned d k)) (is_side (side_of_port d p k) s) q.1 in
       let b = port_back d m k h.0 (eqb-true (node_of_port d k) m q.0) in
-      let made = port_in_level s (place_of_port d k) b.0 (ap (is_document_pinned d) b.1 ∙ not-true (is_document_pinned d k) r.0) (ap (side_of_port d p) b.1 ∙ is_side-same (side_of_port d p k) s r.1) in
+      let made = port_in_level s (place_of_port d k) b.0 (ap (is_document_pinned d) b.1 ∙ not-true (is_document_pinned d k) r.0) (ap (side_of_port d p) b.1 ∙ side_same (side_of_port d p k) s r.1) in
       record { back = ap a_port b.1; spread = made.0; offset = made.1 ∙ ap (λ z. turned_offset way s (box_of p m) (document_offset d p z)) b.1 }
   spot_in_level s (an_end e t) h =
       let q = and_parts (is_at_node (end_of d e t) m) (is_side (side_of_end d p e t) s) h.1 in
@@ -230,7 +231,7 @@ module _ (d : Document) (p : Placed) (n : ℕ) (o : LevelOptions) (plan : PlainP
       let b = edge_back d n e (edge_at_node e t h.0 at) in
       record {
         back = ap (λ f. an_end f t) b.1;
-        spread = end_in_level s (place_of_edge d n e) t b.0 (ap (λ f. end_of d f t) b.1 ∙ at) (ap (λ f. side_of_end d p f t) b.1 ∙ is_side-same (side_of_end d p e t) s q.1);
+        spread = end_in_level s (place_of_edge d n e) t b.0 (ap (λ f. end_of d f t) b.1 ∙ at) (ap (λ f. side_of_end d p f t) b.1 ∙ side_same (side_of_end d p e t) s q.1);
         offset = end_offset_is d p n o plan v by from orders anchored i there kept (place_of_edge d n e) t s b.0 ∙ ap (λ f. turned_offset way s (box_of p m) (offset_on s (box_of p m) (section_end p f t))) b.1;
       }
 

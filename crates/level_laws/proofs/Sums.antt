@@ -21,13 +21,6 @@ over_least f (x ∷ xs) h =
     let rest = over_least f xs (λ y k. h y (inr k)) in
     omega (arith, ints, here, rest)
 
-pub over_le : {X : Type 0} (f g : X → ℤ) (xs : List X) → ((x : X) → Has xs x → f x ≤ℤ g x) → over f xs ≤ℤ over g xs
-over_le f g [] h = omega (arith, ints)
-over_le f g (x ∷ xs) h =
-    let here = h x (inl refl) in
-    let rest = over_le f g xs (λ y k. h y (inr k)) in
-    omega (arith, ints, here, rest)
-
 pub over_same : {X : Type 0} (f g : X → ℤ) (xs : List X) → ((x : X) → Has xs x → f x ≡ g x) → over f xs ≡ over g xs
 over_same f g [] h = refl
 over_same f g (x ∷ xs) h =

@@ -1,22 +1,19 @@
 -- Flows of one edge more, the bound of a span, and what a certificate is made from.
-use Rattle.std.proofs.Common.{◌≡◌, ℕ, suc, ◌+◌, ◌*◌, ◌^◌, ◌<◌, ◌≤◌, not, ℤ, pos, negsuc, ◌-ℤ◌, ◌≤ℤ◌, ◌<ℤ◌, List, [], ◌∷◌, ◌++◌, length, map, take, get_or, arith, refl, sym, ap, subst, inl, inr, ◌∙◌, IsTrue, IsFalse, true≢false}
+use Rattle.std.proofs.Common.{◌≡◌, ℕ, suc, ◌+◌, ◌*◌, ◌^◌, ◌<◌, ◌≤◌, not, ℤ, pos, negsuc, ◌-ℤ◌, ◌≤ℤ◌, ◌<ℤ◌, List, [], ◌∷◌, ◌++◌, length, map, take, get_or, arith, sym, ap, subst, inl, inr, ◌∙◌, IsTrue, IsFalse, true≢false}
 use Rattle.std.proofs.lemmas.Int.{ints}
 use Rattle.std.proofs.lemmas.Bool.{cases_lt}
-use Rattle.std.proofs.lemmas.List.{get_or_append_left, get_or_push, length_push, map_push, take_all, take_more}
+use Rattle.std.proofs.lemmas.List.{get_or_append_left, get_or_push, length_push, map_push, take_more}
 use Rattle.std.proofs.Math.Nat.{mul-le-mul_left}
 use Rattle.network_laws.specs.declared.network.NetEdge.{NetEdge}
 use Rattle.network_laws.specs.Network.{edge_at as net_at}
 use Rattle.network_laws.specs.Layering.{layer_of, natural, rise, weighed, weights, IsSolution}
 use Rattle.level_plan.specs.Conditions.{IsLevel}
 use Rattle.level_plan.specs.Level.{PlainLevel, is_loop}
-use Rattle.level_layers.specs.Certificate.{flow_at, link_flows, links, links_to, network}
+use Rattle.level_layers.specs.Certificate.{flow_at, links, links_to, network}
 use Rattle.level_layers.specs.Flows.{AreFlows}
 use Rattle.network_parts.proofs.RangeLemmas.{map_same, one_more}
 use Rattle.level_layers.proofs.LowLayers.{layers_low}
 use Rattle.level_layers.proofs.NetLemmas.{ends_below, few_net, is_plain, link_no, link_yes, weight_low}
-
-pub no_flows : (l : PlainLevel) (flow : List ℕ) → AreFlows l flow 0 0 []
-no_flows l flow = record { as_many = refl; next_is = refl; loops = λ e h. absurd (omega (arith, h)); links_are = refl }
 
 flow_left : (flows : List ℕ) (x e : ℕ) → e < length flows → flow_at (flows ++ x ∷ []) e ≡ flow_at flows e
 flow_left flows x e h = get_or_append_left flows (x ∷ []) 0 e h
@@ -67,12 +64,6 @@ flows_link l flow n next x flows more are no_loop there value pushed =
           ∙ ap (λ ys. ys ++ flow_at (flows ++ x ∷ []) n ∷ []) (kept l flow n next x flows are)
           ∙ ap (λ y. take next flow ++ y ∷ []) (flow_last flows x n many ∙ value) ∙ sym (take_more flow next 0 there);
     })
-
--- all edges are passed, and all flows taken
-pub flows_whole : (l : PlainLevel) (flow : List ℕ) (n next : ℕ) (flows : List ℕ) → AreFlows l flow n next flows → n ≡ length l.edges → length flow ≡ length (links l) → link_flows l flows ≡ flow
-flows_whole l flow n next flows are whole long =
-    let is = are.next_is ∙ ap (λ k. length (links_to l k)) whole in
-    ap (λ k. map (flow_at flows) (links_to l k)) (sym whole) ∙ are.links_are ∙ take_all next flow (omega (arith, is, long))
 
 -- ---- layers and span are in range
 

@@ -36,9 +36,6 @@ not_free : {T : Type 0} (o : Option T) → IsSome o → o ≡ None → ⊥
 not_free None h is = true≢false (sym h)
 not_free (Some x) h is = absurd cc
 
-pub no_nodes : (g : Graph) → AreNodes g 0 []
-no_nodes g = record { as_many = refl; live = λ c h. absurd (omega (arith, h)); once = λ b c h. absurd (omega (arith, h)) }
-
 node_differs : (old new : Graph) (n : ℕ) (nodes : List NodeKey) (key : NodeKey) → AreNodes old n nodes → AddsNode old new key.at → (c : ℕ) → c < n → node_of nodes c ≢ key.at
 node_differs old new n nodes key are adds c h same = not_free (lists_at old (node_of nodes c)) (are.live c h) (ap (lists_at old) same ∙ adds.was_free)
 
@@ -69,10 +66,6 @@ nodes_more old new n nodes more key are adds pushed =
 pub nodes_kept : (old new : Graph) (n : ℕ) (nodes : List NodeKey) (key tail head : ℕ) → AreNodes old n nodes → AddsEdge old new key tail head → AreNodes new n nodes
 nodes_kept old new n nodes key tail head are adds =
     record { as_many = are.as_many; live = λ c h. (adds.same_nodes (node_of nodes c)).1 (are.live c h); once = are.once }
-
-pub no_keys : (l : PlainLevel) (nodes : List NodeKey) (g : Graph) → ((k : ℕ) → ends_at g k ≡ None) → AreEdges l nodes g 0 []
-no_keys l nodes g none =
-    record { as_many = refl; ends = λ e h. absurd (omega (arith, h)); only = λ k x is. absurd (not_free (ends_at g k) (ap is_some is) (none k)) }
 
 pub edges_more : (l : PlainLevel) (nodes : List NodeKey) (old new : Graph) (n : ℕ) (keys more : List EdgeKey) (key : EdgeKey) → AreEdges l nodes old n keys
     → AddsEdge old new key.at (node_of nodes (source_of l n)) (node_of nodes (target_of l n)) → more ≡ keys ++ key ∷ [] → AreEdges l nodes new (n + 1) more

@@ -14,16 +14,9 @@ use Rattle.level_layers.specs.Marks.{is_marked, listed}
 use Rattle.level_layers.specs.Low.{IsPlainNetwork}
 use Rattle.network_parts.proofs.RangeLemmas.{few_picked, filter_no, filter_yes, pick}
 use Rattle.level_layers.proofs.TurnLemmas.{listed_at}
+use Rattle.std.proofs.lemmas.Bool.{not_from_true, not_from_false}
 
 -- ---- one edge after the other
-
-not_false : (b : Bool) → b ≡ false → not b ≡ true
-not_false true h = absurd cc
-not_false false h = refl
-
-not_true : (b : Bool) → b ≡ true → not b ≡ false
-not_true true h = refl
-not_true false h = absurd cc
 
 true_not : (b : Bool) → not b ≡ true → b ≡ false
 true_not true h = absurd cc
@@ -34,10 +27,10 @@ pub loop_read : (l : PlainLevel) (e : ℕ) (x : LevelEdge) (b c : Bool) → x �
 loop_read l e x b c read is value = ap (λ (y : LevelEdge). y.source.child == y.target.child) (sym read) ∙ sym is ∙ value
 
 pub link_yes : (l : PlainLevel) (n : ℕ) → IsFalse (is_loop l n) → links_to l (n + 1) ≡ links_to l n ++ n ∷ []
-link_yes l n h = filter_yes (λ e. not (is_loop l e)) n (not_false (is_loop l n) h)
+link_yes l n h = filter_yes (λ e. not (is_loop l e)) n (not_from_false (is_loop l n) h)
 
 pub link_no : (l : PlainLevel) (n : ℕ) → IsTrue (is_loop l n) → links_to l (n + 1) ≡ links_to l n
-link_no l n h = filter_no (λ e. not (is_loop l e)) n (not_true (is_loop l n) h)
+link_no l n h = filter_no (λ e. not (is_loop l e)) n (not_from_true (is_loop l n) h)
 
 pub net_more : (l : PlainLevel) (marks : List Bool) (n : ℕ) (edges more : List NetEdge) (x : NetEdge) (edge : LevelEdge) (mark : Bool) → n < length marks → edge ≡ edge_at l n → mark ≡ is_marked marks n → IsFalse (is_loop l n)
     → x ≡ oriented mark edge → edges ≡ map (net_edge l (listed marks)) (links_to l n) → more ≡ edges ++ x ∷ [] → more ≡ map (net_edge l (listed marks)) (links_to l (n + 1))

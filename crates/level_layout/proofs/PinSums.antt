@@ -8,6 +8,7 @@ use Rattle.elk_layers.specs.Layered.{link_at, total_height, unit_at}
 use Rattle.row_blocks.proofs.SumLemmas.{sum_to}
 use Rattle.level_units.specs.Numbered.{before}
 use Rattle.ns_place.specs.Heights.{pins_together}
+use Rattle.elk_layers.proofs.HeightLemmas.{total_from_zero}
 
 sum_front : (n : ℕ) (f : ℕ → ℤ) → sum_to (suc n) f ≡ f 0 +ℤ sum_to n (λ k. f (suc k))
 sum_front zero f = omega (arith, ints)
@@ -62,16 +63,9 @@ groups_small count f h (suc n) small =
 
 -- ---- heights of two units
 
-all_least : (us : List LayerUnit) → ((u : ℕ) → u < length us → pos 0 ≤ℤ (unit_at us u).height) → pos 0 ≤ℤ total_height us
-all_least [] h = omega (arith, ints)
-all_least (u ∷ us) h =
-    let here = h 0 (omega arith) in
-    let rest = all_least us (λ w l. h (suc w) (omega (arith, l))) in
-    omega (arith, ints, here, rest)
-
 one_within : (us : List LayerUnit) (u : ℕ) → u < length us → ((w : ℕ) → w < length us → pos 0 ≤ℤ (unit_at us w).height) → (unit_at us u).height ≤ℤ total_height us
 one_within [] u l h = absurd (omega (arith, l))
-one_within (x ∷ us) zero l h = let rest = all_least us (λ w k. h (suc w) (omega (arith, k))) in omega (arith, ints, rest)
+one_within (x ∷ us) zero l h = let rest = total_from_zero us (λ w k. h (suc w) (omega (arith, k))) in omega (arith, ints, rest)
 one_within (x ∷ us) (suc u) l h =
     let here = h 0 (omega arith) in
     let rest = one_within us u (omega (arith, l)) (λ w k. h (suc w) (omega (arith, k))) in

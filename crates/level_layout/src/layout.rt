@@ -5,7 +5,7 @@ ghost use Rattle.level_layout.specs.Layout.{IsLaidOut};
 
 use crate::lines::lines_for;
 use crate::phases::{order_for, start_for};
-use level_draw::{LevelOut, draw};
+use level_draw::{Basis, LevelOut, draw_by_table};
 use level_layers::certificate_for;
 use level_plan::{LevelIn, marks_of};
 use level_units::pinned;
@@ -27,7 +27,13 @@ pub fn layout_level(alloc: Global, level: &LevelIn) -> Result<LevelOut, AllocErr
     let turned = marks.as_slice();
     let start = start_for(alloc, level, &certificate, turned)?;
     let order = order_for(alloc, &start.layered, &start.rows)?;
-    let layered = pinned(alloc, level, start.layered, &order, reversed, turned)?;
-    let lines = lines_for(alloc, level, &layered, &order)?;
-    draw(alloc, level, certificate, layered, start.rows, order, lines)
+    let fitted = pinned(alloc, level, start.layered, &order, reversed, turned)?;
+    let lines = lines_for(alloc, level, &fitted.layered, &order)?;
+    let basis = Basis {
+        layered: fitted.layered,
+        start: start.rows,
+        order,
+        lines,
+    };
+    draw_by_table(alloc, level, certificate, basis, turned, fitted.table)
 }

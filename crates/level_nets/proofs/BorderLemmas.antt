@@ -240,9 +240,6 @@ widest_more s m old new layer width h inside el ew e widest r less =
     (cases_eq r layer))
     ∙ sym (widest_at s (length s.level.children) m r h)
 
-pub widest_none : (s : Parts) (n : ℕ) (widths : List ℤ) → ((r : ℕ) → r < length widths → get_or widths r (pos 0) ≡ pos 0) → AreWidest s 0 widths
-widest_none s n widths none r h = none r h
-
 pub widest_all : (s : Parts) (widths : List ℤ) → length widths ≡ s.layered.layers + 1 → AreWidest s (length s.level.children) widths → AreWidths s widths
 unfolding width_of
 widest_all s widths long widest =

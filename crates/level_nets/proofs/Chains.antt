@@ -1,7 +1,7 @@
 -- Each link is one of its edge's chain. So a link that begins or ends at a child does so at that of the edge's end, and an edge
 -- has one link in a gap.
-use Rattle.std.proofs.Common.{◌≡◌, ◌⊎◌, ⊎_elim, ℕ, zero, suc, ◌+◌, ◌-◌, ◌<◌, eqb, cond, Bool, true, false, ◌&&◌, ◌||◌, List, [], ◌∷◌, length, refl, sym, subst, ap, ◌∙◌, arith}
-use Rattle.std.proofs.lemmas.Bool.{and_from, and_parts, eq-eqb, eqb-true, cases_order}
+use Rattle.std.proofs.Common.{◌≡◌, ◌⊎◌, ⊎_elim, ℕ, zero, suc, ◌+◌, ◌-◌, ◌<◌, eqb, cond, Bool, true, false, ◌&&◌, ◌||◌, List, length, refl, sym, subst, ap, ◌∙◌, arith}
+use Rattle.std.proofs.lemmas.Bool.{and_from, eq-eqb, cases_order}
 use Rattle.std.specs.Prelude.{is_some}
 use Rattle.std.specs.List.{range_with_len}
 use Rattle.elk_layers.specs.Layered.{unit_at, link_at, is_child, layer_of}
@@ -9,31 +9,11 @@ use Rattle.self_loops.specs.Loops.{is_upright}
 use Rattle.level_plan.specs.Stage.{anchor_line, dock_lane, long_lane}
 use Rattle.level_plan.specs.Level.{PlainLevel, PlainPlan, Orders, End, spoke, tail_end, head_end, dock_of}
 use Rattle.level_plan.specs.Nets.{unit_of, unit_of_line, is_inverted, line_of_end, tail_line, head_line}
-use Rattle.level_plan.specs.Traces.{links_at, links_from, chain}
+use Rattle.level_plan.specs.Traces.{chain}
 use Rattle.level_plan.specs.Units.{IsLaneUnit, HasChain, chain_at}
 use Rattle.level_plan.specs.Ready.{IsReady}
-use Rattle.level_plan.proofs.Lists.{Has, has_filter, filter_has, has_left, has_right, append_has, has_range, range_has, at_has, has_at}
-
--- what the chain of an edge holds
-has_from : (p : PlainPlan) (e r k : ℕ) (rs : List ℕ) → Has rs r → Has (links_at p e r) k → Has (links_from p e rs) k
-has_from p e r k [] h there = absurd h
-has_from p e r k (q ∷ rs) h there =
-    ⊎_elim
-    (λ (same : q ≡ r). has_left (links_at p e q) (links_from p e rs) k (subst (λ z. Has (links_at p e z) k) (sym same) there))
-    (λ rest. has_right (links_at p e q) (links_from p e rs) k (has_from p e r k rs rest there))
-    h
-
-from_has : (p : PlainPlan) (e k : ℕ) (rs : List ℕ) → Has (links_from p e rs) k → (k < length p.layered.links) × ((link_at p.layered.links k).edge ≡ e)
-from_has p e k [] h = absurd h
-from_has p e k (q ∷ rs) h =
-    ⊎_elim
-    (λ here.
-    let found = filter_has (λ j. eqb (link_at p.layered.links j).edge e && eqb (layer_of p.layered (link_at p.layered.links j).tail) q) (range_with_len 0 (length p.layered.links)) k here in
-    let low = (range_has 0 (length p.layered.links) k found.0).1 in
-    let named = and_parts (eqb (link_at p.layered.links k).edge e) (eqb (layer_of p.layered (link_at p.layered.links k).tail) q) found.1 in
-    (omega (arith, low), eqb-true (link_at p.layered.links k).edge e named.0))
-    (λ rest. from_has p e k rs rest)
-    (append_has (links_at p e q) (links_from p e rs) k h)
+use Rattle.level_plan.proofs.Lists.{Has, has_filter, has_range, at_has, has_at}
+use Rattle.level_plan.proofs.LinkLemmas.{links_have, links_are as from_has}
 
 -- a lane is no child
 lane_no_child : (p : PlainPlan) (u : ℕ) → IsLaneUnit p u → is_child p.layered u ≡ true → ⊥
@@ -61,7 +41,7 @@ module _ (l : PlainLevel) (p : PlainPlan) (o : Orders) (layers : List ℕ) (read
   in_chain k h =
       let e = (link_at p.layered.links k).edge in
       let r = layer_of p.layered (link_at p.layered.links k).tail in
-      has_from p e r k (range_with_len 0 p.layers) (has_range 0 p.layers r (omega arith) (let less = tail_in k h in omega (arith, less)))
+      links_have p e r k (range_with_len 0 p.layers) (has_range 0 p.layers r (omega arith) (let less = tail_in k h in omega (arith, less)))
       (has_filter (λ j. eqb (link_at p.layered.links j).edge e && eqb (layer_of p.layered (link_at p.layered.links j).tail) r) (range_with_len 0 (length p.layered.links)) k
       (has_range 0 (length p.layered.links) k (omega arith) (omega (arith, h)))
       (and_from (eqb (link_at p.layered.links k).edge e) (eqb (layer_of p.layered (link_at p.layered.links k).tail) r) (eq-eqb e e refl) (eq-eqb r r refl)))

@@ -11,7 +11,7 @@ use Rattle.elk_layers.specs.Layered.{link_at, layer_of}
 use Rattle.route_slots.specs.GapFree.{IsNet, AreHeights}
 use Rattle.route_lines.specs.Points.{PlainGap, gap_in}
 use Rattle.level_plan.specs.Level.{Orders, all_ends, outline}
-use Rattle.level_plan.specs.Nets.{Name, of_link, of_dock, of_loop, unit_of, layer_of_child, gap_of, net_of, all_names, names_in, nets_in, place_of_name, widest, column_width, gap_left, gap_width}
+use Rattle.level_plan.specs.Nets.{Name, of_link, layer_of_child, gap_of, net_of, all_names, names_in, nets_in, place_of_name, widest, column_width, gap_left, gap_width}
 use Rattle.level_plan.specs.FromPlan.{IsGap}
 use Rattle.level_plan.specs.Table.{child_in}
 use Rattle.level_plan.proofs.Lists.{Has, has_left, has_right, filter_has, range_has}
@@ -29,7 +29,7 @@ use Rattle.level_nets.proofs.Holding.{docks_short, passing_short, ends_long}
 use Rattle.level_nets.proofs.Splits.{Splits, place_at}
 
 -- a filter of what a function gives
-filter_mapped : {X Y : Type 0} (f : Y → Bool) (h : X → Y) (xs : List X) → length (filter f (map h xs)) ≡ length (filter (λ x. f (h x)) xs)
+pub filter_mapped : {X Y : Type 0} (f : Y → Bool) (h : X → Y) (xs : List X) → length (filter f (map h xs)) ≡ length (filter (λ x. f (h x)) xs)
 filter_mapped f h [] = refl
 filter_mapped f h (x ∷ xs) =
     let rest = filter_mapped f h xs in

@@ -78,7 +78,7 @@ range_more n = sym (map_id (n + 1)) ∙ map-range_with_len_more (λ k. k) 0 n n 
 pub link_names_more : (k : ℕ) → link_names (k + 1) ≡ link_names k ++ of_link k ∷ []
 link_names_more k = map-range_with_len_more of_link 0 k k (omega arith)
 
-ends_append : (es fs : List ℕ) → ends_of_edges (es ++ fs) ≡ ends_of_edges es ++ ends_of_edges fs
+pub ends_append : (es fs : List ℕ) → ends_of_edges (es ++ fs) ≡ ends_of_edges es ++ ends_of_edges fs
 ends_append [] fs = refl
 ends_append (e ∷ es) fs = ap (λ ns. end_at e true ∷ end_at e false ∷ ns) (ends_append es fs)
 

@@ -51,7 +51,7 @@ rises test a n true zero (suc j) again h k =
     omega (arith, low)
 rises test a n true (suc i) (suc j) again h k = again i j (omega (arith, h)) (omega (arith, k))
 
-rising : (test : ℕ → Bool) (a n i j : ℕ) → i < j → j < length (filter test (range_with_len a n)) → get_or (filter test (range_with_len a n)) i 0 < get_or (filter test (range_with_len a n)) j 0
+pub rising : (test : ℕ → Bool) (a n i j : ℕ) → i < j → j < length (filter test (range_with_len a n)) → get_or (filter test (range_with_len a n)) i 0 < get_or (filter test (range_with_len a n)) j 0
 rising test a zero i j h k = absurd (omega (arith, k))
 rising test a (suc n) i j h k = rises test a n (test a) i j (rising test (a + 1) n) h k
 

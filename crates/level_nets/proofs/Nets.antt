@@ -11,7 +11,6 @@ use Rattle.elk_doc.specs.PortsKept.{is_side}
 use Rattle.elk_layers.specs.Layered.{unit_at}
 use Rattle.elk_layers.specs.Lines.{top_of}
 use Rattle.route_slots.specs.declared.Pin.{Pin}
-use Rattle.route_slots.specs.declared.Net.{Net}
 use Rattle.route_slots.specs.GapFree.{IsNet, IsHeight, AreHeights}
 use Rattle.self_loops.specs.Loops.{is_upright, crosses, passes_left, passes_right}
 use Rattle.level_plan.specs.Stage.{Line, anchor_line, dock_lane, loop_lane, Reaches}
@@ -19,7 +18,7 @@ use Rattle.level_plan.specs.Level.{PlainLevel, PlainPlan, Orders, End, end_at, e
 use Rattle.level_plan.specs.Lanes.{dock_eq, has_one_dock, loop_sides, body_top}
 use Rattle.level_plan.specs.Nets.{Name, of_link, of_dock, of_loop, unit_of, unit_of_line, below_top, height_of, inverts, is_inverted, lane_side_of_end, loop_line, a_line, b_line, edge_of, net_of}
 use Rattle.level_plan.specs.Table.{loop_in}
-use Rattle.level_plan.proofs.SameLines.{dock_eq-self, is_side-same}
+use Rattle.level_plan.proofs.SameLines.{dock_eq-self}
 use Rattle.level_plan.proofs.LoopSides.{source_left, target_left, source_right, target_right}
 use Rattle.level_plan.proofs.LaneLemmas.{end_has_lane}
 use Rattle.level_plan.proofs.NameLemmas.{IsName, IsLine, a_line_is, b_line_is}
@@ -28,15 +27,11 @@ use Rattle.level_nets.specs.Parts.{Parts, plan_of, ArePlanned, EndAbove}
 use Rattle.level_nets.specs.Read.{at_end, dock_at, child_of, unit_of_dock, anchor_below, lane_of_loop, loop_below, pin, loop_pin, net_named}
 use Rattle.level_nets.proofs.Chains.{tail_line_unit, head_line_unit}
 use Rattle.level_nets.proofs.Names.{end_is, dock_is, child_below, unit_is}
+use Rattle.port_order.proofs.OrderLemmas.{side_same}
+use Rattle.level_nets.proofs.PinLemmas.{net_from}
 
 same_pin : (b c : Bool) (x y : ℤ) → b ≡ c → x ≡ y → pin b x ≡ pin c y
 same_pin b c x y e f = ap (λ z. pin z x) e ∙ ap (pin c) f
-
-same_net : (a b c d : Pin) → a ≡ c → b ≡ d → (let n : Net = record { a = a; b = b } in n) ≡ record { a = c; b = d }
-same_net a b c d e f =
-    let g : Pin → Net = λ z. record { a = z; b = b } in
-    let h : Pin → Net = λ z. record { a = c; b = z } in
-    ap g e ∙ ap h f
 
 height_is : (t u a b : ℤ) → t ≡ u → a ≡ b → t +ℤ a ≡ (u +ℤ b) -ℤ pos 0
 height_is t u a b e f = omega (arith, ints, e, f)
@@ -211,16 +206,16 @@ module _ (s : Parts) (rows : List (List ℕ)) (o : Orders) (layers : List ℕ) (
   pub net_is : (n : Name) → IsName s.level (plan_of s rows) o n → net_named s n ≡ net_of s.level (plan_of s rows) o (pos 0) n
   unfolding net_named
   net_is (of_link k) h =
-      same_net _ _ _ _
+      net_from _ _ _ _
       (ap (pin true) (height_is _ _ _ _ (ap (top_of s.tops) (sym (tail_line_unit s.level (plan_of s rows) o layers planned.ready k h))) (planned.ready.units.pins k h).tail_at))
       (ap (pin false) (height_is _ _ _ _ (ap (top_of s.tops) (sym (head_line_unit s.level (plan_of s rows) o layers planned.ready k h))) (planned.ready.units.pins k h).head_at))
   net_is (of_dock n) h =
       let side = ap (λ (d : Dock). is_side d.side East) (dock_is s rows o layers planned n h.0) in
-      same_net _ _ _ _
+      net_from _ _ _ _
       (same_pin _ _ _ _ side (height_is _ _ _ _ (top_is n h.0) (lane_is n h.0 h.1)))
       (same_pin _ _ _ _ side (height_is _ _ _ _ (top_is n h.0) (anchor_is n h.0)))
   net_is (of_loop e side) h =
-      same_net _ _ _ _
+      net_from _ _ _ _
       (loop_pin_is e true side h.0 h.1 refl (laned_source e side h))
       (loop_pin_is e false side h.0 h.1 (target_node e h.1) (laned_target e side h))
 
@@ -235,7 +230,7 @@ module _ (s : Parts) (rows : List (List ℕ)) (o : Orders) (layers : List ℕ) (
   loop_reaches e d side = step (is_side d.side side) refl
     where
       step : (b : Bool) → is_side d.side side ≡ b → Reaches side (cond b (anchor_line d) (loop_lane e (lane_side_of_end d.side)))
-      step true same = is_side-same d.side side same
+      step true same = side_same d.side side same
       step false other = tt
 
   -- the two pins of a net differ

@@ -11,6 +11,7 @@ use Rattle.level_plan.specs.Level.{End, enters, is_loop}
 use Rattle.level_plan.specs.Nets.{inverts}
 use Rattle.level_nets.specs.Parts.{Parts, plan_of}
 use Rattle.level_nets.specs.Read.{pin, dock_at, is_turned_back, passes_on}
+use Rattle.level_plan.proofs.NameLemmas.{inverts_level}
 
 pub pin_is : (b c : Bool) (r z : ℤ) → FitsSigned w64 r → b ≡ c → r ≡ z → (let q : Pin = record { on_left = b; height = to_z w64 (of_z w64 r) } in q) ≡ pin c z
 pin_is b c r z fits e f = ap (λ h. pin b h) (to_z-of_z w64 r fits ∙ f) ∙ ap (λ k. pin k z) e
@@ -21,15 +22,9 @@ net_from a b c d e f =
     let h : Pin → Net = λ z. record { a = c; b = z } in
     ap g e ∙ ap h f
 
-pub inverts_beside : (side : Side) (b : Bool) → inverts side b ≡ true → is_upright side ≡ false
-inverts_beside North b h = absurd cc
-inverts_beside East b h = refl
-inverts_beside South b h = absurd cc
-inverts_beside West b h = refl
-
 pub turned_beside : (s : Parts) (n : End) → is_turned_back s n ≡ true → is_upright (dock_at s n).side ≡ false
 turned_beside s n h =
-    inverts_beside (dock_at s n).side (enters (plan_of s []) n) (and_parts (not (is_loop s.level n.edge)) (inverts (dock_at s n).side (enters (plan_of s []) n)) h).1
+    inverts_level (dock_at s n).side (enters (plan_of s []) n) (and_parts (not (is_loop s.level n.edge)) (inverts (dock_at s n).side (enters (plan_of s []) n)) h).1
 
 pub passes_beside : (s : Parts) (e : ℕ) (side : Side) → passes_on s e side ≡ true → is_upright side ≡ false
 passes_beside s e North h = absurd (let bad : false ≡ true = h in cc)

@@ -1,5 +1,5 @@
 -- The gaps of a level, and the places of nets, in the words of its plan.
-use Rattle.std.proofs.Common.{◌≡◌, ⊎_elim, ℕ, ◌+◌, ◌<◌, ◌^◌, eqb, Bool, true, false, List, [], ◌∷◌, ◌++◌, map, length, get_or, take, drop, ℤ, pos, ◌+ℤ◌, refl, sym, subst, ap, ◌∙◌, arith}
+use Rattle.std.proofs.Common.{◌≡◌, ⊎_elim, ℕ, ◌+◌, ◌<◌, ◌^◌, eqb, true, List, [], ◌∷◌, ◌++◌, map, length, get_or, take, drop, ℤ, pos, ◌+ℤ◌, refl, sym, subst, ap, ◌∙◌, arith}
 use Rattle.std.proofs.lemmas.Bool.{cases_eq, cond_both}
 use Rattle.std.proofs.lemmas.Int.{ints}
 use Rattle.std.proofs.lemmas.List.{length-map, map_push, length_push, get_or_append_left, get_or_push, append-nil, drop_all, take_all}
@@ -30,10 +30,6 @@ written old new len same long =
     ∙ ap (take len) (append-nil new)
     ∙ take_all len new (omega (arith, same, long))
 
--- gaps without nets
-pub empty_none : AreEmpty 0 []
-empty_none = record { as_many = refl; none = λ g h. absurd (omega (arith, h)) }
-
 pub empty_more : (n : ℕ) (gaps new : List Gap) (g : Gap) → new ≡ gaps ++ g ∷ [] → g.nets.items ≡ [] → AreEmpty n (plain_gaps gaps) → AreEmpty (n + 1) (plain_gaps new)
 empty_more n gaps new g e none empty =
     let all : plain_gaps new ≡ plain_gaps gaps ++ plain_gap g ∷ [] = ap (map plain_gap) e ∙ map_push plain_gap gaps g in
@@ -61,28 +57,12 @@ nets_in_range s gaps given held g h =
     subst AreNetsIn (sym (held.nets g (omega (arith, h, many))))
     (are_nets s given.plan.rows given.plan.orders given.plan.layers given.plan.planned given.bottoms g)
 
--- placed gaps are routed
-pub are_routed : (s : Parts) (old new : List Gap) → HoldNets s (names_of s) (plain_gaps old) → HaveBorders s (length new) (plain_gaps old) (plain_gaps new) → AreRouted s (plain_gaps new)
-are_routed s old new held placed =
-    let many = length-map new plain_gap in
-    let long = placed.as_many in
-    record {
-      held = record {
-        as_many = placed.as_many ∙ held.as_many;
-        nets = λ g h. placed.nets g (omega (arith, h, long)) ∙ held.nets g (omega (arith, h, long));
-      };
-      placed = λ g h. placed.each g (omega (arith, h, many));
-    }
-
 -- what the call promises
 pub routed_gaps : (s : Parts) (gaps : List Gap) → AreRouted s (plain_gaps gaps) → AreGapsOf s gaps
 routed_gaps s gaps routed rows o layers planned g h =
     let many = length-map gaps plain_gap in
     let inside : g < length (plain_gaps gaps) = omega (arith, h, many) in
     gap_of_plan s rows o layers planned (plain_gaps gaps) g routed.held inside (routed.placed g inside)
-
-pub routed_count : (s : Parts) (gaps : List Gap) → AreRouted s (plain_gaps gaps) → length gaps ≡ s.layered.layers + 1
-routed_count s gaps routed = sym (length-map gaps plain_gap) ∙ routed.held.as_many
 
 module _ (s : Parts) (v : Places) (r : Routing) (places : ArePlaces s v) (links : r.links ≡ v.links.items) (docks : r.docks ≡ v.docks.items) (loops : r.loops ≡ v.loops.items) where
   pub routed_legs : AreLegsOf s r

@@ -4,7 +4,7 @@ use Rattle.std.proofs.lemmas.Bool.{eq-eqb, ne_eqb, and_left, and_right, and_from
 use Rattle.std.proofs.lemmas.List.{append_assoc, map-append}
 use Rattle.std.specs.List.{filter, range_with_len}
 use Rattle.elk_doc.specs.declared.shape.Side.{Side}
-use Rattle.elk_doc.specs.declared.shape.Side.TheVariants.{North, East, South, West}
+use Rattle.elk_doc.specs.declared.shape.Side.TheVariants.{East, West}
 use Rattle.elk_doc.specs.PortsKept.{is_side}
 use Rattle.level_plan.specs.Level.{End, end_at, end_eq, ends_of_edges, all_ends}
 use Rattle.level_plan.specs.Nets.{Name, of_link, of_dock, of_loop, name_eq, if_passed, place_of_name}
@@ -14,7 +14,8 @@ use Rattle.level_nets.specs.Parts.{Parts}
 use Rattle.level_nets.specs.Read.{link_names, dock_names, passing_names, names_of, is_turned_back, passes_west, passes_east}
 use Rattle.level_nets.specs.Held.{behind_docks, behind_loops, before_dock}
 use Rattle.level_nets.proofs.ListLemmas.{range_at}
-use Rattle.level_nets.proofs.Holding.{dock_names_append}
+use Rattle.level_nets.proofs.Holding.{dock_names_append, ends_append}
+use Rattle.port_order.proofs.OrderLemmas.{side_itself}
 
 -- a name that no earlier one equals stands behind those
 pub place_at : (xs ys : List Name) (n : Name) → ((m : Name) → Has xs m → name_eq m n ≡ false) → name_eq n n ≡ true → place_of_name (xs ++ n ∷ ys) n ≡ length xs
@@ -27,12 +28,6 @@ pub record Splits (names before : List Name) (n : Name) : Type 0 where
   pub is : names ≡ before ++ n ∷ after
   pub other : (m : Name) → Has before m → name_eq m n ≡ false
   pub self : name_eq n n ≡ true
-
-side_self : (side : Side) → is_side side side ≡ true
-side_self North = refl
-side_self East = refl
-side_self South = refl
-side_self West = refl
 
 pick_self : (b : Bool) → cond b b (not b) ≡ true
 pick_self true = refl
@@ -94,11 +89,6 @@ link_splits s k h =
           subst (λ z. name_eq z (of_link k) ≡ false) at.2 (ne_eqb at.0 k (λ same. omega (arith, same, less)));
       self = eq-eqb k k refl;
     }
-
--- ends of edges up to one and behind it
-ends_append : (es fs : List ℕ) → ends_of_edges (es ++ fs) ≡ ends_of_edges es ++ ends_of_edges fs
-ends_append [] fs = refl
-ends_append (e ∷ es) fs = ap (λ ns. end_at e true ∷ end_at e false ∷ ns) (ends_append es fs)
 
 dock_first : (s : Parts) (n : End) (ns : List End) → is_turned_back s n ≡ true → dock_names s (n ∷ ns) ≡ of_dock n ∷ dock_names s ns
 dock_first s n ns turned = ap (λ (b : Bool). map of_dock (cond b (n ∷ filter (is_turned_back s) ns) (filter (is_turned_back s) ns))) turned
@@ -211,7 +201,7 @@ module _ (s : Parts) (e : ℕ) (there : e < length s.level.edges) where
       (append_has front (passing_names s (range_with_len 0 e)) m has)
 
   loop_self : (side : Side) → name_eq (of_loop e side) (of_loop e side) ≡ true
-  loop_self side = and_from (eqb e e) (is_side side side) (eq-eqb e e refl) (side_self side)
+  loop_self side = and_from (eqb e e) (is_side side side) (eq-eqb e e refl) (side_itself side)
 
   pub west_splits : passes_west s e ≡ true → Splits (names_of s) (behind_loops s e) (of_loop e West)
   unfolding behind_loops

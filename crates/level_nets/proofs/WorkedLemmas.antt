@@ -22,16 +22,7 @@ use Rattle.level_nets.specs.Parts.{Parts, IsGiven}
 use Rattle.elk_layers.specs.Layered.{Plain}
 use Rattle.level_plan.specs.declared.table.Table.{Table}
 use Rattle.level_nets.specs.Worked.{parallel_table, parallel_parts}
-
--- what holds of 0 and 1 holds below 2
-two : (P : ℕ → Type 0) → P 0 → P 1 → (n : ℕ) → n < 2 → P n
-two P a b zero h = a
-two P a b (suc zero) h = b
-two P a b (suc (suc n)) h = absurd (omega (arith, h))
-
-one : (P : ℕ → Type 0) → P 0 → (n : ℕ) → n < 1 → P n
-one P a zero h = a
-one P a (suc n) h = absurd (omega (arith, h))
+use Rattle.elk_doc.proofs.ExampleLaws.{below1, below2}
 
 distance : (n : ℕ) → 1 ≤ n → n ≤ 20 → IsDistance (pos n)
 distance n h k = record { above = omega (arith, ints, h); below = omega (arith, ints, k) }
@@ -44,13 +35,13 @@ small z e = record { above = omega (arith, ints, e); below = omega (arith, ints,
 
 square_is : (c : ℕ) → c < 2 → IsLevelChild (child_at parallel c)
 square_is =
-    two (λ c. IsLevelChild (child_at parallel c))
+    below2 (λ c. IsLevelChild (child_at parallel c))
     (record { sound = record { size = record { width = small _ refl; height = small _ refl }; ports = λ k h. absurd (omega (arith, h)) }; near = λ k h. absurd (omega (arith, h)) })
     (record { sound = record { size = record { width = small _ refl; height = small _ refl }; ports = λ k h. absurd (omega (arith, h)) }; near = λ k h. absurd (omega (arith, h)) })
 
 edge_is : (e : ℕ) → e < 2 → IsLevelEdge parallel e
 edge_is =
-    two (λ e. IsLevelEdge parallel e)
+    below2 (λ e. IsLevelEdge parallel e)
     (record { source = record { child = omega arith; port = tt }; target = record { child = omega arith; port = tt }; weight_above = omega arith; weight_below = omega arith })
     (record { source = record { child = omega arith; port = tt }; target = record { child = omega arith; port = tt }; weight_above = omega arith; weight_below = omega arith })
 
@@ -82,16 +73,16 @@ from_zero : (a b : ℕ) → a ≤ b → IsFromZero (pos a) (pos b)
 from_zero a b h = (omega (arith, ints), omega (arith, ints, h))
 
 body_is : (u : ℕ) → u < 2 → HasBodyWithin (unit_at parallel_plan.layered.units u)
-body_is = two (λ u. HasBodyWithin (unit_at parallel_plan.layered.units u)) (record { top = omega (arith, ints); height = omega (arith, ints); bottom = omega (arith, ints) }) (record { top = omega (arith, ints); height = omega (arith, ints); bottom = omega (arith, ints) })
+body_is = below2 (λ u. HasBodyWithin (unit_at parallel_plan.layered.units u)) (record { top = omega (arith, ints); height = omega (arith, ints); bottom = omega (arith, ints) }) (record { top = omega (arith, ints); height = omega (arith, ints); bottom = omega (arith, ints) })
 
 sound_link : (k : ℕ) → k < 2 → IsSoundLink parallel_plan.layered (link_at parallel_plan.layered.links k)
 sound_link =
-    two (λ k. IsSoundLink parallel_plan.layered (link_at parallel_plan.layered.links k))
+    below2 (λ k. IsSoundLink parallel_plan.layered (link_at parallel_plan.layered.links k))
     (record { tail = omega arith; head = omega arith; next_layer = refl; tail_rank = omega arith; head_rank = omega arith; tail_at = from_zero 10 30 (omega arith); head_at = from_zero 10 30 (omega arith) })
     (record { tail = omega arith; head = omega arith; next_layer = refl; tail_rank = omega arith; head_rank = omega arith; tail_at = from_zero 20 30 (omega arith); head_at = from_zero 20 30 (omega arith) })
 
 no_lane : (u : ℕ) → u < 2 → is_lane parallel_plan.layered u ≡ true → (unit_at parallel_plan.layered.units u).height ≡ pos 0
-no_lane = two (λ u. is_lane parallel_plan.layered u ≡ true → (unit_at parallel_plan.layered.units u).height ≡ pos 0) (λ e. absurd (let bad : false ≡ true = e in cc)) (λ e. absurd (let bad : false ≡ true = e in cc))
+no_lane = below2 (λ u. is_lane parallel_plan.layered u ≡ true → (unit_at parallel_plan.layered.units u).height ≡ pos 0) (λ e. absurd (let bad : false ≡ true = e in cc)) (λ e. absurd (let bad : false ≡ true = e in cc))
 
 sound_is : IsSound parallel_plan.layered
 sound_is =
@@ -101,10 +92,10 @@ sound_is =
       edge_edge_is = spaces 10 (omega arith) (omega arith);
       few_units = omega arith;
       few_links = omega arith;
-      layers_are = two (λ u. layer_of parallel_plan.layered u < 2) (omega arith) (omega arith);
+      layers_are = below2 (λ u. layer_of parallel_plan.layered u < 2) (omega arith) (omega arith);
       few_in_layer = λ g. let few = count_by-le-length (λ (u : LayerUnit). eqb u.layer g) parallel_plan.layered.units in omega (arith, few);
       links_are = sound_link;
-      heights = two (λ u. pos 0 ≤ℤ (unit_at parallel_plan.layered.units u).height) (omega (arith, ints)) (omega (arith, ints));
+      heights = below2 (λ u. pos 0 ≤ℤ (unit_at parallel_plan.layered.units u).height) (omega (arith, ints)) (omega (arith, ints));
       together = omega (arith, ints);
       lanes_are_flat = no_lane;
       bodies = λ u h child. body_is u h;
@@ -114,11 +105,11 @@ rows_are : AreRows parallel_plan.layered parallel_plan.rows
 rows_are =
     record {
       as_many = refl;
-      in_range = two (λ r. (i : ℕ) → i < length (row_at parallel_plan.rows r) → slice_index (row_at parallel_plan.rows r) i < 2) (one (λ i. slice_index (0 ∷ []) i < 2) (omega arith)) (one (λ i. slice_index (1 ∷ []) i < 2) (omega arith));
-      in_layer = two (λ r. (i : ℕ) → i < length (row_at parallel_plan.rows r) → layer_of parallel_plan.layered (slice_index (row_at parallel_plan.rows r) i) ≡ r)
-          (one (λ i. layer_of parallel_plan.layered (slice_index (0 ∷ []) i) ≡ 0) refl) (one (λ i. layer_of parallel_plan.layered (slice_index (1 ∷ []) i) ≡ 1) refl);
-      complete = two (λ u. HasUnit (row_at parallel_plan.rows (layer_of parallel_plan.layered u)) u) (record { place = 0; within = omega arith; unit_is = refl }) (record { place = 0; within = omega arith; unit_is = refl });
-      once = two (λ r. (i j : ℕ) → i < j → j < length (row_at parallel_plan.rows r) → slice_index (row_at parallel_plan.rows r) i ≢ slice_index (row_at parallel_plan.rows r) j)
+      in_range = below2 (λ r. (i : ℕ) → i < length (row_at parallel_plan.rows r) → slice_index (row_at parallel_plan.rows r) i < 2) (below1 (λ i. slice_index (0 ∷ []) i < 2) (omega arith)) (below1 (λ i. slice_index (1 ∷ []) i < 2) (omega arith));
+      in_layer = below2 (λ r. (i : ℕ) → i < length (row_at parallel_plan.rows r) → layer_of parallel_plan.layered (slice_index (row_at parallel_plan.rows r) i) ≡ r)
+          (below1 (λ i. layer_of parallel_plan.layered (slice_index (0 ∷ []) i) ≡ 0) refl) (below1 (λ i. layer_of parallel_plan.layered (slice_index (1 ∷ []) i) ≡ 1) refl);
+      complete = below2 (λ u. HasUnit (row_at parallel_plan.rows (layer_of parallel_plan.layered u)) u) (record { place = 0; within = omega arith; unit_is = refl }) (record { place = 0; within = omega arith; unit_is = refl });
+      once = below2 (λ r. (i j : ℕ) → i < j → j < length (row_at parallel_plan.rows r) → slice_index (row_at parallel_plan.rows r) i ≢ slice_index (row_at parallel_plan.rows r) j)
           (λ i j less h. absurd (omega (arith, less, h))) (λ i j less h. absurd (omega (arith, less, h)));
     }
 
@@ -126,17 +117,17 @@ apart_is : AreApart parallel_plan.layered parallel_plan.rows parallel_plan.tops
 apart_is =
     record {
       as_many = refl;
-      from_zero = two (λ u. pos 0 ≤ℤ top_of parallel_plan.tops u) (omega (arith, ints)) (omega (arith, ints));
-      room = two (λ r. Keeps (room parallel_plan.layered) parallel_plan.tops (row_at parallel_plan.rows r)) (λ i h. absurd (omega (arith, h))) (λ i h. absurd (omega (arith, h)));
-      body_room = two (λ r. Keeps (body_room parallel_plan.layered) parallel_plan.tops (Rattle.std.specs.List.filter (is_child parallel_plan.layered) (row_at parallel_plan.rows r))) (λ i h. absurd (omega (arith, h))) (λ i h. absurd (omega (arith, h)));
+      from_zero = below2 (λ u. pos 0 ≤ℤ top_of parallel_plan.tops u) (omega (arith, ints)) (omega (arith, ints));
+      room = below2 (λ r. Keeps (room parallel_plan.layered) parallel_plan.tops (row_at parallel_plan.rows r)) (λ i h. absurd (omega (arith, h))) (λ i h. absurd (omega (arith, h)));
+      body_room = below2 (λ r. Keeps (body_room parallel_plan.layered) parallel_plan.tops (Rattle.std.specs.List.filter (is_child parallel_plan.layered) (row_at parallel_plan.rows r))) (λ i h. absurd (omega (arith, h))) (λ i h. absurd (omega (arith, h)));
     }
 
 -- the orders of sides
 first_held : HoldsOnce (0 ∷ 1 ∷ []) 0
-first_held = record { place = 0; inside = omega arith; there = refl; alone = two (λ j. slice_index (0 ∷ 1 ∷ []) j ≡ 0 → j ≡ 0) (λ e. refl) (λ e. absurd (omega (arith, e))) }
+first_held = record { place = 0; inside = omega arith; there = refl; alone = below2 (λ j. slice_index (0 ∷ 1 ∷ []) j ≡ 0 → j ≡ 0) (λ e. refl) (λ e. absurd (omega (arith, e))) }
 
 second_held : HoldsOnce (0 ∷ 1 ∷ []) 1
-second_held = record { place = 1; inside = omega arith; there = refl; alone = two (λ j. slice_index (0 ∷ 1 ∷ []) j ≡ 1 → j ≡ 1) (λ e. absurd (omega (arith, e))) (λ e. refl) }
+second_held = record { place = 1; inside = omega arith; there = refl; alone = below2 (λ j. slice_index (0 ∷ 1 ∷ []) j ≡ 1 → j ≡ 1) (λ e. absurd (omega (arith, e))) (λ e. refl) }
 
 -- a side on which no spot lies
 none_on : (c : ℕ) (side : Side) → length (spots parallel parallel_plan c) ≡ 2 → (IsSpreadOn (child_at parallel c) side (spot_at (spots parallel parallel_plan c) 0) → ⊥) → (IsSpreadOn (child_at parallel c) side (spot_at (spots parallel parallel_plan c) 1) → ⊥)
@@ -144,7 +135,7 @@ none_on : (c : ℕ) (side : Side) → length (spots parallel parallel_plan c) �
 none_on c side many first second =
     record {
       spread = λ i h. absurd (omega (arith, h));
-      once = λ k h on. absurd (two (λ k. IsSpreadOn (child_at parallel c) side (spot_at (spots parallel parallel_plan c) k) → ⊥) first second k (omega (arith, h, many)) on);
+      once = λ k h on. absurd (below2 (λ k. IsSpreadOn (child_at parallel c) side (spot_at (spots parallel parallel_plan c) k) → ⊥) first second k (omega (arith, h, many)) on);
       sorted = λ i j k l less h. absurd (omega (arith, h));
     }
 
@@ -161,9 +152,9 @@ both_on : (c : ℕ) (side : Side) → length (spots parallel parallel_plan c) �
     → IsOrderOfSide (child_at parallel c) side (spots parallel parallel_plan c) (0 ∷ 1 ∷ [])
 both_on c side many zeroth first on0 on1 before =
     record {
-      spread = two (λ i. (k : ℕ) × (k < length (spots parallel parallel_plan c)) × ((spot_at (spots parallel parallel_plan c) k).number ≡ slice_index (0 ∷ 1 ∷ []) i) × IsSpreadOn (child_at parallel c) side (spot_at (spots parallel parallel_plan c) k))
+      spread = below2 (λ i. (k : ℕ) × (k < length (spots parallel parallel_plan c)) × ((spot_at (spots parallel parallel_plan c) k).number ≡ slice_index (0 ∷ 1 ∷ []) i) × IsSpreadOn (child_at parallel c) side (spot_at (spots parallel parallel_plan c) k))
           (0, omega (arith, many), zeroth, on0) (1, omega (arith, many), first, on1);
-      once = λ k h on. two (λ k. HoldsOnce (0 ∷ 1 ∷ []) (spot_at (spots parallel parallel_plan c) k).number) (subst (HoldsOnce (0 ∷ 1 ∷ [])) (sym zeroth) first_held) (subst (HoldsOnce (0 ∷ 1 ∷ [])) (sym first) second_held) k (omega (arith, h, many));
+      once = λ k h on. below2 (λ k. HoldsOnce (0 ∷ 1 ∷ []) (spot_at (spots parallel parallel_plan c) k).number) (subst (HoldsOnce (0 ∷ 1 ∷ [])) (sym zeroth) first_held) (subst (HoldsOnce (0 ∷ 1 ∷ [])) (sym first) second_held) k (omega (arith, h, many));
       sorted = λ i j k l less h hk hl ek el. sorted i j k l less h (omega (arith, hk, many)) (omega (arith, hl, many)) ek el;
     }
   where
@@ -181,7 +172,7 @@ both_on c side many zeroth first on0 on1 before =
     sorted i (suc (suc j)) k l less h hk hl = absurd (omega (arith, h))
 
 orders_are : AreOrders parallel parallel_plan parallel_orders
-orders_are c side h = two (λ c. (side : Side) → IsOrderOfSide (child_at parallel c) side (spots parallel parallel_plan c) (parallel_orders c side)) left right c h side
+orders_are c side h = below2 (λ c. (side : Side) → IsOrderOfSide (child_at parallel c) side (spots parallel parallel_plan c) (parallel_orders c side)) left right c h side
   where
     left : (side : Side) → IsOrderOfSide (child_at parallel 0) side (spots parallel parallel_plan 0) (parallel_orders 0 side)
     left North = none_on 0 North refl (λ on. let e : East ≡ North = on.on_side in absurd cc) (λ on. let e : East ≡ North = on.on_side in absurd cc)
@@ -198,13 +189,13 @@ orders_are c side h = two (λ c. (side : Side) → IsOrderOfSide (child_at paral
 -- units and links
 unit_is : (c : ℕ) → c < 2 → IsUnitOf parallel_plan (slice_index_or (0 ∷ 1 ∷ []) c 0) c
 unit_is =
-    two (λ c. IsUnitOf parallel_plan (slice_index_or (0 ∷ 1 ∷ []) c 0) c)
-    (record { in_range = omega arith; child = refl; alone = two (λ u. (unit_at parallel_plan.layered.units u).child ≡ Some 0 → u ≡ 0) (λ e. refl) (λ e. let bad : Some 1 ≡ Some 0 = e in absurd cc); layer_is = refl })
-    (record { in_range = omega arith; child = refl; alone = two (λ u. (unit_at parallel_plan.layered.units u).child ≡ Some 1 → u ≡ 1) (λ e. let bad : Some 0 ≡ Some 1 = e in absurd cc) (λ e. refl); layer_is = refl })
+    below2 (λ c. IsUnitOf parallel_plan (slice_index_or (0 ∷ 1 ∷ []) c 0) c)
+    (record { in_range = omega arith; child = refl; alone = below2 (λ u. (unit_at parallel_plan.layered.units u).child ≡ Some 0 → u ≡ 0) (λ e. refl) (λ e. let bad : Some 1 ≡ Some 0 = e in absurd cc); layer_is = refl })
+    (record { in_range = omega arith; child = refl; alone = below2 (λ u. (unit_at parallel_plan.layered.units u).child ≡ Some 1 → u ≡ 1) (λ e. let bad : Some 0 ≡ Some 1 = e in absurd cc) (λ e. refl); layer_is = refl })
 
 chain_is : (e : ℕ) → e < 2 → HasChain parallel parallel_plan e
 chain_is =
-    two (λ e. HasChain parallel parallel_plan e)
+    below2 (λ e. HasChain parallel parallel_plan e)
     (record { long = refl; some = omega arith; from = refl; to = refl; joined = λ i h. absurd (omega (arith, h)); lanes = λ i h. absurd (omega (arith, h)) })
     (record { long = refl; some = omega arith; from = refl; to = refl; joined = λ i h. absurd (omega (arith, h)); lanes = λ i h. absurd (omega (arith, h)) })
 
@@ -212,9 +203,9 @@ linked_is : AreLinked parallel parallel_plan (0 ∷ 1 ∷ [])
 linked_is =
     record {
       children = unit_is;
-      units = two (λ u. (IsLaneUnit parallel_plan u) ⊎ ((c : ℕ) × (c < 2) × (u ≡ unit_of parallel_plan c))) (inr (0, omega arith, refl)) (inr (1, omega arith, refl));
+      units = below2 (λ u. (IsLaneUnit parallel_plan u) ⊎ ((c : ℕ) × (c < 2) × (u ≡ unit_of parallel_plan c))) (inr (0, omega arith, refl)) (inr (1, omega arith, refl));
       chains = λ e h loop. chain_is e h;
-      links = two (λ k. IsLinkOf parallel parallel_plan k) (record { edge_in = omega arith; no_loop = refl }) (record { edge_in = omega arith; no_loop = refl });
+      links = below2 (λ k. IsLinkOf parallel parallel_plan k) (record { edge_in = omega arith; no_loop = refl }) (record { edge_in = omega arith; no_loop = refl });
     }
 
 units_are : AreUnits parallel parallel_plan parallel_orders (0 ∷ 1 ∷ [])
@@ -222,8 +213,8 @@ units_are =
     record {
       orders = orders_are;
       linked = linked_is;
-      rooms = two (λ c. HasRoom parallel parallel_plan parallel_orders c) (record { height = refl; top = refl; body = refl; north = refl; south = refl }) (record { height = refl; top = refl; body = refl; north = refl; south = refl });
-      pins = two (λ k. HasPins parallel parallel_plan parallel_orders k) (record { tail_at = refl; head_at = refl; tail_rank_is = refl; head_rank_is = refl }) (record { tail_at = refl; head_at = refl; tail_rank_is = refl; head_rank_is = refl });
+      rooms = below2 (λ c. HasRoom parallel parallel_plan parallel_orders c) (record { height = refl; top = refl; body = refl; north = refl; south = refl }) (record { height = refl; top = refl; body = refl; north = refl; south = refl });
+      pins = below2 (λ k. HasPins parallel parallel_plan parallel_orders k) (record { tail_at = refl; head_at = refl; tail_rank_is = refl; head_rank_is = refl }) (record { tail_at = refl; head_at = refl; tail_rank_is = refl; head_rank_is = refl });
       node_node = refl;
       edge_node = refl;
       edge_edge = refl;
@@ -235,16 +226,16 @@ table_is =
       child_count = refl;
       end_count = refl;
       loop_count = refl;
-      children = two (λ c. IsChildAt parallel parallel_plan parallel_orders c (child_in parallel_table.children c))
+      children = below2 (λ c. IsChildAt parallel parallel_plan parallel_orders c (child_in parallel_table.children c))
           (record { unit = refl; outline_is = refl; as_many = refl; ports = λ k h. absurd (omega (arith, h)); north = refl; south = refl })
           (record { unit = refl; outline_is = refl; as_many = refl; ports = λ k h. absurd (omega (arith, h)); north = refl; south = refl });
-      sources = two (λ e. IsEndAt parallel parallel_plan parallel_orders (end_at e true) (end_in parallel_table.ends (2 * e)))
+      sources = below2 (λ e. IsEndAt parallel parallel_plan parallel_orders (end_at e true) (end_in parallel_table.ends (2 * e)))
           (record { dock = refl; anchor = refl; lane = λ h. let bad : false ≡ true = h in absurd cc })
           (record { dock = refl; anchor = refl; lane = λ h. let bad : false ≡ true = h in absurd cc });
-      targets = two (λ e. IsEndAt parallel parallel_plan parallel_orders (end_at e false) (end_in parallel_table.ends (2 * e + 1)))
+      targets = below2 (λ e. IsEndAt parallel parallel_plan parallel_orders (end_at e false) (end_in parallel_table.ends (2 * e + 1)))
           (record { dock = refl; anchor = refl; lane = λ h. let bad : false ≡ true = h in absurd cc })
           (record { dock = refl; anchor = refl; lane = λ h. let bad : false ≡ true = h in absurd cc });
-      loops = two (λ e. is_loop parallel e ≡ true → IsLoopAt parallel parallel_plan parallel_orders e (loop_in parallel_table.loops e))
+      loops = below2 (λ e. is_loop parallel e ≡ true → IsLoopAt parallel parallel_plan parallel_orders e (loop_in parallel_table.loops e))
           (λ h. let bad : false ≡ true = h in absurd cc) (λ h. let bad : false ≡ true = h in absurd cc);
     }
 
@@ -252,7 +243,7 @@ pub parallel_given : IsGiven parallel_parts
 parallel_given =
     record {
       few_layers = omega arith;
-      bottoms = two (λ u. (top_of parallel_plan.tops u +ℤ (unit_at parallel_plan.layered.units u).height) <ℤ pos (2 ^ 49)) (omega (arith, ints)) (omega (arith, ints));
+      bottoms = below2 (λ u. (top_of parallel_plan.tops u +ℤ (unit_at parallel_plan.layered.units u).height) <ℤ pos (2 ^ 49)) (omega (arith, ints)) (omega (arith, ints));
       plan = record {
         rows = parallel_plan.rows;
         orders = parallel_orders;

@@ -1,7 +1,7 @@
 -- Ends of edges that are picked by a test, where those of a part stand for those of the level.
 use Rattle.std.proofs.Common.{◌≡◌, ℕ, suc, ◌+◌, ◌<◌, cond, Bool, true, false, ◌||◌, List, [], ◌∷◌, length, map, get_or, arith, refl, sym, ap, inl, inr, ◌∙◌, eq-eqb, true≢false}
 use Rattle.std.specs.List.{filter, list_any}
-use Rattle.std.proofs.lemmas.Bool.{cases_eq, ne_eqb}
+use Rattle.std.proofs.lemmas.Bool.{cases_eq, ne_eqb, false_from_ne_true}
 use Rattle.level_plan.specs.Level.{End, end_at, end_eq, ends_of_edges, place_of_end}
 
 -- all numbers of a list are below a bound
@@ -35,10 +35,6 @@ all_below n (x ∷ xs) h = (h 0 (omega arith), all_below n xs (λ i l. h (suc i)
 both_out : (a b : Bool) (x y : End) (rest : List End) → a ≡ false → b ≡ false → cond a (x ∷ cond b (y ∷ rest) rest) (cond b (y ∷ rest) rest) ≡ rest
 both_out a b x y rest e f = ap (λ c. cond c (x ∷ cond b (y ∷ rest) rest) (cond b (y ∷ rest) rest)) e ∙ ap (λ c. cond c (y ∷ rest) rest) f
 
-not_true : (b : Bool) → (b ≡ true → ⊥) → b ≡ false
-not_true true h = absurd (h refl)
-not_true false h = refl
-
 pub only_there : (test : End → Bool) (passes : ℕ → Bool) (es : List ℕ) (n : ℕ) → AllBelow n es → ((e : ℕ) (t : Bool) → e < n → test (end_at e t) ≡ true → passes e ≡ true)
     → filter test (ends_of_edges es) ≡ filter test (ends_of_edges (filter passes es))
 only_there test passes [] n below only = refl
@@ -50,8 +46,8 @@ only_there test passes (e ∷ es) n below only = step (only_there test passes es
         ap (λ (xs : List End). cond (test (end_at e true)) (end_at e true ∷ cond (test (end_at e false)) (end_at e false ∷ xs) xs) (cond (test (end_at e false)) (end_at e false ∷ xs) xs)) rest
     step rest false is =
         both_out (test (end_at e true)) (test (end_at e false)) (end_at e true) (end_at e false) (filter test (ends_of_edges es))
-        (not_true (test (end_at e true)) (λ h. true≢false (sym (only e true below.0 h) ∙ is)))
-        (not_true (test (end_at e false)) (λ h. true≢false (sym (only e false below.0 h) ∙ is)))
+        (false_from_ne_true (test (end_at e true)) (λ h. true≢false (sym (only e true below.0 h) ∙ is)))
+        (false_from_ne_true (test (end_at e false)) (λ h. true≢false (sym (only e false below.0 h) ∙ is)))
         ∙ rest
 
 -- ---- ends by other numbers of their edges

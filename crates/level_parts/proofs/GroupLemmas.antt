@@ -12,26 +12,6 @@ use Rattle.level_parts.specs.Groups.{HoldRows, lists_of, row_at}
 pub none_counted : (numbers : List ℕ) → AreCounted numbers 0 0
 none_counted numbers = record { below = λ v h. absurd (omega (arith, h)); last = λ h. absurd (omega (arith, h)) }
 
-pub counted_more : (numbers : List ℕ) (n count : ℕ) → AreCounted numbers n count → count ≤ slice_index numbers n → AreCounted numbers (n + 1) (slice_index numbers n + 1)
-counted_more numbers n count are up =
-    record {
-      below = λ v h. elim (cases_lt v n) [
-        | inl less ↦ (let low = are.below v less in omega (arith, low, up))
-        | inr most ↦ (let is : v ≡ n = omega (arith, h, most) in let same = ap (slice_index numbers) is in omega (arith, same))
-      ];
-      last = λ h. (n, omega arith, refl);
-    }
-
-pub counted_same : (numbers : List ℕ) (n count : ℕ) → AreCounted numbers n count → slice_index numbers n < count → AreCounted numbers (n + 1) count
-counted_same numbers n count are low =
-    record {
-      below = λ v h. elim (cases_lt v n) [
-        | inl less ↦ are.below v less
-        | inr most ↦ (let is : v ≡ n = omega (arith, h, most) in let same = ap (slice_index numbers) is in omega (arith, low, same))
-      ];
-      last = λ h. let found = are.last h in let less = found.1 in (found.0, omega (arith, less), found.2);
-    }
-
 -- ---- rows
 
 pub row_read : (rows : List (Vec ℕ Global)) (k : ℕ) (d : Vec ℕ Global) → k < length rows → (get_or rows k d).items ≡ row_at (lists_of rows) k

@@ -55,9 +55,6 @@ part_made level numbers places children edges k v sound parts are some many from
           from.spacing from.fixed from.placing;
     }
 
-pub no_part_levels : (level : LevelIn) (numbers : List ℕ) (parts : List PartLevel) → parts ≡ [] → ArePartLevels level numbers 0 parts
-no_part_levels level numbers parts e = record { as_many = ap length e; each = λ k h. absurd (omega (arith, h)) }
-
 pub part_levels_more : (level : LevelIn) (numbers : List ℕ) (n : ℕ) (parts new : List PartLevel) (part : PartLevel) → new ≡ parts ++ part ∷ [] → IsPartLevel level numbers n part
     → ArePartLevels level numbers n parts → ArePartLevels level numbers (n + 1) new
 part_levels_more level numbers n parts new part pushed is are =

@@ -1,23 +1,16 @@
 -- Pieces at docks: on which side of the box they lie.
-use Rattle.std.proofs.Common.{◌≡◌, ⊎_elim, ℕ, ◌<◌, Bool, ℤ, ◌+ℤ◌, ◌≤ℤ◌, subst, sym, ap, ◌∙◌, arith}
+use Rattle.std.proofs.Common.{◌≡◌, ⊎_elim, ℕ, ◌<◌, Bool, ℤ, ◌+ℤ◌, ◌≤ℤ◌, subst, sym, ◌∙◌, arith}
 use Rattle.std.proofs.lemmas.Int.{ints, clamps}
 use Rattle.elk_doc.specs.declared.shape.Point.{Point}
 use Rattle.elk_doc.specs.declared.shape.Rect.{Rect}
 use Rattle.elk_doc.specs.declared.shape.Side.{Side}
 use Rattle.elk_doc.specs.declared.shape.Side.TheVariants.{North, East, South, West}
-use Rattle.elk_doc.specs.declared.shape.Dock.{Dock}
 use Rattle.elk_doc.specs.Segments.{Share, IsBetween}
 use Rattle.elk_doc.proofs.SegmentBounds.{Share-piece}
 use Rattle.level_plan.specs.Stage.{Stage, Stands, offset_along, IsOutward}
 use Rattle.elk_doc.specs.Shapes.{right_of, bottom_of}
 use Rattle.level_plan.specs.Law.{IsStub, IsBorderPart, IsNorthOrSouth}
-
-same_dock : (d k : Dock) → d.node ≡ k.node → d.side ≡ k.side → d.offset ≡ k.offset → d ≡ k
-same_dock d k en es eo =
-    let f : ℕ → Dock = λ z. record { node = z; side = d.side; offset = d.offset } in
-    let g : Side → Dock = λ z. record { node = k.node; side = z; offset = d.offset } in
-    let h : ℤ → Dock = λ z. record { node = k.node; side = k.side; offset = z } in
-    ap f en ∙ ap g es ∙ ap h eo
+use Rattle.level_plan.proofs.SameLines.{same_dock}
 
 -- two docks of one child on one north or south side with anchors at one x are one
 pub same_stub : (s : Stage) (e f : ℕ) (t u : Bool) (side : Side) → Stands s → e < s.edges → f < s.edges → IsNorthOrSouth side → (s.dock e t).node ≡ (s.dock f u).node

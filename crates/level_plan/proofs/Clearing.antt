@@ -1,7 +1,7 @@
 -- Routes keep out of outlines and boxes.
-use Rattle.std.proofs.Common.{◌≡◌, ◌≢◌, ◌⊎◌, ⊎_elim, inl, inr, ℕ, ◌+◌, ◌<◌, ◌≤◌, Bool, true, false, ℤ, ◌+ℤ◌, ◌≤ℤ◌, ◌<ℤ◌, List, refl, subst, sym, ap, ◌∙◌, arith, length}
+use Rattle.std.proofs.Common.{◌≡◌, ◌≢◌, ◌⊎◌, ⊎_elim, inl, inr, ℕ, ◌+◌, ◌<◌, ◌≤◌, Bool, true, false, ℤ, ◌+ℤ◌, ◌≤ℤ◌, ◌<ℤ◌, List, subst, sym, ap, ◌∙◌, arith, length}
 use Rattle.std.proofs.lemmas.Int.{ints, clamps, by_lt_z}
-use Rattle.std.proofs.lemmas.Bool.{cases_lt, cases_eq}
+use Rattle.std.proofs.lemmas.Bool.{cases_Bool, cases_lt, cases_eq}
 use Rattle.std.specs.Int.{int_min, int_max}
 use Rattle.elk_doc.specs.declared.shape.Point.{Point}
 use Rattle.elk_doc.specs.declared.shape.Dock.{Dock}
@@ -16,7 +16,7 @@ use Rattle.route_lines.specs.Points.{gap_in as gap_at, stand, point_at}
 use Rattle.route_lines.proofs.Dropping.{some_all, meetings_split, entries_split}
 use Rattle.level_plan.specs.Stage.{Stage, Line, anchor_line, dock_lane, loop_lane, long_lane, HasDock, InUse, IsLane, IsLaneAt, unit_of_line, ChildStands, Stands, IsPinOf}
 use Rattle.level_plan.specs.Law.{IsPart, stub, lane_part, border_part, net_part, IsLanePart, IsNetPart, IsLawful}
-use Rattle.level_plan.proofs.Zones.{InUnit, stub_in, lane_in, border_in, dock_child, net_before, net_after, x_of, y_of}
+use Rattle.level_plan.proofs.Zones.{InUnit, three_ways, stub_in, lane_in, border_in, dock_child, net_before, net_after, x_of, y_of}
 use Rattle.level_plan.proofs.AtDocks.{north_above, south_below, east_right, west_left}
 use Rattle.level_plan.proofs.Paths.{some_at}
 use Rattle.level_plan.proofs.Sharing.{together}
@@ -26,9 +26,6 @@ no_meet_right a b c d low size h k l m x = let s = x.starts in absurd (omega (ar
 
 no_meet_left : (a b c d low size : ℤ) → c ≤ℤ a → c ≤ℤ b → d <ℤ c → (low +ℤ size) ≤ℤ d → MeetsSpan a b low size → ⊥
 no_meet_left a b c d low size h k l m x = let s = x.ends in absurd (omega (arith, ints, clamps))
-
-three_ways : (m n : ℕ) → (m < n) ⊎ ((m ≡ n) ⊎ (n < m))
-three_ways m n = ⊎_elim (λ l. inl l) (λ l. ⊎_elim (λ k. inr (inr k)) (λ k. inr (inl (omega arith))) (cases_lt n m)) (cases_lt m n)
 
 -- a piece in a unit does not meet the outline of another unit's child
 unit_clear : (s : Stage) (u c : ℕ) (a b : Point) → Stands s → InUnit s u a b → ChildStands s c → u ≢ s.unit_of c → MeetsRect a b (s.outline c) → ⊥
@@ -101,7 +98,7 @@ touching : (s : Stage) (e g r : ℕ) (a : Abscissa) (p : Pin) → Stands s → g
 touching s e g r a p st g_in r_in at pin h =
     let inner = st.inner g g_in in
     let gap = st.gap g g_in in
-    elim (cases_bool p.on_left) [
+    elim (cases_Bool p.on_left) [
       | inl l ↦
           let side = pin.left l in
           let is_left : a ≡ left_border = sym at ∙ ap border_of l in
@@ -133,10 +130,6 @@ touching s e g r a p st g_in r_in at pin h =
           h
     ]
   where
-    cases_bool : (b : Bool) → (b ≡ true) ⊎ (b ≡ false)
-    cases_bool true = inl refl
-    cases_bool false = inr refl
-
     clash3 : (x y z w : ℤ) → x <ℤ y → y ≤ℤ z → z ≤ℤ w → w ≤ℤ x → ⊥
     clash3 x y z w h k l m = absurd (omega (arith, ints))
 

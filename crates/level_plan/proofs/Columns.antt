@@ -3,6 +3,7 @@ use Rattle.std.proofs.Common.{◌≡◌, ℕ, zero, suc, ◌+◌, ◌-◌, ◌<�
 use Rattle.std.proofs.lemmas.Int.{ints}
 use Rattle.route_slots.specs.Pieces.{Abscissa, left_border, slot, right_border, rank, IsAbscissa}
 use Rattle.route_lines.specs.Points.{PlainGap, gap_in, stand}
+use Rattle.level_plan.proofs.Zones.{le_trans}
 use Rattle.level_plan.proofs.Widths.{steps_up, steps_less, steps_from_zero}
 
 -- Gap number g of a level with this many layers holds its slots, strictly right of a column before it and strictly left of a
@@ -25,9 +26,6 @@ pub record AreColumns (layers : ℕ) (gaps : List PlainGap) (width : ℕ → ℤ
 le_self : (z : ℤ) → z ≤ℤ z
 le_self z = omega (arith, ints)
 
-le_le : (a b c : ℤ) → a ≤ℤ b → b ≤ℤ c → a ≤ℤ c
-le_le a b c h k = omega (arith, ints)
-
 lt_le : (a b c : ℤ) → a <ℤ b → b ≤ℤ c → a <ℤ c
 lt_le a b c h k = omega (arith, ints)
 
@@ -40,7 +38,7 @@ slot_after_left gap i h = let some = steps_from_zero i gap.step (omega (arith, i
 
 pub from_left : (layers g : ℕ) (gap : PlainGap) (a : Abscissa) → IsWide layers g gap → IsAbscissa gap.count a → gap.left ≤ℤ stand gap a
 from_left layers g gap left_border w h = le_self _
-from_left layers g gap (slot i) w h = le_le _ _ _ w.first (slot_after_left gap i w.step)
+from_left layers g gap (slot i) w h = le_trans _ _ _ w.first (slot_after_left gap i w.step)
 from_left layers g gap right_border w h = w.wide
 
 pub to_right : (layers g : ℕ) (gap : PlainGap) (a : Abscissa) → IsWide layers g gap → IsAbscissa gap.count a → stand gap a ≤ℤ gap.right
@@ -86,7 +84,7 @@ module _ (layers : ℕ) (gaps : List PlainGap) (width : ℕ → ℤ) (c : AreCol
       let same : g + suc k ≡ g + k + 1 = omega arith in
       let less : g + k < layers = omega (arith, h) in
       rw same
-      (le_le _ _ _ (on_by k g (omega (arith, h))) (le_le _ _ _ (column (g + k) less) (c.each (g + k + 1) (omega (arith, h))).wide))
+      (le_trans _ _ _ (on_by k g (omega (arith, h))) (le_trans _ _ _ (column (g + k) less) (c.each (g + k + 1) (omega (arith, h))).wide))
 
   -- the right borders, and the left ones, do not fall
   pub rights : (g r : ℕ) → g ≤ r → r < layers + 1 → right_at g ≤ℤ right_at r
@@ -99,8 +97,8 @@ module _ (layers : ℕ) (gaps : List PlainGap) (width : ℕ → ℤ) (c : AreCol
       step zero e = let same : r + 1 ≡ g = omega (arith, e, h) in rw same (le_self _)
       step (suc d) e =
           let last : g - 1 + 1 ≡ g = omega (arith, h) in
-          le_le _ _ _ ((c.each (r + 1) (omega (arith, e, h, k))).wide)
-          (le_le _ _ _ (rights (r + 1) (g - 1) (omega (arith, e, h)) (omega (arith, k)))
+          le_trans _ _ _ ((c.each (r + 1) (omega (arith, e, h, k))).wide)
+          (le_trans _ _ _ (rights (r + 1) (g - 1) (omega (arith, e, h)) (omega (arith, k)))
           (rw last at (column (g - 1) (omega (arith, h, k)))))
 
   pub columns_apart : (r q : ℕ) → r < q → q < layers → left_at (r + 1) <ℤ right_at q
@@ -108,13 +106,13 @@ module _ (layers : ℕ) (gaps : List PlainGap) (width : ℕ → ℤ) (c : AreCol
 
   -- what stands in a gap stands between the columns beside it
   pub before : (g r : ℕ) (a : Abscissa) → g ≤ r → r < layers → IsAbscissa (gap_in gaps g).count a → stand (gap_in gaps g) a ≤ℤ right_at r
-  before g r a h k ha = le_le _ _ _ (to_right layers g (gap_in gaps g) a (c.each g (omega (arith, h, k))) ha) (rights g r h (omega (arith, k)))
+  before g r a h k ha = le_trans _ _ _ (to_right layers g (gap_in gaps g) a (c.each g (omega (arith, h, k))) ha) (rights g r h (omega (arith, k)))
 
   pub slot_before : (g r i : ℕ) → g ≤ r → r < layers → i < (gap_in gaps g).count → stand (gap_in gaps g) (slot i) <ℤ right_at r
   slot_before g r i h k less = lt_le _ _ _ ((c.each g (omega (arith, h, k))).last_inner (omega (arith, h, k)) i less) (rights g r h (omega (arith, k)))
 
   pub after : (g : ℕ) → g < layers + 1 → (r : ℕ) (a : Abscissa) → r < g → IsAbscissa (gap_in gaps g).count a → left_at (r + 1) ≤ℤ stand (gap_in gaps g) a
-  after g k r a h ha = le_le _ _ _ (lefts r g h k) (from_left layers g (gap_in gaps g) a (c.each g k) ha)
+  after g k r a h ha = le_trans _ _ _ (lefts r g h k) (from_left layers g (gap_in gaps g) a (c.each g k) ha)
 
   pub slot_after : (g : ℕ) → g < layers + 1 → (r i : ℕ) → r < g → i < (gap_in gaps g).count → left_at (r + 1) <ℤ stand (gap_in gaps g) (slot i)
   slot_after g k r i h less =

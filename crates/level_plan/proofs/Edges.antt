@@ -15,7 +15,7 @@ use Rattle.route_lines.specs.Tidied.{opposite}
 use Rattle.level_plan.specs.Stage.{Line, anchor_line, dock_lane, long_lane, unit_of_line, InUse, Reaches, Stands}
 use Rattle.level_plan.specs.Law.{IsNorthOrSouth, outward}
 use Rattle.level_plan.specs.Level.{PlainLevel, PlainPlan, Orders, End, end_at, edge_at, spoke, is_loop, holds, enters, tail_end, head_end, dock_of}
-use Rattle.level_plan.specs.Nets.{Name, of_link, of_dock, inverts, is_inverted, line_of_end, tail_line, head_line, unit_of, gap_of, names_in, place_of_name}
+use Rattle.level_plan.specs.Nets.{of_dock, inverts, is_inverted, line_of_end, unit_of, gap_of, names_in, place_of_name}
 use Rattle.level_plan.specs.Nets as nets
 use Rattle.level_plan.specs.Traces.{leaving, entering, chain, chain_steps, oriented_steps, turned_steps, loop_steps, steps_of}
 use Rattle.level_plan.specs.Lanes.{has_one_dock}

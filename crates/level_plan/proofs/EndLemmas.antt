@@ -24,11 +24,13 @@ use Rattle.level_plan.specs.Nets.{unit_of, layer_of_child, widest, column_width}
 use Rattle.level_plan.specs.FromPlan.{LevelDrawing, box_place, IsDrawnFrom}
 use Rattle.level_plan.specs.Drawing.{stage}
 use Rattle.level_plan.specs.Ready.{IsReady}
+use Rattle.level_plan.specs.Conditions.{IsLevel}
+use Rattle.level_plan.specs.Units.{AreOrders}
 use Rattle.level_plan.proofs.Lists.{Has, has_range}
-use Rattle.level_plan.proofs.Places.{room_from_zero}
+use Rattle.level_plan.proofs.Widths.{outer_from_zero}
 use Rattle.level_plan.proofs.GapLemmas.{next_left}
 use Rattle.level_plan.proofs.SpotLemmas.{spoke_there, at_child, implicit_spot_there, end_is_spot, held_once}
-use Rattle.level_plan.proofs.OutlineLemmas.{outline_holds_box, outline_holds_port, in_holder, port_anchor, end_anchor}
+use Rattle.level_plan.proofs.OutlineLemmas.{outline_holds_box, outline_holds_port, in_holder, port_anchor, end_anchor, up_to_face}
 
 -- a column holds the outlines of its children
 widest_holds : (l : PlainLevel) (p : PlainPlan) (o : Orders) (r c : ℕ) (cs : List ℕ) → Has cs c → layer_of_child p c ≡ r → (outline l p o c).width ≤ℤ widest l p o r cs
@@ -49,10 +51,6 @@ widest_holds l p o r c (b ∷ cs) h e =
 pub within_column : (l : PlainLevel) (p : PlainPlan) (o : Orders) (c : ℕ) → c < length l.children → (outline l p o c).width ≤ℤ column_width l p o (layer_of_child p c)
 within_column l p o c h = widest_holds l p o (layer_of_child p c) c (range_with_len 0 (length l.children)) (has_range 0 (length l.children) c (omega arith) (omega (arith, h))) refl
 
--- moved to a place
-same_corner : (r x : ℤ) → r ≤ℤ ((r -ℤ x) +ℤ x)
-same_corner r x = omega (arith, ints)
-
 within_width : (r x w v left : ℤ) → left ≡ r +ℤ v → w ≤ℤ v → (((r -ℤ x) +ℤ x) +ℤ w) ≤ℤ left
 within_width r x w v left e h = omega (arith, ints, e, h)
 
@@ -65,9 +63,6 @@ above_unit_bottom t b y z h s u e k = omega (arith, ints, e, k)
 moved_low : (b x z : ℤ) → x ≤ℤ z → (b +ℤ x) ≤ℤ (b +ℤ z)
 moved_low b x z h = omega (arith, ints, h)
 
-moved_high : (b x w z v : ℤ) → (z +ℤ v) ≤ℤ (x +ℤ w) → ((b +ℤ z) +ℤ v) ≤ℤ ((b +ℤ x) +ℤ w)
-moved_high b x w z v h = omega (arith, ints, h)
-
 moved_point : (b x w z : ℤ) → z ≤ℤ (x +ℤ w) → (b +ℤ z) ≤ℤ ((b +ℤ x) +ℤ w)
 moved_point b x w z h = omega (arith, ints, h)
 
@@ -77,23 +72,14 @@ box_low b x h = omega (arith, ints, h)
 box_high : (b x w v : ℤ) → (pos 0 +ℤ v) ≤ℤ (x +ℤ w) → (b +ℤ v) ≤ℤ ((b +ℤ x) +ℤ w)
 box_high b x w v h = omega (arith, ints, h)
 
-module _ (l : PlainLevel) (p : PlainPlan) (o : Orders) (layers : List ℕ) (ready : IsReady l p o layers) where
+module _ (l : PlainLevel) (p : PlainPlan) (o : Orders) (level : IsLevel l) (orders : AreOrders l p o) where
   -- the room of lanes is not less than nothing
   pub lanes_from_zero : (n : ℕ) → pos 0 ≤ℤ lanes_room l n
-  lanes_from_zero n = room_from_zero n l.spacing.edge_node l.spacing.edge_edge ready.level.spacing.edge_node.above ready.level.spacing.edge_edge.above
-
-  pub column_there : (u : ℕ) → u < length p.layered.units → layer_of p.layered u < p.layers
-  column_there u h = let less = ready.sound.layers_are u h in let e = ready.layers_are in omega (arith, less, e)
-
-  pub child_unit : (c : ℕ) → c < length l.children → unit_of p c < length p.layered.units
-  child_unit c h = (ready.units.linked.children c h).in_range
-
-  pub child_there : (e : ℕ) (t : Bool) → e < length l.edges → (spoke l (end_at e t)).child < length l.children
-  child_there e t h = (spoke_there l e t ready.level h).child
+  lanes_from_zero n = outer_from_zero n l.spacing.edge_node l.spacing.edge_edge level.spacing.edge_node.above level.spacing.edge_edge.above
 
   -- an outline is not higher than nothing
   pub outline_deep : (c : ℕ) → c < length l.children → pos 0 ≤ℤ (outline l p o c).height
-  outline_deep c h = let box = outline_holds_box l p o c in deep (outline l p o c).y (outline l p o c).height (child_at l c).size.height box.top box.bottom (ready.level.children c h).sound.size.height.above
+  outline_deep c h = let box = outline_holds_box l p o c in deep (outline l p o c).y (outline l p o c).height (child_at l c).size.height box.top box.bottom (level.children c h).sound.size.height.above
     where
       deep : (y v h : ℤ) → y ≤ℤ pos 0 → (pos 0 +ℤ h) ≤ℤ (y +ℤ v) → pos 0 ≤ℤ h → pos 0 ≤ℤ v
       deep y v h a b c = omega (arith, ints, a, b, c)
@@ -102,22 +88,29 @@ module _ (l : PlainLevel) (p : PlainPlan) (o : Orders) (layers : List ℕ) (read
   port_anchor_in : (c k : ℕ) → c < length l.children → k < length (child_at l c).ports → IsInOutline (outline l p o c) (anchor_of_spot l o c (port_spot l p c k))
   port_anchor_in c k h less =
       in_holder _ _ _ (outline_holds_port l p o c k less)
-      (port_anchor (child_at l c) (port_spot l p c k) k (dock_of_spot l o c (port_spot l p c k)).offset refl ((ready.level.children c h).sound.ports k less))
+      (port_anchor (child_at l c) (port_spot l p c k) k (dock_of_spot l o c (port_spot l p c k)).offset refl ((level.children c h).sound.ports k less))
 
   implicit_anchor_in : (c : ℕ) (n : End) → c < length l.children → Has (implicit_ends l c) n → IsInOutline (outline l p o c) (anchor_of_spot l o c (implicit_spot l p c n))
   implicit_anchor_in c n h has =
       in_holder _ _ _ (outline_holds_box l p o c)
-      (end_anchor (side_of (child_at l c) (implicit_spot l p c n)) (dock_of_spot l o c (implicit_spot l p c n)).offset (child_at l c).size (ready.level.children c h).sound.size
-      (dock_inside (child_at l c) (implicit_spot l p c n) (o c (side_of (child_at l c) (implicit_spot l p c n))) (ready.level.children c h).sound
-      (held_once l p o c (implicit_spot l p c n) ready.units.orders h (implicit_spot_there l p c n has)) refl))
+      (end_anchor (side_of (child_at l c) (implicit_spot l p c n)) (dock_of_spot l o c (implicit_spot l p c n)).offset (child_at l c).size (level.children c h).sound.size
+      (dock_inside (child_at l c) (implicit_spot l p c n) (o c (side_of (child_at l c) (implicit_spot l p c n))) (level.children c h).sound
+      (held_once l p o c (implicit_spot l p c n) orders h (implicit_spot_there l p c n has)) refl))
 
   pub anchor_in : (e : ℕ) (t : Bool) → e < length l.edges → IsInOutline (outline l p o (spoke l (end_at e t)).child) (anchor_of_spot l o (spoke l (end_at e t)).child (spot_of l p (end_at e t)))
-  anchor_in e t h = step (spoke l (end_at e t)).port refl (spoke_there l e t ready.level h).port
+  anchor_in e t h = step (spoke l (end_at e t)).port refl (spoke_there l e t level h).port
     where
       step : (port : Option ℕ) → (spoke l (end_at e t)).port ≡ port → IfSome port (λ k. k < length (child_at l (spoke l (end_at e t)).child).ports)
           → IsInOutline (outline l p o (spoke l (end_at e t)).child) (anchor_of_spot l o (spoke l (end_at e t)).child (spot_at_port l p (spoke l (end_at e t)).child (end_at e t) port))
-      step (Some k) port less = port_anchor_in (spoke l (end_at e t)).child k (child_there e t h) less
-      step None port less = implicit_anchor_in (spoke l (end_at e t)).child (end_at e t) (child_there e t h) (at_child l e t h port)
+      step (Some k) port less = port_anchor_in (spoke l (end_at e t)).child k (spoke_there l e t level h).child less
+      step None port less = implicit_anchor_in (spoke l (end_at e t)).child (end_at e t) (spoke_there l e t level h).child (at_child l e t h port)
+
+module _ (l : PlainLevel) (p : PlainPlan) (o : Orders) (layers : List ℕ) (ready : IsReady l p o layers) where
+  pub column_there : (u : ℕ) → u < length p.layered.units → layer_of p.layered u < p.layers
+  column_there u h = let less = ready.sound.layers_are u h in let e = ready.layers_are in omega (arith, less, e)
+
+  pub child_unit : (c : ℕ) → c < length l.children → unit_of p c < length p.layered.units
+  child_unit c h = (ready.units.linked.children c h).in_range
 
   module _ (d : LevelDrawing) (drawn : IsDrawnFrom l p o d) where
     pub child_stands : (c : ℕ) → c < length l.children → ChildStands (stage l p o d) c
@@ -131,10 +124,10 @@ module _ (l : PlainLevel) (p : PlainPlan) (o : Orders) (layers : List ℕ) (read
           there = h;
           unit = unit;
           column = column_there (unit_of p c) unit;
-          left = same_corner (gap_in d.gaps (layer_of_child p c)).right (outline l p o c).x;
+          left = up_to_face (gap_in d.gaps (layer_of_child p c)).right (outline l p o c).x;
           right = within_width (gap_in d.gaps (layer_of_child p c)).right (outline l p o c).x _ _ _ (next_left l p o d ready.level.spacing drawn (layer_of_child p c) (column_there (unit_of p c) unit)) (within_column l p o c h);
-          top = below_unit_top (top_of p.tops (unit_of p c)) (body_top l p o c) (outline l p o c).y d.top (lanes_from_zero (length (lanes l p o c North)));
-          bottom = above_unit_bottom (top_of p.tops (unit_of p c)) (body_top l p o c) (outline l p o c).y d.top (outline l p o c).height _ _ room.height (lanes_from_zero (length (lanes l p o c South)));
+          top = below_unit_top (top_of p.tops (unit_of p c)) (body_top l p o c) (outline l p o c).y d.top (lanes_from_zero l p o ready.level ready.units.orders (length (lanes l p o c North)));
+          bottom = above_unit_bottom (top_of p.tops (unit_of p c)) (body_top l p o c) (outline l p o c).y d.top (outline l p o c).height _ _ room.height (lanes_from_zero l p o ready.level ready.units.orders (length (lanes l p o c South)));
           box_left = box_low place.x (outline l p o c).x box.left;
           box_right = box_high place.x (outline l p o c).x (outline l p o c).width (child_at l c).size.width box.right;
           box_top = box_low place.y (outline l p o c).y box.top;
@@ -165,13 +158,13 @@ module _ (l : PlainLevel) (p : PlainPlan) (o : Orders) (layers : List ℕ) (read
         let c = (spoke l (end_at e t)).child in
         let s = spot_of l p (end_at e t) in
         let place = box_place l p o d c in
-        let rel = anchor_in e t h in
+        let rel = anchor_in l p o ready.level ready.units.orders e t h in
         let out = outline l p o c in
         let at = anchor_of_spot l o c s in
         record {
-          child = child_stands c (child_there e t h);
+          child = child_stands c (spoke_there l e t ready.level h).child;
           in_outline = record { left = moved_low place.x out.x at.x rel.left; right = moved_point place.x out.x out.width at.x rel.right; top = moved_low place.y out.y at.y rel.top; bottom = moved_point place.y out.y out.height at.y rel.bottom };
           outward = end_outward (side_of (child_at l c) s) place (child_at l c) (anchor_of_spot l o c s)
-              (ports_stand.outward (child_at l c) s (dock_of_spot l o c s).offset (ready.level.children c (child_there e t h)).sound (end_is_spot l p e t ready.level h));
+              (ports_stand.outward (child_at l c) s (dock_of_spot l o c s).offset (ready.level.children c (spoke_there l e t ready.level h).child).sound (end_is_spot l p e t ready.level h));
           offset = end_offset (side_of (child_at l c) s) place (child_at l c) s.port (dock_of_spot l o c s).offset;
         }

@@ -12,6 +12,7 @@ use Rattle.route_lines.specs.Points.{point_at, points_on, fine_on, fine_points, 
 use Rattle.route_lines.specs.Tidied.{Heading, left, right, Goes, opposite, DropsSome, none, more, IsTidied}
 use Rattle.level_plan.specs.Stage.{Stage, Line, anchor_line, unit_of_line, InUse, IsLane, Stands}
 use Rattle.level_plan.specs.Law.{IsNorthOrSouth, IsEastOrWest, IsPart, stub, border_part, outward, IsLawful}
+use Rattle.level_plan.proofs.Zones.{le_trans}
 use Rattle.level_plan.proofs.Ways.{Along, Comes, Passes, Leaves, finish, slide, leave, leave_on, turn}
 use Rattle.level_plan.proofs.Legs.{outof, into}
 use Rattle.level_plan.proofs.Doors.{border, side_at, door, Arrives, Departs, on_lane}
@@ -58,9 +59,6 @@ lawful_way s e steps points w t =
 
 -- ---- where anchors lie
 
-pub le_on : (a b c : ℤ) → a ≤ℤ b → b ≤ℤ c → a ≤ℤ c
-le_on a b c h k = omega (arith, ints)
-
 lt_on : (a b c : ℤ) → a <ℤ b → b ≤ℤ c → a <ℤ c
 lt_on a b c h k = omega (arith, ints)
 
@@ -78,10 +76,10 @@ between_ends p q = ((omega (arith, ints, clamps), omega (arith, ints, clamps)), 
 
 -- the anchor lies in the column of its child
 anchor_left : (s : Stage) (e : ℕ) (t : Bool) → Stands s → e < s.edges → s.col_left (s.layer (s.unit_of (s.dock e t).node)) ≤ℤ (s.anchor e t).x
-anchor_left s e t st h = let w = st.ends e t h in le_on _ _ _ w.child.left w.in_outline.left
+anchor_left s e t st h = let w = st.ends e t h in le_trans _ _ _ w.child.left w.in_outline.left
 
 anchor_right : (s : Stage) (e : ℕ) (t : Bool) → Stands s → e < s.edges → (s.anchor e t).x ≤ℤ s.col_right (s.layer (s.unit_of (s.dock e t).node))
-anchor_right s e t st h = let w = st.ends e t h in le_on _ _ _ w.in_outline.right w.child.right
+anchor_right s e t st h = let w = st.ends e t h in le_trans _ _ _ w.in_outline.right w.child.right
 
 -- ---- plain ends
 
@@ -114,7 +112,7 @@ border_piece s e t true p q st w py qy px qx =
       reach = s.col_right (s.layer (s.unit_of (s.dock e t).node));
       reach_left = st.row.columns _ child.column;
       reach_right = le_self _;
-      outside_east = λ h. le_on _ _ _ child.box_right child.right;
+      outside_east = λ h. le_trans _ _ _ child.box_right child.right;
       outside_west = λ h. absurd (not_both _ w.side h);
       a_y = py;
       b_y = qy;
@@ -137,7 +135,7 @@ border_piece s e t false p q st w py qy px qx =
       reach_left = le_self _;
       reach_right = st.row.columns _ child.column;
       outside_east = λ h. absurd (not_both _ w.side h);
-      outside_west = λ h. le_on _ _ _ child.left child.box_left;
+      outside_west = λ h. le_trans _ _ _ child.left child.box_left;
       a_y = py;
       b_y = qy;
       a_x = px;

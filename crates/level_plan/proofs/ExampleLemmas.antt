@@ -24,24 +24,9 @@ use Rattle.level_plan.specs.Conditions.{IsLevel, IsLevelChild, IsLevelEdge}
 use Rattle.level_plan.specs.Examples.{spacing, square}
 use Rattle.level_plan.specs.Ready.{IsReady}
 use Rattle.level_plan.specs.Chained.{chained, chained_plan, chained_orders, child_unit}
+use Rattle.elk_doc.proofs.ExampleLaws.{below1, below2, below3}
 
--- below a small number
-below1 : (P : ℕ → Type 0) → P 0 → (k : ℕ) → k < 1 → P k
-below1 P a zero h = a
-below1 P a (suc k) h = absurd (omega (arith, h))
-
-below2 : (P : ℕ → Type 0) → P 0 → P 1 → (k : ℕ) → k < 2 → P k
-below2 P a b zero h = a
-below2 P a b (suc zero) h = b
-below2 P a b (suc (suc k)) h = absurd (omega (arith, h))
-
-below3 : (P : ℕ → Type 0) → P 0 → P 1 → P 2 → (k : ℕ) → k < 3 → P k
-below3 P a b c zero h = a
-below3 P a b c (suc zero) h = b
-below3 P a b c (suc (suc zero)) h = c
-below3 P a b c (suc (suc (suc k))) h = absurd (omega (arith, h))
-
-below4 : (P : ℕ → Type 0) → P 0 → P 1 → P 2 → P 3 → (k : ℕ) → k < 4 → P k
+pub below4 : (P : ℕ → Type 0) → P 0 → P 1 → P 2 → P 3 → (k : ℕ) → k < 4 → P k
 below4 P a b c d zero h = a
 below4 P a b c d (suc zero) h = b
 below4 P a b c d (suc (suc zero)) h = c

@@ -1,5 +1,5 @@
 -- The lanes of a child lie between the borders of its unit and its outline, no two of them at one height.
-use Rattle.std.proofs.Common.{◌≡◌, ⊎_elim, ℕ, ◌+◌, ◌<◌, ℤ, pos, ◌+ℤ◌, ◌-ℤ◌, ◌≤ℤ◌, ◌<ℤ◌, List, length, sym, subst, arith}
+use Rattle.std.proofs.Common.{◌≡◌, ⊎_elim, ℕ, ◌+◌, ◌<◌, ℤ, pos, ◌+ℤ◌, ◌-ℤ◌, ◌≤ℤ◌, ◌<ℤ◌, length, sym, subst, arith}
 use Rattle.std.proofs.lemmas.Int.{ints}
 use Rattle.elk_doc.specs.declared.shape.Side.{Side}
 use Rattle.elk_doc.specs.declared.shape.Side.TheVariants.{North, South}
@@ -7,10 +7,15 @@ use Rattle.level_plan.specs.Stage.{Line}
 use Rattle.level_plan.specs.Level.{PlainLevel, PlainPlan, Orders, outline}
 use Rattle.level_plan.specs.Lanes.{lanes, lanes_room, place_of_line, body_top, unit_height}
 use Rattle.level_plan.specs.Nets.{below_top}
-use Rattle.level_plan.specs.Ready.{IsReady}
+use Rattle.level_plan.specs.Conditions.{IsLevel}
+use Rattle.level_plan.specs.Units.{AreOrders}
 use Rattle.level_plan.proofs.Places.{place_within, one_place, room_some, room_within, room_one}
-use Rattle.level_plan.proofs.EndLemmas.{lanes_from_zero}
+use Rattle.level_plan.proofs.EndLemmas.{lanes_from_zero, outline_deep}
 use Rattle.level_plan.proofs.LaneLemmas.{IsLaneOf}
+
+-- a height from the top of a unit to its bottom
+abbrev pub IsUpTo : ℤ → ℤ → Type 0
+IsUpTo height z = (pos 0 ≤ℤ z) × (z ≤ℤ height)
 
 -- a height above the outline that begins at b, or below it
 pub record IsAbove (b r z : ℤ) : Type 0 where
@@ -32,12 +37,12 @@ same_down b r s y z h k e = omega (arith, ints, h, k, e)
 far : (b h r s y z : ℤ) → pos 0 ≤ℤ h → y ≡ b -ℤ r → pos 0 <ℤ r → z ≡ b +ℤ h +ℤ s → pos 0 <ℤ s → y ≡ z → ⊥
 far b h r s y z d k u n v e = absurd (omega (arith, ints, d, k, u, n, v, e))
 
-module _ (l : PlainLevel) (p : PlainPlan) (o : Orders) (layers : List ℕ) (ready : IsReady l p o layers) where
+module _ (l : PlainLevel) (p : PlainPlan) (o : Orders) (level : IsLevel l) (orders : AreOrders l p o) where
   some_room : (i : ℕ) → pos 0 <ℤ lanes_room l (i + 1)
-  some_room i = room_some i l.spacing.edge_node l.spacing.edge_edge ready.level.spacing.edge_node.above ready.level.spacing.edge_edge.above
+  some_room i = room_some i l.spacing.edge_node l.spacing.edge_edge level.spacing.edge_node.above level.spacing.edge_edge.above
 
   room_in : (i n : ℕ) → i < n → lanes_room l (i + 1) ≤ℤ lanes_room l n
-  room_in i n h = room_within i n l.spacing.edge_node l.spacing.edge_edge ready.level.spacing.edge_node.above ready.level.spacing.edge_edge.above h
+  room_in i n h = room_within i n l.spacing.edge_node l.spacing.edge_edge level.spacing.edge_node.above level.spacing.edge_edge.above h
 
   pub above : (c : ℕ) (m : Line) → IsLaneOf l p o c North m → IsAbove (body_top l p o c) (lanes_room l (place_of_line (lanes l p o c North) m + 1)) (below_top l p o m)
   above c m h =
@@ -57,11 +62,11 @@ module _ (l : PlainLevel) (p : PlainPlan) (o : Orders) (layers : List ℕ) (read
       }
 
   one_room : (i j : ℕ) → lanes_room l (i + 1) ≡ lanes_room l (j + 1) → i ≡ j
-  one_room i j e = room_one i j l.spacing.edge_node l.spacing.edge_edge ready.level.spacing.edge_node.above ready.level.spacing.edge_edge.above e
+  one_room i j e = room_one i j l.spacing.edge_node l.spacing.edge_edge level.spacing.edge_node.above level.spacing.edge_edge.above e
 
   -- two lanes of one child at one height are one
-  pub one_lane : (c : ℕ) (s t : Side) (m n : Line) → pos 0 ≤ℤ (outline l p o c).height → IsLaneOf l p o c s m → IsLaneOf l p o c t n → below_top l p o m ≡ below_top l p o n → m ≡ n
-  one_lane c s t m n deep h k e =
+  pub one_lane : (c : ℕ) (s t : Side) (m n : Line) → IsLaneOf l p o c s m → IsLaneOf l p o c t n → below_top l p o m ≡ below_top l p o n → m ≡ n
+  one_lane c s t m n h k e =
       ⊎_elim
       (λ (sn : s ≡ North). ⊎_elim (λ (tn : t ≡ North). both_above (subst (λ z. IsLaneOf l p o c z m) sn h) (subst (λ z. IsLaneOf l p o c z n) tn k) e) (λ (ts : t ≡ South). absurd (apart m n (subst (λ z. IsLaneOf l p o c z m) sn h) (subst (λ z. IsLaneOf l p o c z n) ts k) e)) k.upright)
       (λ (ss : s ≡ South). ⊎_elim (λ (tn : t ≡ North). absurd (apart n m (subst (λ z. IsLaneOf l p o c z n) tn k) (subst (λ z. IsLaneOf l p o c z m) ss h) (sym e))) (λ (ts : t ≡ South). both_below (subst (λ z. IsLaneOf l p o c z m) ss h) (subst (λ z. IsLaneOf l p o c z n) ts k) e) k.upright)
@@ -83,14 +88,15 @@ module _ (l : PlainLevel) (p : PlainPlan) (o : Orders) (layers : List ℕ) (read
       apart m n h k e =
           let a = above c m h in
           let b = below c n k in
-          far (body_top l p o c) (outline l p o c).height (lanes_room l (place_of_line (lanes l p o c North) m + 1)) (lanes_room l (place_of_line (lanes l p o c South) n + 1)) (below_top l p o m) (below_top l p o n) deep a.height a.some b.height b.some e
+          far (body_top l p o c) (outline l p o c).height (lanes_room l (place_of_line (lanes l p o c North) m + 1)) (lanes_room l (place_of_line (lanes l p o c South) n + 1)) (below_top l p o m) (below_top l p o n) (outline_deep l p o level orders c h.there) a.height a.some b.height b.some e
 
   -- a lane lies in its unit
-  pub lane_within : (c : ℕ) (s : Side) (m : Line) → pos 0 ≤ℤ (outline l p o c).height → IsLaneOf l p o c s m → (pos 0 ≤ℤ below_top l p o m) × (below_top l p o m ≤ℤ unit_height l p o c)
-  lane_within c s m deep h =
+  pub lane_within : (c : ℕ) (s : Side) (m : Line) → IsLaneOf l p o c s m → IsUpTo (unit_height l p o c) (below_top l p o m)
+  lane_within c s m h =
+      let deep = outline_deep l p o level orders c h.there in
       ⊎_elim
-      (λ (sn : s ≡ North). let a = above c m (subst (λ z. IsLaneOf l p o c z m) sn h) in up (body_top l p o c) (outline l p o c).height (lanes_room l (length (lanes l p o c South))) _ _ deep (lanes_from_zero l p o layers ready (length (lanes l p o c South))) a.height a.some a.within)
-      (λ (ss : s ≡ South). let a = below c m (subst (λ z. IsLaneOf l p o c z m) ss h) in down (body_top l p o c) (outline l p o c).height (lanes_room l (length (lanes l p o c South))) _ _ (lanes_from_zero l p o layers ready (length (lanes l p o c North))) deep a.height a.some a.within)
+      (λ (sn : s ≡ North). let a = above c m (subst (λ z. IsLaneOf l p o c z m) sn h) in up (body_top l p o c) (outline l p o c).height (lanes_room l (length (lanes l p o c South))) _ _ deep (lanes_from_zero l p o level orders (length (lanes l p o c South))) a.height a.some a.within)
+      (λ (ss : s ≡ South). let a = below c m (subst (λ z. IsLaneOf l p o c z m) ss h) in down (body_top l p o c) (outline l p o c).height (lanes_room l (length (lanes l p o c South))) _ _ (lanes_from_zero l p o level orders (length (lanes l p o c North))) deep a.height a.some a.within)
       h.upright
     where
       up : (b h s r z : ℤ) → pos 0 ≤ℤ h → pos 0 ≤ℤ s → z ≡ b -ℤ r → pos 0 <ℤ r → r ≤ℤ b → (pos 0 ≤ℤ z) × (z ≤ℤ (b +ℤ h +ℤ s))

@@ -15,8 +15,9 @@ use Rattle.level_plan.specs.Lanes.{dock_eq, once, asks_lane, has_lane, docks_wit
 use Rattle.level_plan.specs.Nets.{unit_of, unit_of_line, below_top, inverts}
 use Rattle.level_plan.specs.Conditions.{IsLevel}
 use Rattle.level_plan.proofs.Lists.{Has, has_filter, has_map, has_left, has_right, has_range, has_any}
-use Rattle.level_plan.proofs.SameLines.{is_side-self, dock_eq-same, dock_eq-self}
+use Rattle.level_plan.proofs.SameLines.{dock_eq-same, dock_eq-self}
 use Rattle.level_plan.proofs.SpotLemmas.{spot_there, at_port}
+use Rattle.port_order.proofs.OrderLemmas.{side_itself}
 
 -- each dock of a list is there once
 once_has : (ds : List Dock) (d : Dock) → Has ds d → Has (once ds) d
@@ -99,7 +100,7 @@ has_dock_lane l p o c s has wanted =
     (has_map (λ k. dock_lane k) (filter (λ k. is_side (lane_side l k) (lane_side l d)) (docks_with_lane l p o c)) d
     (has_filter (λ k. is_side (lane_side l k) (lane_side l d)) (docks_with_lane l p o c) d
     (has_filter (has_lane l p o c) (once (map (dock_of_spot l o c) (spots l p c))) d known wanted)
-    (is_side-self (lane_side l d))))
+    (side_itself (lane_side l d))))
 
 -- an end's dock has a lane where it lies north or south, or is inverted for the edge
 pub end_has_lane : (l : PlainLevel) (p : PlainPlan) (o : Orders) (e : ℕ) (t : Bool) → IsLevel l → e < length l.edges → is_loop l e ≡ false

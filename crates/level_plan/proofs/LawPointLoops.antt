@@ -9,8 +9,9 @@ use Rattle.route_lines.specs.Points.{trace_points}
 use Rattle.route_lines.specs.Tidied.{IsTidied}
 use Rattle.level_plan.specs.Stage.{Stage, Stands, IsOutward, offset_along}
 use Rattle.level_plan.specs.Law.{IsNorthOrSouth, IsEastOrWest, IsPart, stub, border_part, IsLawful}
+use Rattle.level_plan.proofs.Zones.{le_trans}
 use Rattle.level_plan.proofs.Doors.{side_at}
-use Rattle.level_plan.proofs.Ends.{IsPlainEnd, le_on, between_ends, level_side}
+use Rattle.level_plan.proofs.Ends.{IsPlainEnd, between_ends, level_side}
 
 -- where the target's anchor stands, at the source's dock
 record IsOther (s : Stage) (e : ℕ) (k : Dock) : Type 0 where
@@ -25,10 +26,10 @@ other_end : (s : Stage) (e : ℕ) → Stands s → e < s.edges → IsOther s e (
 other_end s e st h =
     let w = st.ends e false h in
     record {
-      left = le_on _ _ _ w.child.left w.in_outline.left;
-      right = le_on _ _ _ w.in_outline.right w.child.right;
-      top = le_on _ _ _ w.child.top w.in_outline.top;
-      bottom = le_on _ _ _ w.in_outline.bottom w.child.bottom;
+      left = le_trans _ _ _ w.child.left w.in_outline.left;
+      right = le_trans _ _ _ w.in_outline.right w.child.right;
+      top = le_trans _ _ _ w.child.top w.in_outline.top;
+      bottom = le_trans _ _ _ w.in_outline.bottom w.child.bottom;
       outward = w.outward;
       offset = w.offset;
     }

@@ -45,4 +45,3 @@ pub mod Alternating
 pub mod NetsThere
 pub mod LegsThere
 pub mod NearPoints
-pub mod MarkLemmas

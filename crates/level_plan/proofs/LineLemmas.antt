@@ -12,20 +12,23 @@ use Rattle.elk_layers.specs.Layered.{unit_at, is_child}
 use Rattle.elk_layers.specs.Lines.{top_of}
 use Rattle.level_plan.specs.Stage.{Stage, Line, anchor_line, dock_lane, loop_lane, long_lane, Uses, Reaches, LinesStand, IsLaneAt, LaneClear, unit_of_line as unit_on}
 use Rattle.level_plan.specs.Level.{PlainLevel, PlainPlan, Orders, end_at, child_at, edge_at, spoke, spot_of, dock_of, dock_of_spot, anchor_of_spot, outline}
-use Rattle.level_plan.specs.Lanes.{lanes, body_top, lane_side}
+use Rattle.level_plan.specs.Lanes.{lanes, body_top, lane_side, unit_height}
 use Rattle.level_plan.specs.Nets.{unit_of, unit_of_line, below_top, box_below}
 use Rattle.level_plan.specs.FromPlan.{LevelDrawing}
 use Rattle.level_plan.specs.Drawing.{stage}
 use Rattle.level_plan.specs.Ready.{IsReady}
+use Rattle.level_plan.specs.Conditions.{IsLevel}
+use Rattle.level_plan.specs.Units.{AreOrders}
+use Rattle.level_plan.proofs.SpotLemmas.{spoke_there}
 use Rattle.level_plan.proofs.SameLines.{same_dock}
-use Rattle.level_plan.proofs.EndLemmas.{lanes_from_zero, column_there, child_unit, child_there, anchor_in, outline_deep}
+use Rattle.level_plan.proofs.EndLemmas.{lanes_from_zero, column_there, child_unit, anchor_in}
 use Rattle.level_plan.proofs.LaneLemmas.{IsLaneOf}
-use Rattle.level_plan.proofs.LaneHeights.{above, below, one_lane, lane_within}
+use Rattle.level_plan.proofs.LaneHeights.{IsUpTo, above, below, one_lane, lane_within}
 use Rattle.level_plan.proofs.LinkLemmas.{child_is}
 use Rattle.level_plan.proofs.NameLemmas.{IsLine, line_is}
 
 -- on the east and west sides an anchor's height is its offset
-level_offset : (c : Child) (side : Side) (port : Option ℕ) (offset : ℤ) → is_upright side ≡ false → (anchor_at c side port offset).y ≡ offset
+pub level_offset : (c : Child) (side : Side) (port : Option ℕ) (offset : ℤ) → is_upright side ≡ false → (anchor_at c side port offset).y ≡ offset
 level_offset c North port offset h = absurd cc
 level_offset c East (Some k) offset h = refl
 level_offset c East None offset h = refl
@@ -50,23 +53,40 @@ on_unit l p o d (dock_lane k) = refl
 on_unit l p o d (loop_lane e side) = refl
 on_unit l p o d (long_lane u) = refl
 
-module _ (l : PlainLevel) (p : PlainPlan) (o : Orders) (layers : List ℕ) (ready : IsReady l p o layers) where
+module _ (l : PlainLevel) (p : PlainPlan) (o : Orders) (level : IsLevel l) (orders : AreOrders l p o) where
   -- an anchor's line lies at the height of the child's outline
   anchor_between : (e : ℕ) (t : Bool) → e < length l.edges → is_upright (dock_of l p o (end_at e t)).side ≡ false
       → (body_top l p o (spoke l (end_at e t)).child ≤ℤ below_top l p o (anchor_line (dock_of l p o (end_at e t))))
       × (below_top l p o (anchor_line (dock_of l p o (end_at e t))) ≤ℤ (body_top l p o (spoke l (end_at e t)).child +ℤ (outline l p o (spoke l (end_at e t)).child).height))
-  anchor_between e t h level =
+  anchor_between e t h beside =
       let c = (spoke l (end_at e t)).child in
       let s = spot_of l p (end_at e t) in
-      let rel = anchor_in l p o layers ready e t h in
-      let y : (anchor_of_spot l o c s).y ≡ (dock_of_spot l o c s).offset = level_offset (child_at l c) (dock_of_spot l o c s).side s.port (dock_of_spot l o c s).offset level in
+      let rel = anchor_in l p o level orders e t h in
+      let y : (anchor_of_spot l o c s).y ≡ (dock_of_spot l o c s).offset = level_offset (child_at l c) (dock_of_spot l o c s).side s.port (dock_of_spot l o c s).offset beside in
       between (body_top l p o c) (outline l p o c).y (outline l p o c).height (dock_of_spot l o c s).offset (rw y at rel.top) (rw y at rel.bottom)
     where
       between : (b y h z : ℤ) → y ≤ℤ z → z ≤ℤ (y +ℤ h) → (b ≤ℤ ((b -ℤ y) +ℤ z)) × (((b -ℤ y) +ℤ z) ≤ℤ (b +ℤ h))
       between b y h z low high = (omega (arith, ints, low), omega (arith, ints, high))
 
+  -- and so in the child's unit
+  pub anchor_within : (e : ℕ) (t : Bool) → e < length l.edges → is_upright (dock_of l p o (end_at e t)).side ≡ false
+      → IsUpTo (unit_height l p o (spoke l (end_at e t)).child) (below_top l p o (anchor_line (dock_of l p o (end_at e t))))
+  anchor_within e t h beside =
+      let c = (spoke l (end_at e t)).child in
+      let z = anchor_between e t h beside in (
+        from_top _ _ (lanes_from_zero l p o level orders (length (lanes l p o c North))) z.0,
+        to_bottom _ _ _ z.1 (lanes_from_zero l p o level orders (length (lanes l p o c South))),
+      )
+    where
+      from_top : (b z : ℤ) → pos 0 ≤ℤ b → b ≤ℤ z → pos 0 ≤ℤ z
+      from_top b z h k = omega (arith, ints, h, k)
+
+      to_bottom : (a z s : ℤ) → z ≤ℤ a → pos 0 ≤ℤ s → z ≤ℤ (a +ℤ s)
+      to_bottom a z s h k = omega (arith, ints, h, k)
+
+module _ (l : PlainLevel) (p : PlainPlan) (o : Orders) (layers : List ℕ) (ready : IsReady l p o layers) where
   dock_child_there : (e : ℕ) (d : Dock) → e < length l.edges → (t : Bool) × (dock_of l p o (end_at e t) ≡ d) → d.node < length l.children
-  dock_child_there e d h has = subst (λ (z : Dock). z.node < length l.children) has.1 (child_there l p o layers ready e has.0 h)
+  dock_child_there e d h has = subst (λ (z : Dock). z.node < length l.children) has.1 (spoke_there l e has.0 ready.level h).child
 
   pub line_unit : (e : ℕ) (m : Line) → IsLine l p o e m → unit_of_line l p m < length p.layered.units
   line_unit e (anchor_line d) h = child_unit l p o layers ready d.node (dock_child_there e d h.0 h.1)
@@ -75,30 +95,23 @@ module _ (l : PlainLevel) (p : PlainPlan) (o : Orders) (layers : List ℕ) (read
   line_unit e (long_lane u) h = h.2
 
   anchor_lies : (e : ℕ) (t : Bool) → e < length l.edges → is_upright (dock_of l p o (end_at e t)).side ≡ false
-      → (pos 0 ≤ℤ below_top l p o (anchor_line (dock_of l p o (end_at e t)))) × (below_top l p o (anchor_line (dock_of l p o (end_at e t))) ≤ℤ (unit_at p.layered.units (unit_of p (spoke l (end_at e t)).child)).height)
-  anchor_lies e t h level =
-      let c = (spoke l (end_at e t)).child in
-      let z = anchor_between e t h level in
-      let room = ready.units.rooms c (child_there l p o layers ready e t h) in
-      (from_top _ _ (lanes_from_zero l p o layers ready (length (lanes l p o c North))) z.0, rw room.height (to_bottom _ _ _ z.1 (lanes_from_zero l p o layers ready (length (lanes l p o c South)))))
-    where
-      from_top : (b z : ℤ) → pos 0 ≤ℤ b → b ≤ℤ z → pos 0 ≤ℤ z
-      from_top b z h k = omega (arith, ints, h, k)
+      → IsUpTo (unit_at p.layered.units (unit_of p (spoke l (end_at e t)).child)).height (below_top l p o (anchor_line (dock_of l p o (end_at e t))))
+  anchor_lies e t h beside =
+      let room = ready.units.rooms (spoke l (end_at e t)).child (spoke_there l e t ready.level h).child in
+      let z = anchor_within l p o ready.level ready.units.orders e t h beside in
+      (z.0, rw room.height z.1)
 
-      to_bottom : (a z s : ℤ) → z ≤ℤ a → pos 0 ≤ℤ s → z ≤ℤ (a +ℤ s)
-      to_bottom a z s h k = omega (arith, ints, h, k)
-
-  lane_lies : (c : ℕ) (side : Side) (m : Line) → IsLaneOf l p o c side m → (pos 0 ≤ℤ below_top l p o m) × (below_top l p o m ≤ℤ (unit_at p.layered.units (unit_of_line l p m)).height)
+  lane_lies : (c : ℕ) (side : Side) (m : Line) → IsLaneOf l p o c side m → IsUpTo (unit_at p.layered.units (unit_of_line l p m)).height (below_top l p o m)
   lane_lies c side m h =
       let room = ready.units.rooms c h.there in
-      let z = lane_within l p o layers ready c side m (outline_deep l p o layers ready c h.there) h in
+      let z = lane_within l p o ready.level ready.units.orders c side m h in
       (z.0, subst (λ u. below_top l p o m ≤ℤ (unit_at p.layered.units u).height) (sym h.unit) (rw room.height z.1))
 
   -- a line lies in its unit
-  pub lies_in : (e : ℕ) (m : Line) → IsLine l p o e m → (pos 0 ≤ℤ below_top l p o m) × (below_top l p o m ≤ℤ (unit_at p.layered.units (unit_of_line l p m)).height)
+  pub lies_in : (e : ℕ) (m : Line) → IsLine l p o e m → IsUpTo (unit_at p.layered.units (unit_of_line l p m)).height (below_top l p o m)
   lies_in e (anchor_line d) h =
       let has = h.1 in
-      subst (λ (z : Dock). (pos 0 ≤ℤ below_top l p o (anchor_line z)) × (below_top l p o (anchor_line z) ≤ℤ (unit_at p.layered.units (unit_of p z.node)).height)) has.1
+      subst (λ (z : Dock). IsUpTo (unit_at p.layered.units (unit_of p z.node)).height (below_top l p o (anchor_line z))) has.1
       (anchor_lies e has.0 h.0 (subst (λ (z : Dock). is_upright z.side ≡ false) (sym has.1) h.2))
   lies_in e (dock_lane d) h = lane_lies d.node (lane_side l d) (dock_lane d) h.2
   lies_in e (loop_lane f side) h = lane_lies (edge_at l f).source.child side (loop_lane f side) h.2
@@ -115,8 +128,8 @@ module _ (l : PlainLevel) (p : PlainPlan) (o : Orders) (layers : List ℕ) (read
   off_lane : (c : ℕ) (side : Side) (n : Line) (z : ℤ) → IsLaneOf l p o c side n → body_top l p o c ≤ℤ z → z ≤ℤ (body_top l p o c +ℤ (outline l p o c).height) → z ≡ below_top l p o n → ⊥
   off_lane c side n z h low high e =
       ⊎_elim
-      (λ (sn : side ≡ North). let a = above l p o layers ready c n (subst (λ s. IsLaneOf l p o c s n) sn h) in up _ _ _ _ low a.height a.some e)
-      (λ (ss : side ≡ South). let a = below l p o layers ready c n (subst (λ s. IsLaneOf l p o c s n) ss h) in down (body_top l p o c) (outline l p o c).height _ _ _ high a.height a.some e)
+      (λ (sn : side ≡ North). let a = above l p o ready.level ready.units.orders c n (subst (λ s. IsLaneOf l p o c s n) sn h) in up _ _ _ _ low a.height a.some e)
+      (λ (ss : side ≡ South). let a = below l p o ready.level ready.units.orders c n (subst (λ s. IsLaneOf l p o c s n) ss h) in down (body_top l p o c) (outline l p o c).height _ _ _ high a.height a.some e)
       h.upright
     where
       up : (b r z y : ℤ) → b ≤ℤ z → y ≡ b -ℤ r → pos 0 <ℤ r → z ≡ y → ⊥
@@ -130,7 +143,7 @@ module _ (l : PlainLevel) (p : PlainPlan) (o : Orders) (layers : List ℕ) (read
   anchor_off_lane e c d side n h k unit height =
       let has = h.1 in
       let node : d.node ≡ c = one_unit d.node c (dock_child_there e d h.0 has) k.there (unit ∙ k.unit) in
-      let z = anchor_between e has.0 h.0 (subst (λ (x : Dock). is_upright x.side ≡ false) (sym has.1) h.2) in
+      let z = anchor_between l p o ready.level ready.units.orders e has.0 h.0 (subst (λ (x : Dock). is_upright x.side ≡ false) (sym has.1) h.2) in
       let low : body_top l p o d.node ≤ℤ below_top l p o (anchor_line d) = subst (λ (x : Dock). body_top l p o x.node ≤ℤ below_top l p o (anchor_line x)) has.1 z.0 in
       let high : below_top l p o (anchor_line d) ≤ℤ (body_top l p o d.node +ℤ (outline l p o d.node).height) = subst (λ (x : Dock). below_top l p o (anchor_line x) ≤ℤ (body_top l p o x.node +ℤ (outline l p o x.node).height)) has.1 z.1 in
       off_lane c side n (below_top l p o (anchor_line d)) k (subst (λ x. body_top l p o x ≤ℤ below_top l p o (anchor_line d)) node low) (subst (λ x. below_top l p o (anchor_line d) ≤ℤ (body_top l p o x +ℤ (outline l p o x).height)) node high) height
@@ -146,7 +159,7 @@ module _ (l : PlainLevel) (p : PlainPlan) (o : Orders) (layers : List ℕ) (read
   two_lanes : (b c : ℕ) (s t : Side) (m n : Line) → IsLaneOf l p o b s m → IsLaneOf l p o c t n → unit_of_line l p m ≡ unit_of_line l p n → below_top l p o m ≡ below_top l p o n → m ≡ n
   two_lanes b c s t m n h k unit height =
       let node : b ≡ c = one_unit b c h.there k.there (sym h.unit ∙ unit ∙ k.unit) in
-      one_lane l p o layers ready c s t m n (outline_deep l p o layers ready c k.there) (subst (λ x. IsLaneOf l p o x s m) node h) k height
+      one_lane l p o ready.level ready.units.orders c s t m n (subst (λ x. IsLaneOf l p o x s m) node h) k height
 
   -- the unit of a lane of a long edge is that of no child
   pub no_child_unit : (u c : ℕ) → is_child p.layered u ≡ false → c < length l.children → u ≡ unit_of p c → ⊥
@@ -191,8 +204,8 @@ module _ (l : PlainLevel) (p : PlainPlan) (o : Orders) (layers : List ℕ) (read
     lane_clear c side m h =
         let t : top_of p.tops (unit_of_line l p m) ≡ top_of p.tops (unit_of p c) = ap (top_of p.tops) h.unit in
         ⊎_elim
-        (λ (sn : side ≡ North). let a = above l p o layers ready c m (subst (λ x. IsLaneOf l p o c x m) sn h) in inl (up _ _ (body_top l p o c) (outline l p o c).y _ _ d.top t a.height a.some))
-        (λ (ss : side ≡ South). let a = below l p o layers ready c m (subst (λ x. IsLaneOf l p o c x m) ss h) in inr (down _ _ (body_top l p o c) (outline l p o c).y (outline l p o c).height _ _ d.top t a.height a.some))
+        (λ (sn : side ≡ North). let a = above l p o ready.level ready.units.orders c m (subst (λ x. IsLaneOf l p o c x m) sn h) in inl (up _ _ (body_top l p o c) (outline l p o c).y _ _ d.top t a.height a.some))
+        (λ (ss : side ≡ South). let a = below l p o ready.level ready.units.orders c m (subst (λ x. IsLaneOf l p o c x m) ss h) in inr (down _ _ (body_top l p o c) (outline l p o c).y (outline l p o c).height _ _ d.top t a.height a.some))
         h.upright
       where
         up : (t u b y r n z : ℤ) → t ≡ u → n ≡ b -ℤ r → pos 0 <ℤ r → ((t +ℤ n) -ℤ z) <ℤ (((u +ℤ (b -ℤ y)) -ℤ z) +ℤ y)

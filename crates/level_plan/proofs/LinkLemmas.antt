@@ -3,17 +3,18 @@ use Rattle.std.proofs.Common.{◌≡◌, inl, inr, ⊎_elim, ℕ, zero, suc, ◌
 use Rattle.std.proofs.lemmas.Bool.{and_parts, and_from, eqb-true, eq-eqb, cases_eq}
 use Rattle.std.specs.Prelude.{is_some}
 use Rattle.std.specs.List.{filter, range_with_len}
-use Rattle.elk_layers.specs.Layered.{link_at, is_child, layer_of}
+use Rattle.elk_layers.specs.Layered.{IsSound, link_at, is_child, layer_of}
 use Rattle.level_plan.specs.Level.{PlainLevel, PlainPlan, Orders, end_at, spoke, is_loop, enters, holds, tail_end, head_end, first_or}
 use Rattle.level_plan.specs.Nets.{unit_of}
 use Rattle.level_plan.specs.Traces.{links_at, links_from, chain}
-use Rattle.level_plan.specs.Units.{IsLaneUnit, HasChain, chain_at}
+use Rattle.level_plan.specs.Units.{AreLinked, IsLaneUnit, HasChain, chain_at}
 use Rattle.level_plan.specs.Drawing.{lane_edge}
+use Rattle.level_plan.specs.Conditions.{IsLevel}
 use Rattle.level_plan.specs.Ready.{IsReady}
+use Rattle.level_plan.proofs.SpotLemmas.{spoke_there}
 use Rattle.level_plan.proofs.Lists.{Has, has_filter, filter_has, has_left, has_right, append_has, has_range, range_has, has_at, at_has}
-use Rattle.level_plan.proofs.EndLemmas.{child_there, column_there}
 
-links_have : (p : PlainPlan) (e r k : ℕ) (rs : List ℕ) → Has rs r → Has (links_at p e r) k → Has (links_from p e rs) k
+pub links_have : (p : PlainPlan) (e r k : ℕ) (rs : List ℕ) → Has rs r → Has (links_at p e r) k → Has (links_from p e rs) k
 links_have p e r k [] h has = absurd h
 links_have p e r k (q ∷ rs) h has =
     ⊎_elim
@@ -21,7 +22,7 @@ links_have p e r k (q ∷ rs) h has =
     (λ rest. has_right (links_at p e q) (links_from p e rs) k (links_have p e r k rs rest has))
     h
 
-links_are : (p : PlainPlan) (e k : ℕ) (rs : List ℕ) → Has (links_from p e rs) k → (k < length p.layered.links) × ((link_at p.layered.links k).edge ≡ e)
+pub links_are : (p : PlainPlan) (e k : ℕ) (rs : List ℕ) → Has (links_from p e rs) k → (k < length p.layered.links) × ((link_at p.layered.links k).edge ≡ e)
 links_are p e k [] h = absurd h
 links_are p e k (r ∷ rs) h =
     ⊎_elim
@@ -70,39 +71,36 @@ pub data Ends (p : PlainPlan) (e u child : ℕ) : Type 0 where
   at_child_unit : is_child p.layered u ≡ true → u ≡ unit_of p child → Ends p e u child
   at_lane : is_child p.layered u ≡ false → lane_edge p u ≡ e → Ends p e u child
 
-module _ (l : PlainLevel) (p : PlainPlan) (o : Orders) (layers : List ℕ) (ready : IsReady l p o layers) where
+-- the unit of a child at an end of a link is that of the end's child
+pub unit_of_end : {p : PlainPlan} {e u child : ℕ} → Ends p e u child → is_child p.layered u ≡ true → u ≡ unit_of p child
+unit_of_end (at_child_unit is same) h = same
+unit_of_end (at_lane lane own) h = absurd (let bad : true ≡ false = sym h ∙ lane in cc)
+
+module _ (l : PlainLevel) (p : PlainPlan) (layers : List ℕ) (level : IsLevel l) (linked : AreLinked l p layers) (sound : IsSound p.layered) (layers_are : p.layers ≡ p.layered.layers) where
   abbrev links : ℕ
   links = length p.layered.links
 
   abbrev edge_of_link : ℕ → ℕ
   edge_of_link k = (link_at p.layered.links k).edge
 
-  pub edge_there : (k : ℕ) → k < links → edge_of_link k < length l.edges
-  edge_there k h = (ready.units.linked.links k h).edge_in
-
-  pub no_loop : (k : ℕ) → k < links → is_loop l (edge_of_link k) ≡ false
-  no_loop k h = (ready.units.linked.links k h).no_loop
-
   has_chain : (k : ℕ) → k < links → HasChain l p (edge_of_link k)
-  has_chain k h = ready.units.linked.chains (edge_of_link k) (edge_there k h) (no_loop k h)
+  has_chain k h = let is = linked.links k h in linked.chains (edge_of_link k) is.edge_in is.no_loop
 
   -- where a link stands in the chain of its edge
   in_chain : (k : ℕ) → k < links → (i : ℕ) × (i < length (chain p (edge_of_link k))) × (chain_at p (edge_of_link k) i ≡ k)
   in_chain k h =
       let e = edge_of_link k in
       let r = layer_of p.layered (link_at p.layered.links k).tail in
-      let there : r < p.layers = column_there l p o layers ready (link_at p.layered.links k).tail (ready.sound.links_are k h).tail in
+      let below = sound.layers_are (link_at p.layered.links k).tail (sound.links_are k h).tail in
+      let there : r < p.layers = omega (arith, below, layers_are) in
       let here : Has (links_at p e r) k =
       has_filter (λ j. eqb (link_at p.layered.links j).edge e && eqb (layer_of p.layered (link_at p.layered.links j).tail) r) (range_with_len 0 links) k (has_range 0 links k (omega arith) (omega (arith, h)))
       (and_from (eqb e e) (eqb r r) (eq-eqb e e refl) (eq-eqb r r refl))
       in
       at_has (chain p e) 0 k (links_have p e r k (range_with_len 0 p.layers) (has_range 0 p.layers r (omega arith) (omega (arith, there))) here)
 
-  pub child_is : (c : ℕ) → c < length l.children → is_child p.layered (unit_of p c) ≡ true
-  child_is c h = ap is_some (ready.units.linked.children c h).child
-
   child_end : (e u : ℕ) (t : Bool) → e < length l.edges → u ≡ unit_of p (spoke l (end_at e t)).child → Ends p e u (spoke l (end_at e t)).child
-  child_end e u t h same = at_child_unit (ap (is_child p.layered) same ∙ child_is (spoke l (end_at e t)).child (child_there l p o layers ready e t h)) same
+  child_end e u t h same = at_child_unit (ap (is_child p.layered) same ∙ ap is_some (linked.children (spoke l (end_at e t)).child (spoke_there l e t level h).child).child) same
 
   lane_end : (e u j child : ℕ) → IsLaneUnit p u → j < links → edge_of_link j ≡ e → (link_at p.layered.links j).head ≡ u → Ends p e u child
   lane_end e u j child lane h own head = at_lane (ap is_some lane.no_child) (lane_edge_is p u j lane h head ∙ own)
@@ -111,7 +109,7 @@ module _ (l : PlainLevel) (p : PlainPlan) (o : Orders) (layers : List ℕ) (read
   tail_ends k h = let at = in_chain k h in step at.0 at.1 at.2
     where
       step : (i : ℕ) → i < length (chain p (edge_of_link k)) → chain_at p (edge_of_link k) i ≡ k → Ends p (edge_of_link k) (link_at p.layered.links k).tail (spoke l (tail_end p (edge_of_link k))).child
-      step zero less same = child_end (edge_of_link k) _ (not (holds p.reversed (edge_of_link k))) (edge_there k h) (ap (λ j. (link_at p.layered.links j).tail) (sym same) ∙ (has_chain k h).from)
+      step zero less same = child_end (edge_of_link k) _ (not (holds p.reversed (edge_of_link k))) (linked.links k h).edge_in (ap (λ j. (link_at p.layered.links j).tail) (sym same) ∙ (has_chain k h).from)
       step (suc i) less same =
           let e = edge_of_link k in
           let chained = has_chain k h in
@@ -130,7 +128,17 @@ module _ (l : PlainLevel) (p : PlainPlan) (o : Orders) (layers : List ℕ) (read
       let less = at.1 in
       elim (cases_eq (at.0 + 1) (length (chain p e))) [
         | inl last ↦ (let same : length (chain p e) - 1 ≡ at.0 = omega (arith, last) in
-            child_end e _ (holds p.reversed e) (edge_there k h) (ap (λ j. (link_at p.layered.links j).head) (sym (ap (chain_at p e) same ∙ at.2)) ∙ chained.to))
+            child_end e _ (holds p.reversed e) (linked.links k h).edge_in (ap (λ j. (link_at p.layered.links j).head) (sym (ap (chain_at p e) same ∙ at.2)) ∙ chained.to))
         | inr inner ↦ (let lane = chained.lanes at.0 (omega (arith, less, inner)) in
             lane_end e _ k _ (subst (λ j. IsLaneUnit p (link_at p.layered.links j).head) at.2 lane) h refl refl)
       ]
+
+module _ (l : PlainLevel) (p : PlainPlan) (o : Orders) (layers : List ℕ) (ready : IsReady l p o layers) where
+  pub edge_there : (k : ℕ) → k < length p.layered.links → (link_at p.layered.links k).edge < length l.edges
+  edge_there k h = (ready.units.linked.links k h).edge_in
+
+  pub no_loop : (k : ℕ) → k < length p.layered.links → is_loop l (link_at p.layered.links k).edge ≡ false
+  no_loop k h = (ready.units.linked.links k h).no_loop
+
+  pub child_is : (c : ℕ) → c < length l.children → is_child p.layered (unit_of p c) ≡ true
+  child_is c h = ap is_some (ready.units.linked.children c h).child

@@ -22,7 +22,7 @@ use Rattle.level_plan.proofs.SameLines.{dock_eq-self}
 use Rattle.level_plan.proofs.Doors.{side_at, gap_beside, Joins, Arrives, leg, lane}
 use Rattle.level_plan.proofs.Ends.{IsWay, end_plain, end_upright, start_plain, start_upright, along_lane}
 use Rattle.level_plan.proofs.NetNames.{passes, loop_named, joins}
-use Rattle.level_plan.proofs.Edges.{not_not}
+use Rattle.level_plan.proofs.Edges.{east_test, not_not}
 use Rattle.level_plan.proofs.RouteEnds.{plain_end, upright_loop, loop_node}
 
 module _ (l : PlainLevel) (p : PlainPlan) (o : Orders) (d : LevelDrawing) (layers : List ℕ) (ready : IsReady l p o layers) (drawn : IsDrawnFrom l p o d) (st : Stands (stage l p o d)) (e : ℕ) (h : e < length l.edges) (loop : is_loop l e ≡ true) (two : has_one_dock l p o e ≡ false) where
@@ -67,12 +67,8 @@ module _ (l : PlainLevel) (p : PlainPlan) (o : Orders) (d : LevelDrawing) (layer
   loop_joins : (b : Bool) (m n : Line) → passes l p o e (side_at b) ≡ true → IsLoopLine true b m → IsLoopLine false b n → m ≢ n
       → Joins (stage l p o d) e (gap_of l p o (of_loop e (side_at b))) (place_of_name (names_in l p o (gap_of l p o (of_loop e (side_at b)))) (of_loop e (side_at b))) m b n b
   loop_joins b m n pass x y differ =
-      joins l p o d drawn st (of_loop e (side_at b)) m n b b (loop_named l p o e b h loop pass) x.line (on_left b) y.line (on_left b) (gap_is b m x.unit) (gap_is b n y.unit) x.reaches y.reaches differ (λ same. x.unit ∙ sym y.unit)
+      joins l p o d drawn st (of_loop e (side_at b)) m n b b (loop_named l p o e b h loop pass) x.line (east_test b) y.line (east_test b) (gap_is b m x.unit) (gap_is b n y.unit) x.reaches y.reaches differ (λ same. x.unit ∙ sym y.unit)
     where
-      on_left : (b : Bool) → is_side (side_at b) East ≡ b
-      on_left true = refl
-      on_left false = refl
-
       gap_is : (b : Bool) (m : Line) → unit_of_line (stage l p o d) m ≡ unit_of p (edge_at l e).source.child → gap_beside (stage l p o d) m b ≡ gap_of l p o (of_loop e (side_at b))
       gap_is true m u = ap (λ v. layer_of p.layered v + 1) u
       gap_is false m u = ap (layer_of p.layered) u

@@ -14,12 +14,13 @@ use Rattle.level_plan.specs.Lanes.{line_eq, has_one_dock, loop_sides, lane_side}
 use Rattle.level_plan.specs.Nets.{Name, of_link, of_dock, of_loop, inverts, is_inverted, line_of_end, tail_line, head_line, if_passed, loop_names, all_names, lane_side_of_end, loop_line, a_line, b_line, edge_of}
 use Rattle.level_plan.specs.Drawing.{lane_edge, is_anchor_line, is_in_use}
 use Rattle.level_plan.specs.Ready.{IsReady}
+use Rattle.level_plan.proofs.SpotLemmas.{spoke_there}
 use Rattle.level_plan.proofs.Lists.{Has, filter_has, map_has, append_has, range_has, below_has, any_has, has_any}
-use Rattle.level_plan.proofs.SameLines.{is_side-self, is_side-same, line_eq-same}
+use Rattle.level_plan.proofs.SameLines.{line_eq-same}
 use Rattle.level_plan.proofs.LoopSides.{lane_upright, end_upright, source_left, target_left, source_right, target_right}
 use Rattle.level_plan.proofs.LinkLemmas.{Ends, at_child_unit, at_lane, tail_ends, head_ends, edge_there, no_loop}
 use Rattle.level_plan.proofs.LaneLemmas.{IsLaneOf, end_lane, loop_has_lane}
-use Rattle.level_plan.proofs.EndLemmas.{child_there}
+use Rattle.port_order.proofs.OrderLemmas.{side_same, side_itself}
 
 -- what is true of a name of a net of the level
 abbrev pub IsName : PlainLevel → PlainPlan → Orders → Name → Type 0
@@ -83,7 +84,7 @@ IsLine l p o e (dock_lane d) = (e < length l.edges) × ((t : Bool) × (dock_of l
 IsLine l p o e (loop_lane f side) = (e < length l.edges) × (f ≡ e) × IsLaneOf l p o (edge_at l f).source.child side (loop_lane f side)
 IsLine l p o e (long_lane u) = (e < length l.edges) × (lane_edge p u ≡ e) × (u < length p.layered.units) × (is_child p.layered u ≡ false)
 
-inverts_level : (side : Side) (b : Bool) → inverts side b ≡ true → is_upright side ≡ false
+pub inverts_level : (side : Side) (b : Bool) → inverts side b ≡ true → is_upright side ≡ false
 inverts_level North b h = absurd cc
 inverts_level East b h = refl
 inverts_level South b h = absurd cc
@@ -91,7 +92,7 @@ inverts_level West b h = refl
 
 side_level : (d side : Side) → is_side d side ≡ true → (side ≡ West) ⊎ (side ≡ East) → is_upright d ≡ false
 side_level d side same level =
-    ap is_upright (is_side-same d side same) ∙ ⊎_elim (λ west. ap is_upright west) (λ east. ap is_upright east) level
+    ap is_upright (side_same d side same) ∙ ⊎_elim (λ west. ap is_upright west) (λ east. ap is_upright east) level
 
 -- an edge runs on the lines that its nets join
 abbrev on_nets : PlainLevel → PlainPlan → Orders → ℕ → Line → Bool
@@ -103,18 +104,18 @@ module _ (l : PlainLevel) (p : PlainPlan) (o : Orders) (layers : List ℕ) (read
   end_line e t h loop = step (is_upright (dock_of l p o (end_at e t)).side || is_inverted l p o (end_at e t)) refl
     where
       step : (b : Bool) → (is_upright (dock_of l p o (end_at e t)).side || is_inverted l p o (end_at e t)) ≡ b → IsLine l p o e (cond b (dock_lane (dock_of l p o (end_at e t))) (anchor_line (dock_of l p o (end_at e t))))
-      step true lies = (h, (t, refl), end_lane l p o e t ready.level h (child_there l p o layers ready e t h) loop (rw loop at lies))
+      step true lies = (h, (t, refl), end_lane l p o e t ready.level h (spoke_there l e t ready.level h).child loop (rw loop at lies))
       step false lies = (h, (t, refl), (or_parts (is_upright (dock_of l p o (end_at e t)).side) (is_inverted l p o (end_at e t)) lies).0)
 
   tail_line_is : (k : ℕ) → k < length p.layered.links → IsLine l p o (link_at p.layered.links k).edge (tail_line l p o k)
-  tail_line_is k h = step (tail_ends l p o layers ready k h)
+  tail_line_is k h = step (tail_ends l p layers ready.level ready.units.linked ready.sound ready.layers_are k h)
     where
       step : Ends p (link_at p.layered.links k).edge (link_at p.layered.links k).tail (spoke l (tail_end p (link_at p.layered.links k).edge)).child → IsLine l p o (link_at p.layered.links k).edge (tail_line l p o k)
       step (at_child_unit child same) = rw child (end_line (link_at p.layered.links k).edge (not (holds p.reversed (link_at p.layered.links k).edge)) (edge_there l p o layers ready k h) (no_loop l p o layers ready k h))
       step (at_lane lane own) = rw lane (edge_there l p o layers ready k h, own, (ready.sound.links_are k h).tail, lane)
 
   head_line_is : (k : ℕ) → k < length p.layered.links → IsLine l p o (link_at p.layered.links k).edge (head_line l p o k)
-  head_line_is k h = step (head_ends l p o layers ready k h)
+  head_line_is k h = step (head_ends l p layers ready.level ready.units.linked ready.sound ready.layers_are k h)
     where
       step : Ends p (link_at p.layered.links k).edge (link_at p.layered.links k).head (spoke l (head_end p (link_at p.layered.links k).edge)).child → IsLine l p o (link_at p.layered.links k).edge (head_line l p o k)
       step (at_child_unit child same) = rw child (end_line (link_at p.layered.links k).edge (holds p.reversed (link_at p.layered.links k).edge) (edge_there l p o layers ready k h) (no_loop l p o layers ready k h))
@@ -126,7 +127,7 @@ module _ (l : PlainLevel) (p : PlainPlan) (o : Orders) (layers : List ℕ) (read
   dock_line_is : (e : ℕ) (t : Bool) → e < length l.edges → is_inverted l p o (end_at e t) ≡ true → IsLine l p o e (dock_lane (dock_of l p o (end_at e t)))
   dock_line_is e t h inverted =
       let q = inverted_parts (end_at e t) inverted in
-      (h, (t, refl), end_lane l p o e t ready.level h (child_there l p o layers ready e t h) q.0 (or_right (is_upright (dock_of l p o (end_at e t)).side) (inverts (dock_of l p o (end_at e t)).side (enters p (end_at e t))) q.1))
+      (h, (t, refl), end_lane l p o e t ready.level h (spoke_there l e t ready.level h).child q.0 (or_right (is_upright (dock_of l p o (end_at e t)).side) (inverts (dock_of l p o (end_at e t)).side (enters p (end_at e t))) q.1))
 
   anchor_line_is : (e : ℕ) (t : Bool) → e < length l.edges → is_inverted l p o (end_at e t) ≡ true → IsLine l p o e (anchor_line (dock_of l p o (end_at e t)))
   anchor_line_is e t h inverted = (h, (t, refl), inverts_level (dock_of l p o (end_at e t)).side (enters p (end_at e t)) (inverted_parts (end_at e t) inverted).1)
@@ -140,7 +141,7 @@ module _ (l : PlainLevel) (p : PlainPlan) (o : Orders) (layers : List ℕ) (read
       step : (b : Bool) → is_side (dock_of l p o (end_at e t)).side side ≡ b → IsLine l p o e (cond b (anchor_line (dock_of l p o (end_at e t))) (loop_lane e (lane_side_of_end (dock_of l p o (end_at e t)).side)))
       step true same = (h, (t, refl), side_level (dock_of l p o (end_at e t)).side side same level)
       step false other =
-          (h, refl, loop_has_lane l p o e (lane_side_of_end (dock_of l p o (end_at e t)).side) h (child_there l p o layers ready e true h) loop (end_upright (dock_of l p o (end_at e t)).side) (laned other))
+          (h, refl, loop_has_lane l p o e (lane_side_of_end (dock_of l p o (end_at e t)).side) h (spoke_there l e true ready.level h).child loop (end_upright (dock_of l p o (end_at e t)).side) (laned other))
 
   -- both lines of a net are lines of its edge
   pub a_line_is : (n : Name) → IsName l p o n → IsLine l p o (edge_of p n) (a_line l p o n)
@@ -180,9 +181,9 @@ module _ (l : PlainLevel) (p : PlainPlan) (o : Orders) (layers : List ℕ) (read
   own_lane_is : (e : ℕ) (m : Line) → e < length l.edges → is_loop l e ≡ true → list_any (λ side. line_eq (loop_lane e side) m) (loop_sides l p o e) ≡ true → IsLine l p o e m
   own_lane_is e m h loop a =
       let f = any_has (λ side. line_eq (loop_lane e side) m) (loop_sides l p o e) a in
-      let there : list_any (is_side f.0) (loop_sides l p o e) ≡ true = has_any (is_side f.0) (loop_sides l p o e) f.0 f.1 (is_side-self f.0) in
+      let there : list_any (is_side f.0) (loop_sides l p o e) ≡ true = has_any (is_side f.0) (loop_sides l p o e) f.0 f.1 (side_itself f.0) in
       subst (IsLine l p o e) (line_eq-same (loop_lane e f.0) m f.2)
-      (h, refl, loop_has_lane l p o e f.0 h (child_there l p o layers ready e true h) loop (lane_upright (dock_of l p o (end_at e true)).side (dock_of l p o (end_at e false)).side f.0 (has_one_dock l p o e) there) there)
+      (h, refl, loop_has_lane l p o e f.0 h (spoke_there l e true ready.level h).child loop (lane_upright (dock_of l p o (end_at e true)).side (dock_of l p o (end_at e false)).side f.0 (has_one_dock l p o e) there) there)
 
   -- each line in use is a line of its edge
   pub line_is : (e : ℕ) (m : Line) → is_in_use l p o e m ≡ true → IsLine l p o e m

@@ -1,9 +1,7 @@
 -- Each pin of a net is the end of a line of the net's edge, at the border of the column beside the gap.
-use Rattle.std.proofs.Common.{◌≡◌, ◌⊎◌, inl, inr, ⊎_elim, ℕ, ◌+◌, ◌<◌, eqb, cond, Bool, true, false, not, ◌&&◌, ◌||◌, List, length, refl, sym, subst, ap, ◌∙◌}
-use Rattle.std.proofs.lemmas.Bool.{and_parts, and_from, or_left, or_right, or_parts, eq-eqb, eqb-true}
+use Rattle.std.proofs.Common.{◌≡◌, ◌⊎◌, inl, inr, ⊎_elim, ℕ, ◌+◌, ◌<◌, eqb, cond, Bool, true, false, not, ◌||◌, List, length, refl, sym, subst, ap, ◌∙◌}
+use Rattle.std.proofs.lemmas.Bool.{and_parts, or_left, or_right, or_parts, eqb-true}
 use Rattle.std.proofs.lemmas.List.{get_or-map, length-map}
-use Rattle.std.specs.Prelude.{nat_lt}
-use Rattle.std.specs.List.{list_any}
 use Rattle.elk_doc.specs.declared.shape.Side.{Side}
 use Rattle.elk_doc.specs.declared.shape.Side.TheVariants.{North, East, South, West}
 use Rattle.elk_doc.specs.declared.shape.Dock.{Dock}
@@ -16,16 +14,18 @@ use Rattle.route_slots.specs.GapFree.{HasPin}
 use Rattle.route_lines.specs.Points.{gap_in}
 use Rattle.level_plan.specs.Stage.{Line, anchor_line, dock_lane, loop_lane, long_lane, Reaches, IsPinOf, NetsStand}
 use Rattle.level_plan.specs.Level.{PlainLevel, PlainPlan, Orders, End, end_at, edge_at, spoke, is_loop, enters, tail_end, head_end, dock_of}
-use Rattle.level_plan.specs.Lanes.{line_eq, loop_sides}
+use Rattle.level_plan.specs.Lanes.{line_eq}
 use Rattle.level_plan.specs.Nets.{Name, of_link, of_dock, of_loop, unit_of, unit_of_line, gap_beside, gap_of, edge_of, inverts, is_inverted, line_of_end, tail_line, head_line, loop_line, lane_side_of_end, a_line, b_line, a_on_left, b_on_left, net_of, all_names, names_in, nets_in}
 use Rattle.level_plan.specs.FromPlan.{LevelDrawing, IsDrawnFrom}
-use Rattle.level_plan.specs.Drawing.{stage, is_in_use, is_anchor_line, name_at}
+use Rattle.level_plan.specs.Drawing.{stage, name_at}
 use Rattle.level_plan.specs.Ready.{IsReady}
-use Rattle.level_plan.proofs.Lists.{Has, filter_has, has_any, has_at}
-use Rattle.level_plan.proofs.SameLines.{is_side-same, line_eq-self}
+use Rattle.level_plan.proofs.Lists.{Has, filter_has, has_at}
+use Rattle.level_plan.proofs.SameLines.{line_eq-self}
 use Rattle.level_plan.proofs.LinkLemmas.{Ends, at_child_unit, at_lane, tail_ends, head_ends, no_loop, tail_leaves, head_enters}
 use Rattle.level_plan.proofs.NameLemmas.{IsName, name_is}
 use Rattle.level_plan.proofs.LineLemmas.{on_unit}
+use Rattle.level_plan.proofs.NetNames.{joined_in_use}
+use Rattle.port_order.proofs.OrderLemmas.{side_same}
 
 -- The line leads to a gap: from the column before the gap by the gap's left border, from the one behind it by its right.
 pub record Leads (l : PlainLevel) (p : PlainPlan) (g : ℕ) (on_left : Bool) (m : Line) : Type 0 where
@@ -72,7 +72,7 @@ module _ (l : PlainLevel) (p : PlainPlan) (o : Orders) (layers : List ℕ) (read
   not_inverted n loop e = rw loop at e
 
   tail_leads : (k : ℕ) → k < length p.layered.links → Leads l p (layer_of p.layered (link_at p.layered.links k).head) true (tail_line l p o k)
-  tail_leads k h = step (tail_ends l p o layers ready k h)
+  tail_leads k h = step (tail_ends l p layers ready.level ready.units.linked ready.sound ready.layers_are k h)
     where
       next : layer_of p.layered (link_at p.layered.links k).tail + 1 ≡ layer_of p.layered (link_at p.layered.links k).head
       next = sym ((ready.sound.links_are k h).next_layer)
@@ -86,7 +86,7 @@ module _ (l : PlainLevel) (p : PlainPlan) (o : Orders) (layers : List ℕ) (read
       step (at_lane lane own) = rw lane (leads_left l p _ (long_lane (link_at p.layered.links k).tail) next tt)
 
   head_leads : (k : ℕ) → k < length p.layered.links → Leads l p (layer_of p.layered (link_at p.layered.links k).head) false (head_line l p o k)
-  head_leads k h = step (head_ends l p o layers ready k h)
+  head_leads k h = step (head_ends l p layers ready.level ready.units.linked ready.sound ready.layers_are k h)
     where
       step : Ends p (link_at p.layered.links k).edge (link_at p.layered.links k).head (spoke l (head_end p (link_at p.layered.links k).edge)).child → Leads l p (layer_of p.layered (link_at p.layered.links k).head) false (head_line l p o k)
       step (at_child_unit child same) =
@@ -114,7 +114,7 @@ module _ (l : PlainLevel) (p : PlainPlan) (o : Orders) (layers : List ℕ) (read
   loop_reaches e d side = step (is_side d.side side) refl
     where
       step : (b : Bool) → is_side d.side side ≡ b → Reaches side (cond b (anchor_line d) (loop_lane e (lane_side_of_end d.side)))
-      step true same = is_side-same d.side side same
+      step true same = side_same d.side side same
       step false other = tt
 
   loop_unit : (e : ℕ) (d : Dock) (side : Side) → d.node ≡ (edge_at l e).source.child → unit_of_line l p (loop_line e d side) ≡ unit_of p (edge_at l e).source.child
@@ -141,19 +141,6 @@ module _ (l : PlainLevel) (p : PlainPlan) (o : Orders) (layers : List ℕ) (read
   b_leads (of_loop e side) h =
       beside_leads side (edge_at l e).source.child (loop_line e (dock_of l p o (end_at e false)) side) (loop_unit e (dock_of l p o (end_at e false)) side (sym (eqb-true (edge_at l e).source.child (edge_at l e).target.child h.1))) (passed_level e side h) (loop_reaches e (dock_of l p o (end_at e false)) side)
 
-  -- both lines of a net are in use by its edge
-  in_use : (n : Name) (m : Line) → Has (all_names l p o) n → (line_eq (a_line l p o n) m || line_eq (b_line l p o n) m) ≡ true → is_in_use l p o (edge_of p n) m ≡ true
-  in_use n m h one =
-      let e = edge_of p n in
-      or_left
-      (list_any (λ k. eqb (edge_of p k) e && (line_eq (a_line l p o k) m || line_eq (b_line l p o k) m)) (all_names l p o) || (nat_lt e (length l.edges) && (is_anchor_line (dock_of l p o (end_at e true)) m || is_anchor_line (dock_of l p o (end_at e false)) m)))
-      (nat_lt e (length l.edges) && is_loop l e && list_any (λ side. line_eq (loop_lane e side) m) (loop_sides l p o e))
-      (or_left
-      (list_any (λ k. eqb (edge_of p k) e && (line_eq (a_line l p o k) m || line_eq (b_line l p o k) m)) (all_names l p o))
-      (nat_lt e (length l.edges) && (is_anchor_line (dock_of l p o (end_at e true)) m || is_anchor_line (dock_of l p o (end_at e false)) m))
-      (has_any (λ k. eqb (edge_of p k) e && (line_eq (a_line l p o k) m || line_eq (b_line l p o k) m)) (all_names l p o) n h
-      (and_from (eqb e e) (line_eq (a_line l p o n) m || line_eq (b_line l p o n) m) (eq-eqb e e refl) one)))
-
   module _ (d : LevelDrawing) (drawn : IsDrawnFrom l p o d) where
     pin_of : (n : Name) (g : ℕ) (on_left : Bool) (m : Line) (z : Pin) → Has (all_names l p o) n → gap_of l p o n ≡ g → (line_eq (a_line l p o n) m || line_eq (b_line l p o n) m) ≡ true
         → Leads l p (gap_of l p o n) on_left m → record { on_left = on_left; height = (stage l p o d).height m } ≡ z → IsPinOf (stage l p o d) (edge_of p n) g z
@@ -161,7 +148,7 @@ module _ (l : PlainLevel) (p : PlainPlan) (o : Orders) (layers : List ℕ) (read
         subst (IsPinOf (stage l p o d) (edge_of p n) g) is
         (record {
           line = m;
-          in_use = in_use n m h one;
+          in_use = joined_in_use l p o n m h one;
           height = refl;
           left = λ e. let q = leads.left e in (ap (λ u. layer_of p.layered u + 1) (on_unit l p o d m) ∙ q.0 ∙ gap, q.1);
           right = λ e. let q = leads.right e in (ap (layer_of p.layered) (on_unit l p o d m) ∙ q.0 ∙ gap, q.1);

@@ -1,5 +1,5 @@
 -- The nets of a level by their names: where each stands in its gap, and which ends of lines it joins.
-use Rattle.std.proofs.Common.{◌≡◌, ◌≢◌, inl, inr, ⊎_elim, ℕ, ◌<◌, eqb, cond, Bool, true, false, not, ◌&&◌, ◌||◌, List, [], ◌∷◌, ◌++◌, map, length, refl, sym, subst, ap, ◌∙◌, arith}
+use Rattle.std.proofs.Common.{◌≡◌, ◌≢◌, inl, ⊎_elim, ℕ, ◌<◌, eqb, Bool, true, false, ◌&&◌, ◌||◌, List, [], ◌∷◌, ◌++◌, map, length, refl, sym, subst, ap, ◌∙◌, arith}
 use Rattle.std.proofs.lemmas.List.{get_or-map, length-map}
 use Rattle.std.proofs.lemmas.Bool.{and_parts, and_from, eqb-true, eq-eqb, or_left, or_right}
 use Rattle.std.specs.Prelude.{nat_lt}
@@ -11,43 +11,22 @@ use Rattle.route_slots.specs.Pieces.{border_of, net_at}
 use Rattle.route_lines.specs.Points.{gap_in, stand}
 use Rattle.self_loops.specs.Loops.{passes_left, passes_right}
 use Rattle.level_plan.specs.Stage.{Line, loop_lane, unit_of_line, InUse, Reaches, Stands}
-use Rattle.level_plan.specs.Level.{PlainLevel, PlainPlan, Orders, End, end_at, is_loop, end_eq, ends_of_edges, all_ends, dock_of}
+use Rattle.level_plan.specs.Level.{PlainLevel, PlainPlan, Orders, end_at, is_loop, all_ends, dock_of}
 use Rattle.level_plan.specs.Lanes.{line_eq, has_one_dock, loop_sides}
 use Rattle.level_plan.specs.Nets.{Name, of_link, of_dock, of_loop, name_eq, is_inverted, if_passed, loop_names, all_names, gap_of, edge_of, a_line, b_line, a_on_left, b_on_left, net_of, names_in, place_of_name}
 use Rattle.level_plan.specs.FromPlan.{LevelDrawing, IsDrawnFrom}
 use Rattle.level_plan.specs.Drawing.{stage, name_at, is_anchor_line, is_in_use}
 use Rattle.level_plan.proofs.Lists.{Has, has_filter, has_map, has_left, has_right, has_range, has_any}
 use Rattle.level_plan.proofs.FirstPlaces as places
-use Rattle.level_plan.proofs.SameLines.{is_side-self, is_side-same, line_eq-self}
+use Rattle.level_plan.proofs.SpotLemmas.{end_there}
+use Rattle.level_plan.proofs.NumberedSpots.{end_eq-same, end_eq-self}
+use Rattle.level_plan.proofs.SameLines.{line_eq-self}
 use Rattle.level_plan.proofs.Doors.{border, side_at, gap_beside, net_between, Joins}
+use Rattle.port_order.proofs.OrderLemmas.{side_same, side_itself}
 
 -- ---- names
 
-end_eq-same : (m n : End) → end_eq m n ≡ true → m ≡ n
-end_eq-same m n h =
-    let x = and_parts (eqb m.edge n.edge) (cond m.at_source n.at_source (not n.at_source)) h in
-    same_end m n (eqb-true m.edge n.edge x.0) (same_bool m.at_source n.at_source x.1)
-  where
-    same_bool : (a b : Bool) → cond a b (not b) ≡ true → a ≡ b
-    same_bool true true e = refl
-    same_bool true false e = absurd cc
-    same_bool false true e = absurd cc
-    same_bool false false e = refl
-
-    same_end : (m n : End) → m.edge ≡ n.edge → m.at_source ≡ n.at_source → m ≡ n
-    same_end m n e a =
-        let f : ℕ → End = λ z. record { edge = z; at_source = m.at_source } in
-        let g : Bool → End = λ z. record { edge = n.edge; at_source = z } in
-        ap f e ∙ ap g a
-
-end_eq-self : (n : End) → end_eq n n ≡ true
-end_eq-self n = and_from (eqb n.edge n.edge) (cond n.at_source n.at_source (not n.at_source)) (eq-eqb n.edge n.edge refl) (self n.at_source)
-  where
-    self : (b : Bool) → cond b b (not b) ≡ true
-    self true = refl
-    self false = refl
-
-name_eq-same : (m n : Name) → name_eq m n ≡ true → m ≡ n
+pub name_eq-same : (m n : Name) → name_eq m n ≡ true → m ≡ n
 name_eq-same (of_link j) (of_link k) h = ap of_link (eqb-true j k h)
 name_eq-same (of_link j) (of_dock n) h = absurd cc
 name_eq-same (of_link j) (of_loop f t) h = absurd cc
@@ -58,17 +37,12 @@ name_eq-same (of_loop e s) (of_link k) h = absurd cc
 name_eq-same (of_loop e s) (of_dock n) h = absurd cc
 name_eq-same (of_loop e s) (of_loop f t) h =
     let x = and_parts (eqb e f) (is_side s t) h in
-    ap (λ n. of_loop n s) (eqb-true e f x.0) ∙ ap (of_loop f) (is_side-same s t x.1)
+    ap (λ n. of_loop n s) (eqb-true e f x.0) ∙ ap (of_loop f) (side_same s t x.1)
 
-name_eq-self : (n : Name) → name_eq n n ≡ true
+pub name_eq-self : (n : Name) → name_eq n n ≡ true
 name_eq-self (of_link k) = eq-eqb k k refl
 name_eq-self (of_dock n) = end_eq-self n
-name_eq-self (of_loop e s) = and_from (eqb e e) (is_side s s) (eq-eqb e e refl) (is_side-self s)
-
-ends_have : (es : List ℕ) (e : ℕ) (t : Bool) → Has es e → Has (ends_of_edges es) (end_at e t)
-ends_have [] e t h = absurd h
-ends_have (f ∷ es) e true h = ⊎_elim (λ same. inl (ap (λ z. end_at z true) same)) (λ rest. inr (inr (ends_have es e true rest))) h
-ends_have (f ∷ es) e false h = ⊎_elim (λ same. inr (inl (ap (λ z. end_at z false) same))) (λ rest. inr (inr (ends_have es e false rest))) h
+name_eq-self (of_loop e s) = and_from (eqb e e) (is_side s s) (eq-eqb e e refl) (side_itself s)
 
 if_has : (b : Bool) (e : ℕ) (side : Side) → b ≡ true → Has (if_passed b e side) (of_loop e side)
 if_has true e side h = inl refl
@@ -86,7 +60,7 @@ module _ (l : PlainLevel) (p : PlainPlan) (o : Orders) where
       has_left (map of_link (range_with_len 0 (length p.layered.links)) ++ map of_dock (filter (is_inverted l p o) (all_ends l))) (loop_names l p o (range_with_len 0 (length l.edges))) (of_dock (end_at e t))
       (has_right (map of_link (range_with_len 0 (length p.layered.links))) (map of_dock (filter (is_inverted l p o) (all_ends l))) (of_dock (end_at e t))
       (has_map of_dock (filter (is_inverted l p o) (all_ends l)) (end_at e t)
-      (has_filter (is_inverted l p o) (all_ends l) (end_at e t) (ends_have (range_with_len 0 (length l.edges)) e t (has_range 0 (length l.edges) e (omega arith) (omega (arith, h)))) inverted)))
+      (has_filter (is_inverted l p o) (all_ends l) (end_at e t) (end_there l e t h) inverted)))
 
   -- whether a self-loop passes the gap on a side
   abbrev pub passes : ℕ → Side → Bool
@@ -117,7 +91,7 @@ module _ (l : PlainLevel) (p : PlainPlan) (o : Orders) where
       (loop_in (range_with_len 0 (length l.edges)) e b (has_range 0 (length l.edges) e (omega arith) (omega (arith, h))) loop pass)
 
   -- both lines of a net are in use by its edge
-  joined_in_use : (n : Name) (m : Line) → Has (all_names l p o) n → (line_eq (a_line l p o n) m || line_eq (b_line l p o n) m) ≡ true → is_in_use l p o (edge_of p n) m ≡ true
+  pub joined_in_use : (n : Name) (m : Line) → Has (all_names l p o) n → (line_eq (a_line l p o n) m || line_eq (b_line l p o n) m) ≡ true → is_in_use l p o (edge_of p n) m ≡ true
   joined_in_use n m h one =
       let e = edge_of p n in
       or_left

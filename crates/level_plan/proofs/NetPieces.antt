@@ -1,7 +1,7 @@
 -- Pieces of nets that share something in the drawing, share it in their gap, and so have a pin in common.
-use Rattle.std.proofs.Common.{◌≡◌, ◌≢◌, ◌⊎◌, ⊎_elim, inl, inr, ℕ, ◌+◌, ◌<◌, Bool, true, false, ℤ, ◌≤ℤ◌, ◌<ℤ◌, refl, subst, sym, ap, ◌∙◌, arith, length}
+use Rattle.std.proofs.Common.{◌≡◌, ◌≢◌, ⊎_elim, inl, inr, ℕ, ◌+◌, ◌<◌, ℤ, ◌≤ℤ◌, ◌<ℤ◌, subst, sym, ap, ◌∙◌, arith, length}
 use Rattle.std.proofs.lemmas.Int.{ints, clamps, by_lt_z}
-use Rattle.std.proofs.lemmas.Bool.{cases_lt, cases_eq}
+use Rattle.std.proofs.lemmas.Bool.{cases_Bool, cases_eq}
 use Rattle.std.specs.Int.{int_min, int_max}
 use Rattle.elk_doc.specs.declared.shape.Point.{Point}
 use Rattle.elk_doc.specs.declared.shape.Side.{Side}
@@ -16,7 +16,7 @@ use Rattle.route_slots.proofs.Turning.{pieces_overlap}
 use Rattle.route_lines.specs.Points.{gap_in as gap_at, stand}
 use Rattle.level_plan.specs.Stage.{Stage, Line, anchor_line, dock_lane, loop_lane, long_lane, InUse, Uses, Reaches, unit_of_line, Stands, InGap, IsPinOf, IsLane}
 use Rattle.level_plan.specs.Law.{IsNetPart}
-use Rattle.level_plan.proofs.Zones.{gaps_apart, turned_share, x_of, y_of}
+use Rattle.level_plan.proofs.Zones.{gaps_apart, three_ways, turned_share, x_of, y_of}
 
 -- two edges that use one line have a common dock
 shared_line : (s : Stage) (e f : ℕ) (l : Line) → e ≢ f → Uses s e l → Uses s f l → DocksShare (s.dock e) (s.dock f)
@@ -50,7 +50,7 @@ same_end s e f l m side st n ul um rl rm layers heights =
 -- nets with a common pin belong to edges with a common dock
 pub pin_docks : (s : Stage) (e f g : ℕ) (p : Pin) → Stands s → e ≢ f → IsPinOf s e g p → IsPinOf s f g p → DocksShare (s.dock e) (s.dock f)
 pin_docks s e f g p st n x y =
-    elim (cases_bool p.on_left) [
+    elim (cases_Bool p.on_left) [
       | inl l ↦
           let a = x.left l in
           let b = y.left l in
@@ -63,10 +63,6 @@ pin_docks s e f g p st n x y =
   where
     suc_same : (m n k : ℕ) → m + 1 ≡ k → n + 1 ≡ k → m ≡ n
     suc_same m n k h j = omega arith
-
-    cases_bool : (b : Bool) → (b ≡ true) ⊎ (b ≡ false)
-    cases_bool true = inl refl
-    cases_bool false = inr refl
 
 -- what four borders of stretches in the drawing say of the ranks of their abscissae
 rank_lt : (s : Stage) (g : ℕ) (a b c d : Abscissa) → InGap s g
@@ -98,7 +94,7 @@ four a b c d h = (omega (arith, ints, clamps), omega (arith, ints, clamps), omeg
 flat : (a b c d h k : ℤ) → a ≡ h → b ≡ h → c ≡ k → d ≡ k → int_max (int_min a b) (int_min c d) <ℤ int_min (int_max a b) (int_max c d) → ⊥
 flat a b c d h k x y z w l = absurd (omega (arith, ints, clamps))
 
-level_same : (a b c d h k : ℤ) → a ≡ h → b ≡ h → c ≡ k → d ≡ k → int_max (int_min a b) (int_min c d) ≤ℤ int_min (int_max a b) (int_max c d) → h ≡ k
+pub level_same : (a b c d h k : ℤ) → a ≡ h → b ≡ h → c ≡ k → d ≡ k → int_max (int_min a b) (int_min c d) ≤ℤ int_min (int_max a b) (int_max c d) → h ≡ k
 level_same a b c d h k x y z w l = omega (arith, ints, clamps)
 
 moved : (a b c d a' b' c' d' : ℤ) → a ≡ a' → b ≡ b' → c ≡ c' → d ≡ d'
@@ -144,9 +140,6 @@ pub no_cross : (a b c d : Point) → a.x ≡ b.x → c.y ≡ d.y → Share a b c
 no_cross a b c d h k m =
     let p = Share-piece a b c d m in
     ⊎_elim (λ l. absurd (omega (arith, ints, clamps))) (λ l. absurd (omega (arith, ints, clamps))) p.long
-
-pub three_ways : (m n : ℕ) → (m < n) ⊎ ((m ≡ n) ⊎ (n < m))
-three_ways m n = ⊎_elim (λ l. inl l) (λ l. ⊎_elim (λ k. inr (inr k)) (λ k. inr (inl (omega arith))) (cases_lt n m)) (cases_lt m n)
 
 -- upright pieces of one x stand in one slot
 same_slot : (s : Stage) (g i j : ℕ) → InGap s g → i < (gap_at s.gaps g).count → j < (gap_at s.gaps g).count

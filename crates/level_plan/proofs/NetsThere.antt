@@ -1,41 +1,22 @@
 -- Each net of the level lies in its gap: there is a gap of that number, and the net's number is below that of the gap's nets.
-use Rattle.std.proofs.Common.{◌≡◌, ℕ, ◌+◌, ◌<◌, eqb, Bool, true, List, ℤ, length, refl, sym, subst, ap, ◌∙◌, arith}
+use Rattle.std.proofs.Common.{ℕ, ◌+◌, ◌<◌, eqb, Bool, true, List, ℤ, length, refl, sym, subst, ap, ◌∙◌, arith}
 use Rattle.std.proofs.lemmas.List.{length-map}
-use Rattle.std.proofs.lemmas.Bool.{and_parts, and_from, eqb-true, eq-eqb}
+use Rattle.std.proofs.lemmas.Bool.{eq-eqb}
 use Rattle.elk_doc.specs.declared.shape.Side.{Side}
 use Rattle.elk_doc.specs.declared.shape.Side.TheVariants.{North, East, South, West}
-use Rattle.elk_doc.specs.PortsKept.{is_side}
 use Rattle.elk_layers.specs.Layered.{link_at, layer_of}
 use Rattle.route_lines.specs.Points.{PlainGap, IsStepIn}
 use Rattle.level_plan.specs.Level.{PlainLevel, PlainPlan, Orders}
 use Rattle.level_plan.specs.Nets.{Name, of_link, of_dock, of_loop, name_eq, gap_beside, gap_of, all_names, names_in, net_of, place_of_name, unit_of}
 use Rattle.level_plan.specs.Traces.{leg_step}
 use Rattle.level_plan.specs.Ready.{IsReady}
+use Rattle.level_plan.proofs.SpotLemmas.{spoke_there}
 use Rattle.level_plan.proofs.Lists.{Has, has_filter}
 use Rattle.level_plan.proofs.FirstPlaces as places
-use Rattle.level_plan.proofs.NumberedSpots.{end_eq-same, end_eq-self}
-use Rattle.level_plan.proofs.SameLines.{is_side-self, is_side-same}
-use Rattle.level_plan.proofs.EndLemmas.{column_there, child_unit, child_there}
+use Rattle.level_plan.proofs.NetNames.{name_eq-same, name_eq-self}
+use Rattle.level_plan.proofs.EndLemmas.{column_there, child_unit}
 use Rattle.level_plan.proofs.NameLemmas.{IsName, name_is}
 use Rattle.level_plan.specs.Joins.{HoldNets}
-
-name_eq-same : (m n : Name) → name_eq m n ≡ true → m ≡ n
-name_eq-same (of_link j) (of_link k) h = ap of_link (eqb-true j k h)
-name_eq-same (of_link j) (of_dock n) h = absurd cc
-name_eq-same (of_link j) (of_loop f t) h = absurd cc
-name_eq-same (of_dock m) (of_link k) h = absurd cc
-name_eq-same (of_dock m) (of_dock n) h = ap of_dock (end_eq-same m n h)
-name_eq-same (of_dock m) (of_loop f t) h = absurd cc
-name_eq-same (of_loop e s) (of_link k) h = absurd cc
-name_eq-same (of_loop e s) (of_dock n) h = absurd cc
-name_eq-same (of_loop e s) (of_loop f t) h =
-    let x = and_parts (eqb e f) (is_side s t) h in
-    ap (λ n. of_loop n s) (eqb-true e f x.0) ∙ ap (of_loop f) (is_side-same s t x.1)
-
-name_eq-self : (n : Name) → name_eq n n ≡ true
-name_eq-self (of_link k) = eq-eqb k k refl
-name_eq-self (of_dock n) = end_eq-self n
-name_eq-self (of_loop e s) = and_from (eqb e e) (is_side s s) (eq-eqb e e refl) (is_side-self s)
 
 module _ (l : PlainLevel) (p : PlainPlan) (o : Orders) where
   number_within : (n : Name) → Has (all_names l p o) n → place_of_name (names_in l p o (gap_of l p o n)) n < length (names_in l p o (gap_of l p o n))
@@ -59,8 +40,8 @@ module _ (l : PlainLevel) (p : PlainPlan) (o : Orders) where
     gap_there (of_link k) h =
         let less : layer_of p.layered (link_at p.layered.links k).head < p.layers = column_there l p o layers ready (link_at p.layered.links k).head (ready.sound.links_are k h).head in
         omega (arith, less)
-    gap_there (of_dock n) h = child_gap _ _ (child_there l p o layers ready n.edge n.at_source h.0)
-    gap_there (of_loop e side) h = child_gap _ side (child_there l p o layers ready e true h.0)
+    gap_there (of_dock n) h = child_gap _ _ (spoke_there l n.edge n.at_source ready.level h.0).child
+    gap_there (of_loop e side) h = child_gap _ side (spoke_there l e true ready.level h.0).child
 
     pub leg_there : (shift : ℤ) (gaps : List PlainGap) → HoldNets l p o shift gaps → (n : Name) (from_a : Bool) → Has (all_names l p o) n → IsStepIn gaps (leg_step l p o n from_a)
     leg_there shift gaps hold n from_a h =

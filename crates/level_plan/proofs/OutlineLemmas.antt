@@ -1,8 +1,7 @@
 -- A child's outline holds its box, its ports and the anchors of its ends.
 use Rattle.std.proofs.Common.{◌≡◌, ⊎_elim, ℕ, ◌<◌, Bool, true, false, not, ◌&&◌, ℤ, pos, neg_ℤ, ◌+ℤ◌, ◌-ℤ◌, ◌≤ℤ◌, List, [], ◌∷◌, length, refl, subst, ◌∙◌, arith}
-use Rattle.std.proofs.lemmas.Int.{ints, clamps}
+use Rattle.std.proofs.lemmas.Int.{ints}
 use Rattle.std.specs.Prelude.{Option, None, Some}
-use Rattle.std.specs.Int.{int_min, int_max}
 use Rattle.std.specs.List.{range_with_len}
 use Rattle.elk_doc.specs.declared.shape.Point.{Point}
 use Rattle.elk_doc.specs.declared.shape.Size.{Size}
@@ -10,7 +9,7 @@ use Rattle.elk_doc.specs.declared.shape.Rect.{Rect}
 use Rattle.elk_doc.specs.declared.shape.Side.{Side}
 use Rattle.elk_doc.specs.declared.shape.Side.TheVariants.{North, East, South, West}
 use Rattle.elk_doc.specs.Document.{no_size}
-use Rattle.elk_doc.specs.Shapes.{right_of, bottom_of, rect_at, Holds, hull}
+use Rattle.elk_doc.specs.Shapes.{rect_at, Holds}
 use Rattle.elk_doc.specs.Sound.{IsWithin}
 use Rattle.elk_doc.specs.PortsKept.{size_along}
 use Rattle.port_order.specs.declared.children.Child.{Child}
@@ -22,60 +21,21 @@ use Rattle.port_order.specs.Places.{outer_face, on_side, corner_of, face_of, pla
 use Rattle.level_plan.specs.Stage.{IsInOutline}
 use Rattle.level_plan.specs.Level.{PlainLevel, PlainPlan, Orders, child_at, port_place, outline_from, outline}
 use Rattle.level_plan.proofs.Lists.{Has, has_range}
+use Rattle.elk_doc.proofs.PlaceLaws.{Holds-first, Holds-second, Holds-trans}
 
 holds_self : (r : Rect) → Holds r r
 holds_self r = record { left = omega (arith, ints); top = omega (arith, ints); right = omega (arith, ints); bottom = omega (arith, ints) }
 
-holds_on : (r s t : Rect) → Holds r s → Holds s t → Holds r t
-holds_on r s t h k =
-    record {
-      left = omega (arith, ints, h.left, k.left);
-      top = omega (arith, ints, h.top, k.top);
-      right = omega (arith, ints, h.right, k.right);
-      bottom = omega (arith, ints, h.bottom, k.bottom);
-    }
-
--- one direction of a hull
-low_left : (a b : ℤ) → int_min a b ≤ℤ a
-low_left a b = omega (arith, ints, clamps)
-
-low_right : (a b : ℤ) → int_min a b ≤ℤ b
-low_right a b = omega (arith, ints, clamps)
-
-high_left : (low u v : ℤ) → u ≤ℤ (low +ℤ (int_max u v -ℤ low))
-high_left low u v = omega (arith, ints, clamps)
-
-high_right : (low u v : ℤ) → v ≤ℤ (low +ℤ (int_max u v -ℤ low))
-high_right low u v = omega (arith, ints, clamps)
-
-hull_first : (r s : Rect) → Holds (hull r s) r
-hull_first r s =
-    record {
-      left = low_left r.x s.x;
-      top = low_left r.y s.y;
-      right = high_left (int_min r.x s.x) (right_of r) (right_of s);
-      bottom = high_left (int_min r.y s.y) (bottom_of r) (bottom_of s);
-    }
-
-hull_second : (r s : Rect) → Holds (hull r s) s
-hull_second r s =
-    record {
-      left = low_right r.x s.x;
-      top = low_right r.y s.y;
-      right = high_right (int_min r.x s.x) (right_of r) (right_of s);
-      bottom = high_right (int_min r.y s.y) (bottom_of r) (bottom_of s);
-    }
-
 from_holds_box : (l : PlainLevel) (p : PlainPlan) (o : Orders) (c : ℕ) (ks : List ℕ) → Holds (outline_from l p o c ks) (rect_at (record { x = pos 0; y = pos 0 }) (child_at l c).size)
 from_holds_box l p o c [] = holds_self _
-from_holds_box l p o c (k ∷ ks) = holds_on _ _ _ (hull_first (outline_from l p o c ks) (rect_at (port_place l p o c k) (port_at (child_at l c) k).size)) (from_holds_box l p o c ks)
+from_holds_box l p o c (k ∷ ks) = Holds-trans _ _ _ (Holds-first (outline_from l p o c ks) (rect_at (port_place l p o c k) (port_at (child_at l c) k).size)) (from_holds_box l p o c ks)
 
 from_holds_port : (l : PlainLevel) (p : PlainPlan) (o : Orders) (c k : ℕ) (ks : List ℕ) → Has ks k → Holds (outline_from l p o c ks) (rect_at (port_place l p o c k) (port_at (child_at l c) k).size)
 from_holds_port l p o c k [] h = absurd h
 from_holds_port l p o c k (j ∷ ks) h =
     ⊎_elim
-    (λ (same : j ≡ k). subst (λ z. Holds (outline_from l p o c (j ∷ ks)) (rect_at (port_place l p o c z) (port_at (child_at l c) z).size)) same (hull_second (outline_from l p o c ks) (rect_at (port_place l p o c j) (port_at (child_at l c) j).size)))
-    (λ rest. holds_on _ _ _ (hull_first (outline_from l p o c ks) (rect_at (port_place l p o c j) (port_at (child_at l c) j).size)) (from_holds_port l p o c k ks rest))
+    (λ (same : j ≡ k). subst (λ z. Holds (outline_from l p o c (j ∷ ks)) (rect_at (port_place l p o c z) (port_at (child_at l c) z).size)) same (Holds-second (outline_from l p o c ks) (rect_at (port_place l p o c j) (port_at (child_at l c) j).size)))
+    (λ rest. Holds-trans _ _ _ (Holds-first (outline_from l p o c ks) (rect_at (port_place l p o c j) (port_at (child_at l c) j).size)) (from_holds_port l p o c k ks rest))
     h
 
 pub outline_holds_box : (l : PlainLevel) (p : PlainPlan) (o : Orders) (c : ℕ) → Holds (outline l p o c) (rect_at (record { x = pos 0; y = pos 0 }) (child_at l c).size)
@@ -110,7 +70,7 @@ from_face a w k = omega (arith, ints, k)
 to_face : (a w : ℤ) → pos 0 ≤ℤ w → (a -ℤ w) ≤ℤ a
 to_face a w k = omega (arith, ints, k)
 
-up_to_face : (a w : ℤ) → a ≤ℤ ((a -ℤ w) +ℤ w)
+pub up_to_face : (a w : ℤ) → a ≤ℤ ((a -ℤ w) +ℤ w)
 up_to_face a w = omega (arith, ints)
 
 on_port : (side : Side) (face offset half : ℤ) (size : Size) → IsSmall size → IsWithin (pos 0) (size_along side size) half → IsInOutline (rect_at (corner_of side face (offset -ℤ half) size) size) (on_side side face offset)
@@ -124,7 +84,7 @@ on_port West face offset half size s h =
     record { left = at_self face; right = from_face face size.width s.width.above; top = from_start offset half h.above; bottom = to_end offset half size.height h.below }
 
 -- the length of a port along its side doesn't depend on the flow of edges
-along_given : (g : Option Side) (b : Bool) (size : Size) → size_along (side_else g false) size ≡ size_along (side_else g b) size
+pub along_given : (g : Option Side) (b : Bool) (size : Size) → size_along (side_else g false) size ≡ size_along (side_else g b) size
 along_given (Some side) b size = refl
 along_given None true size = refl
 along_given None false size = refl

@@ -29,10 +29,6 @@ room_more (suc i) (suc j) a s ha hs h =
 pub room_some : (i : ℕ) (a s : ℤ) → pos 1 ≤ℤ a → pos 1 ≤ℤ s → pos 0 <ℤ outer_room a s (i + 1)
 room_some i a s ha hs = room_more 0 (i + 1) a s ha hs (omega arith)
 
-pub room_from_zero : (i : ℕ) (a s : ℤ) → pos 1 ≤ℤ a → pos 1 ≤ℤ s → pos 0 ≤ℤ outer_room a s i
-room_from_zero zero a s ha hs = omega (arith, ints)
-room_from_zero (suc i) a s ha hs = let more = room_more 0 (suc i) a s ha hs (omega arith) in omega (arith, ints, more)
-
 pub room_within : (i n : ℕ) (a s : ℤ) → pos 1 ≤ℤ a → pos 1 ≤ℤ s → i < n → outer_room a s (i + 1) ≤ℤ outer_room a s n
 room_within i n a s ha hs h =
     elim (cases_order (i + 1) n) [

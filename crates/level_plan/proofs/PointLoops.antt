@@ -1,17 +1,16 @@
 -- A route that is one single point: it lies at the anchor of its edge, outside boxes and foreign outlines.
-use Rattle.std.proofs.Common.{◌≡◌, ◌≢◌, ◌⊎◌, ⊎_elim, inl, inr, ℕ, ◌<◌, Bool, ℤ, ◌+ℤ◌, ◌≤ℤ◌, ◌<ℤ◌, arith, sym, ◌∙◌, ap₂, subst}
+use Rattle.std.proofs.Common.{◌≡◌, ◌≢◌, ⊎_elim, inl, inr, ℕ, ◌<◌, Bool, ℤ, ◌+ℤ◌, ◌≤ℤ◌, ◌<ℤ◌, arith, sym, ◌∙◌, subst}
 use Rattle.std.proofs.lemmas.Int.{ints, clamps}
-use Rattle.std.proofs.lemmas.Bool.{cases_eq, cases_lt}
+use Rattle.std.proofs.lemmas.Bool.{cases_eq}
 use Rattle.elk_doc.specs.declared.shape.Point.{Point}
 use Rattle.elk_doc.specs.declared.shape.Rect.{Rect}
 use Rattle.elk_doc.specs.declared.shape.Side.{Side}
 use Rattle.elk_doc.specs.declared.shape.Side.TheVariants.{North, East, South, West}
 use Rattle.elk_doc.specs.Segments.{MeetsRect, EntersRect, Share, MeetsSpan, EntersSpan, IsBetween}
+use Rattle.elk_doc.proofs.ShapeLaws.{same_point}
 use Rattle.elk_doc.proofs.SegmentBounds.{MeetsRect-spans, spans-MeetsRect, EntersRect-spans}
 use Rattle.level_plan.specs.Stage.{Stage, Stands, ChildStands, EndStands, IsOutward}
-
-same_point : (p q : Point) → p.x ≡ q.x → p.y ≡ q.y → p ≡ q
-same_point p q x y = ap₂ (λ (a b : ℤ). let r : Point = record { x = a; y = b } in r) x y
+use Rattle.level_plan.proofs.Zones.{le_trans, three_ways}
 
 between_one : (a z : ℤ) → IsBetween a a z → z ≡ a
 between_one a z h = let u = h.0 in let v = h.1 in omega (arith, ints, clamps, u, v)
@@ -27,17 +26,11 @@ one_point p c d s =
 meets_from : (z low size : ℤ) → MeetsSpan z z low size → (low ≤ℤ z) × (z ≤ℤ (low +ℤ size))
 meets_from z low size m = let a = m.starts in let b = m.ends in (omega (arith, ints, clamps, a, b), omega (arith, ints, clamps, a, b))
 
-three_ways : (m n : ℕ) → (m < n) ⊎ ((m ≡ n) ⊎ (n < m))
-three_ways m n = ⊎_elim (λ l. inl l) (λ l. ⊎_elim (λ k. inr (inr k)) (λ k. inr (inl (omega arith))) (cases_lt n m)) (cases_lt m n)
-
 apart_up : (z top bottom low : ℤ) → z ≤ℤ bottom → bottom <ℤ top → top ≤ℤ low → low ≤ℤ z → ⊥
 apart_up z top bottom low a b c d = omega (arith, ints, a, b, c, d)
 
 apart_down : (z top bottom high : ℤ) → top ≤ℤ z → bottom <ℤ top → high ≤ℤ bottom → z ≤ℤ high → ⊥
 apart_down z top bottom high a b c d = omega (arith, ints, a, b, c, d)
-
-le3 : (a b c : ℤ) → a ≤ℤ b → b ≤ℤ c → a ≤ℤ c
-le3 a b c h k = omega (arith, ints, h, k)
 
 module _ (s : Stage) (st : Stands s) (e : ℕ) (at_source : Bool) (there : e < s.edges) where
   abbrev pub own : ℕ
@@ -57,10 +50,10 @@ module _ (s : Stage) (st : Stands s) (e : ℕ) (at_source : Bool) (there : e < s
       let y = meets_from anchor.y (s.outline c).y (s.outline c).height spans.1 in
       let mine = end.child in
       let at = end.in_outline in
-      let left = le3 _ _ _ mine.left at.left in
-      let right = le3 _ _ _ at.right mine.right in
-      let top = le3 _ _ _ mine.top at.top in
-      let bottom = le3 _ _ _ at.bottom mine.bottom in
+      let left = le_trans _ _ _ mine.left at.left in
+      let right = le_trans _ _ _ at.right mine.right in
+      let top = le_trans _ _ _ mine.top at.top in
+      let bottom = le_trans _ _ _ at.bottom mine.bottom in
       let units : s.unit_of own ≢ s.unit_of c = λ same. foreign (st.one_child own c mine k same) in
       ⊎_elim
       (λ less. apart_up _ _ _ _ right (st.row.apart _ _ less k.column) k.left x.0)

@@ -4,35 +4,11 @@ use Rattle.std.proofs.lemmas.Bool.{and_parts, and_from, eqb-true, eq-eqb}
 use Rattle.std.proofs.lemmas.Bool.Decides.{Decides-int_eq}
 use Rattle.std.specs.Ordering.{int_eq}
 use Rattle.elk_doc.specs.declared.shape.Side.{Side}
-use Rattle.elk_doc.specs.declared.shape.Side.TheVariants.{North, East, South, West}
 use Rattle.elk_doc.specs.declared.shape.Dock.{Dock}
 use Rattle.elk_doc.specs.PortsKept.{is_side}
 use Rattle.level_plan.specs.Stage.{Line, anchor_line, dock_lane, loop_lane, long_lane}
 use Rattle.level_plan.specs.Lanes.{dock_eq, line_eq}
-
-pub is_side-self : (s : Side) → is_side s s ≡ true
-is_side-self North = refl
-is_side-self East = refl
-is_side-self South = refl
-is_side-self West = refl
-
-pub is_side-same : (s t : Side) → is_side s t ≡ true → s ≡ t
-is_side-same North North e = refl
-is_side-same North East e = absurd cc
-is_side-same North South e = absurd cc
-is_side-same North West e = absurd cc
-is_side-same East North e = absurd cc
-is_side-same East East e = refl
-is_side-same East South e = absurd cc
-is_side-same East West e = absurd cc
-is_side-same South North e = absurd cc
-is_side-same South East e = absurd cc
-is_side-same South South e = refl
-is_side-same South West e = absurd cc
-is_side-same West North e = absurd cc
-is_side-same West East e = absurd cc
-is_side-same West South e = absurd cc
-is_side-same West West e = refl
+use Rattle.port_order.proofs.OrderLemmas.{side_same, side_itself}
 
 pub same_dock : (d k : Dock) → d.node ≡ k.node → d.side ≡ k.side → d.offset ≡ k.offset → d ≡ k
 same_dock d k en es eo =
@@ -45,12 +21,12 @@ pub dock_eq-same : (d k : Dock) → dock_eq d k ≡ true → d ≡ k
 dock_eq-same d k e =
     let x = and_parts (eqb d.node k.node) (is_side d.side k.side && int_eq d.offset k.offset) e in
     let y = and_parts (is_side d.side k.side) (int_eq d.offset k.offset) x.1 in
-    same_dock d k (eqb-true d.node k.node x.0) (is_side-same d.side k.side y.0) ((Decides-int_eq d.offset k.offset).0 y.1)
+    same_dock d k (eqb-true d.node k.node x.0) (side_same d.side k.side y.0) ((Decides-int_eq d.offset k.offset).0 y.1)
 
 pub dock_eq-self : (d : Dock) → dock_eq d d ≡ true
 dock_eq-self d =
     and_from (eqb d.node d.node) (is_side d.side d.side && int_eq d.offset d.offset) (eq-eqb d.node d.node refl)
-    (and_from (is_side d.side d.side) (int_eq d.offset d.offset) (is_side-self d.side) ((Decides-int_eq d.offset d.offset).1 refl))
+    (and_from (is_side d.side d.side) (int_eq d.offset d.offset) (side_itself d.side) ((Decides-int_eq d.offset d.offset).1 refl))
 
 pub line_eq-same : (l m : Line) → line_eq l m ≡ true → l ≡ m
 line_eq-same (anchor_line d) (anchor_line k) e = ap anchor_line (dock_eq-same d k e)
@@ -65,7 +41,7 @@ line_eq-same (loop_lane e s) (anchor_line k) h = absurd cc
 line_eq-same (loop_lane e s) (dock_lane k) h = absurd cc
 line_eq-same (loop_lane e s) (loop_lane f t) h =
     let x = and_parts (eqb e f) (is_side s t) h in
-    ap (λ n. loop_lane n s) (eqb-true e f x.0) ∙ ap (loop_lane f) (is_side-same s t x.1)
+    ap (λ n. loop_lane n s) (eqb-true e f x.0) ∙ ap (loop_lane f) (side_same s t x.1)
 line_eq-same (loop_lane e s) (long_lane v) h = absurd cc
 line_eq-same (long_lane u) (anchor_line k) e = absurd cc
 line_eq-same (long_lane u) (dock_lane k) e = absurd cc
@@ -75,5 +51,5 @@ line_eq-same (long_lane u) (long_lane v) e = ap long_lane (eqb-true u v e)
 pub line_eq-self : (l : Line) → line_eq l l ≡ true
 line_eq-self (anchor_line d) = dock_eq-self d
 line_eq-self (dock_lane d) = dock_eq-self d
-line_eq-self (loop_lane e s) = and_from (eqb e e) (is_side s s) (eq-eqb e e refl) (is_side-self s)
+line_eq-self (loop_lane e s) = and_from (eqb e e) (is_side s s) (eq-eqb e e refl) (side_itself s)
 line_eq-self (long_lane u) = eq-eqb u u refl

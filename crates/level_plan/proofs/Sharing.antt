@@ -1,8 +1,7 @@
 -- Routes share a piece only where their edges share a dock.
 use Rattle.std.proofs.Common.{◌≡◌, ◌≢◌, ⊎_elim, inl, inr, ℕ, ◌+◌, ℤ, pos, ◌+ℤ◌, ◌≤ℤ◌, List, [], ◌∷◌, refl, subst, sym, ap, ◌∙◌, arith}
-use Rattle.std.proofs.lemmas.Int.{ints, clamps}
+use Rattle.std.proofs.lemmas.Int.{ints}
 use Rattle.std.proofs.lemmas.Bool.{cases_eq}
-use Rattle.std.specs.Int.{int_min, int_max}
 use Rattle.elk_doc.specs.declared.shape.Point.{Point}
 use Rattle.elk_doc.specs.declared.shape.Side.{Side}
 use Rattle.elk_doc.specs.declared.shape.Side.TheVariants.{North, East, South}
@@ -18,7 +17,7 @@ use Rattle.route_lines.proofs.Dropping.{some_all, shares_split}
 use Rattle.level_plan.specs.Law.{IsStub, IsLanePart, IsBorderPart, IsPart, stub, lane_part, border_part, net_part, IsNorthOrSouth, IsLawful}
 use Rattle.level_plan.proofs.Paths.{some_at}
 use Rattle.level_plan.proofs.Zones.{InUnit, stub_in, lane_in, border_in, units_apart, unit_net_apart, turned_share}
-use Rattle.level_plan.proofs.NetPieces.{nets_share, lane_reaches, one_height, no_cross, same_end}
+use Rattle.level_plan.proofs.NetPieces.{level_same, nets_share, lane_reaches, one_height, no_cross, same_end}
 use Rattle.level_plan.proofs.AtDocks.{same_stub, no_opposite, no_facing, north_above, south_below, east_right, west_left}
 
 -- pieces at one dock
@@ -33,7 +32,7 @@ stubs_share s e f a b c d st p q same m =
     let ks = st.ends f q.at_source q.edge_in in
     let node : (s.dock e p.at_source).node ≡ (s.dock f q.at_source).node = st.one_child _ _ ds.child ks.child same in
     let piece = Share-piece a b c d m in
-    let one_x : (s.anchor e p.at_source).x ≡ (s.anchor f q.at_source).x = level_x a.x b.x c.x d.x _ _ p.a_x p.b_x q.a_x q.b_x piece.across in
+    let one_x : (s.anchor e p.at_source).x ≡ (s.anchor f q.at_source).x = level_same a.x b.x c.x d.x _ _ p.a_x p.b_x q.a_x q.b_x piece.across in
     let both = λ (side : Side) (up : IsNorthOrSouth side) (h : (s.dock e p.at_source).side ≡ side) (k : (s.dock f q.at_source).side ≡ side).
     one_dock s e f (s.dock e p.at_source) (s.dock f q.at_source) (p.at_source, refl) (q.at_source, refl) (same_stub s e f p.at_source q.at_source side st p.edge_in q.edge_in up node h k one_x) in
     ⊎_elim
@@ -53,9 +52,6 @@ stubs_share s e f a b c d st p q same m =
     q.upright)
     p.upright
   where
-    level_x : (a b c d h k : ℤ) → a ≡ h → b ≡ h → c ≡ k → d ≡ k → int_max (int_min a b) (int_min c d) ≤ℤ int_min (int_max a b) (int_max c d) → h ≡ k
-    level_x a b c d h k x y z w l = omega (arith, ints, clamps)
-
     over : (y h z : ℤ) → pos 0 ≤ℤ h → (y +ℤ h) ≤ℤ z → y ≤ℤ z
     over y h z k l = omega (arith, ints)
 

@@ -1,6 +1,7 @@
 -- Paths of points, made from their ends on: what is put before a path, and what becomes of its fine points.
-use Rattle.std.proofs.Common.{◌≡◌, ◌≢◌, ◌⊎◌, ⊎_elim, inl, inr, refl, subst, sym, ap, ◌∙◌, List, [], ◌∷◌, ℤ, ◌≤ℤ◌, arith}
+use Rattle.std.proofs.Common.{◌≡◌, ◌≢◌, ◌⊎◌, ⊎_elim, inl, inr, refl, subst, sym, ◌∙◌, List, [], ◌∷◌, ◌≤ℤ◌, arith}
 use Rattle.std.proofs.lemmas.Int.{ints, clamps, by_lt_z}
+use Rattle.elk_doc.proofs.ShapeLaws.{same_point}
 use Rattle.elk_doc.specs.declared.shape.Point.{Point}
 use Rattle.route_lines.specs.Tidied.{StartsAt, EndsAt, IsMiddle, Drops, middle, later, DropsSome, none, more, EachSegment, Heading, up, down, left, right, Goes, opposite, Onward, Runs}
 
@@ -10,12 +11,6 @@ Along up a b = (a.x ≡ b.x) × (b.y ≤ℤ a.y)
 Along down a b = (a.x ≡ b.x) × (a.y ≤ℤ b.y)
 Along left a b = (a.y ≡ b.y) × (b.x ≤ℤ a.x)
 Along right a b = (a.y ≡ b.y) × (a.x ≤ℤ b.x)
-
-pub same_point : (a b : Point) → a.x ≡ b.x → a.y ≡ b.y → a ≡ b
-same_point a b h k =
-    let f : ℤ → Point = λ z. record { x = z; y = a.y } in
-    let g : ℤ → Point = λ z. record { x = b.x; y = z } in
-    ap f h ∙ ap g k
 
 pub goes_along : (h : Heading) (a b : Point) → Goes h a b → Along h a b
 goes_along up a b g = (g.0, omega (arith, ints))
@@ -130,11 +125,6 @@ slide Q k z h a b ps ks g q w =
       ends = ends_before a b z ps w.starts w.ends;
       drops = λ x f. more _ _ _ (drop_before x a b ps w.starts (along_middle h x a b f g)) (w.drops x (along_on h x a b f g));
     }
-
-pub slide_on : (Q : Point → Point → Type 0) (k : Heading) (z : Point) (h : Heading) (a b : Point) (ps ks : List Point)
-    → Along h a b → Q a b → Passes Q k z h b ps ks → Passes Q k z h a (a ∷ ps) ks
-slide_on Q k z h a b ps ks g q w =
-    record { comes = slide Q k z h a b ps ks g q w.comes; runs = runs_before h k a b ps w.comes.starts g w.runs }
 
 pub pass : (Q : Point → Point → Type 0) (k : Heading) (z : Point) (h : Heading) (a b : Point) (ps ks : List Point)
     → Goes h a b → Q a b → Comes Q k z h b ps ks → Passes Q k z h a (a ∷ ps) ks

@@ -11,6 +11,9 @@ use Rattle.route_lines.specs.Points.{gap_in as gap_at, stand, point_at}
 use Rattle.level_plan.specs.Stage.{Stage, HasDock, unit_of_line, ChildStands, Stands}
 use Rattle.level_plan.specs.Law.{IsStub, IsLanePart, IsBorderPart, IsNetPart}
 
+pub three_ways : (m n : ℕ) → (m < n) ⊎ ((m ≡ n) ⊎ (n < m))
+three_ways m n = ⊎_elim (λ l. inl l) (λ l. ⊎_elim (λ k. inr (inr k)) (λ k. inr (inl (omega arith))) (cases_lt n m)) (cases_lt m n)
+
 -- a piece lies in the column of a unit, between the unit's top and bottom
 pub record InUnit (s : Stage) (u : ℕ) (a b : Point) : Type 0 where
   pub unit : u < s.units
@@ -32,7 +35,7 @@ within p q z low high h a b c d = let x = h.0 in let y = h.1 in (omega (arith, i
 pub dock_child : (s : Stage) (e : ℕ) (d : Dock) → Stands s → e < s.edges → HasDock s e d → ChildStands s d.node
 dock_child s e d st lt has = subst (λ (z : Dock). ChildStands s z.node) has.1 (st.ends e has.0 lt).child
 
-le_trans : (a b c : ℤ) → a ≤ℤ b → b ≤ℤ c → a ≤ℤ c
+pub le_trans : (a b c : ℤ) → a ≤ℤ b → b ≤ℤ c → a ≤ℤ c
 le_trans a b c h k = omega (arith, ints)
 
 pub stub_in : (s : Stage) (e : ℕ) (a b : Point) → Stands s → (p : IsStub s e a b) → InUnit s (s.unit_of (s.dock e p.at_source).node) a b
@@ -145,9 +148,6 @@ units_apart s u v a b c d st x y n m =
     (λ more. columns_apart s v u c d a b st y x more (turned_share a b c d m))
     rest)
     (three_ways (s.layer u) (s.layer v))
-  where
-    three_ways : (m n : ℕ) → (m < n) ⊎ ((m ≡ n) ⊎ (n < m))
-    three_ways m n = ⊎_elim (λ l. inl l) (λ l. ⊎_elim (λ k. inr (inr k)) (λ k. inr (inl (omega arith))) (cases_lt n m)) (cases_lt m n)
 
 -- The piece c d lies left of z, at z at most where it is level; then it shares nothing with a piece right of z.
 left_piece : (a b c d : Point) (z : ℤ) → c.x ≤ℤ z → d.x ≤ℤ z → z ≤ℤ a.x → z ≤ℤ b.x → ((c.y ≡ d.y) ⊎ ((c.x ≡ d.x) × (c.x <ℤ z))) → SharedPiece a b c d → ⊥

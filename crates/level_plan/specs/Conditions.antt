@@ -1,6 +1,5 @@
 -- What is true of every level that is drawn.
 use Rattle.std.specs.Prelude.{ℕ, ◌<◌, ◌≤◌, ◌^◌, ◌+◌, false, List, [], ◌∷◌, ℤ, pos, neg_ℤ, ◌+ℤ◌, ◌≤ℤ◌, length, map, IfSome, IsTrue, IsFalse}
-use Rattle.elk_doc.specs.declared.shape.Point.{Point}
 use Rattle.elk_doc.specs.declared.shape.Size.{Size}
 use Rattle.elk_doc.specs.Sound.{IsWithin, IsSoundSpacing, along}
 use Rattle.elk_doc.specs.PortsKept.{size_along}

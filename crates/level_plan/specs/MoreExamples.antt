@@ -1,7 +1,5 @@
 -- A port on the north side between two edges, and self-loops between all pairs of sides.
-use Rattle.std.specs.Prelude.{◌≡◌, ℕ, List, [], ◌∷◌, ℤ, pos, negsuc, Option, None, Some, true, false}
-use Rattle.elk_doc.specs.declared.shape.Point.{Point}
-use Rattle.elk_doc.specs.declared.shape.Rect.{Rect}
+use Rattle.std.specs.Prelude.{◌≡◌, ℕ, List, [], ◌∷◌, ℤ, pos, negsuc, None, Some, true, false}
 use Rattle.elk_doc.specs.declared.shape.Side.{Side}
 use Rattle.elk_doc.specs.declared.shape.Side.TheVariants.{North, East, South, West}
 use Rattle.elk_doc.specs.declared.document.PortRule.TheVariants.{Free, FixedSide}
@@ -17,7 +15,7 @@ use Rattle.level_plan.specs.Level.{PlainLevel, PlainPlan, Orders, dock_of, end_a
 use Rattle.level_plan.specs.Lanes.{lanes, body_top, unit_height}
 use Rattle.level_plan.specs.Nets.{names_in, nets_in, of_loop}
 use Rattle.level_plan.specs.Traces.{steps_of}
-use Rattle.level_plan.specs.Examples.{spacing, square, unit, pin, net, gap, straight_gap, at}
+use Rattle.level_plan.specs.Examples.{spacing, square, unit, pin, net, straight_gap, at}
 
 -- a port of 10 by 10 on this side
 abbrev pub port_on : Side → ChildPort

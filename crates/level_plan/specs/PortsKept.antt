@@ -1,5 +1,5 @@
 -- The ports and ends of a drawing obey the constraints of their children.
-use Rattle.std.specs.Prelude.{◌≡◌, ℕ, ◌<◌, not, Bool, ℤ, ◌+ℤ◌, ◌≤ℤ◌, None, length, IsTrue, IsFalse}
+use Rattle.std.specs.Prelude.{◌≡◌, ℕ, ◌<◌, not, Bool, ℤ, ◌+ℤ◌, ◌≤ℤ◌, None, length, IsFalse}
 use Rattle.std.specs.List.{filter}
 use Rattle.elk_doc.specs.declared.shape.Point.{Point}
 use Rattle.elk_doc.specs.declared.shape.Side.{Side}

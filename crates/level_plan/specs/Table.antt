@@ -1,10 +1,7 @@
 -- A table of what a drawing needs to know of children and ends: the definitions of a level's plan, worked out once.
 use Rattle.std.specs.Prelude.{◌≡◌, ℕ, ◌+◌, ◌*◌, ◌<◌, true, false, List, [], pos, length, slice_index_or, IsTrue}
 use Rattle.std.specs.List.{list_any}
-use Rattle.elk_doc.specs.declared.shape.Point.{Point}
-use Rattle.elk_doc.specs.declared.shape.Rect.{Rect}
 use Rattle.elk_doc.specs.declared.shape.Side.TheVariants.{North, East, South}
-use Rattle.elk_doc.specs.declared.shape.Dock.{Dock}
 use Rattle.elk_doc.specs.PortsKept.{is_side}
 use Rattle.level_plan.specs.Stage.{dock_lane, loop_lane}
 use Rattle.level_plan.specs.declared.table.EndAt.{EndAt}

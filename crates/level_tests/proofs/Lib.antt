@@ -1,2 +1,3 @@
+pub mod ChainedDrawn
 pub mod SmallLevels
 pub mod TurningLemmas

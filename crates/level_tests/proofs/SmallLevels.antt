@@ -5,27 +5,17 @@ use Rattle.elk_doc.specs.declared.document.PortRule.TheVariants.{Free}
 use Rattle.level_plan.specs.Conditions.{IsLevel, IsLevelChild, IsLevelEdge}
 use Rattle.level_plan.specs.Examples.{square}
 use Rattle.level_plan.specs.Level.{PlainLevel, child_at}
-use Rattle.level_layout.specs.Examples.{forked}
 use Rattle.level_parts.specs.Examples.{mixed}
-
--- what holds of the first numbers holds below the next
-below_two : (P : ℕ → Type 0) → P 0 → P 1 → (k : ℕ) → k < 2 → P k
-below_two P a b zero h = a
-below_two P a b (suc zero) h = b
-below_two P a b (suc (suc k)) h = absurd (omega (arith, h))
-
-below_three : (P : ℕ → Type 0) → P 0 → P 1 → P 2 → (k : ℕ) → k < 3 → P k
-below_three P a b c zero h = a
-below_three P a b c (suc k) h = below_two (λ n. P (suc n)) b c k (omega (arith, h))
+use Rattle.elk_doc.proofs.ExampleLaws.{below3}
 
 below_five : (P : ℕ → Type 0) → P 0 → P 1 → P 2 → P 3 → P 4 → (k : ℕ) → k < 5 → P k
 below_five P a b c d e zero h = a
 below_five P a b c d e (suc zero) h = b
-below_five P a b c d e (suc (suc k)) h = below_three (λ n. P (suc (suc n))) c d e k (omega (arith, h))
+below_five P a b c d e (suc (suc k)) h = below3 (λ n. P (suc (suc n))) c d e k (omega (arith, h))
 
 below_four : (P : ℕ → Type 0) → P 0 → P 1 → P 2 → P 3 → (k : ℕ) → k < 4 → P k
 below_four P a b c d zero h = a
-below_four P a b c d (suc k) h = below_three (λ n. P (suc n)) b c d k (omega (arith, h))
+below_four P a b c d (suc k) h = below3 (λ n. P (suc n)) b c d k (omega (arith, h))
 
 a_child : IsLevelChild (square [] Free)
 a_child =
@@ -35,21 +25,6 @@ a_child =
         ports = λ k h. absurd (omega (arith, h));
       };
       near = λ k h. absurd (omega (arith, h));
-    }
-
-forked_is_level : IsLevel forked
-forked_is_level =
-    record {
-      few_children = omega arith;
-      few_ports = omega arith;
-      few_edges = omega arith;
-      children = below_three (λ c. IsLevelChild (child_at forked c)) a_child a_child a_child;
-      edges = below_two (IsLevelEdge forked)
-          (record { source = record { child = omega arith; port = tt }; target = record { child = omega arith; port = tt }; weight_above = omega arith; weight_below = omega arith })
-          (record { source = record { child = omega arith; port = tt }; target = record { child = omega arith; port = tt }; weight_above = omega arith; weight_below = omega arith });
-      spacing = omega (arith, ints);
-      widths = omega (arith, ints);
-      heights = omega (arith, ints);
     }
 
 mixed_is_level : IsLevel mixed
@@ -68,9 +43,6 @@ mixed_is_level =
       widths = omega (arith, ints);
       heights = omega (arith, ints);
     }
-
-pub forked_is : (l : PlainLevel) → l ≡ forked → IsLevel l
-forked_is l same = subst IsLevel (sym same) forked_is_level
 
 pub mixed_is : (l : PlainLevel) → l ≡ mixed → IsLevel l
 mixed_is l same = subst IsLevel (sym same) mixed_is_level

@@ -1,5 +1,5 @@
 -- The document of one node is sound, and the drawing of its level can be written.
-use Rattle.std.proofs.Common.{◌≡◌, ◌∙◌, ap, sym, subst, refl, ℕ, zero, suc, ◌<◌, ◌≤◌, [], ◌∷◌, length, get_or, All, IsSome, IfSome, IsTrue, arith, rules}
+use Rattle.std.proofs.Common.{◌≡◌, ◌∙◌, ap, sym, subst, refl, ℕ, ◌<◌, ◌≤◌, [], ◌∷◌, length, get_or, All, IsSome, IfSome, IsTrue, arith, rules}
 use Rattle.std.proofs.lemmas.Int.{ints}
 use Rattle.std.proofs.lemmas.List.{length-map}
 use Rattle.std.proofs.lemmas.List.Elements.{All-nil, All-cons}
@@ -22,15 +22,7 @@ use Rattle.document_levels.specs.declared.figure.LevelFigure.{LevelFigure}
 use Rattle.document_levels.specs.declared.writing.LevelNumbers.{LevelNumbers}
 use Rattle.document_levels.specs.Written.{AreNumbersAt, ArePortPlaces, IsWritable, rows_in}
 use Rattle.level_tests.specs.Turning.{figure, padded, port_rows, turning}
-
-below1 : (P : ℕ → Type 0) → P 0 → (k : ℕ) → k < 1 → P k
-below1 P a zero h = a
-below1 P a (suc k) h = absurd (omega (arith, h))
-
-below2 : (P : ℕ → Type 0) → P 0 → P 1 → (k : ℕ) → k < 2 → P k
-below2 P a b zero h = a
-below2 P a b (suc zero) h = b
-below2 P a b (suc (suc k)) h = absurd (omega (arith, h))
+use Rattle.elk_doc.proofs.ExampleLaws.{below1, below2}
 
 root_options : (way : Direction) → IsSoundLevel (turning way) 0 (padded way)
 root_options way =

@@ -5,6 +5,8 @@
 #[cfg(test)]
 mod boxes;
 #[cfg(test)]
+mod drawn;
+#[cfg(test)]
 mod ends;
 #[cfg(test)]
 mod fixtures;

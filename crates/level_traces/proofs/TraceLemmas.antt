@@ -1,5 +1,5 @@
 -- Traces that are read off one after the other.
-use Rattle.std.proofs.Common.{◌≡◌, inl, inr, ℕ, ◌+◌, List, [], ◌∷◌, ◌++◌, map, length, get_or, arith, refl, sym, subst, ap, ◌∙◌}
+use Rattle.std.proofs.Common.{◌≡◌, inl, inr, ℕ, ◌+◌, List, [], ◌∷◌, ◌++◌, map, length, get_or, arith, sym, subst, ap, ◌∙◌}
 use Rattle.std.proofs.lemmas.Bool.{cases_lt}
 use Rattle.std.proofs.lemmas.List.{map-append, get_or_append_left, get_or-append-add, length-append}
 use Rattle.elk_doc.specs.declared.shape.Point.{Point}
@@ -9,9 +9,6 @@ use Rattle.level_frame.specs.Ranges.{plain_trace}
 use Rattle.level_nets.specs.declared.routing.Routing.{Routing}
 use Rattle.level_nets.specs.Parts.{Parts}
 use Rattle.level_traces.specs.Traced.{AreTraces, IsTraceOf, plain_traces, trace_in}
-
-pub traces_start : (s : Parts) (r : Routing) (boxes : List Point) → AreTraces s r boxes 0 (plain_traces [])
-traces_start s r boxes = record { as_many = refl; each = λ e h. absurd (omega (arith, h)) }
 
 at_end : (ts : List PlainTrace) (t d : PlainTrace) → get_or (ts ++ (t ∷ [])) (length ts) d ≡ t
 at_end ts t d =

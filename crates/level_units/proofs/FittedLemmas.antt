@@ -1,6 +1,6 @@
 -- What is read off a table are the heights and pins of the plan, and they keep what is asked of units and links.
-use Rattle.std.proofs.Common.{◌≡◌, ⊎_elim, ℕ, ◌+◌, ◌*◌, ◌<◌, ◌≤◌, ◌^◌, cond, Bool, true, false, not, ◌||◌, ℤ, pos, ◌+ℤ◌, ◌-ℤ◌, ◌≤ℤ◌, ◌<ℤ◌, List, [], length, IfSome, refl, sym, subst, ap, ap₂, ◌∙◌, arith}
-use Rattle.std.proofs.lemmas.Bool.{cases_lt}
+use Rattle.std.proofs.Common.{◌≡◌, ⊎_elim, ℕ, ◌+◌, ◌*◌, ◌<◌, ◌≤◌, ◌^◌, cond, Bool, true, false, not, ◌||◌, ℤ, pos, ◌+ℤ◌, ◌-ℤ◌, ◌≤ℤ◌, List, [], length, IfSome, refl, sym, subst, ap, ap₂, ◌∙◌, arith}
+use Rattle.std.proofs.lemmas.Bool.{cases_lt, or_parts}
 use Rattle.std.proofs.lemmas.Int.{ints}
 use Rattle.std.proofs.lemmas.List.{get_or_past}
 use Rattle.std.specs.Prelude.{Option, None, Some, is_some}
@@ -23,20 +23,24 @@ use Rattle.level_plan.specs.Nets.{below_top, head_line, is_inverted, is_number, 
 use Rattle.level_plan.specs.Table.{IsEndAt, IsTable, child_in, end_in}
 use Rattle.level_plan.specs.Units.{AreLinked, AreOrders, HasRoom}
 use Rattle.level_plan.proofs.LaneLemmas.{end_has_lane}
-use Rattle.level_plan.proofs.LinkLemmas.{head_enters, tail_leaves}
+use Rattle.level_plan.proofs.LinkLemmas.{head_ends, head_enters, tail_ends, tail_leaves, unit_of_end}
 use Rattle.level_ends.specs.Bounds.{AreNumbersIn}
 use Rattle.level_ends.specs.Lanes.{room}
 use Rattle.level_ends.proofs.ReadyLemmas.{have_children}
 use Rattle.level_plan.specs.Marks.{AreMarks}
 use Rattle.level_units.specs.Alike.{AreAlike, AreFlat, LanesStay, with_layered}
+use Rattle.level_units.specs.Tabled.{IsTableOf}
 use Rattle.level_units.specs.Fitted.{AreFitted, AreKept}
 use Rattle.level_units.specs.Reading.{AreFittedLinks, AreFittedUnits, HasChildIn, IsLinkIn, IsReadable, anchor_below, end_of, is_on_lane, pin_at, pin_of, roomy}
 use Rattle.level_units.proofs.AlikeLemmas.{child_same, no_heights, unit_same}
-use Rattle.level_units.proofs.ChildLemmas.{head_unit, tail_unit}
 use Rattle.level_units.proofs.ReadLemmas.{count_same, field_same, half, is_link_with, lanes_few, link_field, number_some, pin_child, pin_lane, pin_off, pin_on, room_low, with_child, with_layer, with_none, with_some}
 use Rattle.level_units.proofs.SizeLemmas.{heights_least, heights_of, outline_high}
 use Rattle.level_units.proofs.TotalLemmas.{IsCounted, first, first_double, first_heights, total_within}
-use Rattle.level_units.proofs.WithinLemmas.{IsUpTo, end_within, inverted_is, lanes_from_zero, level_offset, off_left, outline_deep}
+use Rattle.level_plan.proofs.SpotLemmas.{spoke_there}
+use Rattle.level_plan.proofs.EndLemmas.{lanes_from_zero, outline_deep}
+use Rattle.level_plan.proofs.LaneHeights.{IsUpTo}
+use Rattle.level_plan.proofs.LineLemmas.{level_offset}
+use Rattle.level_units.proofs.WithinLemmas.{end_within, inverted_is}
 
 -- the units and links with heights and pins
 abbrev pub plain_with : PlainPlan → List LayerUnit → List Link → Plain
@@ -172,6 +176,10 @@ module _ (l : PlainLevel) (p : PlainPlan) (o : Orders) (t : Table) (marks : List
     orders_q : AreOrders l (with_layered p (plain_with p us ks) tops) o
     orders_q = no_heights.orders l p (plain_with p us ks) tops o alike made.orders
 
+    -- the table is that of the units and links that have them
+    pub tabled_on : IsTableOf l (with_layered p (plain_with p us ks) tops) t
+    tabled_on = record { orders = o; are_orders = orders_q; table = table_q; numbers = made.numbers }
+
     linked_q : AreLinked l (with_layered p (plain_with p us ks) tops) made.layers
     linked_q = no_heights.linked l p (plain_with p us ks) tops made.layers alike made.layers_are flat made.linked
 
@@ -209,7 +217,7 @@ module _ (l : PlainLevel) (p : PlainPlan) (o : Orders) (t : Table) (marks : List
         → anchor_below l.spacing (child_in t.children (end_of t e a).dock.node) (end_of t e a) ≡ below_top l q o (anchor_line (dock_of l q o (end_at e a)))
     anchor_is e a h beside =
         let at = end_is e a h in
-        let inside = child_inside e a h in
+        let inside = (spoke_there l e a made.level h).child in
         let entry = table_q.children (spoke l (end_at e a)).child inside in
         let y : (end_of t e a).anchor.y ≡ (dock_of l q o (end_at e a)).offset =
         ap (λ (z : Point). z.y) at.anchor ∙ level_offset (child_at l (spoke l (end_at e a)).child) (dock_of l q o (end_at e a)).side (spot_of l q (end_at e a)).port (dock_of l q o (end_at e a)).offset beside
@@ -217,10 +225,6 @@ module _ (l : PlainLevel) (p : PlainPlan) (o : Orders) (t : Table) (marks : List
         ap (λ (d : Dock). anchor_below l.spacing (child_in t.children d.node) (end_of t e a)) at.dock
         ∙ ap (λ n. (room l.spacing n -ℤ (child_in t.children (spoke l (end_at e a)).child).outline.y) +ℤ (end_of t e a).anchor.y) entry.north
         ∙ ap₂ (λ (r : Rect) (z : ℤ). (body_top l q o (spoke l (end_at e a)).child -ℤ r.y) +ℤ z) entry.outline_is y
-      where
-        child_inside : (e : ℕ) (a : Bool) → e < length l.edges → (spoke l (end_at e a)).child < length l.children
-        child_inside e true h = (made.level.edges e h).source.child
-        child_inside e false h = (made.level.edges e h).target.child
 
     pin_is : (e : ℕ) (a b : Bool) → e < length l.edges → is_loop l e ≡ false → enters q (end_at e a) ≡ b → pin_of l.spacing t (end_of t e a) b ≡ below_top l q o (line_of_end l q o (end_at e a))
     pin_is e a b h loop way = step (is_upright (dock_of l q o (end_at e a)).side || is_inverted l q o (end_at e a)) refl
@@ -236,7 +240,7 @@ module _ (l : PlainLevel) (p : PlainPlan) (o : Orders) (t : Table) (marks : List
         step true lies =
             pin_on l.spacing t (end_of t e a) b (same ∙ lies)
             ∙ (end_is e a h).lane (end_has_lane l q o e a made.level h loop (sym (inverted_is l q o (end_at e a) loop) ∙ lies))
-        step false lies = pin_off l.spacing t (end_of t e a) b (same ∙ lies) ∙ anchor_is e a h (off_left (is_upright (dock_of l q o (end_at e a)).side) (is_inverted l q o (end_at e a)) lies)
+        step false lies = pin_off l.spacing t (end_of t e a) b (same ∙ lies) ∙ anchor_is e a h (or_parts (is_upright (dock_of l q o (end_at e a)).side) (is_inverted l q o (end_at e a)) lies).0
 
     pin_line : (u e : ℕ) (a b : Bool) → e < length l.edges → is_loop l e ≡ false → enters q (end_at e a) ≡ b
         → pin_at l.spacing t (unit_at us u) e a b ≡ below_top l q o (cond (is_child (plain_with p us ks) u) (line_of_end l q o (end_at e a)) (long_lane u))
@@ -370,16 +374,12 @@ module _ (l : PlainLevel) (p : PlainPlan) (o : Orders) (t : Table) (marks : List
       → z ≡ below_top l r o (cond (is_child (plain_with p us ks) u) (line_of_end l r o n) (long_lane u)) → IsUpTo (unit_at us u).height z
   end_in_unit u n z less h loop there is = step (is_child (plain_with p us ks) u) refl is
     where
-      inside : (e : ℕ) (a : Bool) → e < length l.edges → (spoke l (end_at e a)).child < length l.children
-      inside e true h = (made.level.edges e h).source.child
-      inside e false h = (made.level.edges e h).target.child
-
       step : (b : Bool) → is_child (plain_with p us ks) u ≡ b → z ≡ below_top l r o (cond b (line_of_end l r o n) (long_lane u)) → IsUpTo (unit_at us u).height z
       step true child e =
           let at = there child in
           subst (IsUpTo (unit_at us u).height) (sym e)
           (subst (λ y. IsUpTo y (below_top l r o (line_of_end l r o n)))
-          (sym (ap (λ w. (unit_at us w).height) at ∙ (room_is [] (spoke l n).child (inside n.edge n.at_source h)).height))
+          (sym (ap (λ w. (unit_at us w).height) at ∙ (room_is [] (spoke l n).child (spoke_there l n.edge n.at_source made.level h).child).height))
           (end_within l r o made.level (orders_q []) n.edge n.at_source h loop))
       step false child e = let least = height_least u less in (omega (arith, ints, e), omega (arith, ints, e, least))
 
@@ -411,12 +411,12 @@ module _ (l : PlainLevel) (p : PlainPlan) (o : Orders) (t : Table) (marks : List
         tail_rank = omega (arith, tail_rank, tail_small);
         head_rank = omega (arith, head_rank, head_small);
         tail_at = end_in_unit (link_at ks k).tail (tail_end r (link_at ks k).edge) (link_at ks k).tail_at tail_less edge_in no_loop
-            (λ child. tail ∙ tail_unit l p made.layers made.linked made.sound made.layers_are k h (sym (ap (is_child p.layered) tail) ∙ sym (child_same l p (plain_with p us ks) [] alike (link_at ks k).tail) ∙ child)
+            (λ child. tail ∙ unit_of_end (tail_ends l p made.layers made.level made.linked made.sound made.layers_are k h) (sym (ap (is_child p.layered) tail) ∙ sym (child_same l p (plain_with p us ks) [] alike (link_at ks k).tail) ∙ child)
             ∙ ap (λ e. unit_of p (spoke l (tail_end p e)).child) (sym edge)
             ∙ sym (unit_same l p (plain_with p us ks) [] alike (spoke l (tail_end p (link_at ks k).edge)).child))
             (tail_pin [] k h);
         head_at = end_in_unit (link_at ks k).head (head_end r (link_at ks k).edge) (link_at ks k).head_at head_less edge_in no_loop
-            (λ child. head ∙ head_unit l p made.layers made.linked made.sound made.layers_are k h (sym (ap (is_child p.layered) head) ∙ sym (child_same l p (plain_with p us ks) [] alike (link_at ks k).head) ∙ child)
+            (λ child. head ∙ unit_of_end (head_ends l p made.layers made.level made.linked made.sound made.layers_are k h) (sym (ap (is_child p.layered) head) ∙ sym (child_same l p (plain_with p us ks) [] alike (link_at ks k).head) ∙ child)
             ∙ ap (λ e. unit_of p (spoke l (head_end p e)).child) (sym edge)
             ∙ sym (unit_same l p (plain_with p us ks) [] alike (spoke l (head_end p (link_at ks k).edge)).child))
             (head_pin [] k h);

@@ -10,8 +10,6 @@ pub mod LinkedLemmas
 pub mod GrowingLemmas
 pub mod RowLemmas
 pub mod AlikeLemmas
-pub mod BlankLemmas
-pub mod ChildLemmas
 pub mod FittedLemmas
 pub mod MadeLemmas
 pub mod ReadLemmas
@@ -19,7 +17,6 @@ pub mod RoomLemmas
 pub mod SizeLemmas
 pub mod TotalLemmas
 pub mod WithinLemmas
-pub mod WorkedLevels
 pub mod PlaceLemmas
 pub mod SideLemmas
 pub mod SpotLemmas

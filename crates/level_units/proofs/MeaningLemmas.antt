@@ -25,16 +25,9 @@ use Rattle.level_units.specs.Levels.{seen_spots}
 use Rattle.level_units.specs.Ports.{AreRanksOf, PlainRanks, comes_before, counts, is_first, port_at, ranks_port}
 use Rattle.level_units.proofs.FlowLemmas.{seen_at, seen_long, seen_same, seen_side}
 use Rattle.level_units.proofs.SpotLemmas.{have_ports}
+use Rattle.level_nets.proofs.Gaps.{filter_mapped}
 
 -- ---- lists
-
-count_mapped : {X Y : Type 0} (f : Y → Bool) (g : X → Y) (xs : List X) → length (filter f (map g xs)) ≡ length (filter (λ x. f (g x)) xs)
-count_mapped f g [] = refl
-count_mapped {X} {Y} f g (x ∷ xs) = step (f (g x)) (count_mapped f g xs)
-  where
-    step : (b : Bool) → length (filter f (map g xs)) ≡ length (filter (λ x. f (g x)) xs) → length (cond b (g x ∷ filter f (map g xs)) (filter f (map g xs))) ≡ length (cond b (x ∷ filter (λ x. f (g x)) xs) (filter (λ x. f (g x)) xs))
-    step true e = omega (arith, e)
-    step false e = e
 
 filter_both : {X : Type 0} (f g : X → Bool) (xs : List X) → filter g (filter f xs) ≡ filter (λ x. f x && g x) xs
 filter_both f g [] = refl
@@ -64,8 +57,8 @@ module _ (l : PlainLevel) (p : PlainPlan) (o : Orders) (marks : List Bool) (c : 
 
   count_seen : (f : PortAt → Bool) → length (filter f (map (port_at (child_at l c)) (seen_spots l marks c))) ≡ length (filter (λ k. f (own k)) (range_with_len 0 (length (child_at l c).ports)))
   count_seen f =
-      count_mapped f (port_at (child_at l c)) (seen_spots l marks c)
-      ∙ count_mapped (λ (s : Spot). f (port_at (child_at l c) s)) (seen_spot l.edges marks c) (range_with_len 0 (length (child_at l c).ports))
+      filter_mapped f (port_at (child_at l c)) (seen_spots l marks c)
+      ∙ filter_mapped (λ (s : Spot). f (port_at (child_at l c) s)) (seen_spot l.edges marks c) (range_with_len 0 (length (child_at l c).ports))
 
   on_side : (k : ℕ) (side : Side) → is_side (side_of (child_at l c) (seen_spot l.edges marks c k)) side ≡ is_side (side_of (child_at l c) (port_spot l p c k)) side
   on_side k side = ap (λ s. is_side s side) (seen_side l p marks marked c k (child_at l c))

@@ -1,5 +1,5 @@
 -- What the code has at hand when it gives links their ranks.
-use Rattle.std.proofs.Common.{◌≡◌, ℕ, Bool, List, [], map, length, refl, sym, subst, ◌∙◌}
+use Rattle.std.proofs.Common.{◌≡◌, ℕ, Bool, List, [], map, length, refl, sym, subst}
 use Rattle.elk_layers.specs.declared.units.Unit.{Unit as LayerUnit}
 use Rattle.elk_layers.specs.declared.units.Link.{Link}
 use Rattle.elk_layers.specs.declared.units.Layered.{Layered}

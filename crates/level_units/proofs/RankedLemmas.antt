@@ -34,7 +34,7 @@ use Rattle.level_nets.proofs.ListLemmas.{filter_short}
 use Rattle.level_units.specs.Alike.{AreAlike, AreFlat}
 use Rattle.level_units.specs.Reading.{end_of, is_on_lane}
 use Rattle.level_units.proofs.AlikeLemmas.{no_heights}
-use Rattle.level_units.proofs.WithinLemmas.{level_offset}
+use Rattle.level_plan.proofs.LineLemmas.{level_offset}
 use Rattle.level_units.specs.Levels.{AreRanksTo, seen_spots}
 use Rattle.level_units.specs.Ports.{AreRanksOf, PlainRanks, counts, port_at}
 use Rattle.level_units.specs.Ranked.{AreRanked, AreReranked, plan_of}

@@ -7,7 +7,8 @@ use Rattle.elk_layers.specs.declared.units.Unit.{Unit as LayerUnit}
 use Rattle.elk_layers.specs.Layered.{Plain, unit_at, layer_of, row_at, AreRows, HasUnit, IsSound}
 use Rattle.level_plan.proofs.Lists.{filter_has, has_filter, has_range, range_has, has_at, at_has}
 use Rattle.level_units.specs.Started.{AreAscending, plain_rows, row_to}
-use Rattle.level_units.proofs.FilterLemmas.{filter_last, ascends}
+use Rattle.level_units.proofs.FilterLemmas.{filter_last}
+use Rattle.level_nets.proofs.ListLemmas.{rising}
 
 pub rows_none : (units : List LayerUnit) (rows : List (Vec ℕ Global)) → rows ≡ [] → AreAscending units 0 0 (plain_rows rows)
 rows_none units rows e = subst (λ rs. AreAscending units 0 0 (plain_rows rs)) (sym e) (record { as_many = refl; each = λ r h. absurd (omega (arith, h)) })
@@ -88,7 +89,7 @@ module _ (l : Plain) (sound : IsSound l) (rows : List (List ℕ)) (asc : AreAsce
       record { place = found.0; within = found.1; unit_is = found.2 }
 
   row_once : (r i j : ℕ) → i < j → j < length (whole r) → slice_index (whole r) i ≡ slice_index (whole r) j → ⊥
-  row_once r i j h less same = let up = ascends (λ u. eqb (unit_at l.units u).layer r) 0 (length l.units) i j h less in absurd (omega (arith, up, same))
+  row_once r i j h less same = let up = rising (λ u. eqb (unit_at l.units u).layer r) 0 (length l.units) i j h less in absurd (omega (arith, up, same))
 
   pub are_rows : AreRows l rows
   are_rows =

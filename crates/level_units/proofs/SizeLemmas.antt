@@ -4,7 +4,6 @@ use Rattle.std.proofs.lemmas.Int.{ints, clamps}
 use Rattle.std.specs.Prelude.{Option, None, Some}
 use Rattle.std.specs.Int.{int_min, int_max}
 use Rattle.std.specs.List.{range_with_len}
-use Rattle.elk_doc.specs.declared.shape.Point.{Point}
 use Rattle.elk_doc.specs.declared.shape.Size.{Size}
 use Rattle.elk_doc.specs.declared.shape.Side.{Side}
 use Rattle.elk_doc.specs.declared.shape.Side.TheVariants.{North, East, South, West}
@@ -107,12 +106,6 @@ level_along West s h = refl
 level_given : (given : Option Side) (b : Bool) → is_upright (side_else given b) ≡ false → is_upright (side_else given false) ≡ false
 level_given None b h = refl
 level_given (Some s) b h = h
-
-along_y : (side : Side) (z : Point) → is_upright side ≡ false → along side z ≡ z.y
-along_y North z h = absurd cc
-along_y East z h = refl
-along_y South z h = absurd cc
-along_y West z h = refl
 
 second_false : (a b : Bool) → (a && not b) ≡ true → b ≡ false
 second_false true true h = absurd cc

@@ -16,13 +16,6 @@ before_below f d (suc n) h =
       | inr other ↦ (let rest = before_below f d n (omega (arith, h, other)) in omega (arith, rest))
     ]
 
-pub before_to : (f : ℕ → ℕ) (d n : ℕ) → d ≤ n → before f d ≤ before f n
-before_to f d n h =
-    elim (cases_eq d n) [
-      | inl same ↦ subst (λ m. before f d ≤ before f m) same (omega arith)
-      | inr other ↦ (let less = before_below f d n (omega (arith, h, other)) in omega (arith, less))
-    ]
-
 pub before_bound : (f : ℕ → ℕ) (n b : ℕ) → ((e : ℕ) → e < n → f e ≤ b) → before f n ≤ n * b
 unfolding before
 before_bound f zero b h = omega arith

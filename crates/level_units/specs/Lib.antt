@@ -5,7 +5,6 @@ pub mod Started
 pub mod Alike
 pub mod Fitted
 pub mod Reading
-pub mod Worked
 pub mod Ranked
 pub mod Sides
 pub mod Flows
@@ -13,3 +12,4 @@ pub mod Ports
 pub mod RankReading
 pub mod Levels
 pub mod Laws
+pub mod Tabled

@@ -6,17 +6,26 @@ ghost use Rattle.level_plan.specs.Level.{Orders};
 ghost use Rattle.level_plan.specs.Marks.{AreMarks};
 ghost use Rattle.level_plan.specs.Units.{AreLinked};
 ghost use Rattle.level_units.specs.Fitted.{AreFitted, AreKept};
+ghost use Rattle.level_units.specs.Tabled.{IsTableOf};
 
 use crate::heights::fitted_units;
 use crate::pins::{Fitting, fitted_links};
 use elk_layers::{Layered, Order};
 use level_ends::table_of;
-use level_plan::LevelIn;
+use level_plan::{LevelIn, Table};
 use std::alloc::{AllocError, Global};
+
+/// Units and links with their heights and pins, and the table that these were read off.
+#[derive(Drop)]
+pub struct UnitsAndTable {
+    pub layered: Layered,
+    pub table: Table,
+}
 
 /// The units and links of a level with their heights and pins, in whole document units: each child's unit has the height of its
 /// lanes and its outline, and each link leaves and enters its units at the heights of its edge's anchors or of their lanes.
-/// These follow from the orders of the sides, which follow from the order of the rows.
+/// These follow from the orders of the sides, which follow from the order of the rows. The table that they are read off holds
+/// for whatever tops the units get.
 ///
 /// Of the units and links that are given, heights and pins are not read, but for those of lanes, which are 0. The ranks of
 /// pins stay as they are. The only error is want of memory; what was given is dropped then.
@@ -27,7 +36,7 @@ pub fn pinned(
     order: &Order,
     reversed: &[u32],
     turned: &[bool],
-) -> Result<Layered, AllocError>
+) -> Result<UnitsAndTable, AllocError>
     requires level { IsLevel (plain_level level.now) }
     requires sound { IsSound (plain layered) }
     requires rows { AreRows (plain layered) (rows_of order.now) }
@@ -36,11 +45,12 @@ pub fn pinned(
     requires edge_edge { layered.edge_edge ≡ level.now.spacing.edge_edge }
     requires linked { (layers : List ℕ) × AreLinked (plain_level level.now) (plain_plan layered order.now [] reversed.now) layers }
     requires marked { AreMarks reversed.now (length level.now.edges) turned.now }
-    ensures fitted { IfOk result (λ v. (o : Orders) × ((layers : List ℕ) (tops : List ℤ) → AreLinked (plain_level level.now) (plain_plan layered order.now [] reversed.now) layers → AreFitted (plain_level level.now) (plain_plan v order.now tops reversed.now) o layers)) }
-    ensures sound { IfOk result (λ v. IsSound (plain v)) }
-    ensures low { IfOk result (λ v. total_height (plain v).units ≤ℤ pos (3 * 2 ^ 47)) }
-    ensures rows { IfOk result (λ v. AreRows (plain v) (rows_of order.now)) }
-    ensures kept { IfOk result (λ v. AreKept (plain layered) (plain v)) }
+    ensures fitted { IfOk result (λ v. (o : Orders) × ((layers : List ℕ) (tops : List ℤ) → AreLinked (plain_level level.now) (plain_plan layered order.now [] reversed.now) layers → AreFitted (plain_level level.now) (plain_plan v.layered order.now tops reversed.now) o layers)) }
+    ensures table { IfOk result (λ v. (tops : List ℤ) → IsTableOf (plain_level level.now) (plain_plan v.layered order.now tops reversed.now) v.table) }
+    ensures sound { IfOk result (λ v. IsSound (plain v.layered)) }
+    ensures low { IfOk result (λ v. total_height (plain v.layered).units ≤ℤ pos (3 * 2 ^ 47)) }
+    ensures rows { IfOk result (λ v. AreRows (plain v.layered) (rows_of order.now)) }
+    ensures kept { IfOk result (λ v. AreKept (plain layered) (plain v.layered)) }
 {
     let table = table_of(alloc, level, &layered, order, reversed, turned)?;
     let fitting = Fitting {
@@ -50,12 +60,15 @@ pub fn pinned(
     };
     let units = fitted_units(alloc, &fitting, layered.units.as_slice())?;
     let links = fitted_links(alloc, &fitting, units.as_slice(), layered.links.as_slice())?;
-    Ok(Layered {
-        layers: layered.layers,
-        units,
-        links,
-        node_node: layered.node_node,
-        edge_node: layered.edge_node,
-        edge_edge: layered.edge_edge,
+    Ok(UnitsAndTable {
+        layered: Layered {
+            layers: layered.layers,
+            units,
+            links,
+            node_node: layered.node_node,
+            edge_node: layered.edge_node,
+            edge_edge: layered.edge_edge,
+        },
+        table,
     })
 }

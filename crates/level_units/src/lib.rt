@@ -22,7 +22,7 @@ mod runs;
 mod tables;
 mod units;
 
-pub use fitting::pinned;
+pub use fitting::{UnitsAndTable, pinned};
 pub use ranking::ranked;
 pub use ranks::{fitted_units_are_units, ranks_need_no_rows};
 pub use rows::start_of;

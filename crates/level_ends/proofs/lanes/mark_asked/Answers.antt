@@ -1,8 +1,8 @@
 use Rattle.std.proofs.Common.{refl, arith}
 use Rattle.level_ends.proofs.FirstLemmas.{first_within}
 use Rattle.level_ends.proofs.LaneLemmas.{asked_start, spot_marked}
-use Rattle.level_ends.proofs.OutlineLemmas.{dock_read}
 use Rattle.level_ends.proofs.lanes.mark_asked.Goals as goal
+use Rattle.level_ends.proofs.LoopLemmas.{dock_kept}
 
 pub loop-i-init : goal.loop-i-init
 loop-i-init c = asked_start c.args.docks.now c.args.spots.now c.args.marks.now c.requires.as_long c.requires.clear
@@ -15,4 +15,4 @@ mark_spot-requires c =
 
 pub loop-i-preserved : goal.loop-i-preserved
 loop-i-preserved c =
-    spot_marked c.args.docks.now c.args.spots.now c.args.firsts.now c.loop-i.i c.loop-i.marks c.mark_spot.new.marks _ _ _ c.requires.firsts c.loop-i-test.true (dock_read c.args.docks.now c.loop-i.i _ c.loop-i-test.true) refl refl c.mark_spot.ensures c.loop-i.invariant
+    spot_marked c.args.docks.now c.args.spots.now c.args.firsts.now c.loop-i.i c.loop-i.marks c.mark_spot.new.marks _ _ _ c.requires.firsts c.loop-i-test.true (dock_kept c.args.docks.now c.loop-i.i _ c.loop-i-test.true) refl refl c.mark_spot.ensures c.loop-i.invariant

@@ -5,15 +5,15 @@ use Rattle.elk_doc.specs.declared.shape.Dock.{Dock}
 use Rattle.level_ends.specs.Lanes.{NotesFirstSpot}
 use Rattle.level_ends.specs.Outlines.{dock_in}
 use Rattle.level_ends.proofs.FirstLemmas.{kept_more, long_more, noted_more, seen_more}
-use Rattle.level_ends.proofs.OutlineLemmas.{dock_read}
 use Rattle.level_ends.proofs.lanes.note_firsts.Goals as goal
+use Rattle.level_ends.proofs.LoopLemmas.{dock_kept}
 
 pub loop-i-preserved : goal.loop-i-preserved
 loop-i-preserved c =
     let docks = c.args.docks.now in
     let i = c.loop-i.i in
     let step : NotesFirstSpot (dock_in c.args.docks.now c.loop-i.i) c.args.side c.loop-i.i c.loop-i.firsts c.note_first.new.firsts (get int_cmp c.loop-i.seen) (get int_cmp c.note_first.new.seen) =
-    subst (λ (d : Dock). NotesFirstSpot d c.args.side c.loop-i.i c.loop-i.firsts c.note_first.new.firsts (get int_cmp c.loop-i.seen) (get int_cmp c.note_first.new.seen)) (dock_read docks i _ c.loop-i-test.true) c.in_ok-note_first.ensures
+    subst (λ (d : Dock). NotesFirstSpot d c.args.side c.loop-i.i c.loop-i.firsts c.note_first.new.firsts (get int_cmp c.loop-i.seen) (get int_cmp c.note_first.new.seen)) (dock_kept docks i _ c.loop-i-test.true) c.in_ok-note_first.ensures
     in
     record {
       as_long = long_more docks c.args.side i c.loop-i.firsts c.note_first.new.firsts _ _ step ∙ c.loop-i.invariant.as_long;

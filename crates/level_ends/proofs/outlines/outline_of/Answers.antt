@@ -1,8 +1,9 @@
 use Rattle.std.proofs.Common.{◌≡◌, ◌<◌, ◌+◌, ◌-◌, pos, length, get_or, arith}
 use Rattle.elk_doc.specs.declared.shape.Side.TheVariants.{North}
 use Rattle.elk_doc.specs.declared.shape.Dock.{Dock}
-use Rattle.level_ends.proofs.OutlineLemmas.{dock_offset, dock_read, outline_more, rect_read}
+use Rattle.level_ends.proofs.OutlineLemmas.{dock_offset, outline_more, rect_read}
 use Rattle.level_ends.proofs.outlines.outline_of.Goals as goal
+use Rattle.level_ends.proofs.LoopLemmas.{dock_kept}
 
 pub overflow_cast-port : goal.overflow_cast-port
 overflow_cast-port c =
@@ -22,6 +23,6 @@ ports-preserved c =
     let rect = rect_read c.args.child.now (get_or c.args.docks.now (c.ports.port - 1) d) (c.ports.port - 1) c.port_rect.result (dock_offset c.args.docks.now (c.ports.port - 1) d dock_in c.requires.offsets) c.port_rect.ensures.value in
     record {
       within = omega (arith, within);
-      outline = outline_more c.args.child.now c.args.docks.now (c.ports.port - 1) c.ports.port (length c.args.child.now.ports) (get_or c.args.docks.now (c.ports.port - 1) d) c.ports.outline c.port_rect.result c.hull-outline.result next inside (dock_read c.args.docks.now (c.ports.port - 1) d dock_in) c.ports.invariant.outline rect c.hull-outline.ensures.value;
+      outline = outline_more c.args.child.now c.args.docks.now (c.ports.port - 1) c.ports.port (length c.args.child.now.ports) (get_or c.args.docks.now (c.ports.port - 1) d) c.ports.outline c.port_rect.result c.hull-outline.result next inside (dock_kept c.args.docks.now (c.ports.port - 1) d dock_in) c.ports.invariant.outline rect c.hull-outline.ensures.value;
       near = c.hull-outline.ensures.near;
     }

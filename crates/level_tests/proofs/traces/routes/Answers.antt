@@ -1,4 +1,4 @@
-use Rattle.std.proofs.Common.{ℕ, Bool, List, [], length, sym, subst, refl, rules}
+use Rattle.std.proofs.Common.{ℕ, Bool, List, [], length, sym, subst, refl}
 use Rattle.level_plan.specs.Marks.{AreMarks}
 use Rattle.level_nets.specs.Parts.{IsGiven}
 use Rattle.level_nets.proofs.WorkedLemmas.{worked_parts, parallel_given}

@@ -7,8 +7,9 @@ use Rattle.level_plan.specs.Level.{Orders}
 use Rattle.level_plan.specs.Units.{AreLinked}
 use Rattle.level_units.specs.Alike.{with_layered}
 use Rattle.level_units.specs.Fitted.{AreFitted, AreKept}
+use Rattle.level_units.specs.Tabled.{IsTableOf}
 use Rattle.level_units.specs.Reading.{HasChildIn, IsLinkIn}
-use Rattle.level_units.proofs.FittedLemmas.{are_fitted, are_kept, are_rows, children_in, is_sound, links_in, plain_with, readable, together}
+use Rattle.level_units.proofs.FittedLemmas.{are_fitted, are_kept, are_rows, children_in, is_sound, links_in, plain_with, readable, tabled_on, together}
 use Rattle.level_units.proofs.MadeLemmas.{distance_read, links_read, respaced, tabled, units_read}
 use Rattle.level_units.proofs.fitting.pinned.Goals as goal
 
@@ -57,6 +58,19 @@ returns-clause-fitted c =
     respaced (λ (v : Plain). (o : Orders) × ((layers : List ℕ) (tops : List ℤ) → AreLinked (plain_level c.args.level.now) (plain_plan c.args.layered c.args.order.now [] c.args.reversed.now) layers → AreFitted (plain_level c.args.level.now) (with_layered (plain_plan c.args.layered c.args.order.now [] c.args.reversed.now) v tops) o layers)) (plain_with (plain_plan c.args.layered c.args.order.now [] c.args.reversed.now) c.in_ok-units.units.items c.in_ok-links.links.items) _ _ _
     (distance_read c.args.layered.node_node c.requires.sound.node_node_is) (distance_read c.args.layered.edge_node c.requires.sound.edge_node_is) (distance_read c.args.layered.edge_edge c.requires.sound.edge_edge_is)
     (c.in_ok-table.ensures.table.0, λ layers tops linked. are_fitted (plain_level c.args.level.now) (plain_plan c.args.layered c.args.order.now [] c.args.reversed.now) c.in_ok-table.ensures.table.0 c.in_ok-table.table c.args.turned.now c.in_ok-units.units.items c.in_ok-links.links.items made units links tops layers linked)
+
+pub returns-clause-table : goal.returns-clause-table
+returns-clause-table c =
+    let made = tabled c.args.level.now c.args.layered c.args.order.now c.args.reversed.now c.in_ok-table.table c.args.turned.now c.requires.level c.requires.sound c.requires.rows
+    c.requires.node_node c.requires.edge_node c.requires.edge_edge c.requires.linked c.in_ok-table.ensures.table c.in_ok-table.ensures.numbers c.requires.marked
+    in
+    let units = units_read c.args.level.now.spacing c.in_ok-table.table c.as_slice.result.now c.args.layered.units.items c.in_ok-units.units.items c.as_slice.ensures.value c.in_ok-units.ensures in
+    let links = links_read c.args.level.now.spacing c.in_ok-table.table c.args.turned.now c.as_slice-2.result.now c.in_ok-units.units.items c.as_slice-3.result.now c.args.layered.links.items c.in_ok-links.links.items
+    c.as_slice-2.ensures.value c.as_slice-3.ensures.value c.in_ok-links.ensures
+    in
+    respaced (λ (v : Plain). (tops : List ℤ) → IsTableOf (plain_level c.args.level.now) (with_layered (plain_plan c.args.layered c.args.order.now [] c.args.reversed.now) v tops) c.in_ok-table.table) (plain_with (plain_plan c.args.layered c.args.order.now [] c.args.reversed.now) c.in_ok-units.units.items c.in_ok-links.links.items) _ _ _
+    (distance_read c.args.layered.node_node c.requires.sound.node_node_is) (distance_read c.args.layered.edge_node c.requires.sound.edge_node_is) (distance_read c.args.layered.edge_edge c.requires.sound.edge_edge_is)
+    (λ tops. tabled_on (plain_level c.args.level.now) (plain_plan c.args.layered c.args.order.now [] c.args.reversed.now) c.in_ok-table.ensures.table.0 c.in_ok-table.table c.args.turned.now c.in_ok-units.units.items c.in_ok-links.links.items made units links tops)
 
 pub returns-clause-sound : goal.returns-clause-sound
 returns-clause-sound c =
