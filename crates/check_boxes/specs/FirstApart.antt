@@ -8,7 +8,7 @@ use Rattle.elk_doc.specs.declared.drawing.Placed.{Placed}
 use Rattle.elk_doc.specs.declared.drawing.Section.{Section}
 use Rattle.elk_doc.specs.Document.{Document, origin}
 use Rattle.elk_doc.specs.Level.{IsChild, IsEdge, is_child, source_node}
-use Rattle.elk_doc.specs.Drawing.{layer_in, part_in, points_of, section_of}
+use Rattle.elk_doc.specs.Drawing.{part_in, points_of, section_of}
 use Rattle.elk_doc.specs.Places.{outline_of}
 use Rattle.elk_doc.specs.Numbers.{count_below}
 use Rattle.elk_doc.specs.Shapes.{turned, point_rect}
@@ -17,7 +17,6 @@ use Rattle.elk_doc.specs.Apart.{Apart, InOnePart, LayersApart, PartsApart, Boxes
 use Rattle.check_faults.specs.declared.fault.Fault.{Fault}
 use Rattle.check_faults.specs.declared.fault.Place.TheVariants.{Node}
 use Rattle.check_faults.specs.Faults.{fault_at, lone_fault, FailsFirst, FailsFirstAt}
-use Rattle.check_faults.specs.Shapes.{Lists}
 use Rattle.check_boxes.specs.Names.{name_of}
 
 -- A number for each child of n: children have one number exactly where they lie in one part, and each smaller number was
@@ -93,13 +92,6 @@ is_leader d n names v = is_child d n v && (name_of names v == v)
 
 abbrev pub number_by : Document → ℕ → List ℕ → ℕ → ℕ
 number_by d n names v = count_below (is_leader d n names) (name_of names v)
-
--- the written layers and parts of all nodes, as those of a level
-abbrev pub AreLayers : Document → ℕ → Certificate → List ℕ → Type 0
-AreLayers d n c xs = Lists (layer_in d n c) (length d.nodes) xs
-
-abbrev pub AreParts : Document → ℕ → Certificate → List ℕ → Type 0
-AreParts d n c xs = Lists (part_in d n c) (length d.nodes) xs
 
 -- one rectangle lies left of another in the frame of a direction, or above it
 abbrev pub IsBeyond : Bool → ℤ → Direction → Rect → Rect → Type 0

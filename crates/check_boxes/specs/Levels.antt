@@ -6,7 +6,8 @@ use Rattle.elk_doc.specs.declared.drawing.Placed.{Placed}
 use Rattle.elk_doc.specs.Document.{Document}
 use Rattle.check_faults.specs.Scenes.{IsScene}
 use Rattle.check_boxes.specs.declared.level.Level.{Level}
-use Rattle.check_boxes.specs.FirstApart.{AreLayers, AreParts, PartHolds}
+use Rattle.check_faults.specs.Levels.{AreLayers, AreParts}
+use Rattle.check_boxes.specs.FirstApart.{PartHolds}
 
 abbrev pub doc_of : Level → Document
 doc_of l = l.scene.now.doc.now

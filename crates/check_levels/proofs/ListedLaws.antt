@@ -46,16 +46,6 @@ each_step xs s P old new i l =
     subst Q (sym e) (subst P (sym (last xs s)) new))
     (cases_lt i (length xs))
 
--- the steps before the first edge
-pub steps_none : (d : Document) (n : ℕ) (c : Certificate) (xs : List Step) → xs ≡ [] → AreStepsBelow d n c 0 xs
-steps_none d n c xs e =
-    rw e
-    (record {
-      sound = λ a b h. absurd (let l = h.place_in in omega arith);
-      complete = λ k l. absurd (omega arith);
-      below = record { from = λ i l. absurd (omega arith); to = λ i l. absurd (omega arith) };
-    })
-
 -- one edge more, which is unlisted or not
 pub steps_more : (d : Document) (n : ℕ) (c : Certificate) (e : ℕ) (xs : List Step) → AreStepsBelow d n c e xs → IsUnlisted d n c e → source_node d e < length d.nodes → target_node d e < length d.nodes → AreStepsBelow d n c (e + 1) (xs ++ step_of d e ∷ [])
 steps_more d n c e xs h u from to =

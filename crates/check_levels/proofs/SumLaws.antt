@@ -16,7 +16,8 @@ use Rattle.elk_doc.proofs.SoundLaws.{node_of_end-in}
 use Rattle.drawing_laws.proofs.Sums.{sum_below-zero, sum_below-suc, sum_below-pass, sum_below-fail, total_below-zero, total_below-pass, total_below-fail}
 use Rattle.check_faults.specs.Shapes.{AreHeads, AreTails, Lists}
 use Rattle.check_levels.specs.Sums.{AreSums, AreSumsAt}
-use Rattle.check_levels.specs.FirstLevels.{AreLayers, EdgeRises, ends_at, end_layer, length_of, rise_of}
+use Rattle.check_faults.specs.Levels.{AreLayers}
+use Rattle.check_levels.specs.FirstLevels.{EdgeRises, ends_at, end_layer, length_of, rise_of}
 
 -- one number more, which passes or fails
 pub sum_more : (p : ℕ → Bool) (f : ℕ → ℕ) (n : ℕ) → p n ≡ true → sum_below p f (n + 1) ≡ sum_below p f n + f n

@@ -4,7 +4,7 @@ use Rattle.elk_doc.specs.declared.drawing.Certificate.{Certificate}
 use Rattle.elk_doc.specs.declared.drawing.Placed.{Placed}
 use Rattle.elk_doc.specs.Document.{Document}
 use Rattle.elk_doc.specs.Level.{IsChild, IsEdge, is_edge_of, is_loop, place_of_child, source_node, target_node}
-use Rattle.elk_doc.specs.Drawing.{head_node, tail_node, flow_in, layer_in, part_in}
+use Rattle.elk_doc.specs.Drawing.{head_node, tail_node, flow_in}
 use Rattle.elk_doc.specs.Numbers.{sum_below}
 use Rattle.elk_doc.specs.Paths.{Reaches}
 use Rattle.elk_doc.specs.Reversed.{UnlistedStep}
@@ -79,13 +79,7 @@ IsBalanced d p n c a =
 abbrev pub AreByChild : Document → ℕ → List ℕ → List ℕ → Type 0
 AreByChild d n values xs = Lists (λ child. slice_index values (place_of_child d n child)) (length d.nodes) xs
 
--- the written layers and parts of all nodes and the written flow of all edges, as those of a level
-abbrev pub AreLayers : Document → ℕ → Certificate → List ℕ → Type 0
-AreLayers d n c xs = Lists (layer_in d n c) (length d.nodes) xs
-
-abbrev pub AreParts : Document → ℕ → Certificate → List ℕ → Type 0
-AreParts d n c xs = Lists (part_in d n c) (length d.nodes) xs
-
+-- the written flow of all edges, as that of a level
 abbrev pub AreFlows : Document → ℕ → Certificate → List ℕ → Type 0
 AreFlows d n c xs = Lists (flow_in d n c) (length d.edges) xs
 

@@ -6,7 +6,8 @@ ghost use Rattle.elk_doc.specs.Numbers.{sum_below};
 ghost use Rattle.elk_doc.specs.Sound.{IsSound};
 ghost use Rattle.check_faults.specs.Faults.{IsFirst};
 ghost use Rattle.check_faults.specs.Scenes.{IsScene};
-ghost use Rattle.check_levels.specs.FirstLevels.{AreLayers, EdgeRises, FirstLayering, end_layer, length_of, rise_of};
+ghost use Rattle.check_faults.specs.Levels.{AreLayers};
+ghost use Rattle.check_levels.specs.FirstLevels.{EdgeRises, FirstLayering, end_layer, length_of, rise_of};
 
 use crate::lists::number_at;
 use check_faults::{Fault, Place, Scene, is_edge_of};

@@ -2,7 +2,8 @@
 ghost use Rattle.std.specs.Prelude.{◌≡◌, ◌<◌, IfOk, slice_index};
 ghost use Rattle.elk_doc.specs.Fits.{Fits};
 ghost use Rattle.check_faults.specs.Shapes.{AreHeads, AreTails, AreWeights};
-ghost use Rattle.check_levels.specs.FirstLevels.{AreByChild, AreFlows, AreLayers, AreParts};
+ghost use Rattle.check_faults.specs.Levels.{AreLayers, AreParts};
+ghost use Rattle.check_levels.specs.FirstLevels.{AreByChild, AreFlows};
 
 use check_faults::{head_node, is_edge_of, tail_node};
 use elk_doc::document::Doc;

@@ -147,10 +147,6 @@ pub not_true : (b : Bool) → not b ≡ true → b ≡ false
 not_true true e = absurd cc
 not_true false e = refl
 
-pub not_false : (b : Bool) → b ≡ false → not b ≡ true
-not_false true e = absurd cc
-not_false false e = refl
-
 -- the one other end of an edge
 pub the_other : (P : Bool → Type 0) (s t : Bool) → P (not s) → t ≢ s → P t
 the_other P true true h n = absurd (n refl)

@@ -1,13 +1,9 @@
-use Rattle.std.proofs.Common.{Bool, true, false, rules}
+use Rattle.std.proofs.Common.{true, false, rules}
 use Rattle.std.proofs.lemmas.Bool.{both_ways}
 use Rattle.elk_doc.specs.Level.{IsEdge}
 use Rattle.check_ports.specs.FirstPorts.{EndHolds}
 use Rattle.check_ports.proofs.ends.ends_hold.Goals as goal
-
--- both ends
-both : (P : Bool → Type 0) → P true → P false → (t : Bool) → P t
-both P one other true = one
-both P one other false = other
+use Rattle.check_ports.proofs.SpotLaws.{both_ends}
 
 pub returns-then-not-end_holds : goal.returns-then-not-end_holds
 returns-then-not-end_holds c =
@@ -17,6 +13,6 @@ returns-then-not-end_holds c =
 pub returns : goal.returns
 returns c =
     let edge : IsEdge c.args.scene.now.doc.now c.args.node c.args.edge = search rules in (
-      λ t _ m u at. both (EndHolds c.args.scene.now.doc.now c.args.scene.now.placed.now c.args.edge) (c.end_holds.ensures.0 c.if-not-end_holds.false) (c.end_holds-2.ensures.0 t) u m at,
+      λ t _ m u at. both_ends (EndHolds c.args.scene.now.doc.now c.args.scene.now.placed.now c.args.edge) (c.end_holds.ensures.0 c.if-not-end_holds.false) (c.end_holds-2.ensures.0 t) u m at,
       λ h. c.end_holds-2.ensures.1 (λ m at. h edge m false at),
     )

@@ -1,5 +1,5 @@
 use Rattle.std.proofs.Common.{◌≡◌, ◌↔◌, ◌∙◌, ◌&&◌, not, Bool, ap, subst, IsTrue, rules}
-use Rattle.std.proofs.lemmas.Bool.{both_ways}
+use Rattle.std.proofs.lemmas.Bool.{both_ways, not_from_false}
 use Rattle.elk_doc.specs.declared.shape.Point.{Point}
 use Rattle.elk_doc.specs.declared.shape.Rect.{Rect}
 use Rattle.elk_doc.specs.declared.shape.Side.{Side}
@@ -10,7 +10,7 @@ use Rattle.elk_doc.specs.PortsKept.{is_pinned}
 use Rattle.elk_doc.specs.Sides.{is_leaf, side_of_port}
 use Rattle.check_ports.specs.declared.spots.SideSpot.{SideSpot}
 use Rattle.check_ports.specs.Spots.{AgreeAcross, AgreeAlong, LiesOn, StandsFlush}
-use Rattle.check_ports.proofs.SpotLaws.{not_false, not_true, subst4}
+use Rattle.check_ports.proofs.SpotLaws.{not_true, subst4}
 use Rattle.check_ports.proofs.ports.keeps_port.Goals as goal
 
 pub returns-then-not-agree_along : goal.returns-then-not-agree_along
@@ -52,8 +52,8 @@ returns c =
       λ t. record {
         along_kept = along.0 c.if-not-agree_along.false;
         across_kept = across.0 c.if-not-agree_across.false;
-        flush_outside = λ f. flush.0 c.if-not-stands_flush.false (not_false pinned f);
-        on_side = λ f. lies.0 t (not_false (is_pinned d k) f);
+        flush_outside = λ f. flush.0 c.if-not-stands_flush.false (not_from_false pinned f);
+        on_side = λ f. lies.0 t (not_from_false (is_pinned d k) f);
       },
       λ h. lies.1 (λ free. h.on_side (not_true (is_pinned d k) free)),
     )
