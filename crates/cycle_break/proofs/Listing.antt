@@ -4,12 +4,12 @@ use Rattle.std.proofs.lemmas.Bool.{cases_eq}
 use Rattle.std.proofs.lemmas.Bool.Decides.{nat_tests}
 use borrow.Author.Tests.{ltb-true}
 use Rattle.graph_arena.specs.Graph.{Graph, Ends, ends_at, occurs, IsNode, IsIncidence, tail_in, head_in}
-use Rattle.graph_arena.specs.Changes.{RemovesEdge, AddsEdge, IsSame}
+use Rattle.graph_arena.specs.Changes.{RemovesEdge, AddsEdge}
 use Rattle.graph_arena.specs.Paths.{Reaches}
 use Rattle.graph_arena.specs.Paths.Reaches.{stay, go}
 use Rattle.cycle_break.specs.Ways.{Step}
 use Rattle.cycle_break.specs.Reversed.{IsReversed, UnlistedStep, Settled, before, places_before}
-use Rattle.cycle_break.proofs.Lists.{occurs-append, occurs_one, occurs_none}
+use Rattle.cycle_break.proofs.Lists.{occurs-append, occurs_one, occurs_none, tail_from, head_from}
 
 abbrev ends_of : ℕ → ℕ → Ends
 ends_of a b = record { tail = a; head = b }
@@ -23,18 +23,6 @@ pub record ListedTo (g kept : Graph) (places : List (Option ℕ)) (listed : List
   pub is_listed : (e : ℕ) → 0 < occurs e listed → (e < at) × ((x : Ends) × (ends_at g e ≡ Some x) × (x.tail ≢ x.head))
   pub not_kept : (e : ℕ) → 0 < occurs e listed → ends_at kept e ≡ None
   pub once : (e : ℕ) → occurs e listed ≤ 1
-
-pub listed_none : (g kept : Graph) (places : List (Option ℕ)) → IsSame g kept → ListedTo g kept places [] 0
-listed_none g kept places s =
-    record {
-      same_nodes = λ v. (λ h. ap is_some (sym (s.same_nodes v)) ∙ h, λ h. ap is_some (s.same_nodes v) ∙ h);
-      sub = λ e x h. sym (s.same_edges e) ∙ h;
-      ahead = λ e x h l. absurd (omega (arith, l));
-      whole = λ e x h. inl (s.same_edges e ∙ h);
-      is_listed = λ e h. absurd (omega (arith, h));
-      not_kept = λ e h. absurd (omega (arith, h));
-      once = λ e. omega arith;
-    }
 
 same_ends : (x y : Ends) → Some x ≡ Some y → x ≡ y
 same_ends x y h = cc
@@ -105,9 +93,6 @@ listed_more g kept k1 places listed l1 at x s is r more others here =
     left e y h = sym (r.other_edges e (not_at e y h)) ∙ h
 
 -- ---- places rise along kept edges
-
-IsBefore : Option ℕ → Option ℕ → Type 0
-IsBefore p q = places_before p q ≡ true
 
 before_then : (p q r : Option ℕ) → places_before p q ≡ true → places_before q r ≡ true → places_before p r ≡ true
 before_then None q r a b = cc
@@ -264,22 +249,14 @@ settled_all g kept chosen s =
 
 -- ---- the step of a key, as the program takes it
 
-tail_of : (o : Option Ends) (t : ℕ) → tail_in o ≡ Some t → (x : Ends) × (o ≡ Some x) × (x.tail ≡ t)
-tail_of None t h = cc
-tail_of (Some x) t h = (x, refl, let q : Some x.tail ≡ Some t = h in cc)
-
 head_of : (x : Ends) (o : Option Ends) (t : ℕ) → o ≡ Some x → head_in o ≡ Some t → x.head ≡ t
 head_of x o t is h = let q : Some x.head ≡ Some t = sym (ap head_in is) ∙ h in cc
 
-head_end : (o : Option Ends) (t : ℕ) → head_in o ≡ Some t → (x : Ends) × (o ≡ Some x) × (x.head ≡ t)
-head_end None t h = cc
-head_end (Some x) t h = (x, refl, let q : Some x.head ≡ Some t = h in cc)
-
 pub tail_node : (g : Graph) (e t : ℕ) → IsIncidence g → tail_in (ends_at g e) ≡ Some t → IsNode g t
-tail_node g e t i h = let x = tail_of (ends_at g e) t h in subst (λ (j : ℕ). IsNode g j) x.2 (i.tails e x.0 x.1)
+tail_node g e t i h = let x = tail_from (ends_at g e) t h in subst (λ (j : ℕ). IsNode g j) x.2 (i.tails e x.0 x.1)
 
 pub head_node : (g : Graph) (e t : ℕ) → IsIncidence g → head_in (ends_at g e) ≡ Some t → IsNode g t
-head_node g e t i h = let x = head_end (ends_at g e) t h in subst (λ (j : ℕ). IsNode g j) x.2 (i.heads e x.0 x.1)
+head_node g e t i h = let x = head_from (ends_at g e) t h in subst (λ (j : ℕ). IsNode g j) x.2 (i.heads e x.0 x.1)
 
 pub step_forward : (g kept : Graph) (places : List (Option ℕ)) (listed : List ℕ) (at t h : ℕ) → ListedTo g kept places listed at → tail_in (ends_at g at) ≡ Some t → head_in (ends_at g at) ≡ Some h → before places t h ≡ true → ListedTo g kept places listed (at + 1)
 step_forward g kept places listed at t h s tail head ahead =
@@ -296,13 +273,13 @@ fresh g kept places listed at s =
 
 pub step_dropped : (g kept k1 : Graph) (places : List (Option ℕ)) (listed : List ℕ) (at t h : ℕ) → ListedTo g kept places listed at → tail_in (ends_at g at) ≡ Some t → head_in (ends_at g at) ≡ Some h → ((x : Ends) → ends_at kept at ≡ Some x → RemovesEdge kept k1 at x.tail x.head) → t ≡ h → ListedTo g k1 places listed (at + 1)
 step_dropped g kept k1 places listed at t h s tail head removes same =
-    let x = tail_of (ends_at g at) t tail in
+    let x = tail_from (ends_at g at) t tail in
     let b = head_of x.0 (ends_at g at) h x.1 head in
     listed_more g kept k1 places listed listed at x.0 s x.1 (removes x.0 (still_kept g kept places listed at x.0 s x.1)) (λ e. omega arith) (λ e n. refl) (inl (x.2 ∙ (same ∙ sym b), fresh g kept places listed at s))
 
 pub step_pushed : (g kept k1 : Graph) (places : List (Option ℕ)) (listed : List ℕ) (at t h : ℕ) → ListedTo g kept places listed at → tail_in (ends_at g at) ≡ Some t → head_in (ends_at g at) ≡ Some h → ((x : Ends) → ends_at kept at ≡ Some x → RemovesEdge kept k1 at x.tail x.head) → t ≢ h → ListedTo g k1 places (listed ++ at ∷ []) (at + 1)
 step_pushed g kept k1 places listed at t h s tail head removes other =
-    let x = tail_of (ends_at g at) t tail in
+    let x = tail_from (ends_at g at) t tail in
     let b = head_of x.0 (ends_at g at) h x.1 head in
     let a : (v : ℕ) → occurs v (listed ++ at ∷ []) ≡ occurs v listed + occurs v (at ∷ []) = λ v. occurs-append v listed (at ∷ []) in
     let f = fresh g kept places listed at s in
@@ -312,13 +289,13 @@ step_pushed g kept k1 places listed at t h s tail head removes other =
 
 pub chosen_by : (g kept : Graph) (chosen rest : List ℕ) (e t h : ℕ) → tail_in (ends_at g e) ≡ Some t → head_in (ends_at g e) ≡ Some h → Reaches (Step kept) h t → Settled g kept chosen (e ∷ rest) → Settled g kept (chosen ++ e ∷ []) rest
 chosen_by g kept chosen rest e t h tail head way s =
-    let x = tail_of (ends_at g e) t tail in
+    let x = tail_from (ends_at g e) t tail in
     let b = head_of x.0 (ends_at g e) h x.1 head in
     settled_chosen g kept chosen rest e x.0 s x.1 (subst (λ (j : ℕ). Reaches (Step kept) x.0.head j) (sym x.2) (subst (λ (j : ℕ). Reaches (Step kept) j t) (sym b) way))
 
 pub kept_by : (g kept k1 : Graph) (chosen rest : List ℕ) (e n t h : ℕ) → tail_in (ends_at g e) ≡ Some t → head_in (ends_at g e) ≡ Some h → (Reaches (Step kept) h t → ⊥) → AddsEdge kept k1 n t h → Settled g kept chosen (e ∷ rest) → Settled g k1 chosen rest
 kept_by g kept k1 chosen rest e n t h tail head none r s =
-    let x = tail_of (ends_at g e) t tail in
+    let x = tail_from (ends_at g e) t tail in
     let b = head_of x.0 (ends_at g e) h x.1 head in
     settled_kept g kept k1 chosen rest e n x.0 s x.1
     (subst (λ (j : ℕ). Reaches (Step kept) x.0.head j → ⊥) (sym x.2) (subst (λ (j : ℕ). Reaches (Step kept) j t → ⊥) (sym b) none))

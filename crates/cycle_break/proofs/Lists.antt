@@ -4,9 +4,9 @@ use Rattle.std.specs.Option.{is_none}
 use Rattle.std.proofs.lemmas.Bool.{cases_eq}
 use Rattle.std.proofs.lemmas.Bool.Decides.{nat_tests}
 use Rattle.std.proofs.lemmas.List.Sums.{sum_by-cons}
-use Rattle.graph_arena.specs.Graph.{Graph, Ends, ends_at, out_list, in_list, front, occurs, if_end, tail_in, head_in, IsIncidence}
-use Rattle.graph_arena.specs.Changes.{without}
+use Rattle.graph_arena.specs.Graph.{Graph, Ends, ends_at, out_list, in_list, front, occurs, tail_in, head_in, IsIncidence}
 use Rattle.cycle_break.specs.Order.{place}
+use Rattle.graph_arena.proofs.Chains.{owned}
 
 pub eqb_other : (m n : ℕ) → m ≢ n → eqb m n ≡ false
 eqb_other m n h = grind (arith, nat_tests, h)
@@ -55,23 +55,15 @@ place_last k (x ∷ xs) h =
 
 -- ---- an edge in a list has the list's node
 
-end_is : (o : Option ℕ) (v : ℕ) → 0 < if_end o v → o ≡ Some v
-end_is None v h = absurd (omega arith)
-end_is (Some u) v h =
-    elim (cases_eq u v) [
-      | inl e ↦ ap Some e
-      | inr n ↦ absurd (let g = rw (eqb_other u v n) at h in omega (arith, g))
-    ]
-
 pub front_occurs : (xs : List ℕ) (e : ℕ) → front xs ≡ Some e → 0 < occurs e xs
 front_occurs [] e h = cc
 front_occurs (x ∷ xs) e h = let s : x ≡ e = (let q : Some x ≡ Some e = h in cc) in rw (eq-eqb x e s) (omega arith)
 
-tail_from : (o : Option Ends) (v : ℕ) → tail_in o ≡ Some v → (x : Ends) × (o ≡ Some x) × (x.tail ≡ v)
+pub tail_from : (o : Option Ends) (v : ℕ) → tail_in o ≡ Some v → (x : Ends) × (o ≡ Some x) × (x.tail ≡ v)
 tail_from None v h = cc
 tail_from (Some x) v h = (x, refl, let q : Some x.tail ≡ Some v = h in cc)
 
-head_from : (o : Option Ends) (v : ℕ) → head_in o ≡ Some v → (x : Ends) × (o ≡ Some x) × (x.head ≡ v)
+pub head_from : (o : Option Ends) (v : ℕ) → head_in o ≡ Some v → (x : Ends) × (o ≡ Some x) × (x.head ≡ v)
 head_from None v h = cc
 head_from (Some x) v h = (x, refl, let q : Some x.head ≡ Some v = h in cc)
 
@@ -80,13 +72,13 @@ pub first_out_ends : (g : Graph) (v e : ℕ) → IsIncidence g → front (out_li
 first_out_ends g v e i h =
     let o = front_occurs (out_list g v) e h in
     let q = i.outs v e in
-    tail_from (ends_at g e) v (end_is (tail_in (ends_at g e)) v (omega (arith, o, q)))
+    tail_from (ends_at g e) v (owned (tail_in (ends_at g e)) v (omega (arith, o, q)))
 
 pub first_in_ends : (g : Graph) (v e : ℕ) → IsIncidence g → front (in_list g v) ≡ Some e → (x : Ends) × (ends_at g e ≡ Some x) × (x.head ≡ v)
 first_in_ends g v e i h =
     let o = front_occurs (in_list g v) e h in
     let q = i.ins v e in
-    head_from (ends_at g e) v (end_is (head_in (ends_at g e)) v (omega (arith, o, q)))
+    head_from (ends_at g e) v (owned (head_in (ends_at g e)) v (omega (arith, o, q)))
 
 front_empty : (xs : List ℕ) → front xs ≡ None → xs ≡ []
 front_empty [] h = refl
@@ -104,18 +96,6 @@ none_in g v e x i h is t =
     let q = i.ins v e in
     let q2 = rw (front_empty (in_list g v) h, is, eq-eqb x.head v t) at q in
     omega (arith, q2)
-
-pub shorter : (e : ℕ) (xs : List ℕ) → 0 < occurs e xs → length (without e xs) + 1 ≡ length xs
-shorter e [] h = absurd (omega arith)
-shorter e (x ∷ xs) h =
-    elim (cases_eq x e) [
-      | inl s ↦ rw (eq-eqb x e s) (omega arith)
-      | inr n ↦
-          let z = eqb_other x e n in
-          let g = rw z at h in
-          let i = shorter e xs (omega (arith, g)) in
-          rw z (omega (arith, i))
-    ]
 
 -- ---- one more place of an index is used
 

@@ -10,7 +10,8 @@ use Rattle.cycle_break.specs.declared.searching.Reached.{Reached}
 use Rattle.cycle_break.specs.declared.searching.Via.{Via}
 use Rattle.cycle_break.specs.Ways.{Step, Leads}
 use Rattle.cycle_break.specs.Search.{Searched, IsReady, WayOn, IsLinked, place_of, reached_at}
-use Rattle.cycle_break.proofs.Lists.{first_in_ends, front_occurs, shorter, none_in}
+use Rattle.cycle_break.proofs.Lists.{first_in_ends, front_occurs, none_in}
+use Rattle.graph_arena.proofs.Unlinking.{length-without}
 
 -- ---- one more entry
 
@@ -168,7 +169,7 @@ in_edge work w1 node e t i is removes tail =
     let x = first_in_ends work node e i is in
     let r = removes x.0 x.1 in
     let there = front_occurs (in_list work node) e is in
-    let l = shorter e (in_list work node) there in
+    let l = length-without e (in_list work node) there in
     let less : length (in_list w1 x.0.head) < length (in_list work x.0.head) = rw r.at_head (subst (λ (j : ℕ). length (without e (in_list work j)) < length (in_list work j)) (sym x.2) (omega (arith, l))) in (
       subst (λ (j : ℕ). IsNode work j) (sym (tail x.0 x.1)) (i.tails e x.0 x.1),
       r.same_nodes,

@@ -10,7 +10,8 @@ use Rattle.graph_arena.proofs.Counting.{few_below}
 use Rattle.cycle_break.specs.Ways.{Step, HasCycle}
 use Rattle.cycle_break.specs.Order.{IsTopological, place}
 use Rattle.cycle_break.specs.Search.{Sorted, HasIn}
-use Rattle.cycle_break.proofs.Lists.{eqb_other, occurs-append, occurs_one, occurs_none, occurs_within, place_kept, place_last, first_in_ends, first_out_ends, front_occurs, shorter, none_in, none_out}
+use Rattle.cycle_break.proofs.Lists.{eqb_other, occurs-append, occurs_one, occurs_none, occurs_within, place_kept, place_last, first_in_ends, first_out_ends, front_occurs, none_in, none_out}
+use Rattle.graph_arena.proofs.Unlinking.{length-without}
 
 same_ends : (x y : Ends) → Some x ≡ Some y → x ≡ y
 same_ends x y h = cc
@@ -258,7 +259,7 @@ out_edge work w1 node e h i is removes head =
     let x = first_out_ends work node e i is in
     let r = removes x.0 x.1 in
     let there = front_occurs (out_list work node) e is in
-    let l = shorter e (out_list work node) there in
+    let l = length-without e (out_list work node) there in
     let less : length (out_list w1 x.0.tail) < length (out_list work x.0.tail) = rw r.at_tail (subst (λ (j : ℕ). length (without e (out_list work j)) < length (out_list work j)) (sym x.2) (omega (arith, l))) in (
       ap is_some x.1,
       subst (λ (j : ℕ). IsNode work j) (sym (head x.0 x.1)) (i.heads e x.0 x.1),

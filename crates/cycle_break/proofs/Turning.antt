@@ -1,6 +1,6 @@
 -- Edges are turned round one after the other.
 use Rattle.std.proofs.Common.{◌≡◌, ◌≢◌, ℕ, zero, suc, length, take, get_or, ◌+◌, ◌<◌, ◌≤◌, eq-eqb, nat_eq, cond, Bool, false, List, [], ◌∷◌, ◌++◌, filter, Option, Some, None, IsSome, arith, refl, sym, ap, ◌∙◌, subst, inl, inr}
-use Rattle.std.proofs.lemmas.Bool.{cases_eq, cases_Bool}
+use Rattle.std.proofs.lemmas.Bool.{cases_eq}
 use Rattle.std.proofs.lemmas.List.{length-map, take-map}
 use Rattle.graph_arena.specs.Graph.{Graph, Ends, ends_at, out_list, in_list, occurs}
 use Rattle.graph_arena.specs.Changes.{Reverses, without}
@@ -9,33 +9,7 @@ use Rattle.cycle_break.specs.Ways.{edge_keys}
 use Rattle.cycle_break.specs.Reversed.{TurnsRound}
 use Rattle.cycle_break.proofs.Keys.{key_at}
 use Rattle.cycle_break.proofs.Lists.{eqb_other, occurs-append, occurs_one, occurs_none}
-
-pub turns_none : (g : Graph) → TurnsRound g g []
-turns_none g =
-    record {
-      turned = λ e x h is. absurd (omega (arith, h));
-      others = λ e h. refl;
-      same_nodes = λ v. (λ h. h, λ h. h);
-      outs = λ v. refl;
-      ins = λ v. refl;
-    }
-
-filter_stronger : (p q : ℕ → Bool) (xs : List ℕ) → ((e : ℕ) → q e ≡ false → p e ≡ false) → filter p (filter q xs) ≡ filter p xs
-filter_stronger p q [] h = refl
-filter_stronger p q (x ∷ xs) h =
-    let i = filter_stronger p q xs h in
-    elim (cases_Bool (q x)) [
-      | inl t ↦ rw t (ap (λ (l : List ℕ). cond (p x) (x ∷ l) l) i)
-      | inr f ↦ rw (f, h x f) i
-    ]
-
-filter_without : (p : ℕ → Bool) (e : ℕ) (xs : List ℕ) → p e ≡ false → filter p (without e xs) ≡ filter p xs
-filter_without p e [] h = refl
-filter_without p e (x ∷ xs) h =
-    elim (cases_eq x e) [
-      | inl s ↦ let q : p x ≡ false = ap p s ∙ h in rw (eq-eqb x e s, q) refl
-      | inr n ↦ let i = filter_without p e xs h in rw (eqb_other x e n) (ap (λ (l : List ℕ). cond (p x) (x ∷ l) l) i)
-    ]
+use Rattle.graph_arena.proofs.Removal.{filter_without, filter_stronger}
 
 filter_last : (p : ℕ → Bool) (e : ℕ) (xs : List ℕ) → p e ≡ false → filter p (xs ++ e ∷ []) ≡ filter p xs
 filter_last p e [] h = rw h refl

@@ -1,5 +1,5 @@
 -- How far a search has come. The searches take edges out of a copy, so what is done is what the copy has no more.
-use Rattle.std.specs.Prelude.{◌≡◌, ◌≢◌, ◌≤◌, ◌<◌, ◌+◌, ◌⊎◌, ◌↔◌, ℕ, List, length, Option, Some, None, IsSome, slice_index_or}
+use Rattle.std.specs.Prelude.{◌≡◌, ◌≤◌, ◌<◌, ◌+◌, ◌⊎◌, ◌↔◌, ℕ, List, length, Option, Some, None, IsSome, slice_index_or}
 use Rattle.graph_arena.specs.Graph.{Graph, Ends, ends_at, IsNode, occurs}
 use Rattle.cycle_break.specs.declared.searching.Reached.{Reached}
 use Rattle.cycle_break.specs.declared.searching.Via.{Via}

@@ -1,20 +1,13 @@
 -- Groups while numbers are added to them.
-use Rattle.std.proofs.Common.{◌≡◌, ◌≢◌, ℕ, zero, suc, ◌+◌, ◌<◌, ◌≤◌, Bool, true, false, List, [], ◌∷◌, ◌++◌, Vec, Global, Option, None, Some, length, map, take, get_or, set, slice_index, arith, refl, sym, ap, inl, inr, ◌∙◌, add-one, eq-eqb, ne_eqb}
+use Rattle.std.proofs.Common.{◌≡◌, ◌≢◌, ℕ, zero, suc, ◌+◌, ◌<◌, ◌≤◌, Bool, true, false, List, [], ◌∷◌, ◌++◌, Vec, Global, Option, None, Some, length, get_or, set, slice_index, arith, refl, sym, ap, inl, inr, ◌∙◌, add-one, eq-eqb, ne_eqb}
 use Rattle.std.proofs.lemmas.Bool.{cases_Bool, cases_eq, cases_lt}
-use Rattle.std.proofs.lemmas.List.{get_or-map, get_or-set_other, get_or-set_same, get_or_append_left, get_or_push, length-set, length_push, map-append, map-set, map_push, take_more}
+use Rattle.std.proofs.lemmas.List.{get_or-map, get_or-set_other, get_or-set_same, get_or_append_left, get_or_push, length-set, length_push, map-set, map_push}
 use Rattle.elk_doc.specs.Level.{is_number}
 use Rattle.elk_doc.specs.Numbers.{numbers_below, count_below}
 use Rattle.elk_doc.proofs.NumberLaws.{numbers_below-more, numbers_below-same, length-numbers_below, count_below-suc, count_below-suc_same}
 use Rattle.document_levels.specs.Grouping.{AreGrouped, ArePlacesIn, key_at, is_in, row_at, rows_in}
 
--- one element more of a list that is gone through
-pub map_next : {X Y : Type 0} (f : X → Y) (xs : List X) (done : List Y) (i : ℕ) (d : X) (y : Y) → done ≡ map f (take i xs) → i < length xs → y ≡ f (get_or xs i d) → done ++ y ∷ [] ≡ map f (take (i + 1) xs)
-map_next f xs done i d y so h is = rw (take_more xs i d h, map-append f (take i xs) (get_or xs i d ∷ []), so, is) refl
-
 -- ---- groups as lists
-
-pub row_read : (rows : List (Vec ℕ Global)) (k : ℕ) (row : Vec ℕ Global) → k < length rows → row ≡ get_or rows k row → row.items ≡ row_at (rows_in rows) k
-row_read rows k row h is = ap (λ (r : Vec ℕ Global). r.items) is ∙ sym (get_or-map (λ (r : Vec ℕ Global). r.items) rows k row [] h)
 
 pub row_written : (rows : List (Vec ℕ Global)) (k x : ℕ) (d row : Vec ℕ Global) → k < length rows → row.items ≡ (get_or rows k d).items ++ x ∷ []
     → rows_in (set rows k row) ≡ set (rows_in rows) k (row_at (rows_in rows) k ++ x ∷ [])

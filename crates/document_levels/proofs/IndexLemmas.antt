@@ -1,32 +1,14 @@
 -- The index of a document from groups of its children, edges and ports.
-use Rattle.std.proofs.Common.{◌≡◌, ℕ, zero, suc, ◌+◌, ◌<◌, Bool, true, List, [], ◌∷◌, ◌++◌, Option, None, Some, length, unwrap_or, arith, refl, sym, ap, subst, inl, inr, ◌∙◌, eqb-true}
-use Rattle.std.proofs.lemmas.Bool.{cases_lt}
-use Rattle.std.proofs.lemmas.List.{get_or_append_left, get_or_push, length-map, length_push}
-use Rattle.elk_doc.specs.Document.{Document, node_at, node_of_port, parent_of}
+use Rattle.std.proofs.Common.{◌≡◌, ℕ, zero, suc, ◌<◌, Bool, true, List, Option, None, Some, length, arith, refl, ap, ◌∙◌, eqb-true}
+use Rattle.std.proofs.lemmas.List.{length-map}
+use Rattle.elk_doc.specs.Document.{Document, node_at, node_of_port}
 use Rattle.elk_doc.specs.Level.{children, is_number, level_of_edge}
 use Rattle.elk_doc.specs.Numbers.{numbers_below, count_below}
-use Rattle.elk_doc.specs.Sound.{IsSound}
 use Rattle.elk_doc.proofs.NumberLaws.{is_true}
-use Rattle.elk_doc.proofs.SoundLaws.{node_of_end-in, parent_of-in}
 use Rattle.document_levels.specs.declared.grouping.Groups.{Groups}
 use Rattle.document_levels.specs.declared.index.Index.{Index}
-use Rattle.document_levels.specs.Grouping.{IsGrouping, key_at, is_in}
+use Rattle.document_levels.specs.Grouping.{IsGrouping, is_in}
 use Rattle.document_levels.specs.Indexed.{AreKeys, HasRows, IsIndex, place_in}
-
--- one key more
-pub no_keys : (key : ℕ → Option ℕ) (keys : List (Option ℕ)) → keys ≡ [] → AreKeys key 0 keys
-no_keys key keys e = record { as_many = ap length e; each = λ i h. absurd (omega (arith, h)) }
-
-pub keys_more : (key : ℕ → Option ℕ) (n : ℕ) (keys new : List (Option ℕ)) (x : Option ℕ) → x ≡ key n → new ≡ keys ++ x ∷ [] → AreKeys key n keys → AreKeys key (n + 1) new
-keys_more key n keys new x is pushed are =
-    let many = are.as_many in
-    record {
-      as_many = ap length pushed ∙ length_push keys x ∙ ap (λ m. m + 1) many;
-      each = λ i h. ap (λ (xs : List (Option ℕ)). key_at xs i) pushed ∙ elim (cases_lt i n) [
-        | inl less ↦ get_or_append_left keys (x ∷ []) None i (omega (arith, less, many)) ∙ are.each i less
-        | inr most ↦ (let same : i ≡ n = omega (arith, h, most) in get_or_push keys x None i (many ∙ sym same) ∙ is ∙ ap key (sym same))
-      ];
-    }
 
 -- equal tests pick the same numbers
 numbers_alike : (p q : ℕ → Bool) (n : ℕ) → ((i : ℕ) → i < n → p i ≡ q i) → numbers_below p n ≡ numbers_below q n
@@ -77,29 +59,3 @@ is_index d x parents levels nodes p l n children edges ports =
       edge_place = λ m e is. place_of_key (λ e. Some (level_of_edge d e)) (length d.edges) (length d.nodes) levels x.edges l edges e m is.edge_in (ap Some (eqb-true _ _ (is_true _ is.edge)));
       port_place = λ k h. place_of_key (λ k. Some (node_of_port d k)) (length d.ports) (length d.nodes) nodes x.ports n ports k (node_of_port d k) h refl;
     }
-
--- every key names a node
-pub parents_below : (d : Document) (keys : List (Option ℕ)) → IsSound d → AreKeys (λ c. (node_at d c).parent) (length d.nodes) keys
-    → (i k : ℕ) → i < length keys → key_at keys i ≡ Some k → k < length d.nodes
-parents_below d keys s are i k h e =
-    let many = are.as_many in
-    let here : i < length d.nodes = omega (arith, h, many) in
-    let same : parent_of d i ≡ k = ap (λ o. unwrap_or o 0) (sym (are.each i here) ∙ e) in
-    subst (λ n. n < length d.nodes) same (parent_of-in d i s here)
-
-some_same : (m n : ℕ) → Some m ≡ Some n → m ≡ n
-some_same m n e = ap (λ o. unwrap_or o 0) e
-
-pub nodes_below : (d : Document) (keys : List (Option ℕ)) → IsSound d → AreKeys (λ k. Some (node_of_port d k)) (length d.ports) keys
-    → (i k : ℕ) → i < length keys → key_at keys i ≡ Some k → k < length d.nodes
-nodes_below d keys s are i k h e =
-    let many = are.as_many in
-    let here : i < length d.ports = omega (arith, h, many) in
-    subst (λ n. n < length d.nodes) (some_same _ _ (sym (are.each i here) ∙ e)) (s.ports.nodes i here)
-
-pub levels_below : (d : Document) (keys : List (Option ℕ)) → IsSound d → AreKeys (λ e. Some (level_of_edge d e)) (length d.edges) keys
-    → (i k : ℕ) → i < length keys → key_at keys i ≡ Some k → k < length d.nodes
-levels_below d keys s are i k h e =
-    let many = are.as_many in
-    let here : i < length d.edges = omega (arith, h, many) in
-    subst (λ n. n < length d.nodes) (some_same _ _ (sym (are.each i here) ∙ e)) (parent_of-in d _ s (node_of_end-in d _ s (s.edges i here).source_in))

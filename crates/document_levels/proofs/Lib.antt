@@ -14,5 +14,4 @@ pub mod WrittenLemmas
 pub mod WrittenLevelLemmas
 pub mod SizeLemmas
 pub mod FramedLemmas
-pub mod CanvasLemmas
 pub mod RoomLemmas

@@ -1,8 +1,7 @@
 -- Ports of the root are kept where those of the child are that it is in a document below another root.
-use Rattle.std.proofs.Common.{◌≡◌, ◌≢◌, ◌⊎◌, ⊎_elim, ℕ, zero, suc, ◌+◌, ◌<◌, ◌≤◌, cond, not, ◌&&◌, ◌==◌, Bool, true, false, [], ◌∷◌, map, length, Some, None, IsNone, IsTrue, IsFalse, unwrap_or, ℤ, pos, ◌+ℤ◌, ◌≤ℤ◌, ◌<ℤ◌, refl, sym, ap, ap₂, subst, subst₂, ◌∙◌, arith, rules, eq-eqb, ne_eqb, eqb-true, inl, inr}
+use Rattle.std.proofs.Common.{◌≡◌, ◌≢◌, ◌⊎◌, ⊎_elim, ℕ, zero, suc, ◌<◌, cond, not, ◌&&◌, ◌==◌, Bool, true, false, [], ◌∷◌, length, Some, None, IsNone, IsTrue, IsFalse, unwrap_or, ℤ, pos, ◌+ℤ◌, ◌≤ℤ◌, ◌<ℤ◌, refl, sym, ap, ap₂, subst, subst₂, ◌∙◌, arith, rules, eq-eqb, ne_eqb, eqb-true}
 use Rattle.std.proofs.lemmas.Bool.{cases_eq}
-use Rattle.std.proofs.lemmas.Int.{ints}
-use Rattle.std.specs.Prelude.{Option, is_some, is_none}
+use Rattle.std.specs.Prelude.{Option, is_some}
 use Rattle.elk_doc.specs.declared.shape.Point.{Point}
 use Rattle.elk_doc.specs.declared.shape.Rect.{Rect}
 use Rattle.elk_doc.specs.declared.shape.Side.{Side}
@@ -10,10 +9,9 @@ use Rattle.elk_doc.specs.declared.shape.Size.{Size}
 use Rattle.elk_doc.specs.declared.document.End.{End}
 use Rattle.elk_doc.specs.declared.document.End.TheVariants.{Node as AtNode, Port as AtPort}
 use Rattle.elk_doc.specs.declared.document.Port.{Port}
-use Rattle.elk_doc.specs.declared.document.PortRule.TheVariants.{FixedOrder}
 use Rattle.elk_doc.specs.declared.drawing.Certificate.{Certificate}
 use Rattle.elk_doc.specs.declared.drawing.Placed.{Placed}
-use Rattle.elk_doc.specs.Document.{Document, direction_of, edge_at, frame_of, node_at, node_of_port, parent_of, port_at}
+use Rattle.elk_doc.specs.Document.{Document, direction_of, edge_at, frame_of, node_at, node_of_port, port_at}
 use Rattle.elk_doc.specs.Drawing.{box_of, head_end, is_listed, no_rect, port_place}
 use Rattle.elk_doc.specs.Level.{is_loop, node_of_end}
 use Rattle.elk_doc.specs.Numbers.{any_below, count_below}
@@ -23,7 +21,7 @@ use Rattle.elk_doc.specs.Shapes.{half_of, moved_by, rect_at}
 use Rattle.elk_doc.specs.Sides.{end_of, enters_port, given_side, is_at_port, is_entered, is_leaf, is_left, side_by_place, side_from, side_of_end, side_of_port, side_or}
 use Rattle.elk_doc.specs.Sound.{IsSound, IsWithin, along}
 use Rattle.elk_doc.proofs.NumberLaws.{any_below-zero, count_below-zero, is_true}
-use Rattle.document_plan.proofs.LoweredLemmas.{lowered, other_port_at, port_count, root_port, root_port_at}
+use Rattle.document_plan.proofs.LoweredLemmas.{lowered, other_port_at, port_count, root_port_at}
 
 -- a drawing of the lowered document, with the box and the ports of the other's root
 abbrev pub lowered_drawing : Placed → Certificate → Placed

@@ -1,7 +1,7 @@
 -- A level of boxes has no edges, so its certificate says what there is to say.
 use Rattle.std.proofs.Common.{◌≡◌, ◌≢◌, inl, inr, ℕ, zero, suc, ◌<◌, Bool, true, false, ◌==◌, ◌&&◌, not, List, [], ◌∷◌, length, ℤ, pos, IsTrue, refl, sym, ◌∙◌, subst, arith, eqb-true}
 use Rattle.std.specs.Prelude.{Option, Some, IfSome, IsFalse, if◌then◌else◌}
-use Rattle.std.proofs.lemmas.Bool.{cases_Bool}
+use Rattle.std.proofs.lemmas.Bool.{cases_Bool, and_left}
 use Rattle.std.proofs.lemmas.Int.{ints}
 use Rattle.std.proofs.lemmas.List.{length-map}
 use Rattle.elk_doc.specs.declared.document.LevelOptions.{LevelOptions}
@@ -36,10 +36,6 @@ no_count : (t : ℕ → Bool) (m : ℕ) → ((k : ℕ) → k < m → t k ≡ fal
 unfolding count_below
 no_count t zero none = refl
 no_count t (suc m) none = rw (none m (omega arith)) (let rest = no_count t m (λ k h. none k (omega (arith, h))) in omega (arith, rest))
-
-false_and : (a b : Bool) → a ≡ false → (a && b) ≡ false
-false_and true b h = absurd cc
-false_and false b h = refl
 
 module _ (d : Document) (n : ℕ) (o : LevelOptions) (sound : IsSound d) (there : n < length d.nodes) (options : (node_at d n).level ≡ Some o) (boxes : IsTrue o.boxes) where
   elsewhere : (e : ℕ) → e < length d.edges → level_of_edge d e ≢ n
@@ -79,8 +75,8 @@ module _ (d : Document) (n : ℕ) (o : LevelOptions) (sound : IsSound d) (there 
         record {
           loops = λ e h other. absurd (no_edge e h);
           balance = λ a child.
-              let enters : (e : ℕ) → e < length d.edges → enters_child d p n a e ≡ false = λ e h. false_and (is_edge_of d n e) ((head_node d p e == a) && not (is_loop d e)) (no_edge_at e h) in
-              let leaves : (e : ℕ) → e < length d.edges → leaves_child d p n a e ≡ false = λ e h. false_and (is_edge_of d n e) ((tail_node d p e == a) && not (is_loop d e)) (no_edge_at e h) in
+              let enters : (e : ℕ) → e < length d.edges → enters_child d p n a e ≡ false = λ e h. and_left (is_edge_of d n e) ((head_node d p e == a) && not (is_loop d e)) (no_edge_at e h) in
+              let leaves : (e : ℕ) → e < length d.edges → leaves_child d p n a e ≡ false = λ e h. and_left (is_edge_of d n e) ((tail_node d p e == a) && not (is_loop d e)) (no_edge_at e h) in
               let flow_in_sum = no_sum (enters_child d p n a) (flow_in d n (boxes_certificate d n)) (length d.edges) enters in
               let weight_out = no_sum (leaves_child d p n a) (weight_at d) (length d.edges) leaves in
               let flow_out = no_sum (leaves_child d p n a) (flow_in d n (boxes_certificate d n)) (length d.edges) leaves in

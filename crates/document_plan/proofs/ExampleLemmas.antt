@@ -1,5 +1,5 @@
 -- A root alone in its document is a document.
-use Rattle.std.proofs.Common.{◌≡◌, ℕ, zero, suc, ◌<◌, ◌≤◌, ◌^◌, Option, Some, None, IsSome, IsNone, pos, neg_ℤ, refl, arith, rules}
+use Rattle.std.proofs.Common.{◌≡◌, ◌<◌, ◌≤◌, ◌^◌, Option, Some, None, IsSome, pos, neg_ℤ, refl, arith, rules}
 use Rattle.std.proofs.lemmas.Int.{ints}
 use Rattle.std.specs.Prelude.{IfSome}
 use Rattle.elk_doc.specs.declared.shape.Side.{Side}
@@ -11,15 +11,7 @@ use Rattle.elk_doc.specs.Examples.{options, point}
 use Rattle.elk_doc.specs.Sides.{given_side}
 use Rattle.elk_doc.specs.Sound.{HasParent, IsSound, IsSoundLevel, IsSoundNode, IsSoundPort, IsWithin, along, ancestor}
 use Rattle.document_plan.specs.Examples.{rooted}
-
-below1 : (P : ℕ → Type 0) → P 0 → (k : ℕ) → k < 1 → P k
-below1 P a zero h = a
-below1 P a (suc k) h = absurd (omega (arith, h))
-
-below2 : (P : ℕ → Type 0) → P 0 → P 1 → (k : ℕ) → k < 2 → P k
-below2 P a b zero h = a
-below2 P a b (suc zero) h = b
-below2 P a b (suc (suc k)) h = absurd (omega (arith, h))
+use Rattle.elk_doc.proofs.ExampleLaws.{below1, below2}
 
 near_side : (side : Option Side) → IfSome side (λ s. IsWithin (neg_ℤ (pos (2 ^ 20))) (pos (2 ^ 20)) (along s (point (pos 0) (pos 100))))
 near_side None = tt

@@ -1,5 +1,5 @@
 -- Ports of a child that are kept are near enough to be turned back.
-use Rattle.std.proofs.Common.{◌≡◌, ℕ, ◌<◌, ◌^◌, not, ◌&&◌, Bool, true, false, IsTrue, IsFalse, ⊎_elim, ℤ, pos, neg_ℤ, ◌+ℤ◌, ◌≤ℤ◌, length, refl, sym, subst, arith, rules}
+use Rattle.std.proofs.Common.{◌≡◌, ℕ, ◌<◌, ◌^◌, not, ◌&&◌, Bool, true, false, IsTrue, IsFalse, ⊎_elim, ℤ, pos, ◌+ℤ◌, ◌≤ℤ◌, length, sym, subst, arith, rules}
 use Rattle.std.proofs.lemmas.Bool.{cases_Bool}
 use Rattle.std.proofs.lemmas.Int.{ints}
 use Rattle.elk_doc.specs.declared.shape.Point.{Point}

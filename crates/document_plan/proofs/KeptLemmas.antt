@@ -1,5 +1,5 @@
 -- Ports of the root that stand as in a layout of the root alone are kept.
-use Rattle.std.proofs.Common.{◌≡◌, ℕ, zero, suc, ◌<◌, Bool, List, [], ◌∷◌, map, length, get_or, ℤ, ◌+ℤ◌, ◌-ℤ◌, None, Some, IsTrue, refl, sym, ap, ap₂, subst, ◌∙◌, arith, rules}
+use Rattle.std.proofs.Common.{◌≡◌, ℕ, zero, suc, ◌<◌, List, [], ◌∷◌, map, length, get_or, ℤ, ◌+ℤ◌, ◌-ℤ◌, None, Some, IsTrue, refl, sym, ap, subst, ◌∙◌, arith, rules}
 use Rattle.std.proofs.lemmas.Int.{ints}
 use Rattle.std.specs.Prelude.{Option, IsNone, IsSome}
 use Rattle.elk_doc.specs.declared.shape.Point.{Point}
@@ -12,8 +12,8 @@ use Rattle.elk_doc.specs.declared.drawing.Certificate.{Certificate}
 use Rattle.elk_doc.specs.declared.drawing.Placed.{Placed}
 use Rattle.elk_doc.specs.Document.{Document, node_at, port_at}
 use Rattle.elk_doc.specs.Drawing.{box_of, port_place}
-use Rattle.elk_doc.specs.Fits.{KeepsSize, LeavesKept}
-use Rattle.elk_doc.specs.Level.{IsChild, edges_of}
+use Rattle.elk_doc.specs.Fits.{LeavesKept}
+use Rattle.elk_doc.specs.Level.{IsChild}
 use Rattle.elk_doc.specs.PortsKept.{KeepsPorts}
 use Rattle.elk_doc.specs.Shapes.{rect_at, turned}
 use Rattle.elk_doc.specs.Sound.{IsSound}
@@ -27,7 +27,7 @@ use Rattle.level_draw.specs.declared.drawing.LevelOut.{LevelOut}
 use Rattle.level_draw.specs.Drawing.{IsDrawing, drawn_in, plan_from}
 use Rattle.level_layout.specs.Layout.{IsLaidOut}
 use Rattle.level_frame.specs.Drawing.{IsTurnedChild, IsTurnedDrawing, plus}
-use Rattle.level_frame.specs.Turned.{box_size, edge_number, level_of, port_number, ports_of, turned_place, turned_size}
+use Rattle.level_frame.specs.Turned.{box_size, edge_number, port_number, ports_of, turned_place, turned_size}
 use Rattle.level_frame.proofs.NumberedLemmas.{numbers_match}
 use Rattle.level_laws.specs.DockLaws.{IsAnchored, IsFromLevel}
 use Rattle.level_laws.specs.PortLaws.{AllKeepPorts}
@@ -36,7 +36,9 @@ use Rattle.document_plan.specs.Planned.{root_level}
 use Rattle.document_plan.specs.Rooted.{RootPortsAreKept}
 use Rattle.document_plan.proofs.LoweredLemmas.{lowered, lowered_sound, root_port_at}
 use Rattle.document_plan.proofs.BackLemmas.{lowered_drawing, root_keeps}
-use Rattle.document_plan.proofs.LevelLemmas.{first_alone, level_is, no_edges, only_child, ports_are}
+use Rattle.elk_doc.proofs.ExampleLaws.{below1}
+use Rattle.document_plan.proofs.LevelLemmas.{level_is, no_edges, only_child, ports_are}
+use Rattle.elk_doc.proofs.ShapeLaws.{same_rect}
 
 -- how far a point is moved to the corner of a rectangle in the frame
 abbrev shift : Direction → Rect → Point → Point
@@ -45,16 +47,11 @@ shift way r a = record { x = (turned way r).x -ℤ a.x; y = (turned way r).y -�
 there : (z a : ℤ) → z ≡ (z -ℤ a) +ℤ a
 there z a = omega (arith, ints)
 
-same_corner : (r s : Rect) → r.x ≡ s.x → r.y ≡ s.y → r.width ≡ s.width → r.height ≡ s.height → r ≡ s
-same_corner r s x y w h =
-    ap₂ (λ (a b : ℤ). let t : Rect = record { x = a; y = b; width = r.width; height = r.height } in t) x y
-    ∙ ap₂ (λ (a b : ℤ). let t : Rect = record { x = s.x; y = s.y; width = a; height = b } in t) w h
-
 box_there : (way : Direction) (r : Rect) (a : Point) → turned way r ≡ rect_at (plus (shift way r a) a) (turned_size way (record { width = r.width; height = r.height }))
-box_there Right r a = same_corner _ _ (there _ _) (there _ _) refl refl
-box_there Left r a = same_corner _ _ (there _ _) (there _ _) refl refl
-box_there Down r a = same_corner _ _ (there _ _) (there _ _) refl refl
-box_there Up r a = same_corner _ _ (there _ _) (there _ _) refl refl
+box_there Right r a = same_rect _ _ (there _ _) (there _ _) refl refl
+box_there Left r a = same_rect _ _ (there _ _) (there _ _) refl refl
+box_there Down r a = same_rect _ _ (there _ _) (there _ _) refl refl
+box_there Up r a = same_rect _ _ (there _ _) (there _ _) refl refl
 
 some_or_none : (level : Option LevelOptions) → IsSome level → IsNone level → ⊥
 some_or_none None h k = absurd (search rules)
@@ -106,7 +103,7 @@ module _ (d : Document) (p : Placed) (o : LevelOptions) (plan : PlainPlan) (orde
   alone = 1 ∷ []
 
   children_turned : ChildrenTurned alone
-  children_turned = first_alone (λ i. IsTurnedChild w q o.direction v by i (get_or alone i 0)) child_turned
+  children_turned = below1 (λ i. IsTurnedChild w q o.direction v by i (get_or alone i 0)) child_turned
 
   turned_back : IsTurnedDrawing w q 0 o.direction v by
   turned_back =

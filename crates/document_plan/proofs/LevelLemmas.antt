@@ -12,18 +12,16 @@ use Rattle.elk_doc.specs.declared.document.LevelOptions.{LevelOptions}
 use Rattle.elk_doc.specs.declared.document.Port.{Port}
 use Rattle.elk_doc.specs.declared.drawing.Certificate.{Certificate}
 use Rattle.elk_doc.specs.declared.drawing.Placed.{Placed}
-use Rattle.elk_doc.specs.Document.{Document, node_at, node_of_port, port_at}
+use Rattle.elk_doc.specs.Document.{Document, node_at, node_of_port}
 use Rattle.elk_doc.specs.Drawing.{box_of}
 use Rattle.elk_doc.specs.Level.{children, edges_of}
 use Rattle.elk_doc.specs.Numbers.{numbers_below}
-use Rattle.elk_doc.specs.Sides.{given_side}
-use Rattle.elk_doc.specs.Sound.{IsSound, IsSoundLevel, IsSoundSpacing}
+use Rattle.elk_doc.specs.Sound.{IsSound, IsSoundLevel}
 use Rattle.port_order.specs.declared.children.ChildPort.{ChildPort}
 use Rattle.port_order.specs.declared.children.Child.{Child}
 use Rattle.port_order.specs.Conditions.{IsSmall}
 use Rattle.port_order.specs.Sides.{side_else}
-use Rattle.level_plan.specs.declared.level.LevelEdge.{LevelEdge}
-use Rattle.level_plan.specs.Conditions.{IsLevel, IsLevelChild, total_height, total_ports, total_width}
+use Rattle.level_plan.specs.Conditions.{IsLevel, IsLevelChild}
 use Rattle.level_plan.specs.Level.{PlainLevel, child_at}
 use Rattle.level_frame.specs.Turned.{box_size, half_along, is_port_of, level_child, level_edge, level_of, level_port, port_number, ports_of, turned_given, turned_place, turned_size}
 use Rattle.level_frame.proofs.NumberedLemmas.{numbers_match}
@@ -36,6 +34,7 @@ use Rattle.document_plan.specs.Planned.{root_level}
 use Rattle.document_plan.specs.Rooted.{IsRootBox}
 use Rattle.document_plan.proofs.LoweredLemmas.{lowered, other_port_at, port_count, root_port_at}
 use Rattle.document_plan.proofs.BackLemmas.{given_is, lowered_drawing}
+use Rattle.elk_doc.proofs.ExampleLaws.{below1}
 
 -- ---- the level in the lowered document
 
@@ -101,10 +100,6 @@ level_is d p c o =
 
 -- ---- that level is one
 
-pub first_alone : (P : ℕ → Type 0) → P 0 → (i : ℕ) → i < 1 → P i
-first_alone P a zero h = a
-first_alone P a (suc i) h = absurd (omega (arith, h))
-
 pub root_small : (p : Placed) → IsRootBox (box_of p 0) → IsSmall (box_size p 0)
 root_small p h =
     let w = h.width.below in
@@ -156,7 +151,7 @@ root_is_level d p o s level box =
       few_children = omega arith;
       few_ports = omega (arith, few);
       few_edges = omega arith;
-      children = first_alone (λ c. IsLevelChild (child_at (root_level d p o) c)) (child_sound d p o.direction 0 s (root_small p box) (λ leaf. absurd (no_leaf (node_at d 0).level o level leaf)));
+      children = below1 (λ c. IsLevelChild (child_at (root_level d p o) c)) (child_sound d p o.direction 0 s (root_small p box) (λ leaf. absurd (no_leaf (node_at d 0).level o level leaf)));
       edges = λ e h. absurd (omega (arith, h));
       spacing = options.spacing;
       widths = short_sum child.size.width (port_sum wide child.ports) (length child.ports) short.0 widths.below few;

@@ -1,6 +1,6 @@
 -- A document in which the root of another is a child. It stands below a root of its own, with the same options, and above a leaf
 -- that has the ports of all other nodes.
-use Rattle.std.proofs.Common.{◌≡◌, ◌≢◌, ⊎_elim, ℕ, zero, suc, ◌<◌, ◌≤◌, cond, ◌==◌, Bool, true, false, [], ◌∷◌, map, length, Some, None, IsSome, IsNone, IsTrue, refl, sym, ap, subst, subst₂, ◌∙◌, arith, rules, eq-eqb, ne_eqb}
+use Rattle.std.proofs.Common.{◌≡◌, ◌≢◌, ⊎_elim, ℕ, ◌<◌, ◌≤◌, cond, ◌==◌, Bool, true, false, [], ◌∷◌, map, length, Some, None, IsSome, IsTrue, refl, sym, ap, subst, subst₂, ◌∙◌, arith, rules, eq-eqb, ne_eqb}
 use Rattle.std.proofs.lemmas.Bool.{cases_eq}
 use Rattle.std.proofs.lemmas.Int.{ints}
 use Rattle.std.proofs.lemmas.List.{get_or-map, length-map}
@@ -12,8 +12,9 @@ use Rattle.elk_doc.specs.declared.document.Port.{Port}
 use Rattle.elk_doc.specs.declared.document.PortRule.TheVariants.{Free}
 use Rattle.elk_doc.specs.Document.{Document, no_port, no_size, node_at, node_of_port, origin, parent_of, port_at}
 use Rattle.elk_doc.specs.Level.{is_child}
-use Rattle.elk_doc.specs.Sides.{given_side, is_leaf, side_by_place, side_from}
+use Rattle.elk_doc.specs.Sides.{is_leaf, side_by_place, side_from}
 use Rattle.elk_doc.specs.Sound.{HasParent, HasPorts, IsSound, IsSoundLevel, IsSoundNode, IsSoundPort, ancestor}
+use Rattle.elk_doc.proofs.ExampleLaws.{below3}
 
 -- its nodes
 abbrev pub top_node : Document → Node
@@ -62,12 +63,6 @@ other_port_at d k h other =
 
 pub port_count : (d : Document) → length (lowered d).ports ≡ length d.ports
 port_count d = length-map d.ports lowered_port
-
-below3 : (P : ℕ → Type 0) → P 0 → P 1 → P 2 → (k : ℕ) → k < 3 → P k
-below3 P a b c zero h = a
-below3 P a b c (suc zero) h = b
-below3 P a b c (suc (suc zero)) h = c
-below3 P a b c (suc (suc (suc k))) h = absurd (omega (arith, h))
 
 -- a sound level of boxes or of children stays one where there are no edges
 same_options : (d : Document) (n : ℕ) (o : Option LevelOptions) → IfSome o (IsSoundLevel d 0) → IfSome o (IsSoundLevel (lowered d) n)

@@ -1,5 +1,5 @@
 -- Where ports are short, the outline of a child is hardly wider or higher than its box.
-use Rattle.std.proofs.Common.{◌≡◌, ℕ, ◌<◌, ◌^◌, ◌&&◌, not, Bool, true, false, List, [], ◌∷◌, length, ℤ, pos, neg_ℤ, ◌+ℤ◌, ◌-ℤ◌, ◌≤ℤ◌, Option, None, Some, refl, sym, ◌∙◌, ap, subst, inl, inr, arith}
+use Rattle.std.proofs.Common.{◌≡◌, ℕ, ◌<◌, ◌^◌, ◌&&◌, not, Bool, true, false, List, [], ◌∷◌, length, ℤ, pos, neg_ℤ, ◌+ℤ◌, ◌-ℤ◌, ◌≤ℤ◌, Option, Some, refl, sym, ◌∙◌, ap, subst, inl, inr, arith}
 use Rattle.std.proofs.lemmas.Int.{ints, clamps}
 use Rattle.std.proofs.lemmas.Bool.{cases_Bool}
 use Rattle.std.specs.Prelude.{IsFalse}
@@ -17,15 +17,16 @@ use Rattle.port_order.specs.declared.children.Child.{Child}
 use Rattle.port_order.specs.declared.spots.Spot.{Spot}
 use Rattle.port_order.specs.Child.{is_pinned, port_at}
 use Rattle.port_order.specs.Laws.{KeepsPort, stands_at}
-use Rattle.port_order.specs.Places.{HoldsOnce, corner_of, dock_of, face_of}
+use Rattle.port_order.specs.Places.{HoldsOnce, dock_of, face_of}
 use Rattle.port_order.specs.Sides.{given_side, given_to, side_else, side_of}
-use Rattle.port_order.proofs.KeptLemmas.{ports_stand}
+use Rattle.port_order.proofs.KeptLemmas.{ports_stand, along_corner}
 use Rattle.level_plan.specs.Conditions.{IsLevel, IsLevelChild, IsNear}
 use Rattle.level_plan.specs.Level.{Orders, PlainLevel, PlainPlan, child_at, outline, outline_from, port_place, port_spot}
 use Rattle.level_plan.specs.Units.{AreOrders}
 use Rattle.level_plan.proofs.Lists.{Has, range_has}
 use Rattle.level_plan.proofs.SpotLemmas.{held_once, port_spot_there}
 use Rattle.level_ends.proofs.NarrowLemmas.{pinned_side}
+use Rattle.level_plan.proofs.OutlineLemmas.{along_given}
 
 -- from 2^22 before 0 to 2^22 behind a length
 record InSpan (length z size : ℤ) : Type 0 where
@@ -87,18 +88,6 @@ near_across East box q x y = x
 near_across South box q x y = y
 near_across West box q x y = x
 
-along_corner : (side : Side) (face start : ℤ) (size : Size) → along side (corner_of side face start size) ≡ start
-along_corner North face start size = refl
-along_corner East face start size = refl
-along_corner South face start size = refl
-along_corner West face start size = refl
-
--- sides that only the flow of edges sets apart are equally long
-as_long : (given : Option Side) (b : Bool) (s : Size) → size_along (side_else given false) s ≡ size_along (side_else given b) s
-as_long (Some side) b s = refl
-as_long None true s = refl
-as_long None false s = refl
-
 leaf_of : (a b : Bool) → (a && not b) ≡ true → b ≡ false
 leaf_of true true h = absurd cc
 leaf_of true false h = refl
@@ -132,7 +121,7 @@ module _ (c : Child) (s : Spot) (k : ℕ) (order : List ℕ) (is : IsLevelChild 
             (given_span (size_along (side_of c s) c.size) (size_along (side_of c s) (port_at c k).size) (along (side_of c s) (port_at c k).place) (short_along (side_of c s) (port_at c k).size short) near)
         | inr free ↦
             let long : size_along (side_else (given_side c k) false) (port_at c k).size ≡ size_along (side_of c s) (port_at c k).size =
-            as_long (given_side c k) (s.enters && not s.leaves) (port_at c k).size ∙ ap (λ q. size_along q (port_at c k).size) given_of
+            along_given (given_side c k) (s.enters && not s.leaves) (port_at c k).size ∙ ap (λ q. size_along q (port_at c k).size) given_of
             in
             let half : IsWithin (pos 0) (size_along (side_of c s) (port_at c k).size) (port_at c k).half = subst (λ z. IsWithin (pos 0) z (port_at c k).half) long (is.sound.ports k there).half in
             let start : along (side_of c s) (stands_at c s k order) ≡ dock_of c s order -ℤ (port_at c k).half =

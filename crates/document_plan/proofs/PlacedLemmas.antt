@@ -18,9 +18,9 @@ use Rattle.level_draw.specs.declared.drawing.LevelOut.{LevelOut}
 use Rattle.level_draw.specs.Drawing.{drawn_in}
 use Rattle.level_layout.specs.Layout.{IsLaidOut}
 use Rattle.level_frame.specs.Turned.{box_size, level_port, port_number, ports_of, turned_place}
-use Rattle.document_levels.specs.Back.{place_back, size_of}
+use Rattle.document_levels.specs.Back.{size_of}
 use Rattle.document_levels.specs.Canvas.{IsDrawingOf}
-use Rattle.document_levels.specs.Changed.{AreChanged, number_at}
+use Rattle.document_levels.specs.Changed.{AreChanged}
 use Rattle.document_levels.specs.Written.{port_change}
 use Rattle.document_levels.proofs.BackLemmas.{place_there}
 use Rattle.document_levels.proofs.NumberLemmas.{node_of_listed}
@@ -105,8 +105,3 @@ module _ (d : Document) (o : LevelOptions) (l : LevelIn) (v : LevelOut) (old : P
           others = λ k other. written.others k (λ i h e. other (sym (ap (node_of_port d) e) ∙ node_of_listed d 0 i h));
           complete = record { boxes = complete.boxes; ports = written.as_many ∙ complete.ports; sections = complete.sections; levels = complete.levels };
         }
-
--- where the root has no level, there is nothing to place
-pub none_placed : (d : Document) (p : Placed) → IsDrawingOf d p → ((o : LevelOptions) → (node_at d 0).level ≡ Some o → ⊥) → AreRootPortsPlaced d p p
-none_placed d p complete none =
-    record { stand = λ o same. absurd (none o same); boxes = refl; sections = refl; levels = refl; others = λ k other. refl; complete = complete }

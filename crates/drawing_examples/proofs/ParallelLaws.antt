@@ -37,7 +37,8 @@ use Rattle.elk_doc.proofs.SegmentBounds.{EntersRect-spans}
 use Rattle.elk_doc.specs.Examples.{options, rect}
 use Rattle.drawing_examples.specs.RoundTrip.{at_xy}
 use Rattle.drawing_examples.specs.ParallelEdges.{parallel, parallel_drawn, parallel_with, two_edges, lower, joining, ParallelEdges}
-use Rattle.drawing_examples.proofs.Below.{below1, below2, below3}
+use Rattle.elk_doc.proofs.ExampleLaws.{below1, below2, below3}
+use Rattle.drawing_examples.proofs.RoundTripLaws.{on_west}
 
 at_children : (P : ℕ → Type 0) → P 1 → P 2 → (c : ℕ) → IsChild parallel 0 c → P c
 at_children P a b c h = below3 (λ k. IsTrue (is_child parallel 0 k) → P k) (λ t. absurd (search rules)) (λ _. a) (λ _. b) c h.node_in h.child
@@ -146,12 +147,6 @@ on_east m North t = absurd (grind (arith, nat_tests))
 on_east m East t = (grind (arith, nat_tests), refl)
 on_east m South t = absurd (grind (arith, nat_tests))
 on_east m West t = absurd (grind (arith, nat_tests))
-
-on_west : (m : ℕ) (s : Side) → IsTrue ((2 == m) && is_side West s) → (2 ≡ m) × (West ≡ s)
-on_west m North t = absurd (grind (arith, nat_tests))
-on_west m East t = absurd (grind (arith, nat_tests))
-on_west m South t = absurd (grind (arith, nat_tests))
-on_west m West t = (grind (arith, nat_tests), refl)
 
 which : (m : ℕ) (s : Side) (x : Spot) → IsSpread parallel parallel_drawn m s x → Which m s x
 which m s (a_port k) h = absurd (let t = h.0 in omega arith)

@@ -39,7 +39,8 @@ use Rattle.elk_doc.specs.Drawn.{LevelDrawn}
 use Rattle.elk_doc.proofs.SegmentBounds.{EntersRect-spans, MeetsRect-spans}
 use Rattle.elk_doc.specs.Examples.{dock, options, rect}
 use Rattle.drawing_examples.specs.RoundTrip.{round_trip, round_trip_drawn, one_back, at_xy, rising, straight, falling, staying, RoundTripDrawn, RoundTripSpoilt}
-use Rattle.drawing_examples.proofs.Below.{below1, below2, below3, below4}
+use Rattle.drawing_examples.proofs.Below.{below4}
+use Rattle.elk_doc.proofs.ExampleLaws.{below1, below2, below3}
 
 -- the children are the nodes 1 and 2, and every edge belongs to the root's level
 at_children : (P : ℕ → Type 0) → P 1 → P 2 → (c : ℕ) → IsChild round_trip 0 c → P c
@@ -161,7 +162,7 @@ data Which : ℕ → Side → Spot → Type 0 where
 at_second : (m : ℕ) (s : Side) (x : Spot) → Which 2 West x → (2 ≡ m) → (West ≡ s) → Which m s x
 at_second m s x w i j = subst (λ (n : ℕ). Which n s x) i (subst (λ (t : Side). Which 2 t x) j w)
 
-on_west : (m : ℕ) (s : Side) → IsTrue ((2 == m) && is_side West s) → (2 ≡ m) × (West ≡ s)
+pub on_west : (m : ℕ) (s : Side) → IsTrue ((2 == m) && is_side West s) → (2 ≡ m) × (West ≡ s)
 on_west m North t = absurd (grind (arith, nat_tests))
 on_west m East t = absurd (grind (arith, nat_tests))
 on_west m South t = absurd (grind (arith, nat_tests))

@@ -36,7 +36,8 @@ use Rattle.elk_doc.proofs.SegmentBounds.{EntersRect-spans, MeetsRect-spans}
 use Rattle.elk_doc.specs.Examples.{rect}
 use Rattle.drawing_examples.specs.RoundTrip.{at_xy}
 use Rattle.drawing_examples.specs.SplitLevel.{split_level, split_options, split_drawn, split_with, above_at, two_parts, SplitLevelDrawn, SplitLevelSpoilt}
-use Rattle.drawing_examples.proofs.Below.{below1, below2, below3, below4}
+use Rattle.drawing_examples.proofs.Below.{below4}
+use Rattle.elk_doc.proofs.ExampleLaws.{below1, below2, below3}
 
 at_children : (P : ℕ → Type 0) → P 1 → P 2 → P 3 → (c : ℕ) → IsChild split_level 0 c → P c
 at_children P a b c k h = below4 (λ k. IsTrue (is_child split_level 0 k) → P k) (λ t. absurd (search rules)) (λ _. a) (λ _. b) (λ _. c) k h.node_in h.child

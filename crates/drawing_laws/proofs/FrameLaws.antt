@@ -1,5 +1,5 @@
 -- Whole definitions in the frame of a direction.
-use Rattle.std.proofs.Common.{◌≡◌, ◌⊎◌, ⊎_elim, ◌↔◌, ◌∙◌, sym, subst, ℕ, ◌+◌, ◌-◌, ℤ, neg_ℤ, inl, inr, refl, ap, ap₂, arith, true, false}
+use Rattle.std.proofs.Common.{◌≡◌, ◌⊎◌, ⊎_elim, ◌↔◌, ◌∙◌, sym, subst, ℕ, ℤ, neg_ℤ, inl, inr, refl, ap, ap₂, arith}
 use Rattle.std.proofs.lemmas.Int.{ints, clamps}
 use Rattle.elk_doc.specs.declared.shape.Point.{Point}
 use Rattle.elk_doc.specs.declared.shape.Rect.{Rect}

@@ -1,5 +1,5 @@
 -- The document of `demo n`: n leaves, a tree of edges over their numbers, and an edge from each number to three times it.
-use Rattle.std.specs.Prelude.{◌≡◌, ℕ, ◌+◌, ◌-◌, ◌*◌, ◌/◌, ◌%◌, ◌++◌, ◌<◌, pos, List, [], ◌∷◌, map, sum, sum_by, length, Some, None, false, IsFalse}
+use Rattle.std.specs.Prelude.{◌≡◌, ℕ, ◌+◌, ◌-◌, ◌*◌, ◌/◌, ◌%◌, ◌++◌, ◌<◌, pos, List, [], ◌∷◌, map, sum, sum_by, length, Some, None, IsFalse}
 use Rattle.std.specs.List.{range_with_len}
 use Rattle.elk_doc.specs.declared.document.Id.TheVariants.{Whole}
 use Rattle.elk_doc.specs.declared.document.PortRule.TheVariants.{Free}

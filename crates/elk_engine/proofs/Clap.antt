@@ -9,7 +9,7 @@ use Rattle.clap.specs.Lexer.{long_of, short_of}
 use Rattle.clap.specs.Values.{reading_of}
 use Rattle.clap.specs.declared.parser.matches.ValueSource.TheVariants.{CommandLine}
 use Rattle.clap.specs.ValueTests.{accepts}
-use Rattle.clap.specs.Walk.{Step, value, after_step, word_met, with_default, arg_by_long, arg_by_short, Walk, Held, Names, idle, walk, walked, bundle_met, nothing_held, walk_from, used, finished}
+use Rattle.clap.specs.Walk.{value, after_step, word_met, arg_by_long, arg_by_short, Walk, Held, idle, walk, walked, bundle_met, nothing_held, walk_from, finished}
 use Rattle.clap.specs.Faults.{flags_fault, long_fault, short_fault, bundle_fault, walk_fault, turn_fault, word_fault, settle_fault, defaults_fault, check_fault, level_fault, entered_fault}
 use Rattle.clap.specs.declared.builder.value_parser.ValueParser.{ValueParser}
 use Rattle.clap.proofs.OnLiterals.{clap_on_literals}

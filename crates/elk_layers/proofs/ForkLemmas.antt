@@ -5,17 +5,7 @@ use Rattle.std.proofs.lemmas.List.Sums.{count_by-le-length}
 use Rattle.elk_layers.specs.declared.units.Unit.{Unit as LayerUnit}
 use Rattle.elk_layers.specs.Layered.{Plain, IsSound, IsSoundLink, AreRows, HasUnit, HasBodyWithin, unit_at, link_at, row_at, layer_of, is_lane, is_child}
 use Rattle.elk_layers.specs.PlaceExamples.{box, forked, forked_rows}
-
-below_two : (P : ℕ → Type 0) → P 0 → P 1 → (k : ℕ) → k < 2 → P k
-below_two P a b zero h = a
-below_two P a b (suc zero) h = b
-below_two P a b (suc (suc k)) h = absurd (omega (arith, h))
-
-below_three : (P : ℕ → Type 0) → P 0 → P 1 → P 2 → (k : ℕ) → k < 3 → P k
-below_three P a b c zero h = a
-below_three P a b c (suc zero) h = b
-below_three P a b c (suc (suc zero)) h = c
-below_three P a b c (suc (suc (suc k))) h = absurd (omega (arith, h))
+use Rattle.elk_doc.proofs.ExampleLaws.{below2, below3}
 
 body : (layer : ℕ) → HasBodyWithin (box layer)
 body layer = record { top = omega (arith, ints); height = omega (arith, ints); bottom = omega (arith, ints) }
@@ -28,28 +18,28 @@ forked_sound =
       edge_edge_is = record { low = omega (arith, ints); high = omega (arith, ints) };
       few_units = omega arith;
       few_links = omega arith;
-      layers_are = below_three (λ u. layer_of forked u < 2) (omega arith) (omega arith) (omega arith);
+      layers_are = below3 (λ u. layer_of forked u < 2) (omega arith) (omega arith) (omega arith);
       few_in_layer = λ g. omega (arith, count_by-le-length (λ (u : LayerUnit). u.layer == g) forked.units);
-      links_are = below_two (λ k. IsSoundLink forked (link_at forked.links k))
+      links_are = below2 (λ k. IsSoundLink forked (link_at forked.links k))
           (record { tail = omega arith; head = omega arith; next_layer = refl; tail_rank = omega arith; head_rank = omega arith; tail_at = (omega (arith, ints), omega (arith, ints)); head_at = (omega (arith, ints), omega (arith, ints)) })
           (record { tail = omega arith; head = omega arith; next_layer = refl; tail_rank = omega arith; head_rank = omega arith; tail_at = (omega (arith, ints), omega (arith, ints)); head_at = (omega (arith, ints), omega (arith, ints)) });
-      heights = below_three (λ u. pos 0 ≤ℤ (unit_at forked.units u).height) (omega (arith, ints)) (omega (arith, ints)) (omega (arith, ints));
+      heights = below3 (λ u. pos 0 ≤ℤ (unit_at forked.units u).height) (omega (arith, ints)) (omega (arith, ints)) (omega (arith, ints));
       together = omega (arith, ints);
-      lanes_are_flat = below_three (λ u. is_lane forked u ≡ true → (unit_at forked.units u).height ≡ pos 0) (λ bad. absurd cc) (λ bad. absurd cc) (λ bad. absurd cc);
-      bodies = below_three (λ u. is_child forked u ≡ true → HasBodyWithin (unit_at forked.units u)) (λ t. body 0) (λ t. body 1) (λ t. body 1);
+      lanes_are_flat = below3 (λ u. is_lane forked u ≡ true → (unit_at forked.units u).height ≡ pos 0) (λ bad. absurd cc) (λ bad. absurd cc) (λ bad. absurd cc);
+      bodies = below3 (λ u. is_child forked u ≡ true → HasBodyWithin (unit_at forked.units u)) (λ t. body 0) (λ t. body 1) (λ t. body 1);
     }
 
 pub forked_are_rows : AreRows forked forked_rows
 forked_are_rows =
     record {
       as_many = refl;
-      in_range = below_two (λ r. (i : ℕ) → i < length (row_at forked_rows r) → get_or (row_at forked_rows r) i 0 < 3) (one (λ u. u < 3) 0 (omega arith)) (below_two (λ i. get_or (1 ∷ 2 ∷ []) i 0 < 3) (omega arith) (omega arith));
-      in_layer = below_two (λ r. (i : ℕ) → i < length (row_at forked_rows r) → layer_of forked (get_or (row_at forked_rows r) i 0) ≡ r) (one (λ u. layer_of forked u ≡ 0) 0 refl) (below_two (λ i. layer_of forked (get_or (1 ∷ 2 ∷ []) i 0) ≡ 1) refl refl);
-      complete = below_three (λ u. HasUnit (row_at forked_rows (layer_of forked u)) u)
+      in_range = below2 (λ r. (i : ℕ) → i < length (row_at forked_rows r) → get_or (row_at forked_rows r) i 0 < 3) (one (λ u. u < 3) 0 (omega arith)) (below2 (λ i. get_or (1 ∷ 2 ∷ []) i 0 < 3) (omega arith) (omega arith));
+      in_layer = below2 (λ r. (i : ℕ) → i < length (row_at forked_rows r) → layer_of forked (get_or (row_at forked_rows r) i 0) ≡ r) (one (λ u. layer_of forked u ≡ 0) 0 refl) (below2 (λ i. layer_of forked (get_or (1 ∷ 2 ∷ []) i 0) ≡ 1) refl refl);
+      complete = below3 (λ u. HasUnit (row_at forked_rows (layer_of forked u)) u)
           (record { place = 0; within = omega arith; unit_is = refl })
           (record { place = 0; within = omega arith; unit_is = refl })
           (record { place = 1; within = omega arith; unit_is = refl });
-      once = below_two (λ r. (i j : ℕ) → i < j → j < length (row_at forked_rows r) → get_or (row_at forked_rows r) i 0 ≢ get_or (row_at forked_rows r) j 0)
+      once = below2 (λ r. (i j : ℕ) → i < j → j < length (row_at forked_rows r) → get_or (row_at forked_rows r) i 0 ≢ get_or (row_at forked_rows r) j 0)
           (λ i j less h. absurd (omega (arith, less, h)))
           two_apart;
     }

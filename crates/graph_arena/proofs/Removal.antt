@@ -1,6 +1,6 @@
 -- A node's edges go one after the other, and then the node.
 use Rattle.std.proofs.Common.{◌≡◌, ◌≢◌, ◌||◌, ℕ, ◌<◌, eqb, eq-eqb, cond, not, Bool, true, false, List, [], ◌∷◌, length, filter, Option, Some, None, IsSome, is_some, arith, refl, sym, ap, ◌∙◌, subst, inl, inr, ⊎_elim}
-use Rattle.std.proofs.lemmas.Bool.{cases_eq, cases_Bool}
+use Rattle.std.proofs.lemmas.Bool.{cases_eq, cases_Bool, or_left, or_right}
 use Rattle.slab.specs.Slab.{Slab, get}
 use Rattle.graph_arena.specs.declared.slots.Side.{Side}
 use Rattle.graph_arena.specs.declared.slots.Side.TheVariants.{Outward, Inward}
@@ -18,7 +18,7 @@ use Rattle.graph_arena.proofs.Whole.{by_side}
 
 -- ---- lists
 
-filter_without : (p : ℕ → Bool) (e : ℕ) (xs : List ℕ) → p e ≡ false → filter p (without e xs) ≡ filter p xs
+pub filter_without : (p : ℕ → Bool) (e : ℕ) (xs : List ℕ) → p e ≡ false → filter p (without e xs) ≡ filter p xs
 filter_without p e [] h = refl
 filter_without p e (x ∷ xs) h =
     elim (cases_eq x e) [
@@ -26,7 +26,7 @@ filter_without p e (x ∷ xs) h =
       | inr n ↦ let i = filter_without p e xs h in rw (eqb_other x e n) (ap (λ (l : List ℕ). cond (p x) (x ∷ l) l) i)
     ]
 
-filter_stronger : (p q : ℕ → Bool) (xs : List ℕ) → ((e : ℕ) → q e ≡ false → p e ≡ false) → filter p (filter q xs) ≡ filter p xs
+pub filter_stronger : (p q : ℕ → Bool) (xs : List ℕ) → ((e : ℕ) → q e ≡ false → p e ≡ false) → filter p (filter q xs) ≡ filter p xs
 filter_stronger p q [] h = refl
 filter_stronger p q (x ∷ xs) h =
     let i = filter_stronger p q xs h in
@@ -46,9 +46,6 @@ empty_from [] h = refl
 empty_from (x ∷ xs) h = absurd (omega (arith, h x, occurs_head x xs))
 
 -- ---- one more edge went
-
-pub peels_none : (g : Graph) (v : ℕ) → Peels g g v
-peels_none g v = record { edges = λ e. inl refl; outs = λ u. refl; ins = λ u. refl; same_nodes = λ u. (λ h. h, λ h. h) }
 
 pub peel_more : (g h k : Graph) (v e tail head : ℕ) → Peels g h v → ends_at h e ≡ Some (record { tail = tail; head = head }) → touches (ends_at h e) v ≡ true → RemovesEdge h k e tail head → Peels g k v
 peel_more g h k v e tail head p is at r =
@@ -110,17 +107,6 @@ first_owned s nodes edges v k r side is f =
 no_first : (next prev : ℕ → Option ℕ) (before at : Option ℕ) (ks : List ℕ) (last : Option ℕ) → IsChain next prev before at ks last → at ≡ None → ks ≡ []
 no_first next prev before at [] last c h = refl
 no_first next prev before at (k ∷ ks) last c h = let bad : None ≡ Some k = sym h ∙ c.0 in cc
-
-pub empty_keys : (s : Side) (nodes : Slab NodeSlot) (edges : Slab EdgeSlot) (v : ℕ) (r : Row) → IsSideOf s nodes edges → row s nodes v ≡ Some r → r.first ≡ None → keys s nodes edges v ≡ []
-empty_keys s nodes edges v r side is f =
-    rw is (no_first (next s edges) (prev s edges) None r.first (follow (next s edges) r.count r.first) r.last (side.rows v r is).chain f)
-
-or_left : (a b : Bool) → a ≡ true → (a || b) ≡ true
-or_left a b h = rw h refl
-
-or_right : (a b : Bool) → b ≡ true → (a || b) ≡ true
-or_right true b h = refl
-or_right false b h = h
 
 -- an edge in a list of the node touches it
 pub owner_touches : (s : Side) (nodes : Slab NodeSlot) (edges : Slab EdgeSlot) (v e : ℕ) (x : Ends) → IsSound nodes edges → ends_at (graph_of nodes edges) e ≡ Some x → owner s edges e ≡ Some v → touches (ends_at (graph_of nodes edges) e) v ≡ true

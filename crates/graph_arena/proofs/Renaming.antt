@@ -177,13 +177,6 @@ pub renamed_kept : (e by : ℕ) (o : Option ℕ) → o ≢ Some e → option_map
 renamed_kept e by None h = refl
 renamed_kept e by (Some k) h = let n : k ≢ e = λ i. h (ap Some i) in rw (eqb_other k e n) refl
 
-pub map_kept : (e by : ℕ) (ks : List ℕ) → occurs e ks ≡ 0 → map (renamed e by) ks ≡ ks
-map_kept e by [] h = refl
-map_kept e by (x ∷ xs) h =
-    let n : x ≢ e = λ i. let o = rw (eq-eqb x e i) at h in omega (arith, o) in
-    let t = occurs_tail e x xs in
-    rw (eqb_other x e n) (ap (λ (l : List ℕ). x ∷ l) (map_kept e by xs (omega (arith, h, t))))
-
 -- an edge's place in its node's list was given to a loose edge
 pub record Renames (row row' : ℕ → Option Row) (next next' prev prev' owner owner' : ℕ → Option ℕ) (v e by : ℕ) (r r' : Row) : Type 0 where
   pub was_row : row v ≡ Some r

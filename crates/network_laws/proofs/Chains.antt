@@ -68,17 +68,3 @@ all_linked nodes edges end first next i z f = record {
   begins = λ v l. subst (λ x. IsNextAt edges end v x (get_or first v 0)) z (f.begins v l);
   goes_on = λ k l. f.goes_on k (omega (arith, z)) l;
 }
-
--- before any edge is linked
-pub none_linked : (nodes : ℕ) (edges : List NetEdge) (end : End) (first next : List ℕ) → length first ≡ nodes → length next ≡ length edges → ((v : ℕ) → v < nodes → get_or first v 0 ≡ length edges) → AreLinksFrom nodes edges end (length edges) first next
-none_linked nodes edges end first next n m all = record {
-  node_each = n;
-  edge_each = m;
-  begins = λ v l. let e = all v l in record {
-    not_before = omega (arith, e);
-    in_range = omega (arith, e);
-    here = λ h. absurd (omega (arith, e, h));
-    none_between = λ j a b. absurd (omega (arith, a, b, e));
-  };
-  goes_on = λ k a b. absurd (omega (arith, a, b));
-}

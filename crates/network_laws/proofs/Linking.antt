@@ -42,13 +42,6 @@ renamed_at from to names v l = get_or-map (λ n. cond (eqb n from) to n) names v
 length_renamed : (from to : ℕ) (names : List ℕ) → length (renamed from to names) ≡ length names
 length_renamed from to names = length-map names (λ n. cond (eqb n from) to n)
 
-pub length_merged : (edges : List NetEdge) (marks : List Bool) (names : List ℕ) → length (merged edges marks names) ≡ length names
-length_merged [] marks names = refl
-length_merged (e ∷ es) [] names = refl
-length_merged (e ∷ es) (false ∷ ms) names = length_merged es ms names
-length_merged (e ∷ es) (true ∷ ms) names =
-    length_merged es ms (renamed (name_of names e.head) (name_of names e.tail) names) ∙ length_renamed (name_of names e.head) (name_of names e.tail) names
-
 -- equal names stay equal
 same_renamed : (from to : ℕ) (names : List ℕ) (a b : ℕ) → a < length names → b < length names → name_of names a ≡ name_of names b → name_of (renamed from to names) a ≡ name_of (renamed from to names) b
 same_renamed from to names a b la lb h =

@@ -93,9 +93,6 @@ joined_at edges k old new at low high there a l is less p new_is =
       less = λ _. let e = ap sum new_is in omega (arith, e, s, t, is, less);
     }
 
-pub not_joined : (edges : List NetEdge) (k : ℕ) (old : List ℕ) → AreNames (length old) edges old → get_or old (edge_at edges k).tail 0 ≡ get_or old (edge_at edges k).head 0 → IsJoinedAt edges k old old false
-not_joined edges k old a same = record { names = a; unchanged = λ _. (refl, same); less = λ h. let bad : false ≡ true = h in absurd cc }
-
 pub join_start : (edges : List NetEdge) (old : List ℕ) → AreNames (length old) edges old → IsJoined edges 0 old old false
 join_start edges old a = record { names = a; unchanged = λ _. (refl, λ k l. absurd (omega (arith, l))); less = λ h. let bad : false ≡ true = h in absurd cc }
 

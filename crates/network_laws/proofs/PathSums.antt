@@ -11,11 +11,12 @@ use Rattle.network_laws.specs.Network.{edge_at, EndsBelow, HasEdge, Walk, IsAcyc
 use Rattle.network_laws.specs.Layering.{layer_of, IsLayering}
 use Rattle.network_laws.specs.Linked.{is_marked}
 use Rattle.network_laws.specs.Paths.{Path, AreGreatestSums, sum_at, ArePathSums, KeepLeast, RaisesHead, RaisedOnce, marked_sum}
+use Rattle.network_laws.proofs.Naming.{sum_after}
 
 abbrev pub all_least : List NetEdge → ℕ
 all_least edges = sum_by (λ (e : NetEdge). e.least) edges
 
-cond_le : (b : Bool) (n : ℕ) → cond b n 0 ≤ n
+pub cond_le : (b : Bool) (n : ℕ) → cond b n 0 ≤ n
 cond_le true n = omega arith
 cond_le false n = omega arith
 
@@ -133,18 +134,6 @@ pub zeros : (edges : List NetEdge) (n : ℕ) → ArePathSums edges (replicate n 
 zeros edges n v l =
     let e = length-replicate {A = ℕ} n 0 in (v, 0, (refl, get_or-replicate n v 0 0 (omega (arith, e, l))))
 
-sum_set : (xs : List ℕ) (i y : ℕ) → i < length xs → sum (set xs i y) + get_or xs i 0 ≡ sum xs + y
-sum_set [] i y l = absurd (omega arith)
-sum_set (x ∷ xs) zero y l =
-    let a = sum_by-cons (λ n. n) y xs in
-    let b = sum_by-cons (λ n. n) x xs in
-    omega (arith, a, b)
-sum_set (x ∷ xs) (suc i) y l =
-    let r = sum_set xs i y (omega arith) in
-    let a = sum_by-cons (λ n. n) x (set xs i y) in
-    let b = sum_by-cons (λ n. n) x xs in
-    omega (arith, a, b, r)
-
 pub sum_below : (xs : List ℕ) (m : ℕ) → ((v : ℕ) → v < length xs → get_or xs v 0 ≤ m) → sum xs ≤ length xs * m
 sum_below [] m h = omega arith
 sum_below (x ∷ xs) m h =
@@ -183,7 +172,7 @@ pass_more edges i first old new changed true l ends r s =
     let n = r.as_long in
     let long : length new ≡ length old = ap length s.0 ∙ length-set old e.head (sum_at old e.tail + e.least) in
     let there : e.head < length old = omega (arith, n, (ends i l).1) in
-    let total = sum_set old e.head (sum_at old e.tail + e.least) there in
+    let total = sum_after old e.head (sum_at old e.tail + e.least) there in
     let is = ap sum s.0 in
     let less = s.1 in
     let up : sum old < sum new = omega (arith, total, is, less) in

@@ -2,6 +2,6 @@ pub mod RangeLemmas
 pub mod SumLemmas
 pub mod PlaceLemmas
 pub mod JoinLemmas
-mod FillLemmas
+pub mod FillLemmas
 mod AnswerLemmas
 mod NumberLemmas

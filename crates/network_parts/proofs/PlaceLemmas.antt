@@ -11,7 +11,8 @@ use Rattle.network_laws.proofs.Duality.{over_nodes}
 use Rattle.network_laws.proofs.Naming.{part_edge}
 use Rattle.network_parts.specs.Divided.{links_of, links_to, nodes_of, nodes_to, part_edges, part_nodes, place_of, renumbered}
 use Rattle.network_parts.proofs.RangeLemmas.{few_picked, one_more, pick, pick_at, place_at}
-use Rattle.network_parts.proofs.SumLemmas.{over_le, over_passed, over_range, sum_numbers}
+use Rattle.network_parts.proofs.SumLemmas.{over_passed, over_range, sum_numbers}
+use Rattle.flow_dual.proofs.Augmenting.{over_le}
 
 abbrev pub node_at : List ℕ → ℕ → ℕ → ℕ
 node_at numbers k i = get_or (nodes_of numbers k) i 0

@@ -1,5 +1,5 @@
 -- Sums over the numbers of a range that pass a test, and sums over edges as such.
-use Rattle.std.proofs.Common.{◌≡◌, ℕ, zero, suc, ◌+◌, ◌*◌, ◌<◌, ◌≤◌, ◌==◌, eqb, cond, Bool, List, [], ◌∷◌, length, map, get_or, arith, refl, ap, inl, inr, ◌∙◌}
+use Rattle.std.proofs.Common.{◌≡◌, ℕ, zero, suc, ◌+◌, ◌*◌, ◌<◌, ◌==◌, eqb, cond, Bool, List, [], ◌∷◌, length, map, get_or, arith, refl, ap, inl, inr, ◌∙◌}
 use Rattle.std.specs.List.{filter, range_with_len, sum, sum_by}
 use Rattle.std.proofs.lemmas.Bool.{cases_Bool}
 use Rattle.std.proofs.lemmas.List.Sums.{sum_by-cons, sum_by-append, sum_by_push}
@@ -22,13 +22,6 @@ over_range f zero = refl
 over_range f (suc n) =
     let rest = over_range f n in
     let last = ap (sum_by f) (range_next n) ∙ sum_by_push f (range_with_len 0 n) n in
-    omega (arith, rest, last)
-
-pub over_le : (f g : ℕ → ℕ) (n : ℕ) → ((e : ℕ) → e < n → f e ≤ g e) → over_nodes f n ≤ over_nodes g n
-over_le f g zero h = omega arith
-over_le f g (suc n) h =
-    let rest = over_le f g n (λ e l. h e (omega (arith, l))) in
-    let last = h n (omega arith) in
     omega (arith, rest, last)
 
 -- each number counts in one part

@@ -46,18 +46,6 @@ stays_turned t span t' span' c c' e h =
     ] in
     record { no_wider = omega (arith, a, b, e); kept = inl (omega (arith, a, b, e)) }
 
-pub closed_start : (all : List Standing) (last : ℕ) (closed : List ℕ) → IsClosedTo all 0 last 0 0 closed
-closed_start all last closed =
-    record {
-      in_order = λ j l. absurd (omega (arith, l));
-      within_reach = λ j l. absurd (omega (arith, l));
-      shifted = λ j l. absurd (omega (arith, l));
-      held = λ j l. absurd (omega (arith, l));
-      apart = λ j k h l. absurd (omega (arith, l));
-      shift_small = omega arith;
-      reach_small = omega arith;
-    }
-
 pub closed_more : (all : List Standing) (i last shift reach now shift' reach' : ℕ) (closed : List ℕ) → UnitsDiffer all
     → i < length all → (standing_at all i).unit < length closed → last ≤ (standing_at all i).top
     → now + shift ≤ (standing_at all i).top → (now + shift ≡ (standing_at all i).top) ⊎ (now ≡ reach) → now ≤ reach

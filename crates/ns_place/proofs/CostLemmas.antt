@@ -18,9 +18,9 @@ use Rattle.ns_place.specs.Heights.{size, link_height, heights_together, pins_tog
 use Rattle.ns_place.specs.Network.{edge_of, joining, edge_for, alone_of, edges_of, HasPins}
 use Rattle.ns_place.specs.Start.{joint_layer, lowest, completed}
 use Rattle.ns_place.proofs.PairLemmas.{All-left, All-right, IsApart}
-use Rattle.ns_place.proofs.SumLemmas.{natural_of}
 use Rattle.ns_place.proofs.NetworkLemmas.{joining_all, edges_all, all_both}
 use Rattle.ns_place.proofs.FlowLemmas.{weighed_weights, pairs_cost_nothing, below_from_test}
+use Rattle.network_laws.proofs.Duality.{natural_is}
 
 pub size_is : (z : ℤ) → (z ≡ pos (size z)) ⊎ (z +ℤ pos (size z) ≡ pos 0)
 size_is (pos n) = inl refl
@@ -31,7 +31,7 @@ abbrev pub Rises : List ℤ → NetEdge → Type 0
 Rises layers e = (layer_of layers e.tail +ℤ pos e.least) ≤ℤ layer_of layers e.head
 
 rise_of : (layers : List ℤ) (e : NetEdge) → Rises layers e → pos (rise layers e) ≡ layer_of layers e.head -ℤ layer_of layers e.tail
-rise_of layers e h = natural_of (layer_of layers e.head -ℤ layer_of layers e.tail) (omega (arith, ints, h))
+rise_of layers e h = natural_is (layer_of layers e.head -ℤ layer_of layers e.tail) (omega (arith, ints, h))
 
 joint_least : (t h z a b : ℤ) (r r' : ℕ) → pos r ≡ t -ℤ z → pos r' ≡ h -ℤ z → (z +ℤ b) ≤ℤ t → (z +ℤ a) ≤ℤ h → (pos (size ((h +ℤ b) -ℤ (t +ℤ a))) +ℤ (a +ℤ b)) ≤ℤ (pos r +ℤ pos r')
 joint_least t h z a b r r' e e' k k' = elim (size_is ((h +ℤ b) -ℤ (t +ℤ a))) [
@@ -50,8 +50,8 @@ links_cost_least joint (l ∷ ls) layers pins h =
     let r' = All-head (Rises layers) (edge_of joint l.head l.tail_at) (joining (joint + 1) ls) more in
     let rest = links_cost_least (joint + 1) ls layers (All-tail HasPins l ls pins) (All-tail (Rises layers) (edge_of joint l.head l.tail_at) (joining (joint + 1) ls) more) in
     let p = All-head HasPins l ls pins in
-    let m = natural_of l.tail_at p.0 in
-    let n = natural_of l.head_at p.1 in
+    let m = natural_is l.tail_at p.0 in
+    let n = natural_is l.head_at p.1 in
     let one = joint_least (layer_of layers l.tail) (layer_of layers l.head) (layer_of layers joint) l.tail_at l.head_at (rise layers first) (rise layers second)
     (rise_of layers first r) (rise_of layers second r') (omega (arith, ints, r, n)) (omega (arith, ints, r', m)) in
     omega (arith, ints, rest, one)
@@ -73,8 +73,8 @@ links_rise : (joint : ℕ) (ls : List Link) (layers : List ℤ) → All HasPins 
 links_rise joint ls layers pins at =
     joining_all (Rises layers) joint ls (λ k h.
     let p = pins k (record { edge = 0; tail = 0; head = 0; tail_rank = 0; head_rank = 0; tail_at = pos 0; head_at = pos 0 }) h in
-    let m = natural_of (link_at ls k).tail_at p.0 in
-    let n = natural_of (link_at ls k).head_at p.1 in
+    let m = natural_is (link_at ls k).tail_at p.0 in
+    let n = natural_is (link_at ls k).head_at p.1 in
     let j = joint_rises (top_of layers (link_at ls k).tail) (top_of layers (link_at ls k).head) (link_at ls k).tail_at (link_at ls k).head_at (layer_of layers (joint + k)) (at k h) in
     let a = j.0 in
     let b = j.1 in
@@ -90,8 +90,8 @@ links_cost_most joint (l ∷ ls) layers pins at =
     let here : layer_of layers joint ≡ joint_layer layers l = rw same at (at 0 (omega arith)) in
     let rest = links_cost_most (joint + 1) ls layers (All-tail HasPins l ls pins) (λ k h. let on : joint + suc k ≡ joint + 1 + k = omega arith in rw on at (at (suc k) (omega (arith, h)))) in
     let p = All-head HasPins l ls pins in
-    let m = natural_of l.tail_at p.0 in
-    let n = natural_of l.head_at p.1 in
+    let m = natural_is l.tail_at p.0 in
+    let n = natural_is l.head_at p.1 in
     let j = joint_rises (top_of layers l.tail) (top_of layers l.head) l.tail_at l.head_at (layer_of layers joint) here in
     let a = j.0 in
     let b = j.1 in
@@ -169,7 +169,7 @@ layers_apart l pairs layers up =
         let here = All-head (Rises layers) (edge_for l (alone_of l) p) (map (edge_for l (alone_of l)) ps) h in
         All-cons (λ (q : PairFlow). pos 0 ≤ℤ distance l q → IsApart l layers q) p ps
         (λ low.
-        let n = natural_of (distance l p) low in
+        let n = natural_is (distance l p) low in
         elim (cases_Bool (int_lt (distance l p) (pos 0))) [
           | inl t ↦ let b = below_from_test (distance l p) t in absurd (omega (arith, ints, b, low))
           | inr f ↦ let r = rw f at here in omega (arith, ints, r, n)
@@ -200,7 +200,7 @@ module _ (l : Plain) (pairs : List PairFlow) (tops : List ℤ) (long : length to
             let least = lowest_is tops p.lower (rw long h.0.lower_is) in
             rw t (omega (arith, ints, none, alone, least, low))
         | inr f ↦
-            let n = natural_of (distance l p) (not_below (distance l p) f) in
+            let n = natural_is (distance l p) (not_below (distance l p) f) in
             rw f (omega (arith, ints, n, low, high, a))
       ]
     where

@@ -13,8 +13,9 @@ use Rattle.ns_place.specs.Pairs.{distance, IsPair}
 use Rattle.ns_place.specs.Heights.{of_links, of_pairs, links_value, pairs_value, pins_together}
 use Rattle.ns_place.specs.Flows.{flow_at}
 use Rattle.ns_place.specs.Network.{joining, edge_for, alone_of, edges_of, HasPins}
-use Rattle.ns_place.proofs.SumLemmas.{natural_of}
 use Rattle.ns_place.proofs.NetworkLemmas.{joining_all, edges_all}
+use Rattle.elk_doc.proofs.SegmentBounds.{scale_one}
+use Rattle.network_laws.proofs.Duality.{natural_is}
 
 abbrev pub head_of : NetEdge → ℕ
 head_of e = e.head
@@ -179,10 +180,6 @@ no_times : (z : ℤ) → pos 0 *ℤ z ≡ pos 0
 no_times (pos n) = omega (arith, ints)
 no_times (negsuc n) = omega (arith, ints)
 
-one_times : (z : ℤ) → pos 1 *ℤ z ≡ z
-one_times (pos n) = omega (arith, ints)
-one_times (negsuc n) = omega (arith, ints)
-
 less_one_times : (z : ℤ) → (negsuc 0 *ℤ z) +ℤ z ≡ pos 0
 less_one_times (pos n) = omega (arith, ints)
 less_one_times (negsuc n) = omega (arith, ints)
@@ -201,7 +198,7 @@ worth_link (suc zero) b x y f e s =
 worth_link (suc (suc zero)) b x y f e s =
     let is : f ≡ pos 1 = omega (arith, ints, e) in
     let none : b ≡ 0 = omega (arith, s) in
-    let m = one_times (pos x -ℤ pos y) in
+    let m = scale_one (pos x -ℤ pos y) in
     rw (is, none) (omega (arith, ints, m))
 worth_link (suc (suc (suc a))) b x y f e s = absurd (omega (arith, s))
 
@@ -214,8 +211,8 @@ links_worth joint (l ∷ ls) (a ∷ b ∷ flow) [] h pins = absurd h
 links_worth joint (l ∷ ls) (a ∷ b ∷ flow) (f ∷ fs) h pins =
     let rest = links_worth (joint + 1) ls flow fs h.1 (All-tail HasPins l ls pins) in
     let p = All-head HasPins l ls pins in
-    let m = natural_of l.tail_at p.0 in
-    let n = natural_of l.head_at p.1 in
+    let m = natural_is l.tail_at p.0 in
+    let n = natural_is l.head_at p.1 in
     let one = worth_link a b (natural l.head_at) (natural l.tail_at) f h.0.0 h.0.1 in
     let turn : f *ℤ (pos (natural l.head_at) -ℤ pos (natural l.tail_at)) ≡ f *ℤ (l.head_at -ℤ l.tail_at) = ap (λ z. f *ℤ z) (ap (λ z. z -ℤ pos (natural l.tail_at)) n ∙ ap (λ z. l.head_at -ℤ z) m) in
     omega (arith, ints, rest, m, n, one, turn)

@@ -16,7 +16,8 @@ use Rattle.ns_place.specs.Pairs.{all_pairs, distance, IsPair}
 use Rattle.ns_place.specs.Heights.{pins_together}
 use Rattle.ns_place.specs.Network.{edge_of, joining, edge_for, alone_of, edges_of, HasPins}
 use Rattle.ns_place.proofs.PairLemmas.{are_pairs, pairs_ascend}
-use Rattle.ns_place.proofs.SumLemmas.{natural_le, natural_of, distance_within, most_room, most_rooms, pairs_within, count_units, count_pairs}
+use Rattle.ns_place.proofs.SumLemmas.{natural_le, distance_within, most_room, most_rooms, pairs_within, count_units, count_pairs}
+use Rattle.network_laws.proofs.Duality.{natural_is}
 
 -- edges added one after the other
 
@@ -66,8 +67,8 @@ joining_least joint (l ∷ ls) h =
     let here = All-head HasPins l ls h in
     let a = sum_by-cons (λ (e : NetEdge). e.least) (edge_of joint l.tail l.head_at) (edge_of joint l.head l.tail_at ∷ joining (joint + 1) ls) in
     let b = sum_by-cons (λ (e : NetEdge). e.least) (edge_of joint l.head l.tail_at) (joining (joint + 1) ls) in
-    let m = natural_of l.tail_at here.0 in
-    let n = natural_of l.head_at here.1 in
+    let m = natural_is l.tail_at here.0 in
+    let n = natural_is l.head_at here.1 in
     omega (arith, ints, rest, a, b, m, n)
 
 joining_weight : (joint : ℕ) (ls : List Link) → sum_by (λ (e : NetEdge). e.weight) (joining joint ls) ≡ 2 * length ls
@@ -89,7 +90,7 @@ pairs_weight l alone (p ∷ pairs) =
 pair_least : (l : Plain) (p : PairFlow) → IsSound l → IsPair l p → natural (distance l p) ≤ most_room (unit_at l.units p.upper)
 pair_least l p s h =
     let d = distance_within l p s h in
-    let n = natural_of (unit_at l.units p.upper).height (s.heights p.upper h.upper_is) in
+    let n = natural_is (unit_at l.units p.upper).height (s.heights p.upper h.upper_is) in
     natural_le (distance l p) (most_room (unit_at l.units p.upper)) (omega (arith, ints, d, n))
 
 pairs_least : (l : Plain) (alone : ℕ) (pairs : List PairFlow) → IsSound l → All (IsPair l) pairs → sum_by (λ (e : NetEdge). e.least) (map (edge_for l alone) pairs) ≤ sum_by (λ (p : PairFlow). most_room (unit_at l.units p.upper)) pairs

@@ -53,11 +53,6 @@ edges_again : (l : Plain) (alone : ℕ) (ps : List PairFlow) → map (edge_for l
 edges_again l alone [] = refl
 edges_again l alone (p ∷ ps) = ap (λ es. edge_for l alone p ∷ es) (edges_again l alone ps)
 
-apart_again : (l : Plain) (tops : List ℤ) (ps : List PairFlow) → All (IsApart l tops) (map without_flow ps) → All (IsApart l tops) ps
-apart_again l tops [] h = All-nil (IsApart l tops)
-apart_again l tops (p ∷ ps) h =
-    All-cons (IsApart l tops) p ps (All-head (IsApart l tops) (without_flow p) (map without_flow ps) h) (apart_again l tops ps (All-tail (IsApart l tops) (without_flow p) (map without_flow ps) h))
-
 same_pair : (p : PairFlow) → p.flow ≡ 0 → without_flow p ≡ p
 same_pair p e = let make : ℕ → PairFlow = λ n. record { upper = p.upper; lower = p.lower; body = p.body; flow = n } in ap make (sym e)
 

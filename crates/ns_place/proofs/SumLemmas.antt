@@ -9,12 +9,13 @@ use Rattle.elk_layers.specs.declared.units.Unit.{Unit as LayerUnit}
 use Rattle.elk_layers.specs.Layered.{Plain, IsSound, AreRows, unit_at, row_at, layer_of, place_in, is_child, total_height}
 use Rattle.elk_layers.specs.Lines.{facing, lane_below, lane_above}
 use Rattle.network_laws.specs.Layering.{natural}
-use Rattle.network_laws.proofs.Duality.{over_nodes, over_same, over_sum, over_one}
+use Rattle.network_laws.proofs.Duality.{over_nodes, over_same, over_sum, over_one, natural_is}
 use Rattle.elk_layers.specs.Occurring.{occurs, HasNoRepeat}
 use Rattle.elk_layers.proofs.OccursLemmas.{occurs-append, no_repeat_from}
 use Rattle.elk_layers.proofs.PlaceLemmas.{place_below, place_reads}
 use Rattle.ns_place.specs.declared.least.PairFlow.{PairFlow}
 use Rattle.ns_place.specs.Pairs.{pair_of, neighbours, row_pairs, all_pairs, distance, IsPair}
+use Rattle.flow_dual.proofs.Augmenting.{over_le}
 
 neighbours_sum : (g : ℕ → ℕ) (body : Bool) (xs : List ℕ) → sum_by (λ (p : PairFlow). g p.upper) (neighbours body xs) ≤ sum_by g xs
 neighbours_sum g body [] = omega arith
@@ -76,13 +77,6 @@ rows_below n [] h = All-nil (λ u. u < n)
 rows_below n (first ∷ rows) h =
     All-append (λ u. u < n) first (concat rows) (All-from_get_or (λ u. u < n) first 0 (h 0 (omega arith))) (rows_below n rows (λ r k. h (suc r) (omega (arith, k))))
 
-over_le : (f k : ℕ → ℕ) (n : ℕ) → ((v : ℕ) → v < n → f v ≤ k v) → over_nodes f n ≤ over_nodes k n
-over_le f k zero h = omega arith
-over_le f k (suc n) h =
-    let a = over_le f k n (λ v l. h v (omega (arith, l))) in
-    let b = h n (omega arith) in
-    omega (arith, a, b)
-
 over_zero : (n : ℕ) → over_nodes (λ v. 0) n ≡ 0
 over_zero zero = refl
 over_zero (suc n) = let a = over_zero n in omega (arith, a)
@@ -132,10 +126,6 @@ pub natural_le : (z : ℤ) (n : ℕ) → z ≤ℤ pos n → natural z ≤ n
 natural_le (pos m) n h = omega (arith, ints, h)
 natural_le (negsuc m) n h = omega arith
 
-pub natural_of : (z : ℤ) → pos 0 ≤ℤ z → pos (natural z) ≡ z
-natural_of (pos n) h = refl
-natural_of (negsuc n) h = absurd (omega (arith, ints, h))
-
 pub facing_small : (l : Plain) → IsSound l → (a b : Bool) → facing l a b ≤ℤ pos (2 ^ 20)
 facing_small l s true true = let h = s.edge_edge_is.high in omega (arith, ints, h)
 facing_small l s true false = let h = s.edge_node_is.high in omega (arith, ints, h)
@@ -165,7 +155,7 @@ most_rooms [] h = refl
 most_rooms (u ∷ units) h =
     let rest = most_rooms units (λ k l. h (suc k) (omega (arith, l))) in
     let c = sum_by-cons most_room u units in
-    let n = natural_of u.height (h 0 (omega arith)) in
+    let n = natural_is u.height (h 0 (omega arith)) in
     omega (arith, ints, rest, c, n)
 
 pub count_units : (units : List LayerUnit) → sum_by (λ (u : LayerUnit). 1) units ≡ length units

@@ -24,7 +24,7 @@ use Rattle.port_order.specs.Laws.{KeepsPort, IsOutward, PortsStand, KeepsOrder}
 use Rattle.port_order.proofs.StrictLemmas.{clockwise_one_way}
 use Rattle.port_order.proofs.PlaceLemmas.{place_is, offset_inside, offset_up}
 
-along_corner : (side : Side) (face start : ℤ) (size : Size) → along side (corner_of side face start size) ≡ start
+pub along_corner : (side : Side) (face start : ℤ) (size : Size) → along side (corner_of side face start size) ≡ start
 along_corner North face start size = refl
 along_corner East face start size = refl
 along_corner South face start size = refl

@@ -23,7 +23,7 @@ use Rattle.port_order.specs.Order.{IsSpreadOn, ComesFirst, IsOrderOfSide}
 use Rattle.port_order.specs.Ranks.{HaveCounts, rank_of, is_spread_on, ranks_of}
 use Rattle.port_order.proofs.RankLemmas.{rank_cmp, rank_cmp_total, rank_decides, rank_number}
 
-side_same : (a b : Side) → is_side a b ≡ true → a ≡ b
+pub side_same : (a b : Side) → is_side a b ≡ true → a ≡ b
 side_same North North h = refl
 side_same North East h = absurd cc
 side_same North South h = absurd cc
@@ -41,7 +41,7 @@ side_same West East h = absurd cc
 side_same West South h = absurd cc
 side_same West West h = refl
 
-side_itself : (a : Side) → is_side a a ≡ true
+pub side_itself : (a : Side) → is_side a a ≡ true
 side_itself North = refl
 side_itself East = refl
 side_itself South = refl

@@ -1,5 +1,5 @@
 -- Where a spot stands among those of its side, as a key.
-use Rattle.std.specs.Prelude.{ℕ, ◌*◌, ◌/◌, ◌^◌, Bool, true, false, not, ◌&&◌, List, ℤ, pos, neg_ℤ, ◌+ℤ◌, Option, None, Some, map, length, ◌<◌, ◌≤◌, IfSome, IsTrue}
+use Rattle.std.specs.Prelude.{ℕ, ◌*◌, ◌/◌, ◌^◌, Bool, not, ◌&&◌, List, pos, ◌+ℤ◌, Option, None, Some, map, length, ◌<◌, ◌≤◌, IfSome, IsTrue}
 use Rattle.std.specs.List.{filter}
 use Rattle.elk_doc.specs.declared.shape.Side.{Side}
 use Rattle.elk_doc.specs.declared.shape.Side.TheVariants.{North, East, South, West}
@@ -13,16 +13,11 @@ use Rattle.port_order.specs.declared.spots.Spot.{Spot}
 use Rattle.port_order.specs.declared.ranks.Rank.{Rank}
 use Rattle.port_order.specs.Child.{port_at, spot_at, is_pinned_spot}
 use Rattle.port_order.specs.Sides.{side_of, is_forward}
-use Rattle.port_order.specs.Order.{flow_class}
+use Rattle.port_order.specs.Order.{clockwise, flow_class}
 
 -- a mean in units of which 2^64 make 1, rounded down
 abbrev pub fine_mean : Mean → ℕ
 fine_mean m = (m.sum * 2 ^ 64) / m.count
-
--- a number that rises from the top or the left, where clockwise runs forward or backward there
-abbrev pub along_side : Bool → ℤ → ℤ
-along_side true z = z
-along_side false z = neg_ℤ z
 
 abbrev pub flow_rank : Spot → Rank
 flow_rank s = record { group = flow_class s.leaves s.enters; index = pos 0; given = pos 0; mean = 0; tie = pos s.number; number = s.number }
@@ -36,10 +31,10 @@ abbrev pub port_rank : Bool → Child → Side → ℕ → ℕ → Rank
 port_rank forward c side k n =
     record {
       group = 0;
-      index = along_side forward (port_at c k).index;
+      index = clockwise forward (port_at c k).index;
       given = along side (port_at c k).place +ℤ (port_at c k).half;
       mean = 0;
-      tie = along_side forward (pos n);
+      tie = clockwise forward (pos n);
       number = n;
     }
 

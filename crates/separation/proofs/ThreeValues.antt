@@ -1,9 +1,8 @@
 -- Three numbers from 0, under three bounds that the values 0, 5 and 9 keep.
-use Rattle.std.proofs.Common.{◌≡◌, ◌≢◌, ℕ, zero, suc, ◌<◌, ℤ, pos, ◌≤ℤ◌, ◌<ℤ◌, ◌^◌, get_or, List, [], ◌∷◌, refl, arith}
+use Rattle.std.proofs.Common.{◌≡◌, ◌≢◌, ℕ, zero, suc, ◌<◌, ℤ, pos, ◌≤ℤ◌, get_or, List, [], ◌∷◌, refl, arith}
 use Rattle.std.proofs.lemmas.Int.{ints}
 use Rattle.separation.specs.declared.bounds.Bound.{Bound}
-use Rattle.separation.specs.Order.{GoesForward, bound_at}
-use Rattle.separation.specs.Lines.{value_at, IsWithin, IsSolvable, KeepsBound}
+use Rattle.separation.specs.Lines.{IsWithin}
 
 abbrev pub leads : ℕ → ℕ → ℤ → Bound
 leads a b gap = record { before = a; after = b; gap = gap }
@@ -13,9 +12,6 @@ numbers = 0 ∷ 1 ∷ 2 ∷ []
 
 abbrev pub floors : List ℤ
 floors = pos 0 ∷ pos 0 ∷ pos 0 ∷ []
-
-abbrev pub three_bounds : List Bound
-three_bounds = leads 0 1 (pos 5) ∷ leads 0 2 (pos 3) ∷ leads 1 2 (pos 4) ∷ []
 
 abbrev values : List ℤ
 values = pos 0 ∷ pos 5 ∷ pos 9 ∷ []
@@ -37,28 +33,3 @@ number_is = below_three (λ p. number p ≡ p) refl refl refl
 
 different : (p q : ℕ) → p < q → q < 3 → number p ≢ number q
 different p q less small = omega (arith, number_is p (omega arith), number_is q small)
-
-pub three_solvable : IsSolvable numbers floors three_bounds
-three_solvable =
-    record {
-      is_order = record {
-        as_long = refl;
-        in_range = below_three (λ p. number p < 3) (omega arith) (omega arith) (omega arith);
-        distinct = λ p q less small. different p q less small;
-      };
-      forward = below_three (λ k. GoesForward numbers (bound_at three_bounds k))
-          (record { from = 0; to = 1; forward = omega arith; within = omega arith; from_is = refl; to_is = refl })
-          (record { from = 0; to = 2; forward = omega arith; within = omega arith; from_is = refl; to_is = refl })
-          (record { from = 1; to = 2; forward = omega arith; within = omega arith; from_is = refl; to_is = refl });
-      few = omega arith;
-      gaps = below_three (λ k. IsWithin (bound_at three_bounds k).gap) (within (pos 5) (omega (arith, ints)) (omega (arith, ints))) (within (pos 3) (omega (arith, ints)) (omega (arith, ints))) (within (pos 4) (omega (arith, ints)) (omega (arith, ints)));
-      floors = below_three (λ k. IsWithin (value_at floors k)) (within (pos 0) (omega (arith, ints)) (omega (arith, ints))) (within (pos 0) (omega (arith, ints)) (omega (arith, ints))) (within (pos 0) (omega (arith, ints)) (omega (arith, ints)));
-      can_keep = record {
-        values = values;
-        kept = record {
-          floors = below_three (λ k. value_at floors k ≤ℤ value_at values k) (omega (arith, ints)) (omega (arith, ints)) (omega (arith, ints));
-          bounds = below_three (λ k. KeepsBound values (bound_at three_bounds k)) (omega (arith, ints)) (omega (arith, ints)) (omega (arith, ints));
-        };
-        small = below_three (λ k. value_at values k <ℤ pos (2 ^ 60)) (omega (arith, ints)) (omega (arith, ints)) (omega (arith, ints));
-      };
-    }

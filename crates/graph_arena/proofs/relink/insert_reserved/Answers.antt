@@ -5,7 +5,7 @@ use Rattle.graph_arena.specs.Sides.{IsSound, graph_of}
 use Rattle.graph_arena.specs.Changes.{AddsEdge}
 use Rattle.graph_arena.proofs.Whole.{same_came, same_sound, same_kept, in_not_out, moved_both, added_sound, added_edge}
 use Rattle.graph_arena.proofs.relink.insert_reserved.Goals as goal
-use Rattle.graph_arena.proofs.relink.insert_reserved.Goals.{After-insert_reserved-edge, After-attach-2}
+use Rattle.graph_arena.proofs.relink.insert_reserved.Goals.{After-attach-2}
 
 pub attach-requires-clause-side : goal.attach-requires-clause-side
 attach-requires-clause-side c =

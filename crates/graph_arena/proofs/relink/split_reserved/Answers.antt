@@ -7,7 +7,7 @@ use Rattle.graph_arena.specs.Changes.{Splits}
 use Rattle.graph_arena.proofs.Views.{tail_is, head_known}
 use Rattle.graph_arena.proofs.Whole.{some_of, start_side, middle_side, split_sound, split_edge}
 use Rattle.graph_arena.proofs.relink.split_reserved.Goals as goal
-use Rattle.graph_arena.proofs.relink.split_reserved.Goals.{After-insert_reserved-far, After-attach, After-attach-2}
+use Rattle.graph_arena.proofs.relink.split_reserved.Goals.{After-attach-2}
 
 pub hand_over-requires-clause-side : goal.hand_over-requires-clause-side
 hand_over-requires-clause-side c =

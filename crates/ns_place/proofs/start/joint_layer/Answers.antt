@@ -1,7 +1,4 @@
-use Rattle.std.proofs.Common.{◌≡◌, ◌+ℤ◌, ◌-ℤ◌, arith, rules, refl, w64, FitsSigned, to_z-of_z}
-use Rattle.std.specs.Int.{int_min}
-use Rattle.std.proofs.lemmas.Int.{ints, clamps}
-use Rattle.elk_layers.specs.Lines.{top_of}
+use Rattle.std.proofs.Common.{rules, refl, w64, FitsSigned, to_z-of_z}
 use Rattle.ns_place.proofs.FirstLemmas.{joint_fits, pin_fits, sum_fits}
 use Rattle.ns_place.proofs.start.joint_layer.Goals as goal
 

@@ -1,4 +1,4 @@
-use Rattle.std.proofs.Common.{◌≡◌, ◌++◌, ◌∷◌, [], pos, map, get_or, arith, rules, ap, sym, ◌∙◌, w64, FitsSigned, to_z-of_z}
+use Rattle.std.proofs.Common.{◌++◌, ◌∷◌, [], pos, map, arith, rules, ap, sym, ◌∙◌, w64, FitsSigned, to_z-of_z}
 use Rattle.std.proofs.lemmas.Int.{ints}
 use Rattle.std.proofs.lemmas.List.{map_more, take_all}
 use Rattle.elk_layers.specs.Lines.{top_of}

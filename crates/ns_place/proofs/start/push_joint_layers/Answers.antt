@@ -1,4 +1,4 @@
-use Rattle.std.proofs.Common.{◌≡◌, ◌++◌, ◌∷◌, [], pos, map, take, arith, rules, ap, sym, ◌∙◌, append_assoc, w64, FitsSigned, to_z-of_z}
+use Rattle.std.proofs.Common.{◌++◌, ◌∷◌, [], pos, map, take, arith, rules, ap, sym, ◌∙◌, append_assoc, w64, FitsSigned, to_z-of_z}
 use Rattle.std.proofs.lemmas.List.{map_more, take_all}
 use Rattle.elk_layers.specs.Layered.{link_at}
 use Rattle.ns_place.specs.Start.{joint_layer}

@@ -1,4 +1,4 @@
-use Rattle.std.proofs.Common.{◌≡◌, ◌≢◌, ℕ, ◌<◌, slice_index}
+use Rattle.std.proofs.Common.{ℕ, ◌<◌}
 use Rattle.elk_layers.specs.Layered.{unit_at, row_at, rows_of, HasUnit}
 use Rattle.placing_tests.proofs.checks.are_found.Given as goal
 

@@ -1,4 +1,4 @@
-use Rattle.std.proofs.Common.{◌≡◌, ◌≢◌, ℕ, ◌<◌, slice_index}
+use Rattle.std.proofs.Common.{ℕ, ◌<◌}
 use Rattle.elk_layers.specs.Layered.{link_at}
 use Rattle.bk_place.specs.Checked.{IsGoodLink}
 use Rattle.placing_tests.proofs.checks.are_good_links.Given as goal

@@ -1,4 +1,4 @@
-use Rattle.std.proofs.Common.{◌≡◌, ◌≢◌, ℕ, ◌<◌, slice_index}
+use Rattle.std.proofs.Common.{ℕ, ◌<◌}
 use Rattle.elk_layers.specs.Layered.{row_at, rows_of}
 use Rattle.bk_place.specs.Checked.{IsGoodRow}
 use Rattle.placing_tests.proofs.checks.are_good_rows.Given as goal

@@ -1,4 +1,4 @@
-use Rattle.std.proofs.Common.{◌≡◌, ◌∙◌, length, arith, rules}
+use Rattle.std.proofs.Common.{◌≡◌, ◌∙◌, length, rules}
 use Rattle.std.proofs.lemmas.List.{length-map}
 use Rattle.elk_layers.specs.Layered.{plain, rows_of}
 use Rattle.bk_place.specs.Checked.{AreGoodRows, AreFound}

@@ -1,4 +1,4 @@
-use Rattle.std.proofs.Common.{◌≡◌, ◌≢◌, ℕ, ◌<◌, slice_index}
+use Rattle.std.proofs.Common.{◌≢◌, ℕ, ◌<◌, slice_index}
 use Rattle.placing_tests.proofs.checks.is_new.Given as goal
 
 abbrev pub invariant-loop-i : goal.invariant-loop-i

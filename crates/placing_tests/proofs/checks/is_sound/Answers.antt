@@ -1,4 +1,4 @@
-use Rattle.std.proofs.Common.{◌≤◌, length, arith, rules}
+use Rattle.std.proofs.Common.{◌≤◌, length, rules}
 use Rattle.elk_layers.specs.Layered.{plain, IsSpacing}
 use Rattle.bk_place.specs.Checked.{AreGoodUnits, AreGoodLinks}
 use Rattle.bk_place.proofs.CheckLemmas.{sound_from}

@@ -1,4 +1,4 @@
-use Rattle.std.proofs.Common.{◌∙◌, refl, ap, length}
+use Rattle.std.proofs.Common.{◌∙◌, refl}
 use Rattle.port_order.proofs.ExampleLemmas.{three_ports}
 use Rattle.placing_tests.proofs.ports.leaf.Goals as goal
 

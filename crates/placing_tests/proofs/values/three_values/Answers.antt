@@ -1,5 +1,5 @@
 use Rattle.std.proofs.Common.{◌≡◌, rules}
-use Rattle.separation.proofs.ThreeValues.{numbers, floors, three_bounds, three_solvable}
+use Rattle.placing_tests.proofs.ThreeValues.{numbers, floors, three_bounds, three_solvable}
 use Rattle.placing_tests.proofs.values.three_values.Goals as goal
 
 pub least_lines-requires : goal.least_lines-requires
