@@ -1,5 +1,5 @@
 -- The faults of ports and of ends at nodes: which comes first at a level.
-use Rattle.std.specs.Prelude.{◌≡◌, ◌≢◌, ◌⊎◌, ℕ, ◌<◌, Bool, pos, ◌≤ℤ◌, ◌<ℤ◌, IsTrue, length}
+use Rattle.std.specs.Prelude.{◌≡◌, ◌≢◌, ◌⊎◌, ℕ, ◌<◌, Bool, pos, ◌<ℤ◌, IsTrue, length}
 use Rattle.elk_doc.specs.declared.shape.Side.{Side}
 use Rattle.elk_doc.specs.declared.document.PortRule.TheVariants.{FixedOrder}
 use Rattle.elk_doc.specs.declared.document.End.TheVariants.{Node as AtNode}
@@ -7,9 +7,9 @@ use Rattle.elk_doc.specs.declared.drawing.Placed.{Placed}
 use Rattle.elk_doc.specs.Document.{Document, node_at, node_of_port}
 use Rattle.elk_doc.specs.Drawing.{box_of}
 use Rattle.elk_doc.specs.Level.{IsChild, IsEdge}
-use Rattle.elk_doc.specs.Sides.{side_of_end, side_of_port, end_of}
+use Rattle.elk_doc.specs.Sides.{side_of_end, end_of}
 use Rattle.elk_doc.specs.Sound.{IsSound}
-use Rattle.elk_doc.specs.PortsKept.{KeepsPort, KeepsEnd, ComesBefore, clockwise, port_offset, side_length, Spot, a_port, an_end, IsSpread, spread_count, spot_offset, PortsKept}
+use Rattle.elk_doc.specs.PortsKept.{KeepsPort, KeepsEnd, AreInOrder, side_length, Spot, a_port, an_end, IsSpread, spread_count, spot_offset, PortsKept}
 use Rattle.check_faults.specs.declared.fault.Fault.{Fault}
 use Rattle.check_faults.specs.declared.fault.Place.TheVariants.{Port, Edge}
 use Rattle.check_faults.specs.Faults.{lone_fault, FailsFirst}
@@ -24,10 +24,9 @@ abbrev pub SpotsDiffer : Document → Placed → ℕ → Spot → Spot → Type 
 SpotsDiffer d p m x y =
     (s : Side) → (pos (spread_count d p m s) <ℤ side_length s (box_of p m)) → IsSpread d p m s x → IsSpread d p m s y → spot_offset d p m s x ≢ spot_offset d p m s y
 
--- under a fixed order, port j of m does not stand further clockwise than port k of the same side if it comes before it
+-- under a fixed order the ports j and k of m stand in it
 abbrev pub OrderHolds : Document → Placed → ℕ → ℕ → ℕ → Type 0
-OrderHolds d p m j k =
-    (node_at d m).rule ≡ FixedOrder → side_of_port d p j ≡ side_of_port d p k → ComesBefore d p j k → clockwise (side_of_port d p j) (port_offset d p j) ≤ℤ clockwise (side_of_port d p k) (port_offset d p k)
+OrderHolds d p m j k = (node_at d m).rule ≡ FixedOrder → AreInOrder d p j k
 
 -- two ports of m
 pub record PortPair (d : Document) (p : Placed) (m j k : ℕ) : Type 0 where

@@ -16,7 +16,7 @@ use Rattle.elk_doc.specs.Drawing.{box_of, head_end, is_listed, no_rect, port_pla
 use Rattle.elk_doc.specs.Level.{is_loop, node_of_end}
 use Rattle.elk_doc.specs.Numbers.{any_below, count_below}
 use Rattle.elk_doc.specs.Places.{middle_of, offset_on}
-use Rattle.elk_doc.specs.PortsKept.{ComesBefore, KeepsOrder, KeepsPort, KeepsPorts, IsSpread, Spot, SpreadsApart, a_port, across, an_end, clockwise, flush, given_clockwise, is_at_node, is_pinned, is_side, is_spread_end, is_spread_port, pins, port_offset, side_length, size_along, spot_offset, spread_count}
+use Rattle.elk_doc.specs.PortsKept.{ComesBefore, GoesFirst, KeepsOrder, KeepsPort, KeepsPorts, IsSpread, Spot, SpreadsApart, a_port, across, an_end, clockwise, flush, given_clockwise, is_at_node, is_pinned, is_side, is_spread_end, is_spread_port, pins, port_offset, side_length, size_along, spot_offset, spread_count}
 use Rattle.elk_doc.specs.Shapes.{half_of, moved_by, rect_at}
 use Rattle.elk_doc.specs.Sides.{end_of, enters_port, given_side, is_at_port, is_entered, is_leaf, is_left, side_by_place, side_from, side_of_end, side_of_port, side_or}
 use Rattle.elk_doc.specs.Sound.{IsSound, IsWithin, along}
@@ -157,13 +157,10 @@ module _ (d : Document) (p : Placed) (c : Certificate) (sound : IsSound d) where
   index_is : (k : ℕ) → k < length d.ports → node_of_port d k ≡ 0 → (port_at w k).index ≡ (port_at d k).index
   index_is k h own = ap (λ (x : Port). x.index) (root_port_at d k h own)
 
-  abbrev Before : ℕ → ℕ → ℤ → ℤ → ℤ → ℤ → Type 0
-  Before j k index_j index_k given_j given_k = (index_j <ℤ index_k) ⊎ ((index_j ≡ index_k) × ((given_j <ℤ given_k) ⊎ ((given_j ≡ given_k) × (j < k))))
-
   comes_before : (j k : ℕ) → j < length d.ports → k < length d.ports → node_of_port d j ≡ 0 → node_of_port d k ≡ 0 → ComesBefore d p j k → ComesBefore w q j k
   comes_before j k hj hk own_j own_k before =
-      subst₂ (λ a b. Before j k a b (given_clockwise w q j) (given_clockwise w q k)) (sym (index_is j hj own_j)) (sym (index_is k hk own_k))
-      (subst₂ (λ a b. Before j k (port_at d j).index (port_at d k).index a b) (sym (given_place j hj own_j)) (sym (given_place k hk own_k)) before)
+      subst₂ (λ a b. GoesFirst a b (given_clockwise w q j) (given_clockwise w q k) j k) (sym (index_is j hj own_j)) (sym (index_is k hk own_k))
+      (subst₂ (λ a b. GoesFirst (port_at d j).index (port_at d k).index a b j k) (sym (given_place j hj own_j)) (sym (given_place k hk own_k)) before)
 
   order_kept : KeepsOrder w q 1 → KeepsOrder d p 0
   order_kept kept j k hj hk own_j own_k same before =

@@ -15,7 +15,7 @@ use Rattle.elk_doc.specs.Drawing.{box_of, port_place as document_place}
 use Rattle.elk_doc.specs.Shapes.{turned, rect_at, half_of}
 use Rattle.elk_doc.specs.Sides.{is_leaf, side_of_port, side_of_end, end_of}
 use Rattle.elk_doc.specs.Sound.{IsWithin, along}
-use Rattle.elk_doc.specs.PortsKept.{across, size_along, flush, pins, is_pinned as is_document_pinned, port_offset as document_offset, KeepsPort, KeepsEnd, given_clockwise, ComesBefore, IsOnSide, clockwise as clockwise_on}
+use Rattle.elk_doc.specs.PortsKept.{AreInOrder, across, size_along, flush, pins, is_pinned as is_document_pinned, port_offset as document_offset, KeepsPort, KeepsEnd, given_clockwise, ComesBefore, IsOnSide, clockwise, counted}
 use Rattle.elk_doc.specs.Places.{offset_on, section_end}
 use Rattle.elk_doc.proofs.NumberLaws.{count_below-lt}
 use Rattle.drawing_laws.specs.Turning.{turned_point, turned_side}
@@ -25,7 +25,7 @@ use Rattle.port_order.specs.declared.children.Child.{Child}
 use Rattle.port_order.specs.declared.children.ChildPort.{ChildPort}
 use Rattle.port_order.specs.Child.{port_at, is_pinned}
 use Rattle.port_order.specs.Sides.{is_forward}
-use Rattle.port_order.specs.Order.{ClockwiseFirst, clockwise, given_at}
+use Rattle.port_order.specs.Order.{ClockwiseFirst, given_at}
 use Rattle.level_plan.specs.declared.level.Spoke.{Spoke}
 use Rattle.level_plan.specs.Level.{PlainLevel, PlainPlan, Orders, end_at, spoke, child_at, dock_of}
 use Rattle.level_plan.specs.FromPlan.{LevelDrawing, point_or, anchor}
@@ -199,20 +199,20 @@ module _ (d : Document) (p : Placed) (n : ℕ) (o : LevelOptions) (plan : PlainP
   -- the given place of a port's anchor, counted clockwise
   given_place : (j : ℕ) (s : Side) → j < length (ports_of d m) → side_of_port d p (port_number d m j) ≡ s
       → given_at child (turned_side way s) j
-      ≡ clockwise (is_forward way (turned_side way s)) (turned_offset way s (box_of p m) (along s (document_port d (port_number d m j)).place +ℤ half_of (size_along s (document_port d (port_number d m j)).size)))
+      ≡ counted (is_forward way (turned_side way s)) (turned_offset way s (box_of p m) (along s (document_port d (port_number d m j)).place +ℤ half_of (size_along s (document_port d (port_number d m j)).size)))
   given_place j s h same =
       let k = port_number d m j in
       let z = (document_port d k).size in
       let g = (document_port d k).place in
-      ap (λ (c : Child). clockwise (is_forward c.direction (turned_side way s)) (along (turned_side way s) (port_at child j).place +ℤ (port_at child j).half)) child_is
-      ∙ ap₂ (λ x y. clockwise (is_forward way (turned_side way s)) (along (turned_side way s) x +ℤ y)) (given_is j h) (half_at j s h same)
-      ∙ ap (clockwise (is_forward way (turned_side way s))) (offset_turned way s (box_of p m) z g)
+      ap (λ (c : Child). counted (is_forward c.direction (turned_side way s)) (along (turned_side way s) (port_at child j).place +ℤ (port_at child j).half)) child_is
+      ∙ ap₂ (λ x y. counted (is_forward way (turned_side way s)) (along (turned_side way s) x +ℤ y)) (given_is j h) (half_at j s h same)
+      ∙ ap (counted (is_forward way (turned_side way s))) (offset_turned way s (box_of p m) z g)
 
   document_given : (j : ℕ) (s : Side) → side_of_port d p (port_number d m j) ≡ s
-      → given_clockwise d p (port_number d m j) ≡ clockwise_on s (along s (document_port d (port_number d m j)).place +ℤ half_of (size_along s (document_port d (port_number d m j)).size))
+      → given_clockwise d p (port_number d m j) ≡ clockwise s (along s (document_port d (port_number d m j)).place +ℤ half_of (size_along s (document_port d (port_number d m j)).size))
   document_given j s same =
       let k = port_number d m j in
-      ap (λ x. clockwise_on x (along x (document_port d k).place +ℤ half_of (size_along x (document_port d k).size))) same
+      ap (λ x. clockwise x (along x (document_port d k).place +ℤ half_of (size_along x (document_port d k).size))) same
 
   index_is : (j : ℕ) → j < length (ports_of d m) → (port_at child j).index ≡ (document_port d (port_number d m j)).index
   index_is j h = ap (λ (q : ChildPort). q.index) (port_is j h)
@@ -253,9 +253,7 @@ module _ (d : Document) (p : Placed) (n : ℕ) (o : LevelOptions) (plan : PlainP
       ))
       before
 
-  pub order_kept : (j k : ℕ) → (node_at d m).rule ≡ FixedOrder → j < length (ports_of d m) → k < length (ports_of d m) → side_of_port d p (port_number d m j) ≡ side_of_port d p (port_number d m k)
-      → ComesBefore d p (port_number d m j) (port_number d m k)
-      → clockwise_on (side_of_port d p (port_number d m j)) (document_offset d p (port_number d m j)) ≤ℤ clockwise_on (side_of_port d p (port_number d m k)) (document_offset d p (port_number d m k))
+  pub order_kept : (j k : ℕ) → (node_at d m).rule ≡ FixedOrder → j < length (ports_of d m) → k < length (ports_of d m) → AreInOrder d p (port_number d m j) (port_number d m k)
   order_kept j k rule hj hk same before =
       let a = port_number d m j in
       let b = port_number d m k in
@@ -272,5 +270,5 @@ module _ (d : Document) (p : Placed) (n : ℕ) (o : LevelOptions) (plan : PlainP
       let at_k : port_offset child (port_side l plan i k) k (drawn_port v i k) ≡ turned_offset way s r (document_offset d p b) =
       offset_is k hk ∙ ap (λ c. turned_offset way s (box_of p c) (document_offset d p b)) (port_node d m k hk)
       in
-      let back = clockwise_back way s r (document_offset d p a) (document_offset d p b) (subst₂ (λ x y. x ≤ℤ y) (ap₂ clockwise forward at_j) (ap₂ clockwise forward at_k) less) in
-      subst (λ x. clockwise_on x (document_offset d p a) ≤ℤ clockwise_on s (document_offset d p b)) (sym same) back
+      let back = clockwise_back way s r (document_offset d p a) (document_offset d p b) (subst₂ (λ x y. x ≤ℤ y) (ap₂ counted forward at_j) (ap₂ counted forward at_k) less) in
+      subst (λ x. clockwise x (document_offset d p a) ≤ℤ clockwise s (document_offset d p b)) (sym same) back

@@ -8,7 +8,7 @@ use Rattle.elk_doc.specs.declared.shape.Side.{Side}
 use Rattle.elk_doc.specs.declared.document.PortRule.TheVariants.{FixedOrder}
 use Rattle.elk_doc.specs.Apart.{StandsClear}
 use Rattle.elk_doc.specs.Places.{offset_on}
-use Rattle.elk_doc.specs.PortsKept.{IsOnSide, Spot as Place, a_port, an_end, size_along}
+use Rattle.elk_doc.specs.PortsKept.{IsOnSide, Spot as Place, a_port, an_end, size_along, counted}
 use Rattle.elk_doc.specs.Route.{IsOrthogonal}
 use Rattle.elk_doc.specs.Clear.{IsClear}
 use Rattle.elk_doc.specs.Sharing.{PathsShare}
@@ -17,7 +17,7 @@ use Rattle.elk_doc.specs.Sound.{IsWithin}
 use Rattle.elk_doc.proofs.PathLemmas.{clear_numbered, some_points}
 use Rattle.port_order.specs.declared.children.Child.{Child}
 use Rattle.port_order.specs.Child.{is_pinned}
-use Rattle.port_order.specs.Order.{ClockwiseFirst, clockwise}
+use Rattle.port_order.specs.Order.{ClockwiseFirst}
 use Rattle.port_order.specs.Sides.{is_forward}
 use Rattle.level_plan.proofs.SpotLemmas.{spoke_there}
 use Rattle.level_plan.proofs.SameLines.{same_dock}
@@ -340,9 +340,9 @@ module _ (l : PlainLevel) (numbers : List ℕ) (count : ℕ) (plans : ℕ → Pl
       (same.side a ∙ sides ∙ sym (same.side b))
       (subst₂ (λ (x : Child) s. ClockwiseFirst x s a a b b) back (sym (same.side b)) first)
       in
-      subst (λ (x : Child). clockwise (is_forward x.direction (port_side l p c b)) (port_offset x (port_side l p c a) a (drawn_port v c a)) ≤ℤ clockwise (is_forward x.direction (port_side l p c b)) (port_offset x (port_side l p c b) b (drawn_port v c b))) same.child
-      (subst₂ (λ s t. clockwise (is_forward (child_at (part k) i).direction t) (port_offset (child_at (part k) i) s a (drawn_port v c a)) ≤ℤ clockwise (is_forward (child_at (part k) i).direction t) (port_offset (child_at (part k) i) t b (drawn_port v c b))) (same.side a) (same.side b)
-      (subst₂ (λ x y. clockwise (is_forward (child_at (part k) i).direction (port_side (part k) (plans k) i b)) (port_offset (child_at (part k) i) (port_side (part k) (plans k) i a) a x) ≤ℤ clockwise (is_forward (child_at (part k) i).direction (port_side (part k) (plans k) i b)) (port_offset (child_at (part k) i) (port_side (part k) (plans k) i b) b y))
+      subst (λ (x : Child). counted (is_forward x.direction (port_side l p c b)) (port_offset x (port_side l p c a) a (drawn_port v c a)) ≤ℤ counted (is_forward x.direction (port_side l p c b)) (port_offset x (port_side l p c b) b (drawn_port v c b))) same.child
+      (subst₂ (λ s t. counted (is_forward (child_at (part k) i).direction t) (port_offset (child_at (part k) i) s a (drawn_port v c a)) ≤ℤ counted (is_forward (child_at (part k) i).direction t) (port_offset (child_at (part k) i) t b (drawn_port v c b))) (same.side a) (same.side b)
+      (subst₂ (λ x y. counted (is_forward (child_at (part k) i).direction (port_side (part k) (plans k) i b)) (port_offset (child_at (part k) i) (port_side (part k) (plans k) i a) a x) ≤ℤ counted (is_forward (child_at (part k) i).direction (port_side (part k) (plans k) i b)) (port_offset (child_at (part k) i) (port_side (part k) (plans k) i b) b y))
       (sym (parts.port_at_is l numbers at own v are.level are.numbered joined k i less a)) (sym (parts.port_at_is l numbers at own v are.level are.numbered joined k i less b)) inner))
 
   -- a spot of the whole at its part, and back

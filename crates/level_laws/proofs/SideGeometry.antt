@@ -11,12 +11,11 @@ use Rattle.elk_doc.specs.declared.document.Direction.TheVariants.{Right, Left, D
 use Rattle.elk_doc.specs.Document.{origin}
 use Rattle.elk_doc.specs.Shapes.{turned, rect_at, moved_by, half_of}
 use Rattle.elk_doc.specs.Sound.{IsWithin, along}
-use Rattle.elk_doc.specs.PortsKept.{across, size_along, side_length, flush, IsOnSide, clockwise as clockwise_on}
+use Rattle.elk_doc.specs.PortsKept.{across, size_along, side_length, flush, IsOnSide, clockwise, counted}
 use Rattle.elk_doc.specs.Places.{middle_of, offset_on}
 use Rattle.drawing_laws.specs.Turning.{turned_point, turned_side}
 use Rattle.drawing_laws.specs.Frames.{turned_offset}
 use Rattle.port_order.specs.Sides.{is_forward}
-use Rattle.port_order.specs.Order.{clockwise}
 use Rattle.level_frame.specs.Turned.{turned_size, turned_place, half_along}
 use Rattle.level_frame.specs.Drawing.{plus}
 use Rattle.level_laws.specs.Outlines.{shifted}
@@ -185,40 +184,40 @@ offset_moved by West r a = omega (arith, ints)
 -- Counted clockwise as the document does, an offset in the frame is the document's and a number that is the same for all
 -- offsets of the side.
 abbrev IsCounted : Direction → Side → Rect → ℤ → Type 0
-IsCounted way s r z = (x : ℤ) → clockwise (is_forward way (turned_side way s)) (turned_offset way s r x) ≡ z +ℤ clockwise_on s x
+IsCounted way s r z = (x : ℤ) → counted (is_forward way (turned_side way s)) (turned_offset way s r x) ≡ z +ℤ clockwise s x
 
-counted : (way : Direction) (s : Side) (r : Rect) → (z : ℤ) × IsCounted way s r z
-counted Right North r = (pos 0, λ x. omega (arith, ints))
-counted Right East r = (pos 0, λ x. omega (arith, ints))
-counted Right South r = (pos 0, λ x. omega (arith, ints))
-counted Right West r = (pos 0, λ x. omega (arith, ints))
-counted Left North r = (neg_ℤ r.width, λ x. omega (arith, ints))
-counted Left East r = (pos 0, λ x. omega (arith, ints))
-counted Left South r = (r.width, λ x. omega (arith, ints))
-counted Left West r = (pos 0, λ x. omega (arith, ints))
-counted Down North r = (pos 0, λ x. omega (arith, ints))
-counted Down East r = (pos 0, λ x. omega (arith, ints))
-counted Down South r = (pos 0, λ x. omega (arith, ints))
-counted Down West r = (pos 0, λ x. omega (arith, ints))
-counted Up North r = (pos 0, λ x. omega (arith, ints))
-counted Up East r = (neg_ℤ r.height, λ x. omega (arith, ints))
-counted Up South r = (pos 0, λ x. omega (arith, ints))
-counted Up West r = (r.height, λ x. omega (arith, ints))
+counted_from : (way : Direction) (s : Side) (r : Rect) → (z : ℤ) × IsCounted way s r z
+counted_from Right North r = (pos 0, λ x. omega (arith, ints))
+counted_from Right East r = (pos 0, λ x. omega (arith, ints))
+counted_from Right South r = (pos 0, λ x. omega (arith, ints))
+counted_from Right West r = (pos 0, λ x. omega (arith, ints))
+counted_from Left North r = (neg_ℤ r.width, λ x. omega (arith, ints))
+counted_from Left East r = (pos 0, λ x. omega (arith, ints))
+counted_from Left South r = (r.width, λ x. omega (arith, ints))
+counted_from Left West r = (pos 0, λ x. omega (arith, ints))
+counted_from Down North r = (pos 0, λ x. omega (arith, ints))
+counted_from Down East r = (pos 0, λ x. omega (arith, ints))
+counted_from Down South r = (pos 0, λ x. omega (arith, ints))
+counted_from Down West r = (pos 0, λ x. omega (arith, ints))
+counted_from Up North r = (pos 0, λ x. omega (arith, ints))
+counted_from Up East r = (neg_ℤ r.height, λ x. omega (arith, ints))
+counted_from Up South r = (pos 0, λ x. omega (arith, ints))
+counted_from Up West r = (r.height, λ x. omega (arith, ints))
 
-pub clockwise_less : (way : Direction) (s : Side) (r : Rect) (x y : ℤ) → clockwise_on s x <ℤ clockwise_on s y
-    → clockwise (is_forward way (turned_side way s)) (turned_offset way s r x) <ℤ clockwise (is_forward way (turned_side way s)) (turned_offset way s r y)
-clockwise_less way s r x y h = let c = counted way s r in let a = c.1 x in let b = c.1 y in less_moved _ _ c.0 _ _ a b h
+pub clockwise_less : (way : Direction) (s : Side) (r : Rect) (x y : ℤ) → clockwise s x <ℤ clockwise s y
+    → counted (is_forward way (turned_side way s)) (turned_offset way s r x) <ℤ counted (is_forward way (turned_side way s)) (turned_offset way s r y)
+clockwise_less way s r x y h = let c = counted_from way s r in let a = c.1 x in let b = c.1 y in less_moved _ _ c.0 _ _ a b h
   where
     less_moved : (u w z x y : ℤ) → u ≡ (z +ℤ x) → w ≡ (z +ℤ y) → x <ℤ y → u <ℤ w
     less_moved u w z x y a b h = omega (arith, ints, a, b, h)
 
-pub clockwise_same : (way : Direction) (s : Side) (r : Rect) (x y : ℤ) → clockwise_on s x ≡ clockwise_on s y
-    → clockwise (is_forward way (turned_side way s)) (turned_offset way s r x) ≡ clockwise (is_forward way (turned_side way s)) (turned_offset way s r y)
-clockwise_same way s r x y e = let c = counted way s r in c.1 x ∙ ap (λ k. c.0 +ℤ k) e ∙ sym (c.1 y)
+pub clockwise_same : (way : Direction) (s : Side) (r : Rect) (x y : ℤ) → clockwise s x ≡ clockwise s y
+    → counted (is_forward way (turned_side way s)) (turned_offset way s r x) ≡ counted (is_forward way (turned_side way s)) (turned_offset way s r y)
+clockwise_same way s r x y e = let c = counted_from way s r in c.1 x ∙ ap (λ k. c.0 +ℤ k) e ∙ sym (c.1 y)
 
 pub clockwise_back : (way : Direction) (s : Side) (r : Rect) (x y : ℤ)
-    → clockwise (is_forward way (turned_side way s)) (turned_offset way s r x) ≤ℤ clockwise (is_forward way (turned_side way s)) (turned_offset way s r y) → clockwise_on s x ≤ℤ clockwise_on s y
-clockwise_back way s r x y h = let c = counted way s r in let a = c.1 x in let b = c.1 y in no_more _ _ c.0 _ _ a b h
+    → counted (is_forward way (turned_side way s)) (turned_offset way s r x) ≤ℤ counted (is_forward way (turned_side way s)) (turned_offset way s r y) → clockwise s x ≤ℤ clockwise s y
+clockwise_back way s r x y h = let c = counted_from way s r in let a = c.1 x in let b = c.1 y in no_more _ _ c.0 _ _ a b h
   where
     no_more : (u w z x y : ℤ) → u ≡ (z +ℤ x) → w ≡ (z +ℤ y) → u ≤ℤ w → x ≤ℤ y
     no_more u w z x y a b h = omega (arith, ints, a, b, h)

@@ -1,5 +1,5 @@
 -- Spread ports and ends of a node keep apart: those of the level are no more than the document's, and have its offsets.
-use Rattle.std.proofs.Common.{◌≡◌, ℕ, ◌+◌, ◌<◌, ◌≤◌, eqb, Bool, true, false, not, ◌&&◌, List, ◌++◌, map, length, ℤ, pos, ◌<ℤ◌, ◌≤ℤ◌, refl, sym, subst, subst₂, ap, ap₂, ◌∙◌, arith}
+use Rattle.std.proofs.Common.{◌≡◌, ℕ, ◌+◌, ◌<◌, ◌≤◌, eqb, Bool, true, false, not, ◌&&◌, List, ◌++◌, map, length, ℤ, pos, ◌<ℤ◌, refl, sym, subst, subst₂, ap, ap₂, ◌∙◌, arith}
 use Rattle.std.proofs.lemmas.Int.{ints}
 use Rattle.std.proofs.lemmas.Bool.{and_parts, and_from, eqb-true, eq-eqb, not-true, false≢true}
 use Rattle.std.proofs.lemmas.List.{length-map, length-append}
@@ -18,7 +18,7 @@ use Rattle.elk_doc.specs.Level.{children, edges_of, IsChild, IsEdge, node_of_end
 use Rattle.elk_doc.specs.Numbers.{numbers_below, count_below}
 use Rattle.elk_doc.specs.Drawing.{box_of}
 use Rattle.elk_doc.specs.Sides.{side_of_port, side_of_end, end_of}
-use Rattle.elk_doc.specs.PortsKept.{size_along, side_length, is_pinned as is_document_pinned, port_offset as document_offset, clockwise, KeepsPort, KeepsEnd, ComesBefore, is_side, is_at_node, is_spread_port, is_spread_end, spread_count as document_count, IsSpread, spot_offset, SpreadsApart, KeepsPorts, Spot as Place, a_port, an_end}
+use Rattle.elk_doc.specs.PortsKept.{AreInOrder, size_along, side_length, is_pinned as is_document_pinned, port_offset as document_offset, KeepsPort, KeepsEnd, is_side, is_at_node, is_spread_port, is_spread_end, spread_count as document_count, IsSpread, spot_offset, SpreadsApart, KeepsPorts, Spot as Place, a_port, an_end}
 use Rattle.elk_doc.specs.Places.{offset_on, section_end}
 use Rattle.elk_doc.proofs.NumberLaws.{length-numbers_below}
 use Rattle.drawing_laws.specs.Turning.{turned_side}
@@ -258,12 +258,9 @@ module _ (d : Document) (p : Placed) (n : ℕ) (o : LevelOptions) (plan : PlainP
             subst (λ z. KeepsEnd d p m z t) b.1 (end_kept d p n o plan v by from orders anchored i there kept (place_of_edge d n e) t b.0 (ap (λ f. end_of d f t) b.1 ∙ at));
         order = λ rule j k hj hk own_j own_k. let a = port_back d m j hj own_j in
             let b = port_back d m k hk own_k in
-            subst (Ordered j) b.1 (subst (λ z. Ordered z (port_number d m (place_of_port d k))) a.1 (order_kept d p n o plan v by from orders anchored i there kept (place_of_port d j) (place_of_port d k) rule a.0 b.0));
+            subst (AreInOrder d p j) b.1 (subst (λ z. AreInOrder d p z (port_number d m (place_of_port d k))) a.1 (order_kept d p n o plan v by from orders anchored i there kept (place_of_port d j) (place_of_port d k) rule a.0 b.0));
         spread = spread_apart;
       }
-    where
-      Ordered : ℕ → ℕ → Type 0
-      Ordered j k = side_of_port d p j ≡ side_of_port d p k → ComesBefore d p j k → clockwise (side_of_port d p j) (document_offset d p j) ≤ℤ clockwise (side_of_port d p k) (document_offset d p k)
 
 pub ports_turn_back : PortsTurnBack
 ports_turn_back d p n o plan orders v by from anchored kept m is_child =

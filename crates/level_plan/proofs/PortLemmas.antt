@@ -13,7 +13,7 @@ use Rattle.elk_doc.specs.declared.document.PortRule.TheVariants.{FixedOrder}
 use Rattle.elk_doc.specs.Document.{no_size}
 use Rattle.elk_doc.specs.Shapes.{rect_at, moved_by, point_rect}
 use Rattle.elk_doc.specs.Sound.{IsWithin, along}
-use Rattle.elk_doc.specs.PortsKept.{size_along, IsOnSide, pins, Spot as Place, a_port, an_end}
+use Rattle.elk_doc.specs.PortsKept.{size_along, IsOnSide, pins, Spot as Place, a_port, an_end, counted}
 use Rattle.elk_doc.specs.Places.{offset_on}
 use Rattle.port_order.specs.declared.children.Child.{Child}
 use Rattle.port_order.specs.declared.spots.Spot.{Spot}
@@ -21,7 +21,7 @@ use Rattle.port_order.specs.Child.{no_spot, spot_at, port_at, is_pinned, is_pinn
 use Rattle.port_order.specs.Sides.{side_of, is_forward}
 use Rattle.port_order.specs.Places as order_places
 use Rattle.port_order.specs.Places.{HoldsOnce, spread_offset, offset_of, outer_face, on_side, corner_of, face_of}
-use Rattle.port_order.specs.Order.{IsSpreadOn, ClockwiseFirst, clockwise}
+use Rattle.port_order.specs.Order.{IsSpreadOn, ClockwiseFirst}
 use Rattle.port_order.specs.Ranks.{is_spread_on}
 use Rattle.port_order.proofs.KeptLemmas.{ports_stand, dock_inside, order_kept}
 use Rattle.port_order.proofs.PlaceLemmas.{offsets_rise}
@@ -124,8 +124,8 @@ module _ (l : PlainLevel) (p : PlainPlan) (o : Orders) (d : LevelDrawing) (level
       let also : order_places.dock_of child (spot_at (spots l p c) k) (o c side) ≡ port_offset child side k (drawn_port d c k) =
       ap (λ s. order_places.dock_of child s (o c side)) (port_spot_at l p c k hk) ∙ sym (offset_drawn k hk)
       in
-      subst (λ z. clockwise (is_forward child.direction side) z ≤ℤ clockwise (is_forward child.direction side) (port_offset child side k (drawn_port d c k))) here
-      (subst (λ z. clockwise (is_forward child.direction side) (order_places.dock_of child (spot_at (spots l p c) j) (o c side)) ≤ℤ clockwise (is_forward child.direction side) z) also kept)
+      subst (λ z. counted (is_forward child.direction side) z ≤ℤ counted (is_forward child.direction side) (port_offset child side k (drawn_port d c k))) here
+      (subst (λ z. counted (is_forward child.direction side) (order_places.dock_of child (spot_at (spots l p c) j) (o c side)) ≤ℤ counted (is_forward child.direction side) z) also kept)
 
   -- an end at the child, without a port
   abbrev end_spot : End → Spot

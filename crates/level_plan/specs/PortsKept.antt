@@ -7,12 +7,12 @@ use Rattle.elk_doc.specs.declared.document.PortRule.TheVariants.{FixedOrder}
 use Rattle.elk_doc.specs.Document.{origin}
 use Rattle.elk_doc.specs.Shapes.{rect_at}
 use Rattle.elk_doc.specs.Sound.{along}
-use Rattle.elk_doc.specs.PortsKept.{size_along, flush, IsPortKept, IsEndKept, StandApart, Spot as Place, a_port, an_end}
+use Rattle.elk_doc.specs.PortsKept.{size_along, flush, IsPortKept, IsEndKept, StandApart, Spot as Place, a_port, an_end, counted}
 use Rattle.elk_doc.specs.Places.{offset_on}
 use Rattle.port_order.specs.declared.children.Child.{Child}
 use Rattle.port_order.specs.Child.{port_at, is_pinned}
 use Rattle.port_order.specs.Sides.{side_of, is_forward}
-use Rattle.port_order.specs.Order.{ClockwiseFirst, clockwise}
+use Rattle.port_order.specs.Order.{ClockwiseFirst}
 use Rattle.port_order.specs.Ranks.{is_spread_on}
 use Rattle.level_plan.specs.Level.{PlainLevel, PlainPlan, Orders, End, end_at, child_at, spoke, port_spot, spots, dock_of, port_place}
 use Rattle.level_plan.specs.FromPlan.{LevelDrawing, point_or, box_place, anchor, IsDrawnFrom}
@@ -44,8 +44,8 @@ abbrev pub KeepsOrder : PlainLevel → PlainPlan → LevelDrawing → ℕ → Ty
 KeepsOrder l p d c =
     (j k : ℕ) → (child_at l c).rule ≡ FixedOrder → j < length (child_at l c).ports → k < length (child_at l c).ports → port_side l p c j ≡ port_side l p c k
     → ClockwiseFirst (child_at l c) (port_side l p c k) j j k k
-    → clockwise (is_forward (child_at l c).direction (port_side l p c k)) (port_offset (child_at l c) (port_side l p c j) j (drawn_port d c j))
-    ≤ℤ clockwise (is_forward (child_at l c).direction (port_side l p c k)) (port_offset (child_at l c) (port_side l p c k) k (drawn_port d c k))
+    → counted (is_forward (child_at l c).direction (port_side l p c k)) (port_offset (child_at l c) (port_side l p c j) j (drawn_port d c j))
+    ≤ℤ counted (is_forward (child_at l c).direction (port_side l p c k)) (port_offset (child_at l c) (port_side l p c k) k (drawn_port d c k))
 
 -- a port of the child that is not pinned, or an end at the child without a port, on this side
 abbrev pub IsSpreadAt : PlainLevel → PlainPlan → Orders → ℕ → Side → Place → Type 0

@@ -12,14 +12,14 @@ use Rattle.elk_doc.specs.declared.document.PortRule.TheVariants.{Free, FixedSide
 use Rattle.elk_doc.specs.Document.{origin, no_size}
 use Rattle.elk_doc.specs.Shapes.{rect_at}
 use Rattle.elk_doc.specs.Sound.{IsWithin, IsOutside, along}
-use Rattle.elk_doc.specs.PortsKept.{size_along, across, flush, pins}
+use Rattle.elk_doc.specs.PortsKept.{size_along, across, flush, pins, counted}
 use Rattle.port_order.specs.declared.children.Child.{Child}
 use Rattle.port_order.specs.declared.spots.Spot.{Spot}
 use Rattle.port_order.specs.Child.{port_at, spot_at, is_pinned, is_pinned_spot}
 use Rattle.port_order.specs.Sides.{side_of, side_else, given_side, is_forward}
 use Rattle.port_order.specs.Conditions.{IsChild, IsChildPort, IsSmall, IsSpot, AreSpots}
 use Rattle.port_order.specs.Places.{HoldsOnce, spread_offset, offset_of, dock_of, outer_face, given_face, face_of, on_side, anchor_at, corner_of}
-use Rattle.port_order.specs.Order.{ClockwiseFirst, PortFirst, ComesFirst, IsOrderOfSide, IsSpreadOn, clockwise}
+use Rattle.port_order.specs.Order.{ClockwiseFirst, PortFirst, ComesFirst, IsOrderOfSide, IsSpreadOn}
 use Rattle.port_order.specs.Laws.{KeepsPort, IsOutward, PortsStand, KeepsOrder}
 use Rattle.port_order.proofs.StrictLemmas.{clockwise_one_way}
 use Rattle.port_order.proofs.PlaceLemmas.{place_is, offset_inside, offset_up}
@@ -129,7 +129,7 @@ ports_stand = record { port = port_kept; outward = outward }
 spread_dock : (c : Child) (s : Spot) (side : Side) (order : List ℕ) → IsSpreadOn c side s → dock_of c s order ≡ spread_offset c side order s.number
 spread_dock c s side order h = spread_one c (side_of c s) (is_pinned_spot c s) s.port order s.number h.spread ∙ rw h.on_side refl
 
-turned_le : (forward : Bool) (a b : ℤ) → (forward ≡ true → a ≤ℤ b) → (forward ≡ false → b ≤ℤ a) → clockwise forward a ≤ℤ clockwise forward b
+turned_le : (forward : Bool) (a b : ℤ) → (forward ≡ true → a ≤ℤ b) → (forward ≡ false → b ≤ℤ a) → counted forward a ≤ℤ counted forward b
 turned_le true a b up down = up refl
 turned_le false a b up down = let h = down refl in omega (arith, ints, h)
 
@@ -152,7 +152,7 @@ module _ (c : Child) (side : Side) (spots : List Spot) (order : List ℕ) (sound
 
   kept : (i l j k : ℕ) → i < length spots → l < length spots → IsSpreadOn c side (spot i) → IsSpreadOn c side (spot l)
       → (spot i).port ≡ Some j → (spot l).port ≡ Some k → ClockwiseFirst c side j (spot i).number k (spot l).number
-      → clockwise (is_forward c.direction side) (dock_of c (spot i) order) ≤ℤ clockwise (is_forward c.direction side) (dock_of c (spot l) order)
+      → counted (is_forward c.direction side) (dock_of c (spot i) order) ≤ℤ counted (is_forward c.direction side) (dock_of c (spot l) order)
   kept i l j k bi bl si sl pi pl first =
       let hi = o.once i bi si in
       let hl = o.once l bl sl in

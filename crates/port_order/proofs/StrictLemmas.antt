@@ -12,6 +12,7 @@ use Rattle.elk_doc.specs.declared.shape.Side.{Side}
 use Rattle.elk_doc.specs.declared.shape.Side.TheVariants.{North, East, South, West}
 use Rattle.elk_doc.specs.declared.document.PortRule.{PortRule}
 use Rattle.elk_doc.specs.declared.document.PortRule.TheVariants.{Free, FixedSide, FixedOrder, FixedPos}
+use Rattle.elk_doc.specs.PortsKept.{GoesFirst}
 use Rattle.port_order.specs.declared.children.Child.{Child}
 use Rattle.port_order.specs.declared.spots.Mean.{Mean}
 use Rattle.port_order.specs.declared.spots.Spot.{Spot}
@@ -112,11 +113,7 @@ mean_chain None (Some m) n i j k cl cm cn p q = absurd p
 mean_chain None None (Some n) i j k cl cm cn p q = absurd q
 mean_chain None None None i j k cl cm cn p q = omega (arith, p, q)
 
--- an index, a place and a number, in this order
-abbrev ThreeFirst : ℤ → ℤ → ℤ → ℤ → ℕ → ℕ → Type 0
-ThreeFirst a b p q i l = (a <ℤ b) ⊎ ((a ≡ b) × ((p <ℤ q) ⊎ ((p ≡ q) × (i < l))))
-
-three_one_way : (a b p q : ℤ) (i l : ℕ) → ThreeFirst a b p q i l → ThreeFirst b a q p l i → ⊥
+three_one_way : (a b p q : ℤ) (i l : ℕ) → GoesFirst a b p q i l → GoesFirst b a q p l i → ⊥
 three_one_way a b p q i l (inl x) (inl y) = absurd (omega (arith, ints, x, y))
 three_one_way a b p q i l (inl x) (inr y) = absurd (omega (arith, ints, x, y.0))
 three_one_way a b p q i l (inr x) (inl y) = absurd (omega (arith, ints, x.0, y))
@@ -136,7 +133,7 @@ order_z a b = step (int_cmp a b) (int_ranks a b)
     step Equal h = inl h
     step Greater h = inr (inr h)
 
-three_either : (a b p q : ℤ) (i l : ℕ) → i ≢ l → ThreeFirst a b p q i l ⊎ ThreeFirst b a q p l i
+three_either : (a b p q : ℤ) (i l : ℕ) → i ≢ l → GoesFirst a b p q i l ⊎ GoesFirst b a q p l i
 three_either a b p q i l differ =
     elim (order_z a b) [
       | inl same ↦ elim (order_z p q) [
@@ -152,7 +149,7 @@ three_either a b p q i l differ =
       | inr (inr less) ↦ inr (inl less)
     ]
 
-three_chain : (a b d p q r : ℤ) (i j k : ℕ) → ThreeFirst a b p q i j → ThreeFirst b d q r j k → ThreeFirst a d p r i k
+three_chain : (a b d p q r : ℤ) (i j k : ℕ) → GoesFirst a b p q i j → GoesFirst b d q r j k → GoesFirst a d p r i k
 three_chain a b d p q r i j k (inl x) (inl y) = inl (omega (arith, ints, x, y))
 three_chain a b d p q r i j k (inl x) (inr y) = inl (omega (arith, ints, x, y.0))
 three_chain a b d p q r i j k (inr x) (inl y) = inl (omega (arith, ints, x.0, y))

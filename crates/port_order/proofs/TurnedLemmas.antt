@@ -14,11 +14,10 @@ use Rattle.elk_doc.specs.declared.document.Direction.{Direction}
 use Rattle.elk_doc.specs.declared.document.Direction.TheVariants.{Right, Left, Down, Up}
 use Rattle.elk_doc.specs.Sides.{side_by_place}
 use Rattle.elk_doc.specs.Sound.{along}
-use Rattle.elk_doc.specs.PortsKept.{size_along, clockwise as clockwise_on}
+use Rattle.elk_doc.specs.PortsKept.{size_along, clockwise, counted}
 use Rattle.drawing_laws.specs.Turning.{turned_side}
 use Rattle.port_order.specs.Sides.{is_mirrored, is_forward, side_of_place}
 use Rattle.port_order.specs.Places.{spread_at, turned_spread}
-use Rattle.port_order.specs.Order.{clockwise}
 use Rattle.port_order.specs.Turned.{framed_size, framed_point, framed_place, turned_place, DirectionsTurn}
 
 -- the first of eight tests that holds names a side, and a function turns it
@@ -95,8 +94,8 @@ mirrored_back : (w a b : ℤ) → (neg_ℤ a <ℤ neg_ℤ b) ↔ ((w -ℤ a) <�
 mirrored_back w a b = (λ h. omega (arith, ints, h), λ h. omega (arith, ints, h))
 
 clockwise_turned : (d : Direction) (side : Side) (box : Size) (p q : Point)
-    → (clockwise_on side (along side p) <ℤ clockwise_on side (along side q))
-    ↔ (clockwise (is_forward d (turned_side d side)) (along (turned_side d side) (framed_point d box p)) <ℤ clockwise (is_forward d (turned_side d side)) (along (turned_side d side) (framed_point d box q)))
+    → (clockwise side (along side p) <ℤ clockwise side (along side q))
+    ↔ (counted (is_forward d (turned_side d side)) (along (turned_side d side) (framed_point d box p)) <ℤ counted (is_forward d (turned_side d side)) (along (turned_side d side) (framed_point d box q)))
 clockwise_turned Right North box p q = plain p.x q.x
 clockwise_turned Right East box p q = plain p.y q.y
 clockwise_turned Right South box p q = plain (neg_ℤ p.x) (neg_ℤ q.x)

@@ -8,14 +8,14 @@ use Rattle.elk_doc.specs.declared.document.PortRule.TheVariants.{FixedOrder}
 use Rattle.elk_doc.specs.Document.{origin}
 use Rattle.elk_doc.specs.Shapes.{rect_at}
 use Rattle.elk_doc.specs.Sound.{IsWithin, along}
-use Rattle.elk_doc.specs.PortsKept.{size_along, across, flush}
+use Rattle.elk_doc.specs.PortsKept.{size_along, across, flush, counted}
 use Rattle.port_order.specs.declared.children.Child.{Child}
 use Rattle.port_order.specs.declared.spots.Spot.{Spot}
 use Rattle.port_order.specs.Child.{port_at, spot_at, is_pinned, is_pinned_spot}
 use Rattle.port_order.specs.Sides.{side_of, is_forward}
 use Rattle.port_order.specs.Conditions.{IsChild, IsSpot, AreSpots}
 use Rattle.port_order.specs.Places.{HoldsOnce, place_in, spread_offset, dock_of, anchor_at, place_of_port}
-use Rattle.port_order.specs.Order.{ComesFirst, ClockwiseFirst, IsOrderOfSide, IsSpreadOn, clockwise}
+use Rattle.port_order.specs.Order.{ComesFirst, ClockwiseFirst, IsOrderOfSide, IsSpreadOn}
 
 -- `ComesFirst` is a strict total order on spots whose numbers differ
 pub record IsStrictOrder : Type 0 where
@@ -67,4 +67,4 @@ KeepsOrder =
     (c : Child) (side : Side) (spots : List Spot) (order : List ℕ) (i l j k : ℕ) → AreSpots c spots → IsOrderOfSide c side spots order → c.rule ≡ FixedOrder
     → i < length spots → l < length spots → IsSpreadOn c side (spot_at spots i) → IsSpreadOn c side (spot_at spots l)
     → (spot_at spots i).port ≡ Some j → (spot_at spots l).port ≡ Some k → ClockwiseFirst c side j (spot_at spots i).number k (spot_at spots l).number
-    → clockwise (is_forward c.direction side) (dock_of c (spot_at spots i) order) ≤ℤ clockwise (is_forward c.direction side) (dock_of c (spot_at spots l) order)
+    → counted (is_forward c.direction side) (dock_of c (spot_at spots i) order) ≤ℤ counted (is_forward c.direction side) (dock_of c (spot_at spots l) order)

@@ -1,10 +1,11 @@
 -- The order of a side's spread spots, from the top or the left in the working frame.
-use Rattle.std.specs.Prelude.{◌≡◌, ◌⊎◌, ℕ, ◌*◌, ◌<◌, Bool, true, false, List, ℤ, neg_ℤ, ◌+ℤ◌, ◌<ℤ◌, Option, None, Some, length, slice_index, IsFalse}
+use Rattle.std.specs.Prelude.{◌≡◌, ◌⊎◌, ℕ, ◌*◌, ◌<◌, Bool, true, false, List, ℤ, ◌+ℤ◌, Option, None, Some, length, slice_index, IsFalse}
 use Rattle.elk_doc.specs.declared.shape.Side.{Side}
 use Rattle.elk_doc.specs.declared.shape.Side.TheVariants.{North, East, South, West}
 use Rattle.elk_doc.specs.declared.document.PortRule.{PortRule}
 use Rattle.elk_doc.specs.declared.document.PortRule.TheVariants.{Free, FixedSide, FixedOrder, FixedPos}
 use Rattle.elk_doc.specs.Sound.{along}
+use Rattle.elk_doc.specs.PortsKept.{counted, GoesFirst}
 use Rattle.port_order.specs.declared.children.Child.{Child}
 use Rattle.port_order.specs.declared.spots.Mean.{Mean}
 use Rattle.port_order.specs.declared.spots.Spot.{Spot}
@@ -25,20 +26,13 @@ MeanFirst (Some m) None i j = Unit {0}
 MeanFirst None (Some n) i j = ⊥
 MeanFirst None None i j = i < j
 
--- a place along a side, counted as clockwise runs in the document
-abbrev pub clockwise : Bool → ℤ → ℤ
-clockwise true z = z
-clockwise false z = neg_ℤ z
-
 -- the given place of a port's anchor along a side, counted clockwise in the document
 abbrev pub given_at : Child → Side → ℕ → ℤ
-given_at c side k = clockwise (is_forward c.direction side) (along side (port_at c k).place +ℤ (port_at c k).half)
+given_at c side k = counted (is_forward c.direction side) (along side (port_at c k).place +ℤ (port_at c k).half)
 
--- the spot number i at port j stands clockwise before the spot number l at port k: by index, by given place, by number
+-- the spot number i at port j stands clockwise before the spot number l at port k
 abbrev pub ClockwiseFirst : Child → Side → ℕ → ℕ → ℕ → ℕ → Type 0
-ClockwiseFirst c side j i k l =
-    ((port_at c j).index <ℤ (port_at c k).index)
-    ⊎ (((port_at c j).index ≡ (port_at c k).index) × ((given_at c side j <ℤ given_at c side k) ⊎ ((given_at c side j ≡ given_at c side k) × (i < l))))
+ClockwiseFirst c side j i k l = GoesFirst (port_at c j).index (port_at c k).index (given_at c side j) (given_at c side k) i l
 
 -- from the top or the left clockwise runs forward or backward
 abbrev pub PortFirst : Bool → Child → Side → ℕ → ℕ → ℕ → ℕ → Type 0

@@ -6,14 +6,14 @@ use Rattle.elk_doc.specs.declared.shape.Side.TheVariants.{North, East, South, We
 use Rattle.elk_doc.specs.declared.document.PortRule.{PortRule}
 use Rattle.elk_doc.specs.declared.document.PortRule.TheVariants.{Free, FixedSide, FixedOrder, FixedPos}
 use Rattle.elk_doc.specs.Sound.{along}
-use Rattle.elk_doc.specs.PortsKept.{is_side}
+use Rattle.elk_doc.specs.PortsKept.{is_side, counted}
 use Rattle.port_order.specs.declared.children.Child.{Child}
 use Rattle.port_order.specs.declared.spots.Mean.{Mean}
 use Rattle.port_order.specs.declared.spots.Spot.{Spot}
 use Rattle.port_order.specs.declared.ranks.Rank.{Rank}
 use Rattle.port_order.specs.Child.{port_at, spot_at, is_pinned_spot}
 use Rattle.port_order.specs.Sides.{side_of, is_forward}
-use Rattle.port_order.specs.Order.{clockwise, flow_class}
+use Rattle.port_order.specs.Order.{flow_class}
 
 -- a mean in units of which 2^64 make 1, rounded down
 abbrev pub fine_mean : Mean → ℕ
@@ -31,10 +31,10 @@ abbrev pub port_rank : Bool → Child → Side → ℕ → ℕ → Rank
 port_rank forward c side k n =
     record {
       group = 0;
-      index = clockwise forward (port_at c k).index;
+      index = counted forward (port_at c k).index;
       given = along side (port_at c k).place +ℤ (port_at c k).half;
       mean = 0;
-      tie = clockwise forward (pos n);
+      tie = counted forward (pos n);
       number = n;
     }
 

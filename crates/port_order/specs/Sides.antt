@@ -8,6 +8,7 @@ use Rattle.elk_doc.specs.declared.shape.Side.TheVariants.{North, East, South, We
 use Rattle.elk_doc.specs.declared.document.Direction.{Direction}
 use Rattle.elk_doc.specs.declared.document.Direction.TheVariants.{Right, Left, Down, Up}
 use Rattle.elk_doc.specs.Sides.{side_from}
+use Rattle.elk_doc.specs.PortsKept.{runs_forward}
 use Rattle.drawing_laws.specs.Turning.{turned_side}
 use Rattle.port_order.specs.declared.children.Child.{Child}
 use Rattle.port_order.specs.declared.spots.Spot.{Spot}
@@ -21,14 +22,8 @@ is_mirrored Up North = true
 is_mirrored Up South = true
 is_mirrored _ _ = false
 
--- whether clockwise runs from the left or the top along a side: to the right on North, down on East
-abbrev pub runs_forward : Side → Bool
-runs_forward North = true
-runs_forward East = true
-runs_forward South = false
-runs_forward West = false
-
--- whether the document's clockwise does so in the working frame; a direction that mirrors the plane turns it round
+-- whether the document's clockwise runs from the left or the top along a working side; a direction that mirrors the plane
+-- turns it round
 abbrev pub is_forward : Direction → Side → Bool
 is_forward Right s = runs_forward s
 is_forward Left s = not (runs_forward s)

@@ -8,11 +8,10 @@ use Rattle.elk_doc.specs.declared.document.Direction.{Direction}
 use Rattle.elk_doc.specs.declared.document.Direction.TheVariants.{Right, Left, Down, Up}
 use Rattle.elk_doc.specs.Sides.{side_by_place}
 use Rattle.elk_doc.specs.Sound.{along}
-use Rattle.elk_doc.specs.PortsKept.{size_along, clockwise as clockwise_on}
+use Rattle.elk_doc.specs.PortsKept.{size_along, clockwise, counted}
 use Rattle.drawing_laws.specs.Turning.{turned_side}
 use Rattle.port_order.specs.Sides.{is_mirrored, is_forward, side_of_place}
 use Rattle.port_order.specs.Places.{spread_at, turned_spread}
-use Rattle.port_order.specs.Order.{clockwise}
 
 -- a size in the frame of a direction
 abbrev pub framed_size : Direction → Size → Size
@@ -46,7 +45,7 @@ turned_place false k i = i
 pub record DirectionsTurn : Type 0 where
   pub side : (d : Direction) (box : Size) (place : Point) (size : Size) → side_of_place d (framed_size d box) (framed_place d box place size) (framed_size d size) ≡ option_map (turned_side d) (side_by_place box place size)
   pub clockwise : (d : Direction) (side : Side) (box : Size) (p q : Point)
-      → (clockwise_on side (along side p) <ℤ clockwise_on side (along side q))
-      ↔ (clockwise (is_forward d (turned_side d side)) (along (turned_side d side) (framed_point d box p)) <ℤ clockwise (is_forward d (turned_side d side)) (along (turned_side d side) (framed_point d box q)))
+      → (clockwise side (along side p) <ℤ clockwise side (along side q))
+      ↔ (counted (is_forward d (turned_side d side)) (along (turned_side d side) (framed_point d box p)) <ℤ counted (is_forward d (turned_side d side)) (along (turned_side d side) (framed_point d box q)))
   pub spread : (d : Direction) (side : Side) (box : Size) (k i : ℕ) (p : Point) → i < k → along side p ≡ spread_at (size_along side box) k i
       → along (turned_side d side) (framed_point d box p) ≡ turned_spread (is_mirrored d (turned_side d side)) (size_along (turned_side d side) (framed_size d box)) k (turned_place (is_mirrored d (turned_side d side)) k i)

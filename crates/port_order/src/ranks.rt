@@ -1,7 +1,8 @@
 //! The keys by which spots are sorted.
 ghost use Rattle.std.specs.Prelude.{◌≡◌, ◌<◌, ◌≤◌, ◌^◌, length, pos, IfSome};
+ghost use Rattle.elk_doc.specs.PortsKept.{counted};
 ghost use Rattle.port_order.specs.Conditions.{IsChild, IsSpot};
-ghost use Rattle.port_order.specs.Order.{clockwise, flow_class};
+ghost use Rattle.port_order.specs.Order.{flow_class};
 ghost use Rattle.port_order.specs.Sides.{is_forward};
 ghost use Rattle.port_order.specs.Ranks.{IsCounted, fine_mean, fixed_rank, flow_rank, free_rank, mean_rank, port_rank, rank_of};
 
@@ -81,7 +82,7 @@ fn port_rank(child: &Child, side: Side, port: u32, number: u32) -> Rank
 
 // A number that rises from the top or the left, where clockwise runs forward or backward there.
 fn along_side(forward: bool, number: i64) -> i128
-    ensures { result ≡ clockwise forward number }
+    ensures { result ≡ counted forward number }
 {
     if forward {
         number as i128
@@ -92,7 +93,7 @@ fn along_side(forward: bool, number: i64) -> i128
 
 // The same of a spot's number.
 fn tie_along(forward: bool, number: u32) -> i64
-    ensures { result ≡ clockwise forward (pos number) }
+    ensures { result ≡ counted forward (pos number) }
 {
     if forward {
         number as i64

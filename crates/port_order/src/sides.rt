@@ -3,7 +3,8 @@ ghost use Rattle.std.specs.Prelude.{◌≡◌, ◌<◌, ◌^◌, length};
 ghost use Rattle.elk_doc.specs.Sides.{side_from};
 ghost use Rattle.elk_doc.specs.Sound.{IsPlaceWithin};
 ghost use Rattle.port_order.specs.Conditions.{IsChild, IsSmall, IsSpot};
-ghost use Rattle.port_order.specs.Sides.{first_side, given_side, is_forward, is_mirrored, runs_forward, side_else, side_of, side_of_place, sticks_out, touches, tried_sides};
+ghost use Rattle.elk_doc.specs.PortsKept.{runs_forward};
+ghost use Rattle.port_order.specs.Sides.{first_side, given_side, is_forward, is_mirrored, side_else, side_of, side_of_place, sticks_out, touches, tried_sides};
 
 use crate::children::{Child, port_at};
 use crate::spots::Spot;
