@@ -4,7 +4,6 @@ pub mod Whole
 pub mod Elements
 pub mod Seen
 pub mod Members
-pub mod PortRules
 pub mod Shape
 pub mod Ranges
 pub mod Ends

@@ -5,6 +5,7 @@ use Rattle.serde_json.specs.Data.{Data, null, boolean, number, string, array, ob
 use Rattle.serde_json.specs.Find.{get, as_array, as_object, as_number, as_integer, as_str}
 use Rattle.elk_doc.specs.declared.document.Id.{Id}
 use Rattle.elk_doc.specs.declared.document.Id.TheVariants.{Text, Whole}
+use Rattle.elk_doc.specs.declared.document.PortRule.{PortRule}
 use Rattle.elk_options.specs.declared.options.Role.{Role}
 use Rattle.elk_options.specs.declared.options.Role.TheVariants as role
 use Rattle.elk_options.specs.declared.options.Options.{Options}
@@ -119,6 +120,17 @@ holder_has_bad_option e = is_some (first_bad (holder_role e) (options_data e.hol
 
 abbrev pub holder_options : Element → Options
 holder_options e = options_of (holder_role e) (options_data e.holder)
+
+-- the options that are read in a role; none where one of them has a value outside its table
+abbrev pub options_in : Role → Data → Option Options
+options_in role d = if is_some (first_bad role (options_data d)) then None else Some (options_of role (options_data d))
+
+abbrev pub own_options : Element → Option Options
+own_options e = options_in (role_of e) e.value
+
+-- at a port the rule for ports that its node has; none at nodes and edges
+abbrev pub node_rule : Element → Option PortRule
+node_rule e = if is_port e then option_map (λ o. o.rule) (options_in (holder_role e) e.holder) else None
 
 abbrev pub is_between : ℤ → ℤ → ℤ → Bool
 is_between low high z = int_le low z && int_le z high

@@ -11,7 +11,7 @@ use crate::elements::{Element, Kind};
 use crate::ends::{is_node_there, source_of, target_of};
 use crate::ids::id_of;
 use crate::listed::{Listed, node_number, port_number};
-use crate::members::{is_compound, options_in, role_of, whole_at};
+use crate::members::{is_compound, whole_at};
 use elk_doc::document::{Edge, End, Id, Node, Port};
 use elk_doc::shape::{Point, Size};
 use elk_options::Options;
@@ -54,10 +54,7 @@ fn options_of(element: &Element<'_>) -> Options
     requires { has_bad_option (seen element.now) ≡ false }
     ensures { result ≡ options_at (seen element.now) }
 {
-    match options_in(element.value, role_of(element)) {
-        Ok(options) => options,
-        Err(_) => unreachable!(),
-    }
+    element.options.unwrap()
 }
 
 // The number of an element's owner.

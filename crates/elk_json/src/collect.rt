@@ -1,16 +1,14 @@
 //! Going through a value.
-ghost use Rattle.std.specs.Prelude.{◌≡◌, ◌++◌, map, length, bytes_eq, string_bytes, IfOk};
+ghost use Rattle.std.specs.Prelude.{◌≡◌, ◌++◌, ◌<◌, ◌==◌, not, is_some, map, length, bytes_eq, string_bytes, IfOk};
 ghost use Rattle.serde_json.specs.Data.{Data};
 ghost use Rattle.serde_json.specs.View.{view, items_view, members_view};
 ghost use Rattle.elk_json.specs.Elements.{elements, elements_at, elements_below, elements_within, elements_among, own_elements, part, listed, items_list};
-ghost use Rattle.elk_json.specs.PortRules.{node_rule, rule_of_role};
+ghost use Rattle.elk_json.specs.Members.{node_rule};
 ghost use Rattle.elk_json.specs.Seen.{seen_list};
 
 use crate::elements::{Element, Kind};
-use crate::key::key_of;
-use crate::members::{has_children, node_role, options_in};
+use crate::reading::element_of;
 use elk_doc::document::PortRule;
-use elk_options::Role;
 use serde_json::Value;
 use serde_json::value::Map;
 use std::alloc::{AllocError, Global};
@@ -32,6 +30,7 @@ fn collect_node<'a>(
     holder: &'a Value,
     found: &mut Vec<Element<'a>>,
 ) -> Result<(), AllocError>
+    requires { not (is_some owner) ≡ (length found.old.items == 0) }
     ensures { IfOk result (λ _. seen_list found.new.items ≡ seen_list found.old.items
         ++ elements_at (length found.old.items) owner (view holder.now) (view value.now)) }
 {
@@ -50,6 +49,7 @@ fn collect_below<'a>(
     holder: &'a Value,
     found: &mut Vec<Element<'a>>,
 ) -> Result<(), AllocError>
+    requires { 0 < length found.old.items }
     ensures { IfOk result (λ _. seen_list found.new.items ≡ seen_list found.old.items
         ++ elements_below (length found.old.items) place (view holder.now) (members_view members.now.entries)) }
 {
@@ -68,6 +68,7 @@ fn collect_member<'a>(
     holder: &'a Value,
     found: &mut Vec<Element<'a>>,
 ) -> Result<(), AllocError>
+    requires { 0 < length found.old.items }
     ensures { IfOk result (λ _. seen_list found.new.items ≡ seen_list found.old.items
         ++ elements_within (length found.old.items) place (view holder.now) (view member.now)) }
 {
@@ -90,6 +91,7 @@ fn collect_children<'a>(
     holder: &'a Value,
     found: &mut Vec<Element<'a>>,
 ) -> Result<(), AllocError>
+    requires { 0 < length found.old.items }
     ensures { IfOk result (λ _. seen_list found.new.items ≡ seen_list found.old.items
         ++ elements_among (length found.old.items) place (view holder.now) (items_view items.now.items)) }
 {
@@ -99,48 +101,24 @@ fn collect_children<'a>(
     Ok(())
 }
 
-// The node at the end of the list, its ports and its edges.
+// The node at the end of the list, its ports and its edges. The root alone has no owner and stands first, so that ports have
+// the rule of the role in which their node was read.
 fn collect_own<'a>(
     owner: Option<usize>,
     holder: &'a Value,
     value: &'a Value,
     found: &mut Vec<Element<'a>>,
 ) -> Result<(), AllocError>
+    requires { not (is_some owner) ≡ (length found.old.items == 0) }
     ensures { IfOk result (λ _. seen_list found.new.items ≡ seen_list found.old.items
         ++ own_elements (length found.old.items) owner (view holder.now) (view value.now)) }
 {
     let place = found.len();
-    let key = key_of(value);
-    found.push(Element {
-        kind: Kind::Node,
-        owner,
-        holder,
-        value,
-        key,
-        rule: None,
-    })?;
-    collect_parts(Kind::Port, place, value, "ports", found)?;
-    collect_parts(Kind::Edge, place, value, "edges", found)
-}
-
-// What each part of this kind has as the rule of its node.
-fn rule_beside(kind: Kind, place: usize, holder: &Value) -> Option<PortRule>
-    ensures { (d : Data) → result ≡ node_rule (part kind place (view holder.now) d) }
-{
-    match kind {
-        Kind::Port => rule_in(holder, node_role(place == 0 || has_children(holder))),
-        Kind::Node | Kind::Edge => None,
-    }
-}
-
-// A node's rule for ports, if all its options have values of their tables.
-fn rule_in(value: &Value, role: Role) -> Option<PortRule>
-    ensures { result ≡ rule_of_role role (view value.now) }
-{
-    match options_in(value, role) {
-        Ok(options) => Some(options.rule),
-        Err(_) => None,
-    }
+    let node = element_of(Kind::Node, owner, holder, value, None);
+    found.push(node)?;
+    let rule = node.options.map(|options| options.rule);
+    collect_parts(Kind::Port, place, value, "ports", rule, found)?;
+    collect_parts(Kind::Edge, place, value, "edges", None, found)
 }
 
 // The items of one member of a node.
@@ -149,13 +127,15 @@ fn collect_parts<'a>(
     place: usize,
     holder: &'a Value,
     key: &str,
+    rule: Option<PortRule>,
     found: &mut Vec<Element<'a>>,
 ) -> Result<(), AllocError>
+    requires { (d : Data) → rule ≡ node_rule (part kind place (view holder.now) d) }
     ensures { IfOk result (λ _. seen_list found.new.items ≡ seen_list found.old.items
         ++ map (part kind place (view holder.now)) (listed key.now (view holder.now))) }
 {
     if let Some(items) = holder.get(key).and_then(Value::as_array) {
-        collect_items(kind, place, holder, items, found)
+        collect_items(kind, place, holder, items, rule, found)
     } else {
         Ok(())
     }
@@ -166,22 +146,15 @@ fn collect_items<'a>(
     place: usize,
     holder: &'a Value,
     items: &'a Vec<Value>,
+    rule: Option<PortRule>,
     found: &mut Vec<Element<'a>>,
 ) -> Result<(), AllocError>
+    requires { (d : Data) → rule ≡ node_rule (part kind place (view holder.now) d) }
     ensures { IfOk result (λ _. seen_list found.new.items ≡ seen_list found.old.items
         ++ map (part kind place (view holder.now)) (items_list (items_view items.now.items))) }
 {
-    let rule = rule_beside(kind, place, holder);
     for value in items {
-        let key = key_of(value);
-        found.push(Element {
-            kind,
-            owner: Some(place),
-            holder,
-            value,
-            key,
-            rule,
-        })?;
+        found.push(element_of(kind, Some(place), holder, value, rule))?;
     }
     Ok(())
 }

@@ -1,13 +1,13 @@
 //! The elements of a value: nodes, ports and edges.
 ghost use Rattle.std.specs.Prelude.{◌≡◌, option_map};
 ghost use Rattle.serde_json.specs.View.{view};
-ghost use Rattle.elk_json.specs.Members.{id_of};
+ghost use Rattle.elk_json.specs.Members.{id_of, own_options, node_rule};
 ghost use Rattle.elk_json.specs.Keys.{key_id};
-ghost use Rattle.elk_json.specs.PortRules.{node_rule};
 
 pub use crate::collect::elements_of;
 use crate::key::Key;
 use elk_doc::document::PortRule;
+use elk_options::Options;
 use serde_json::Value;
 
 /// What an element is.
@@ -18,8 +18,9 @@ pub enum Kind {
     Edge,
 }
 
-/// A node, port or edge; the node that it stands at, by its place in the list, and that node's value; its own value, and
-/// its id; and at a port that node's rule for ports, if all options of the node have values of their tables.
+/// A node, port or edge; the node that it stands at, by its place in the list, and that node's value; its own value, its
+/// id, and its options, none where one that is read has a value outside its table; and at a port the rule for ports among
+/// that node's options.
 #[derive(Clone, Copy, Drop)]
 pub struct Element<'a> {
     pub kind: Kind,
@@ -27,7 +28,9 @@ pub struct Element<'a> {
     pub holder: &'a Value,
     pub value: &'a Value,
     pub key: Option<Key<'a>>,
+    pub options: Option<Options>,
     pub rule: Option<PortRule>,
     pub ghost keyed: { option_map key_id key ≡ id_of (view value.now) },
+    pub ghost read: { options ≡ own_options (record { kind = kind; owner = owner; holder = view holder.now; value = view value.now }) },
     pub ghost ruled: { rule ≡ node_rule (record { kind = kind; owner = owner; holder = view holder.now; value = view value.now }) },
 }

@@ -17,6 +17,7 @@ mod listed;
 mod marks;
 mod members;
 mod ranges;
+mod reading;
 mod rules;
 mod shape;
 mod table;

@@ -7,7 +7,7 @@ ghost use Rattle.elk_json.specs.Ranges.{is_size as size_test, is_near as near_te
 ghost use Rattle.elk_json.specs.Seen.{seen, seen_list};
 
 use crate::elements::{Element, Kind};
-use crate::members::{is_at_compound, is_between, is_compound, options_in, role_of, whole_at};
+use crate::members::{is_at_compound, is_between, is_compound, whole_at};
 use elk_doc::document::PortRule;
 use elk_doc::shape::Side;
 use serde_json::Value;
@@ -75,9 +75,9 @@ fn has_good_pin(element: &Element<'_>) -> bool
     requires { is_port (seen element.now) ≡ true }
     ensures { result ≡ pin_test (seen element.now) }
 {
-    match options_in(element.value, role_of(element)) {
-        Err(_) => true,
-        Ok(own) => !has_fixed_pos(element) || is_near_along(own.side, element.value),
+    match element.options {
+        None => true,
+        Some(own) => !has_fixed_pos(element) || is_near_along(own.side, element.value),
     }
 }
 

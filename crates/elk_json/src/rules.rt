@@ -15,7 +15,7 @@ use crate::ids::{first_double, id_of};
 use crate::limits::{are_too_many, is_too_deep};
 use crate::listed::Listed;
 use crate::marks::levels_with_edges;
-use crate::members::{is_at_compound, is_compound, options_in, role_of, whole_at};
+use crate::members::{is_at_compound, is_compound, whole_at};
 use crate::ranges::{first_out_of_range, has_fixed_pos};
 use crate::shape::has_bad_shape;
 use crate::whole::is_whole;
@@ -28,9 +28,9 @@ fn is_badly_optioned(element: &Element<'_>, has_edge: bool) -> bool
     ensures { result ≡ (bad_option_test (seen element.now)
         || has_boxes (seen element.now) && has_edge) }
 {
-    match options_in(element.value, role_of(element)) {
-        Err(_) => true,
-        Ok(options) => match options.level {
+    match element.options {
+        None => true,
+        Some(options) => match options.level {
             None => false,
             Some(level) => is_compound(element) && level.boxes && has_edge,
         },
@@ -127,9 +127,9 @@ fn is_placed_inside(element: &Element<'_>) -> bool
     requires { is_port (seen element.now) ≡ true }
     ensures { result ≡ placed_inside_test (seen element.now) }
 {
-    match options_in(element.value, role_of(element)) {
-        Err(_) => false,
-        Ok(own) => has_fixed_pos(element) && is_face_inside(own.side, element),
+    match element.options {
+        None => false,
+        Some(own) => has_fixed_pos(element) && is_face_inside(own.side, element),
     }
 }
 
