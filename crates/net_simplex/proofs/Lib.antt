@@ -30,5 +30,6 @@ pub mod Changing
 pub mod Passages
 pub mod Departing
 pub mod Exchanged
+pub mod Writing
 mod Outgoing
 mod Nearness

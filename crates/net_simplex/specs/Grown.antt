@@ -1,11 +1,12 @@
 -- The first tree while it grows, as the code keeps it: the nodes of the tree stand at layers counted from node 0, and a
 -- number tells how much higher they stand.
-use Rattle.std.specs.Prelude.{◌≡◌, ◌≢◌, slice_index, ℕ, ◌<◌, Bool, true, false, ℤ, pos, ◌+ℤ◌, ◌-ℤ◌, ◌≤ℤ◌, ◌<ℤ◌, ◌^◌, List, length, set}
+use Rattle.std.specs.Prelude.{◌≡◌, ◌≢◌, slice_index, ℕ, ◌<◌, Bool, true, false, ℤ, pos, ◌+ℤ◌, ◌-ℤ◌, ◌≤ℤ◌, ◌<ℤ◌, ◌^◌, List, length, replicate, set}
 use Rattle.network_laws.specs.declared.network.NetEdge.{NetEdge}
 use Rattle.network_laws.specs.Network.{InOnePart}
 use Rattle.network_laws.specs.Layering.{layer_of}
 use Rattle.network_laws.specs.Paths.{marked_sum}
 use Rattle.flow_dual.specs.Rounds.{all_least}
+use Rattle.net_simplex.specs.declared.tree.Tree.{Tree}
 use Rattle.net_simplex.specs.Pivots.{Growing, is_in, shifted}
 use Rattle.net_simplex.specs.Answer.{IsGrowing}
 use Rattle.net_simplex.specs.Rooted.{IsPlanted}
@@ -29,6 +30,17 @@ pub record IsGrown (nodes : ℕ) (edges : List NetEdge) (count : ℕ) (tree reac
   pub inside_to : (v : ℕ) → v < nodes → is_in reached v ≡ true → layer_of layers v ≤ℤ pos (marked_sum edges tree)
   pub outside_from : (v : ℕ) → v < nodes → is_in reached v ≡ false → pos 0 ≤ℤ layer_of layers v
   pub outside_to : (v : ℕ) → v < nodes → is_in reached v ≡ false → layer_of layers v ≤ℤ pos (all_least edges)
+
+-- the same of a `Tree`
+abbrev pub Grows : ℕ → List NetEdge → ℕ → Tree → List Bool → ℤ → List ℤ → Type 0
+Grows nodes edges count t reached by layers = IsGrown nodes edges count t.marks.items reached by layers t.order.items t.place.items t.parent.items
+
+-- a tree of no edges yet
+pub record IsBare (nodes edges : ℕ) (t : Tree) : Type 0 where
+  pub none_marked : t.marks.items ≡ replicate edges false
+  pub order_each : length t.order.items ≡ nodes
+  pub place_each : length t.place.items ≡ nodes
+  pub parent_each : length t.parent.items ≡ nodes
 
 -- a layer that sums of two still fit
 pub record IsSmall (z : ℤ) : Type 0 where

@@ -2,6 +2,7 @@
 use Rattle.std.specs.Prelude.{◌≡◌, ℕ, ◌<◌, Bool, ℤ, pos, ◌+ℤ◌, List, length, Some}
 use Rattle.network_laws.specs.declared.network.NetEdge.{NetEdge}
 use Rattle.network_laws.specs.Layering.{layer_of}
+use Rattle.net_simplex.specs.declared.tree.Tree.{Tree}
 use Rattle.net_simplex.specs.Tree.{State, IsState}
 use Rattle.net_simplex.specs.Pivots.{pivot}
 use Rattle.net_simplex.specs.Rooted.{IsRooted}
@@ -14,6 +15,10 @@ pub record IsKept (nodes : ℕ) (edges : List NetEdge) (tree : List Bool) (layer
   pub is : IsState nodes edges (kept_state tree layers)
   pub root : layer_of layers 0 ≡ pos 0
   pub rooted : IsRooted nodes edges tree order place parent
+
+-- the same of a `Tree`
+abbrev pub Keeps : ℕ → List NetEdge → Tree → List ℤ → Type 0
+Keeps nodes edges t layers = IsKept nodes edges t.marks.items layers t.order.items t.place.items t.parent.items
 
 -- the state has this tree, and these layers but for a number by which all are moved
 pub record StandsFor (nodes : ℕ) (s : State) (tree : List Bool) (layers : List ℤ) : Type 0 where

@@ -3,14 +3,16 @@ use Rattle.std.specs.Prelude.{◌≡◌, ℕ, ◌<◌, ◌≤◌, Bool, true, fa
 use Rattle.std.specs.declared.cmp.Ordering.{Ordering}
 use Rattle.std.specs.Ordering.{ordering_then, nat_cmp, int_cmp}
 use Rattle.std.specs.List.{Contains}
-use Rattle.std.specs.BinaryHeap.{IsHeap}
+use Rattle.std.specs.BinaryHeap.{IsHeap, heap_items}
 use Rattle.std.specs.List.Sorted.{IsPermutation}
 use Rattle.network_laws.specs.declared.network.NetEdge.{NetEdge}
 use Rattle.network_laws.specs.declared.links.End.{End}
 use Rattle.network_laws.specs.declared.links.End.TheVariants.{Tail, Head}
 use Rattle.network_laws.specs.Network.{edge_at}
 use Rattle.network_laws.specs.Layering.{layer_of}
-use Rattle.network_laws.specs.Links.{end_of, far_of}
+use Rattle.network_laws.specs.Links.{AreLinks, end_of, far_of}
+use Rattle.net_simplex.specs.declared.waiting.BothLinks.{BothLinks}
+use Rattle.net_simplex.specs.declared.waiting.Queues.{Queues}
 use Rattle.net_simplex.specs.declared.waiting.Waiting.{Waiting}
 use Rattle.net_simplex.specs.declared.choice.Choice.{Choice}
 use Rattle.net_simplex.specs.Pivots.{is_in}
@@ -67,19 +69,24 @@ pub record IsQueue (edges : List NetEdge) (end : End) (reached : List Bool) (lay
   pub heap : IsHeap waiting_order queue
   pub waiting : AreWaiting edges end reached layers 0 (length edges) queue
 
+-- the edges are linked by their tails and by their heads
+abbrev pub AreBothLinks : ℕ → List NetEdge → BothLinks → Type 0
+AreBothLinks nodes edges l =
+    AreLinks nodes edges Tail l.tails.first.items l.tails.next.items × AreLinks nodes edges Head l.heads.first.items l.heads.next.items
+
 -- one of the edges whose tail is reached, and one of those whose head is
-abbrev pub AreQueues : List NetEdge → List Bool → List ℤ → List Waiting → List Waiting → Type 0
-AreQueues edges reached layers rising falling =
-    IsQueue edges Tail reached layers rising × IsQueue edges Head reached layers falling
+abbrev pub AreQueues : List NetEdge → List Bool → List ℤ → Queues → Type 0
+AreQueues edges reached layers q =
+    IsQueue edges Tail reached layers (heap_items q.rising) × IsQueue edges Head reached layers (heap_items q.falling)
 
 -- a queue that lacks the edges of v
 pub record IsQueueBut (edges : List NetEdge) (end : End) (reached : List Bool) (layers : List ℤ) (v : ℕ) (queue : List Waiting) : Type 0 where
   pub heap : IsHeap waiting_order queue
   pub waiting : AreWaiting edges end reached layers v 0 queue
 
-abbrev pub AreQueuesBut : List NetEdge → List Bool → List ℤ → ℕ → List Waiting → List Waiting → Type 0
-AreQueuesBut edges reached layers v rising falling =
-    IsQueueBut edges Tail reached layers v rising × IsQueueBut edges Head reached layers v falling
+abbrev pub AreQueuesBut : List NetEdge → List Bool → List ℤ → ℕ → Queues → Type 0
+AreQueuesBut edges reached layers v q =
+    IsQueueBut edges Tail reached layers v (heap_items q.rising) × IsQueueBut edges Head reached layers v (heap_items q.falling)
 
 -- the edge of less slack, ties by the number
 abbrev pub nearer_of : Choice → Choice → ℕ

@@ -3,6 +3,7 @@ use Rattle.std.specs.Prelude.{◌≡◌, ◌≢◌, ℕ, zero, suc, ◌+◌, ◌
 use Rattle.network_laws.specs.declared.network.NetEdge.{NetEdge}
 use Rattle.network_laws.specs.Network.{edge_at}
 use Rattle.network_laws.specs.Linked.{is_marked}
+use Rattle.net_simplex.specs.declared.tree.Tree.{Tree}
 
 -- the end of an edge that is not v
 abbrev pub beyond : NetEdge → ℕ → ℕ
@@ -44,6 +45,10 @@ all_held v = true
 -- all nodes hang from node 0
 abbrev pub IsRooted : ℕ → List NetEdge → List Bool → List ℕ → List ℕ → List ℕ → Type 0
 IsRooted nodes edges tree order place parent = IsPlanted nodes edges tree all_held nodes order place parent
+
+-- the same of a `Tree`
+abbrev pub Hangs : ℕ → List NetEdge → Tree → Type 0
+Hangs nodes edges t = IsRooted nodes edges t.marks.items t.order.items t.place.items t.parent.items
 
 -- the nodes that hang on `child`, with itself, as a test
 pub record IsBelow (nodes : ℕ) (edges : List NetEdge) (place parent : List ℕ) (child : ℕ) (below : ℕ → Bool) : Type 0 where

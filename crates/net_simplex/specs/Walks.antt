@@ -1,6 +1,10 @@
 -- A walk over a tree: each node takes the next place, then what hangs on it, so that the part of a node is an interval of
 -- places. (Gansner, Koutsofios, North, Vo 1993: the numbers `low` and `lim`.)
 use Rattle.std.specs.Prelude.{◌≡◌, ◌≢◌, ℕ, zero, suc, ◌+◌, ◌-◌, ◌<◌, ◌≤◌, ◌==◌, cond, not, ◌&&◌, nat_lt, Bool, true, List, length, set, slice_index}
+use Rattle.network_laws.specs.declared.network.NetEdge.{NetEdge}
+use Rattle.net_simplex.specs.declared.tree.Tree.{Tree}
+use Rattle.net_simplex.specs.declared.tree.Walk.{Walk}
+use Rattle.net_simplex.specs.Rooted.{above}
 
 -- whether q is one of the `many` numbers from p on
 abbrev pub between : ℕ → ℕ → ℕ → Bool
@@ -23,6 +27,10 @@ pub record IsWalk (nodes : ℕ) (order place size : List ℕ) (up : ℕ → ℕ)
   pub up_there : (v : ℕ) → v < nodes → 0 < slice_index place v → up v < nodes
   pub up_other : (v : ℕ) → v < nodes → 0 < slice_index place v → up v ≢ v
   pub climbs : (v u : ℕ) → v < nodes → u < nodes → 0 < slice_index place u → u ≢ v → part place size v u ≡ part place size v (up u)
+
+-- a walk over the tree, and room for the next order
+abbrev pub HasWalk : ℕ → List NetEdge → Tree → Walk → Type 0
+HasWalk nodes edges t w = IsWalk nodes t.order.items t.place.items w.size.items (above edges t.parent.items) × (length w.next.items ≡ nodes)
 
 -- the new place of a place outside the block of `many` places from `start` on, where the block goes to before place `after`
 abbrev pub moved : ℕ → ℕ → ℕ → ℕ → ℕ

@@ -1,17 +1,19 @@
 //! Cut values: the weight that leaves a part less the weight that enters it is a sum over the part's nodes, so one pass
 //! from the last node of the tree to the first gives all of them.
 
-ghost use Rattle.std.specs.Prelude.{◌≡◌, ◌≢◌, ◌+◌, ◌*◌, ◌<◌, ◌≤◌, ◌^◌, ℕ, pos, ◌+ℤ◌, ◌-ℤ◌, length, set, slice_index, Bool, List, true, false};
+ghost use Rattle.std.specs.Prelude.{◌≡◌, ◌≢◌, ◌+◌, ◌*◌, ◌<◌, ◌≤◌, ◌^◌, ℕ, pos, ◌+ℤ◌, ◌-ℤ◌, length, set, slice_index, Bool, List, true, false, IfOk};
 ghost use Rattle.std.specs.List.{sum_by};
 ghost use Rattle.network_laws.specs.declared.network.NetEdge.{NetEdge as EdgeOf};
 ghost use Rattle.network_laws.specs.Network.{EndsBelow, edge_at};
 ghost use Rattle.network_laws.specs.Layering.{layer_of};
 ghost use Rattle.net_simplex.specs.Tree.{IsSpanningTree};
-ghost use Rattle.net_simplex.specs.Rooted.{beyond, IsRooted};
+ghost use Rattle.net_simplex.specs.Rooted.{beyond, Hangs};
 ghost use Rattle.net_simplex.specs.Cuts.{size_of, sizes, tallied, TellsWeights, Lifts, AreCutValues};
 
 use crate::rooted::other_end;
+use crate::tree::Tree;
 use network_laws::NetEdge;
+use std::alloc::{AllocError, Global};
 
 /// Writes one number.
 pub fn put(numbers: &mut [i64], at: u32, number: i64)
@@ -59,15 +61,6 @@ fn tally_edge(excess: &mut [i64], e: NetEdge)
     );
 }
 
-fn clear(numbers: &mut [i64])
-    ensures same { length numbers.new ≡ length numbers.old }
-    ensures none { (v : ℕ) → layer_of numbers.new v ≡ pos 0 }
-{
-    for v in 0..numbers.len() {
-        numbers[v] = 0;
-    }
-}
-
 /// What leaves each node by weight less what comes in.
 fn tally(edges: &[NetEdge], excess: &mut [i64])
     requires ends { EndsBelow (length excess.old) edges.now }
@@ -94,17 +87,17 @@ fn turned(turn: bool, number: i64) -> i64
 }
 
 /// Moves the number of `v` to the node on which it hangs; it is the cut value of the edge between.
-fn lift(edges: &[NetEdge], parent: &[u32], v: u32, excess: &mut [i64], cut: &mut [i64])
-    requires node { v < length parent.now }
-    requires there { slice_index parent.now v < length edges.now }
-    requires excess { length excess.old ≡ length parent.now }
-    requires ends { EndsBelow (length parent.now) edges.now }
+fn lift(edges: &[NetEdge], tree: &Tree, v: u32, excess: &mut [i64], cut: &mut [i64])
+    requires node { v < length tree.now.parent.items }
+    requires there { slice_index tree.now.parent.items v < length edges.now }
+    requires excess { length excess.old ≡ length tree.now.parent.items }
+    requires ends { EndsBelow (length tree.now.parent.items) edges.now }
     requires cut { length cut.old ≡ length edges.now }
-    requires other { beyond (edge_at edges.now (slice_index parent.now v)) v ≢ v }
+    requires other { beyond (edge_at edges.now (slice_index tree.now.parent.items v)) v ≢ v }
     requires small { sizes excess.old < 2 ^ 63 }
-    ensures { Lifts (edge_at edges.now (slice_index parent.now v)) (slice_index parent.now v) v (beyond (edge_at edges.now (slice_index parent.now v)) v) excess.old cut.old excess.new cut.new }
+    ensures { Lifts (edge_at edges.now (slice_index tree.now.parent.items v)) (slice_index tree.now.parent.items v) v (beyond (edge_at edges.now (slice_index tree.now.parent.items v)) v) excess.old cut.old excess.new cut.new }
 {
-    let k = parent[v as usize];
+    let k = tree.parent_of(v);
     let e = edges[k as usize];
     let u = other_end(e, v);
     let more = number_at(excess, v);
@@ -113,55 +106,37 @@ fn lift(edges: &[NetEdge], parent: &[u32], v: u32, excess: &mut [i64], cut: &mut
     put(cut, k, turned(e.tail == v, more));
 }
 
-fn lift_all(
-    edges: &[NetEdge],
-    tree: &[bool],
-    order: &[u32],
-    place: &[u32],
-    parent: &[u32],
-    excess: &mut [i64],
-    cut: &mut [i64],
-)
-    requires few { length order.now ≤ 2 ^ 23 }
-    requires ends { EndsBelow (length order.now) edges.now }
+fn lift_all(edges: &[NetEdge], tree: &Tree, excess: &mut [i64], cut: &mut [i64])
+    requires few { length tree.now.order.items ≤ 2 ^ 23 }
+    requires ends { EndsBelow (length tree.now.order.items) edges.now }
     requires weights { sum_by (λ (e : EdgeOf). e.weight) edges.now < 2 ^ 62 }
-    requires excess { length excess.old ≡ length order.now }
+    requires excess { length excess.old ≡ length tree.now.order.items }
     requires cut { length cut.old ≡ length edges.now }
     requires tells { TellsWeights edges.now excess.old }
     requires small { sizes excess.old ≤ 2 * sum_by (λ (e : EdgeOf). e.weight) edges.now }
-    requires spanning { IsSpanningTree (length order.now) edges.now tree.now }
-    requires rooted { IsRooted (length order.now) edges.now tree.now order.now place.now parent.now }
-    ensures { AreCutValues (length order.now) edges.now tree.now cut.new }
+    requires spanning { IsSpanningTree (length tree.now.order.items) edges.now tree.now.marks.items }
+    requires rooted { Hangs (length tree.now.order.items) edges.now tree.now }
+    ensures { AreCutValues (length tree.now.order.items) edges.now tree.now.marks.items cut.new }
 {
-    let _places = place.len();
-    let _marks = tree.len();
-    let mut left = order.len();
+    let mut left = tree.order.len() as u32;
     while left > 1 {
         left -= 1;
-        lift(edges, parent, order[left], excess, cut);
+        lift(edges, tree, tree.node_at(left), excess, cut);
     }
 }
 
 /// The cut values of a tree's edges.
-pub fn sum_cuts(
-    edges: &[NetEdge],
-    tree: &[bool],
-    order: &[u32],
-    place: &[u32],
-    parent: &[u32],
-    excess: &mut [i64],
-    cut: &mut [i64],
-)
-    requires few { length order.now ≤ 2 ^ 23 }
-    requires ends { EndsBelow (length order.now) edges.now }
+pub fn sum_cuts(alloc: Global, edges: &[NetEdge], tree: &Tree) -> Result<Vec<i64>, AllocError>
+    requires few { length tree.now.order.items ≤ 2 ^ 23 }
+    requires ends { EndsBelow (length tree.now.order.items) edges.now }
     requires weights { sum_by (λ (e : EdgeOf). e.weight) edges.now < 2 ^ 62 }
-    requires excess { length excess.old ≡ length order.now }
-    requires cut { length cut.old ≡ length edges.now }
-    requires spanning { IsSpanningTree (length order.now) edges.now tree.now }
-    requires rooted { IsRooted (length order.now) edges.now tree.now order.now place.now parent.now }
-    ensures { AreCutValues (length order.now) edges.now tree.now cut.new }
+    requires spanning { IsSpanningTree (length tree.now.order.items) edges.now tree.now.marks.items }
+    requires rooted { Hangs (length tree.now.order.items) edges.now tree.now }
+    ensures { IfOk result (λ cut. AreCutValues (length tree.now.order.items) edges.now tree.now.marks.items cut.items) }
 {
-    clear(excess);
-    tally(edges, excess);
-    lift_all(edges, tree, order, place, parent, excess, cut);
+    let mut excess: Vec<i64> = vec![in alloc; 0; tree.order.len()]?;
+    let mut cut: Vec<i64> = vec![in alloc; 0; edges.len()]?;
+    tally(edges, &mut excess);
+    lift_all(edges, tree, &mut excess, &mut cut);
+    Ok(cut)
 }

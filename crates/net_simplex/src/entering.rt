@@ -13,9 +13,9 @@ ghost use Rattle.network_laws.specs.declared.links.End.TheVariants.{Tail, Head};
 
 use crate::choice::{Choice, better};
 use crate::rooted::is_between;
-use crate::waiting::{Waiting, nearest};
+use crate::tree::{Tree, Walk};
+use crate::waiting::{Queues, nearest};
 use network_laws::{End, NetEdge};
-use std::collections::BinaryHeap;
 
 fn slack_between(low: i128, high: i128, least: u64) -> i128
     requires low_from { pos 0 ≤ℤ (low +ℤ pos (2 ^ 100)) }
@@ -29,18 +29,18 @@ fn slack_between(low: i128, high: i128, least: u64) -> i128
 
 /// Whether the edge leads from the head's part to the tail's part, where the part without the root has the `many` places
 /// from `first` on.
-fn leads_back_to(place: &[u32], first: u32, many: u32, root_in: bool, e: NetEdge) -> bool
-    requires tail { e.tail < length place.now }
-    requires head { e.head < length place.now }
+fn leads_back_to(tree: &Tree, first: u32, many: u32, root_in: bool, e: NetEdge) -> bool
+    requires tail { e.tail < length tree.now.place.items }
+    requires head { e.head < length tree.now.place.items }
     requires fits { first + many < 2 ^ 32 }
-    ensures { result ≡ leads_back (part_from root_in (λ v. between first many (slice_index place.now v))) e }
+    ensures { result ≡ leads_back (part_from root_in (λ v. between first many (slice_index tree.now.place.items v))) e }
 {
     if root_in {
-        return is_between(first, many, place[e.tail as usize])
-            && !is_between(first, many, place[e.head as usize]);
+        return is_between(first, many, tree.place_of(e.tail))
+            && !is_between(first, many, tree.place_of(e.head));
     }
-    !is_between(first, many, place[e.tail as usize])
-        && is_between(first, many, place[e.head as usize])
+    !is_between(first, many, tree.place_of(e.tail))
+        && is_between(first, many, tree.place_of(e.head))
 }
 
 /// Of the edges from the head's part to the tail's part the one of least slack, ties by the number. The part without the
@@ -48,26 +48,26 @@ fn leads_back_to(place: &[u32], first: u32, many: u32, root_in: bool, e: NetEdge
 pub fn entering(
     edges: &[NetEdge],
     layers: &[i64],
-    place: &[u32],
-    size: &[u32],
+    tree: &Tree,
+    walk: &Walk,
     child: u32,
     root_in: bool,
 ) -> Option<Choice>
     requires few { length edges.now ≤ 2 ^ 24 }
-    requires place { length place.now ≡ length layers.now }
-    requires size { length size.now ≡ length layers.now }
+    requires place { length tree.now.place.items ≡ length layers.now }
+    requires size { length walk.now.size.items ≡ length layers.now }
     requires child { child < length layers.now }
-    requires fits { slice_index place.now child + slice_index size.now child < 2 ^ 32 }
+    requires fits { slice_index tree.now.place.items child + slice_index walk.now.size.items child < 2 ^ 32 }
     requires ends { EndsBelow (length layers.now) edges.now }
     requires layering { IsLayering edges.now layers.now }
-    ensures { Tells (λ k. slack layers.now (edge_at edges.now k)) (least_slack_edge edges.now layers.now (leads_back (part_from root_in (part place.now size.now child)))) result }
+    ensures { Tells (λ k. slack layers.now (edge_at edges.now k)) (least_slack_edge edges.now layers.now (leads_back (part_from root_in (part tree.now.place.items walk.now.size.items child)))) result }
 {
-    let first = place[child as usize];
-    let many = size[child as usize];
+    let first = tree.place_of(child);
+    let many = walk.size_of(child);
     let mut best: Option<Choice> = None;
     for k in 0..edges.len() {
         let e = edges[k];
-        if leads_back_to(place, first, many, root_in, e) {
+        if leads_back_to(tree, first, many, root_in, e) {
             let slack = slack_between(
                 i128::from(layers[e.tail as usize]),
                 i128::from(layers[e.head as usize]),
@@ -159,17 +159,16 @@ pub fn joining(
     layers: &[i64],
     reached: &[bool],
     by: i64,
-    rising: &mut BinaryHeap<Waiting>,
-    falling: &mut BinaryHeap<Waiting>,
+    queues: &mut Queues,
 ) -> Option<u32>
     requires marks { length reached.now ≡ length layers.now }
     requires ends { EndsBelow (length layers.now) edges.now }
     requires layering { IsLayering edges.now (shifted (is_in reached.now) by layers.now) }
-    requires queues { AreQueues edges.now reached.now layers.now (heap_items rising.old) (heap_items falling.old) }
+    requires queues { AreQueues edges.now reached.now layers.now queues.old }
     ensures least { result ≡ least_slack_edge edges.now (shifted (is_in reached.now) by layers.now) (borders reached.now) }
-    ensures queues { AreQueues edges.now reached.now layers.now (heap_items rising.new) (heap_items falling.new) }
+    ensures queues { AreQueues edges.now reached.now layers.now queues.new }
 {
-    let up = nearest(edges, End::Tail, layers, reached, rising);
-    let down = nearest(edges, End::Head, layers, reached, falling);
+    let up = nearest(edges, End::Tail, layers, reached, &mut queues.rising);
+    let down = nearest(edges, End::Head, layers, reached, &mut queues.falling);
     nearer_of_both(edges, layers, reached, by, up, down)
 }

@@ -1,23 +1,15 @@
 //! The first walk over a tree: from an order in which each node comes after the one that it hangs on, sizes are summed from
 //! the last node to the first, and places are given from the first to the last.
 
-ghost use Rattle.std.specs.Prelude.{◌≡◌, ◌≢◌, ◌+◌, ◌<◌, ◌≤◌, ◌^◌, ℕ, length, set, slice_index};
+ghost use Rattle.std.specs.Prelude.{◌≡◌, ◌≢◌, ◌+◌, ◌<◌, ◌≤◌, ◌^◌, ℕ, length, replicate, set, slice_index, IfOk, OnOk};
 ghost use Rattle.network_laws.specs.Network.{EndsBelow};
-ghost use Rattle.net_simplex.specs.Rooted.{above, IsRooted};
-ghost use Rattle.net_simplex.specs.Walks.{IsWalk, AreSizes, AreWalkPlaces, TakesPlace};
+ghost use Rattle.net_simplex.specs.Rooted.{above, IsRooted, Hangs};
+ghost use Rattle.net_simplex.specs.Walks.{AreSizes, AreWalkPlaces, TakesPlace, HasWalk};
 
-use crate::rooted::upper;
+use crate::rooted::{far_end, upper};
+use crate::tree::{Tree, Walk};
 use network_laws::NetEdge;
-
-/// Each node is its own part.
-fn set_ones(size: &mut [u32])
-    ensures same { length size.new ≡ length size.old }
-    ensures one { (v : ℕ) → v < length size.old → slice_index size.new v ≡ 1 }
-{
-    for v in 0..size.len() {
-        size[v] = 1;
-    }
-}
+use std::alloc::{AllocError, Global};
 
 /// Adds the size of a node to that of the one on which it hangs.
 fn add_size(size: &mut [u32], v: u32, u: u32)
@@ -29,29 +21,19 @@ fn add_size(size: &mut [u32], v: u32, u: u32)
     size[u as usize] += size[v as usize];
 }
 
-/// Counts what hangs on each node, with itself.
-fn sum_sizes(
-    edges: &[NetEdge],
-    tree: &[bool],
-    order: &[u32],
-    place: &[u32],
-    parent: &[u32],
-    size: &mut [u32],
-)
-    requires few { length order.now ≤ 2 ^ 23 }
-    requires ends { EndsBelow (length order.now) edges.now }
-    requires rooted { IsRooted (length order.now) edges.now tree.now order.now place.now parent.now }
-    requires size { length size.old ≡ length order.now }
-    ensures same { length size.new ≡ length order.now }
-    ensures sizes { AreSizes (length order.now) order.now (above edges.now parent.now) size.new }
+/// Counts what hangs on each node, with itself, where each counts itself alone.
+fn sum_sizes(edges: &[NetEdge], tree: &Tree, size: &mut [u32])
+    requires few { length tree.now.order.items ≤ 2 ^ 23 }
+    requires ends { EndsBelow (length tree.now.order.items) edges.now }
+    requires rooted { Hangs (length tree.now.order.items) edges.now tree.now }
+    requires ones { size.old ≡ replicate (length tree.now.order.items) 1 }
+    ensures { AreSizes (length tree.now.order.items) tree.now.order.items (above edges.now tree.now.parent.items) size.new }
 {
-    let _lists = tree.len() + place.len();
-    set_ones(size);
-    let mut left = order.len();
+    let mut left = tree.order.len() as u32;
     while left > 1 {
         left -= 1;
-        let v = order[left];
-        add_size(size, v, upper(edges, parent, v));
+        let v = tree.node_at(left);
+        add_size(size, v, upper(edges, tree, v));
     }
 }
 
@@ -93,7 +75,8 @@ fn place_all(
     next[0] = 1;
     for i in 1..order.len() {
         let v = order[i];
-        take_place(size, v, upper(edges, parent, v), place, next);
+        let u = far_end(edges, parent[v as usize], v);
+        take_place(size, v, u, place, next);
     }
 }
 
@@ -112,24 +95,27 @@ fn order_all(place: &[u32], order: &mut [u32])
 
 /// Walks over a tree: from an order in which each node comes after the one that it hangs on to one in which what hangs on
 /// a node comes right behind it.
-pub fn walk_tree(
-    edges: &[NetEdge],
-    tree: &[bool],
-    order: &mut [u32],
-    place: &mut [u32],
-    parent: &[u32],
-    size: &mut [u32],
-    next: &mut [u32],
-)
-    requires few { length order.old ≤ 2 ^ 23 }
-    requires ends { EndsBelow (length order.old) edges.now }
-    requires rooted { IsRooted (length order.old) edges.now tree.now order.old place.old parent.now }
-    requires size { length size.old ≡ length order.old }
-    requires next { length next.old ≡ length order.old }
-    ensures rooted { IsRooted (length order.old) edges.now tree.now order.new place.new parent.now }
-    ensures walk { IsWalk (length order.old) order.new place.new size.new (above edges.now parent.now) }
+pub fn walk_tree(alloc: Global, edges: &[NetEdge], tree: &mut Tree) -> Result<Walk, AllocError>
+    requires few { length tree.old.order.items ≤ 2 ^ 23 }
+    requires ends { EndsBelow (length tree.old.order.items) edges.now }
+    requires rooted { Hangs (length tree.old.order.items) edges.now tree.old }
+    ensures marks { tree.new.marks.items ≡ tree.old.marks.items }
+    ensures rooted { OnOk result (Hangs (length tree.old.order.items) edges.now tree.new) }
+    ensures walk { IfOk result (λ walk. HasWalk (length tree.old.order.items) edges.now tree.new walk) }
 {
-    sum_sizes(edges, tree, order, place, parent, size);
-    place_all(edges, tree, order, parent, size, place, next);
-    order_all(place, order);
+    let nodes = tree.order.len();
+    let mut size: Vec<u32> = vec![in alloc; 1; nodes]?;
+    let mut next: Vec<u32> = vec![in alloc; 0; nodes]?;
+    sum_sizes(edges, tree, &mut size);
+    place_all(
+        edges,
+        &tree.marks,
+        &tree.order,
+        &tree.parent,
+        &size,
+        &mut tree.place,
+        &mut next,
+    );
+    order_all(&tree.place, &mut tree.order);
+    Ok(Walk { size, next })
 }

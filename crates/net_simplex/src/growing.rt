@@ -3,21 +3,20 @@
 
 ghost use Rattle.std.specs.Prelude.{◌≡◌, ◌≢◌, ◌+◌, ◌-◌, ◌<◌, ◌≤◌, ◌^◌, ℕ, pos, ◌≤ℤ◌, ◌<ℤ◌, ◌+ℤ◌, ◌-ℤ◌, true, false, length, replicate, slice_index, IfOk, OnOk};
 ghost use Rattle.std.specs.BinaryHeap.{heap_items};
-ghost use Rattle.network_laws.specs.Links.{AreLinks};
-ghost use Rattle.network_laws.specs.declared.links.End.TheVariants.{Tail, Head};
 ghost use Rattle.network_laws.specs.Network.{IsNetwork, IsAcyclic, EndsBelow};
 ghost use Rattle.network_laws.specs.Layering.{layer_of, IsLayering};
 ghost use Rattle.network_laws.specs.Paths.{AreGreatestSums};
 ghost use Rattle.net_simplex.specs.Pivots.{is_in, shifted, borders, least_slack_edge, first_state, grown_once as once};
-ghost use Rattle.net_simplex.specs.Grown.{IsConnected, Joins, Attaches, IsSmall, IsGrown, IsJoined, growing_of};
-ghost use Rattle.net_simplex.specs.Outward.{AreQueues, AreQueuesBut, IsEmptyHeap};
-ghost use Rattle.net_simplex.specs.Kept.{IsKept, StandsFor};
+ghost use Rattle.net_simplex.specs.Grown.{IsConnected, Joins, Attaches, IsSmall, IsJoined, growing_of, IsBare, Grows};
+ghost use Rattle.net_simplex.specs.Outward.{AreBothLinks, AreQueues, AreQueuesBut, IsEmptyHeap};
+ghost use Rattle.net_simplex.specs.Kept.{StandsFor, Keeps};
 
 use crate::cuts::{number_at, put};
 use crate::entering::joining;
 use crate::rooted::plant;
-use crate::waiting::{Waiting, add_edges};
-use network_laws::{End, Links, NetEdge, link_edges};
+use crate::tree::Tree;
+use crate::waiting::{BothLinks, Queues, add_edges};
+use network_laws::{End, NetEdge, link_edges};
 use std::alloc::{AllocError, Global};
 use std::collections::BinaryHeap;
 
@@ -46,28 +45,20 @@ fn stand_below(layer: i64, least: u64) -> i64
 }
 
 /// A node joins the tree where its edge is tight. Gives how much higher the tree's nodes stand now than their layers say.
-fn join(
-    v: u32,
-    k: u32,
-    at: i64,
-    filled: u32,
-    layers: &mut [i64],
-    order: &mut [u32],
-    place: &mut [u32],
-    parent: &mut [u32],
-) -> i64
+fn join(v: u32, k: u32, at: i64, filled: u32, tree: &mut Tree, layers: &mut [i64]) -> i64
     requires node { v < length layers.old }
     requires small { IsSmall (layer_of layers.old v) }
     requires small_at { IsSmall at }
-    requires order { filled < length order.old }
-    requires place { v < length place.old }
-    requires parent { v < length parent.old }
-    ensures { Joins v k at filled layers.old order.old place.old parent.old layers.new order.new place.new parent.new result }
+    requires order { filled < length tree.old.order.items }
+    requires place { v < length tree.old.place.items }
+    requires parent { v < length tree.old.parent.items }
+    ensures joins { Joins v k at filled layers.old tree.old.order.items tree.old.place.items tree.old.parent.items layers.new tree.new.order.items tree.new.place.items tree.new.parent.items result }
+    ensures marks { tree.new.marks.items ≡ tree.old.marks.items }
 {
     let start = number_at(layers, v);
     put(layers, v, at);
-    parent[v as usize] = k;
-    plant(v, filled, order, place);
+    tree.parent[v as usize] = k;
+    plant(v, filled, &mut tree.order, &mut tree.place);
     less(start, at)
 }
 
@@ -76,36 +67,33 @@ fn attach(
     e: NetEdge,
     k: u32,
     filled: u32,
-    tree: &mut [bool],
+    tree: &mut Tree,
     reached: &mut [bool],
     layers: &mut [i64],
-    order: &mut [u32],
-    place: &mut [u32],
-    parent: &mut [u32],
 ) -> i64
     requires tail { e.tail < length layers.old }
     requires head { e.head < length layers.old }
-    requires marks { k < length tree.old }
+    requires marks { k < length tree.old.marks.items }
     requires reached { length reached.old ≡ length layers.old }
-    requires order { filled < length order.old }
-    requires place { length place.old ≡ length layers.old }
-    requires parent { length parent.old ≡ length layers.old }
+    requires order { filled < length tree.old.order.items }
+    requires place { length tree.old.place.items ≡ length layers.old }
+    requires parent { length tree.old.parent.items ≡ length layers.old }
     requires least { e.least < 2 ^ 62 }
     requires small { (v : ℕ) → v < length layers.old → IsSmall (layer_of layers.old v) }
     requires above { is_in reached.old e.tail ≡ true → IsSmall (layer_of layers.old e.tail +ℤ pos e.least) }
     requires below { is_in reached.old e.tail ≡ false → IsSmall (layer_of layers.old e.head -ℤ pos e.least) }
-    ensures { Attaches e k filled tree.old reached.old layers.old order.old place.old parent.old tree.new reached.new layers.new order.new place.new parent.new result }
+    ensures { Attaches e k filled tree.old.marks.items reached.old layers.old tree.old.order.items tree.old.place.items tree.old.parent.items tree.new.marks.items reached.new layers.new tree.new.order.items tree.new.place.items tree.new.parent.items result }
 {
     let inside = reached[e.tail as usize];
-    tree[k as usize] = true;
+    tree.marks[k as usize] = true;
     reached[e.tail as usize] = true;
     reached[e.head as usize] = true;
     if inside {
         let at = stand_above(number_at(layers, e.tail), e.least);
-        return join(e.head, k, at, filled, layers, order, place, parent);
+        return join(e.head, k, at, filled, tree, layers);
     }
     let at = stand_below(number_at(layers, e.head), e.least);
-    join(e.tail, k, at, filled, layers, order, place, parent)
+    join(e.tail, k, at, filled, tree, layers)
 }
 
 /// The chosen edge joins the tree. The answer tells how much higher its nodes stand then.
@@ -114,34 +102,21 @@ fn grow_by(
     choice: Option<u32>,
     filled: u32,
     by: i64,
-    tree: &mut [bool],
+    tree: &mut Tree,
     reached: &mut [bool],
     layers: &mut [i64],
-    order: &mut [u32],
-    place: &mut [u32],
-    parent: &mut [u32],
 ) -> i64
     requires network { IsNetwork (length layers.old) edges.now }
     requires connected { IsConnected (length layers.old) edges.now }
     requires choice { choice ≡ least_slack_edge edges.now (shifted (is_in reached.old) by layers.old) (borders reached.old) }
     requires room { filled < length layers.old }
-    requires grown { IsGrown (length layers.old) edges.now filled tree.old reached.old by layers.old order.old place.old parent.old }
-    ensures grown { IsGrown (length layers.old) edges.now (filled + 1) tree.new reached.new result layers.new order.new place.new parent.new }
-    ensures once { growing_of tree.new reached.new result layers.new ≡ once edges.now (growing_of tree.old reached.old by layers.old) }
-    ensures joined { IsJoined (length layers.old) filled reached.old layers.old order.new reached.new layers.new }
+    requires grown { Grows (length layers.old) edges.now filled tree.old reached.old by layers.old }
+    ensures grown { Grows (length layers.old) edges.now (filled + 1) tree.new reached.new result layers.new }
+    ensures once { growing_of tree.new.marks.items reached.new result layers.new ≡ once edges.now (growing_of tree.old.marks.items reached.old by layers.old) }
+    ensures joined { IsJoined (length layers.old) filled reached.old layers.old tree.new.order.items reached.new layers.new }
 {
     match choice {
-        Some(k) => attach(
-            edges[k as usize],
-            k,
-            filled,
-            tree,
-            reached,
-            layers,
-            order,
-            place,
-            parent,
-        ),
+        Some(k) => attach(edges[k as usize], k, filled, tree, reached, layers),
         None => by,
     }
 }
@@ -149,107 +124,99 @@ fn grow_by(
 /// Adds the edges that lead from `v` out of the tree.
 fn add_both(
     edges: &[NetEdge],
-    tails: &Links,
-    heads: &Links,
+    links: &BothLinks,
     layers: &[i64],
     reached: &[bool],
     v: u32,
-    rising: &mut BinaryHeap<Waiting>,
-    falling: &mut BinaryHeap<Waiting>,
+    queues: &mut Queues,
 ) -> Result<(), AllocError>
     requires few { length edges.now ≤ 2 ^ 24 }
     requires ends { EndsBelow (length layers.now) edges.now }
-    requires tails { AreLinks (length layers.now) edges.now Tail tails.now.first.items tails.now.next.items }
-    requires heads { AreLinks (length layers.now) edges.now Head heads.now.first.items heads.now.next.items }
+    requires links { AreBothLinks (length layers.now) edges.now links.now }
     requires marks { length reached.now ≡ length layers.now }
     requires there { v < length layers.now }
     requires held { is_in reached.now v ≡ true }
-    requires queues { AreQueuesBut edges.now reached.now layers.now v (heap_items rising.old) (heap_items falling.old) }
-    ensures { OnOk result (AreQueues edges.now reached.now layers.now (heap_items rising.new) (heap_items falling.new)) }
+    requires queues { AreQueuesBut edges.now reached.now layers.now v queues.old }
+    ensures { OnOk result (AreQueues edges.now reached.now layers.now queues.new) }
 {
-    add_edges(edges, tails, End::Tail, layers, reached, v, rising)?;
-    add_edges(edges, heads, End::Head, layers, reached, v, falling)?;
+    add_edges(
+        edges,
+        &links.tails,
+        End::Tail,
+        layers,
+        reached,
+        v,
+        &mut queues.rising,
+    )?;
+    add_edges(
+        edges,
+        &links.heads,
+        End::Head,
+        layers,
+        reached,
+        v,
+        &mut queues.falling,
+    )?;
     Ok(())
 }
 
 /// One more edge joins the tree. The answer tells how much higher its nodes stand then.
 fn grow_once(
     edges: &[NetEdge],
-    tails: &Links,
-    heads: &Links,
+    links: &BothLinks,
     filled: u32,
     by: i64,
-    tree: &mut [bool],
+    tree: &mut Tree,
     reached: &mut [bool],
     layers: &mut [i64],
-    order: &mut [u32],
-    place: &mut [u32],
-    parent: &mut [u32],
-    rising: &mut BinaryHeap<Waiting>,
-    falling: &mut BinaryHeap<Waiting>,
+    queues: &mut Queues,
 ) -> Result<i64, AllocError>
     requires network { IsNetwork (length layers.old) edges.now }
     requires connected { IsConnected (length layers.old) edges.now }
-    requires tails { AreLinks (length layers.old) edges.now Tail tails.now.first.items tails.now.next.items }
-    requires heads { AreLinks (length layers.old) edges.now Head heads.now.first.items heads.now.next.items }
+    requires links { AreBothLinks (length layers.old) edges.now links.now }
     requires room { filled < length layers.old }
-    requires grown { IsGrown (length layers.old) edges.now filled tree.old reached.old by layers.old order.old place.old parent.old }
-    requires queues { AreQueues edges.now reached.old layers.old (heap_items rising.old) (heap_items falling.old) }
-    ensures grown { IfOk result (λ now. IsGrown (length layers.old) edges.now (filled + 1) tree.new reached.new now layers.new order.new place.new parent.new) }
-    ensures once { IfOk result (λ now. growing_of tree.new reached.new now layers.new ≡ once edges.now (growing_of tree.old reached.old by layers.old)) }
-    ensures queues { OnOk result (AreQueues edges.now reached.new layers.new (heap_items rising.new) (heap_items falling.new)) }
+    requires grown { Grows (length layers.old) edges.now filled tree.old reached.old by layers.old }
+    requires queues { AreQueues edges.now reached.old layers.old queues.old }
+    ensures grown { IfOk result (λ now. Grows (length layers.old) edges.now (filled + 1) tree.new reached.new now layers.new) }
+    ensures once { IfOk result (λ now. growing_of tree.new.marks.items reached.new now layers.new ≡ once edges.now (growing_of tree.old.marks.items reached.old by layers.old)) }
+    ensures queues { OnOk result (AreQueues edges.now reached.new layers.new queues.new) }
 {
-    let choice = joining(edges, layers, reached, by, rising, falling);
-    let now = grow_by(
-        edges, choice, filled, by, tree, reached, layers, order, place, parent,
-    );
-    let v = order[filled as usize];
-    add_both(edges, tails, heads, layers, reached, v, rising, falling)?;
+    let choice = joining(edges, layers, reached, by, queues);
+    let now = grow_by(edges, choice, filled, by, tree, reached, layers);
+    add_both(edges, links, layers, reached, tree.node_at(filled), queues)?;
     Ok(now)
 }
 
 /// The first tree, by edges that wait in queues.
 fn grow_from(
     edges: &[NetEdge],
-    tails: &Links,
-    heads: &Links,
-    tree: &mut [bool],
+    links: &BothLinks,
+    tree: &mut Tree,
     reached: &mut [bool],
     layers: &mut [i64],
-    order: &mut [u32],
-    place: &mut [u32],
-    parent: &mut [u32],
-    rising: &mut BinaryHeap<Waiting>,
-    falling: &mut BinaryHeap<Waiting>,
+    queues: &mut Queues,
 ) -> Result<(), AllocError>
     requires network { IsNetwork (length layers.old) edges.now }
     requires some { 0 < length layers.old }
     requires connected { IsConnected (length layers.old) edges.now }
     requires greatest { AreGreatestSums (length layers.old) edges.now layers.old }
     requires layering { IsLayering edges.now layers.old }
-    requires tails { AreLinks (length layers.old) edges.now Tail tails.now.first.items tails.now.next.items }
-    requires heads { AreLinks (length layers.old) edges.now Head heads.now.first.items heads.now.next.items }
-    requires no_tree { tree.old ≡ replicate (length edges.now) false }
+    requires links { AreBothLinks (length layers.old) edges.now links.now }
+    requires bare { IsBare (length layers.old) (length edges.now) tree.old }
     requires none_reached { reached.old ≡ replicate (length layers.old) false }
-    requires order { length order.old ≡ length layers.old }
-    requires place { length place.old ≡ length layers.old }
-    requires parent { length parent.old ≡ length layers.old }
-    requires rising { IsEmptyHeap (heap_items rising.old) }
-    requires falling { IsEmptyHeap (heap_items falling.old) }
-    ensures kept { OnOk result (IsKept (length layers.old) edges.now tree.new layers.new order.new place.new parent.new) }
-    ensures first { OnOk result (StandsFor (length layers.old) (first_state (length layers.old) edges.now layers.old) tree.new layers.new) }
+    requires rising { IsEmptyHeap (heap_items queues.old.rising) }
+    requires falling { IsEmptyHeap (heap_items queues.old.falling) }
+    ensures kept { OnOk result (Keeps (length layers.old) edges.now tree.new layers.new) }
+    ensures first { OnOk result (StandsFor (length layers.old) (first_state (length layers.old) edges.now layers.old) tree.new.marks.items layers.new) }
 {
     let mut by = number_at(layers, 0);
     put(layers, 0, 0);
     reached[0] = true;
-    parent[0] = edges.len() as u32;
-    plant(0, 0, order, place);
-    add_both(edges, tails, heads, layers, reached, 0, rising, falling)?;
+    tree.parent[0] = edges.len() as u32;
+    plant(0, 0, &mut tree.order, &mut tree.place);
+    add_both(edges, links, layers, reached, 0, queues)?;
     for i in 1..layers.len() {
-        by = grow_once(
-            edges, tails, heads, i as u32, by, tree, reached, layers, order, place, parent, rising,
-            falling,
-        )?;
+        by = grow_once(edges, links, i as u32, by, tree, reached, layers, queues)?;
     }
     Ok(())
 }
@@ -258,42 +225,27 @@ fn grow_from(
 pub fn grow(
     alloc: Global,
     edges: &[NetEdge],
-    tree: &mut [bool],
-    reached: &mut [bool],
+    tree: &mut Tree,
     layers: &mut [i64],
-    order: &mut [u32],
-    place: &mut [u32],
-    parent: &mut [u32],
 ) -> Result<(), AllocError>
     requires network { IsNetwork (length layers.old) edges.now }
     requires some { 0 < length layers.old }
     requires connected { IsConnected (length layers.old) edges.now }
     requires greatest { AreGreatestSums (length layers.old) edges.now layers.old }
     requires layering { IsLayering edges.now layers.old }
-    requires no_tree { tree.old ≡ replicate (length edges.now) false }
-    requires none_reached { reached.old ≡ replicate (length layers.old) false }
-    requires order { length order.old ≡ length layers.old }
-    requires place { length place.old ≡ length layers.old }
-    requires parent { length parent.old ≡ length layers.old }
-    ensures kept { OnOk result (IsKept (length layers.old) edges.now tree.new layers.new order.new place.new parent.new) }
-    ensures first { OnOk result (StandsFor (length layers.old) (first_state (length layers.old) edges.now layers.old) tree.new layers.new) }
+    requires bare { IsBare (length layers.old) (length edges.now) tree.old }
+    ensures kept { OnOk result (Keeps (length layers.old) edges.now tree.new layers.new) }
+    ensures first { OnOk result (StandsFor (length layers.old) (first_state (length layers.old) edges.now layers.old) tree.new.marks.items layers.new) }
 {
     let nodes = layers.len() as u32;
-    let tails = link_edges(alloc, nodes, edges, End::Tail)?;
-    let heads = link_edges(alloc, nodes, edges, End::Head)?;
-    let mut rising: BinaryHeap<Waiting> = BinaryHeap::new(alloc);
-    let mut falling: BinaryHeap<Waiting> = BinaryHeap::new(alloc);
-    grow_from(
-        edges,
-        &tails,
-        &heads,
-        tree,
-        reached,
-        layers,
-        order,
-        place,
-        parent,
-        &mut rising,
-        &mut falling,
-    )
+    let links = BothLinks {
+        tails: link_edges(alloc, nodes, edges, End::Tail)?,
+        heads: link_edges(alloc, nodes, edges, End::Head)?,
+    };
+    let mut queues = Queues {
+        rising: BinaryHeap::new(alloc),
+        falling: BinaryHeap::new(alloc),
+    };
+    let mut reached: Vec<bool> = vec![in alloc; false; layers.len()]?;
+    grow_from(edges, &links, tree, &mut reached, layers, &mut queues)
 }

@@ -11,6 +11,7 @@ mod laws;
 mod passing;
 mod rooted;
 mod solving;
+mod tree;
 mod turning;
 mod waiting;
 

@@ -6,6 +6,7 @@ ghost use Rattle.network_laws.specs.Network.{edge_at};
 ghost use Rattle.net_simplex.specs.Rooted.{above, beyond};
 ghost use Rattle.net_simplex.specs.Walks.{between};
 
+use crate::tree::Tree;
 use network_laws::NetEdge;
 
 /// The end of the edge that is not `v`.
@@ -27,12 +28,12 @@ pub fn far_end(edges: &[NetEdge], k: u32, v: u32) -> u32
 }
 
 /// The node on which `v` hangs.
-pub fn upper(edges: &[NetEdge], parent: &[u32], v: u32) -> u32
-    requires node { v < length parent.now }
-    requires there { slice_index parent.now v < length edges.now }
-    ensures { result ≡ above edges.now parent.now v }
+pub fn upper(edges: &[NetEdge], tree: &Tree, v: u32) -> u32
+    requires node { v < length tree.now.parent.items }
+    requires there { slice_index tree.now.parent.items v < length edges.now }
+    ensures { result ≡ above edges.now tree.now.parent.items v }
 {
-    far_end(edges, parent[v as usize], v)
+    far_end(edges, tree.parent_of(v), v)
 }
 
 /// Gives a node the next place.
@@ -47,12 +48,12 @@ pub fn plant(v: u32, at: u32, order: &mut [u32], place: &mut [u32])
 }
 
 /// The end of a tree edge that hangs by it.
-pub fn child_of(parent: &[u32], e: NetEdge, k: u32) -> u32
-    requires { e.tail < length parent.now }
-    ensures hangs { slice_index parent.now e.tail ≡ k → result ≡ e.tail }
-    ensures holds { slice_index parent.now e.tail ≢ k → result ≡ e.head }
+pub fn child_of(tree: &Tree, e: NetEdge, k: u32) -> u32
+    requires { e.tail < length tree.now.parent.items }
+    ensures hangs { slice_index tree.now.parent.items e.tail ≡ k → result ≡ e.tail }
+    ensures holds { slice_index tree.now.parent.items e.tail ≢ k → result ≡ e.head }
 {
-    if parent[e.tail as usize] == k {
+    if tree.parent_of(e.tail) == k {
         return e.tail;
     }
     e.head

@@ -8,16 +8,17 @@ ghost use Rattle.network_laws.specs.Paths.{AreGreatestSums};
 ghost use Rattle.net_simplex.specs.Pivots.{lowered};
 ghost use Rattle.net_simplex.specs.Answer.{EndsInTime, RunsOut};
 ghost use Rattle.net_simplex.specs.Grown.{IsConnected, IsSmall};
-ghost use Rattle.net_simplex.specs.Kept.{IsKept};
-ghost use Rattle.net_simplex.specs.Rooted.{above};
-ghost use Rattle.net_simplex.specs.Walks.{IsWalk};
+ghost use Rattle.net_simplex.specs.Cuts.{AreCutValues};
 ghost use Rattle.net_simplex.specs.Outcome.{Leads, Outcome};
 ghost use Rattle.net_simplex.specs.declared.solving.Way.TheVariants.{Simplex, Flow};
+ghost use Rattle.net_simplex.specs.Kept.{Keeps};
+ghost use Rattle.net_simplex.specs.Walks.{HasWalk};
 
 use crate::chain::{leaving, pivot};
 use crate::cuts::sum_cuts;
 use crate::first_walk::walk_tree;
 use crate::growing::grow;
+use crate::tree::{Tree, Walk, bare_tree};
 use flow_dual::finish;
 use network_laws::{NetEdge, Network, Solution, greatest_sums};
 use std::alloc::{AllocError, Global};
@@ -38,14 +39,15 @@ pub struct Solved {
 }
 
 /// The sums as layers.
-fn as_layers(sums: &[u64], layers: &mut [i64])
-    requires same { length layers.old ≡ length sums.now }
-    requires fits { (v : ℕ) → v < length sums.now → slice_index sums.now v < 2 ^ 63 }
-    ensures { layers.new ≡ map pos sums.now }
+fn as_layers(alloc: Global, sums: &[u64]) -> Result<Vec<i64>, AllocError>
+    requires { (v : ℕ) → v < length sums.now → slice_index sums.now v < 2 ^ 63 }
+    ensures { IfOk result (λ layers. layers.items ≡ map pos sums.now) }
 {
+    let mut layers: Vec<i64> = vec![in alloc; 0; sums.len()]?;
     for v in 0..sums.len() {
         layers[v] = sums[v] as i64;
     }
+    Ok(layers)
 }
 
 fn least_of_all(layers: &[i64]) -> i64
@@ -93,15 +95,15 @@ fn amount(marked: bool, cut: i64) -> u64
 }
 
 /// The cut values of the tree's edges as flow, 0 off the tree.
-fn write_flow(tree: &[bool], cut: &[i64], flow: &mut [u64])
-    requires cut { length cut.now ≡ length tree.now }
-    requires flow { length flow.old ≡ length tree.now }
-    requires from_zero { (k : ℕ) → k < length tree.now → is_marked tree.now k ≡ true → pos 0 ≤ℤ layer_of cut.now k }
-    ensures same { length flow.new ≡ length tree.now }
-    ensures is { (k : ℕ) → k < length tree.now → slice_index flow.new k ≡ cond (is_marked tree.now k) (natural (layer_of cut.now k)) 0 }
+fn write_flow(marks: &[bool], cut: &[i64], flow: &mut [u64])
+    requires cut { length cut.now ≡ length marks.now }
+    requires flow { length flow.old ≡ length marks.now }
+    requires from_zero { (k : ℕ) → k < length marks.now → is_marked marks.now k ≡ true → pos 0 ≤ℤ layer_of cut.now k }
+    ensures same { length flow.new ≡ length marks.now }
+    ensures is { (k : ℕ) → k < length marks.now → slice_index flow.new k ≡ cond (is_marked marks.now k) (natural (layer_of cut.now k)) 0 }
 {
-    for k in 0..tree.len() {
-        flow[k] = amount(tree[k], cut[k]);
+    for k in 0..marks.len() {
+        flow[k] = amount(marks[k], cut[k]);
     }
 }
 
@@ -109,36 +111,26 @@ fn write_flow(tree: &[bool], cut: &[i64], flow: &mut [u64])
 fn run(
     edges: &[NetEdge],
     budget: u64,
-    tree: &mut [bool],
+    tree: &mut Tree,
+    walk: &mut Walk,
     layers: &mut [i64],
-    order: &mut [u32],
-    place: &mut [u32],
-    size: &mut [u32],
-    parent: &mut [u32],
-    next: &mut [u32],
-    excess: &mut [i64],
     cut: &mut [i64],
 ) -> Option<u64>
     requires network { IsNetwork (length layers.old) edges.now }
-    requires kept { IsKept (length layers.old) edges.now tree.old layers.old order.old place.old parent.old }
-    requires walk { IsWalk (length layers.old) order.old place.old size.old (above edges.now parent.old) }
-    requires next { length next.old ≡ length layers.old }
-    requires excess { length excess.old ≡ length layers.old }
-    requires cut { length cut.old ≡ length edges.now }
-    ensures kept { IsKept (length layers.old) edges.now tree.new layers.new order.new place.new parent.new }
-    ensures leads { Leads (length layers.old) edges.now budget result tree.old layers.old tree.new layers.new cut.new }
+    requires kept { Keeps (length layers.old) edges.now tree.old layers.old }
+    requires values { AreCutValues (length layers.old) edges.now tree.old.marks.items cut.old }
+    requires walk { HasWalk (length layers.old) edges.now tree.old walk.old }
+    ensures kept { Keeps (length layers.old) edges.now tree.new layers.new }
+    ensures leads { Leads (length layers.old) edges.now budget result tree.old.marks.items layers.old tree.new.marks.items layers.new cut.new }
 {
-    sum_cuts(edges, tree, order, place, parent, excess, cut);
     let mut made: u64 = 0;
     'pivots: loop {
-        match leaving(edges, tree, order, place, parent, cut) {
+        match leaving(edges, tree, cut) {
             Some(out) => {
                 if made == budget {
                     return None;
                 }
-                pivot(
-                    edges, out, tree, layers, order, place, size, parent, next, cut,
-                );
+                pivot(edges, out, tree, walk, layers, cut);
                 made += 1;
             }
             None => return Some(made),
@@ -146,22 +138,13 @@ fn run(
     }
 }
 
-/// The first tree, the chain, and its answer.
+/// The first tree, the chain, and its answer, from the start layering on.
 fn run_on(
     alloc: Global,
     edges: &[NetEdge],
     budget: u64,
     layers: &mut [i64],
     flow: &mut [u64],
-    tree: &mut [bool],
-    reached: &mut [bool],
-    order: &mut [u32],
-    place: &mut [u32],
-    size: &mut [u32],
-    parent: &mut [u32],
-    next: &mut [u32],
-    excess: &mut [i64],
-    cut: &mut [i64],
 ) -> Result<Option<u64>, AllocError>
     requires network { IsNetwork (length layers.old) edges.now }
     requires some { 0 < length layers.old }
@@ -169,77 +152,21 @@ fn run_on(
     requires greatest { AreGreatestSums (length layers.old) edges.now layers.old }
     requires layering { IsLayering edges.now layers.old }
     requires flow { length flow.old ≡ length edges.now }
-    requires tree { tree.old ≡ replicate (length edges.now) false }
-    requires reached { reached.old ≡ replicate (length layers.old) false }
-    requires order { length order.old ≡ length layers.old }
-    requires place { length place.old ≡ length layers.old }
-    requires size { length size.old ≡ length layers.old }
-    requires parent { length parent.old ≡ length layers.old }
-    requires next { length next.old ≡ length layers.old }
-    requires excess { length excess.old ≡ length layers.old }
-    requires cut { length cut.old ≡ length edges.now }
     ensures { IfOk result (λ o. Outcome (length layers.old) edges.now budget o layers.new flow.new) }
 {
-    grow(alloc, edges, tree, reached, layers, order, place, parent)?;
-    walk_tree(edges, tree, order, place, parent, size, next);
-    let ended = run(
-        edges, budget, tree, layers, order, place, size, parent, next, excess, cut,
-    );
+    let mut tree = bare_tree(alloc, layers.len(), edges.len())?;
+    grow(alloc, edges, &mut tree, layers)?;
+    let mut walk = walk_tree(alloc, edges, &mut tree)?;
+    let mut cut = sum_cuts(alloc, edges, &tree)?;
+    let ended = run(edges, budget, &mut tree, &mut walk, layers, &mut cut);
     match ended {
         Some(pivots) => {
-            write_flow(tree, cut, flow);
+            write_flow(&tree.marks, &cut, flow);
             lower(layers);
             Ok(Some(pivots))
         }
         None => Ok(None),
     }
-}
-
-/// Makes the lists that the chain wants, and runs it from these sums on.
-fn run_from(
-    alloc: Global,
-    edges: &[NetEdge],
-    sums: &[u64],
-    budget: u64,
-    layers: &mut [i64],
-    flow: &mut [u64],
-) -> Result<Option<u64>, AllocError>
-    requires network { IsNetwork (length layers.old) edges.now }
-    requires some { 0 < length layers.old }
-    requires connected { IsConnected (length layers.old) edges.now }
-    requires same { length layers.old ≡ length sums.now }
-    requires greatest { AreGreatestSums (length layers.old) edges.now (map pos sums.now) }
-    requires layering { IsLayering edges.now (map pos sums.now) }
-    requires flow { length flow.old ≡ length edges.now }
-    ensures { IfOk result (λ o. Outcome (length layers.old) edges.now budget o layers.new flow.new) }
-{
-    let nodes = layers.len();
-    let mut tree: Vec<bool> = vec![in alloc; false; edges.len()]?;
-    let mut reached: Vec<bool> = vec![in alloc; false; nodes]?;
-    let mut order: Vec<u32> = vec![in alloc; 0; nodes]?;
-    let mut place: Vec<u32> = vec![in alloc; 0; nodes]?;
-    let mut size: Vec<u32> = vec![in alloc; 0; nodes]?;
-    let mut parent: Vec<u32> = vec![in alloc; 0; nodes]?;
-    let mut next: Vec<u32> = vec![in alloc; 0; nodes]?;
-    let mut excess: Vec<i64> = vec![in alloc; 0; nodes]?;
-    let mut cut: Vec<i64> = vec![in alloc; 0; edges.len()]?;
-    as_layers(sums, layers);
-    run_on(
-        alloc,
-        edges,
-        budget,
-        layers,
-        flow,
-        tree.as_mut_slice(),
-        reached.as_mut_slice(),
-        order.as_mut_slice(),
-        place.as_mut_slice(),
-        size.as_mut_slice(),
-        parent.as_mut_slice(),
-        next.as_mut_slice(),
-        excess.as_mut_slice(),
-        cut.as_mut_slice(),
-    )
 }
 
 /// A layering of least cost of a connected network, and a flow that proves it, by network simplex: from a tree of tight
@@ -257,12 +184,11 @@ pub fn solve(alloc: Global, net: &Network, budget: u64) -> Result<Solved, AllocE
 {
     let edges = net.edges.as_slice();
     let sums = greatest_sums(alloc, net.nodes, edges)?;
-    let mut layers: Vec<i64> = vec![in alloc; 0; net.nodes as usize]?;
+    let mut layers = as_layers(alloc, sums.as_slice())?;
     let mut flow: Vec<u64> = vec![in alloc; 0; edges.len()]?;
-    let ended = run_from(
+    let ended = run_on(
         alloc,
         edges,
-        sums.as_slice(),
         budget,
         layers.as_mut_slice(),
         flow.as_mut_slice(),

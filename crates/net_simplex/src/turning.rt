@@ -4,72 +4,62 @@
 
 ghost use Rattle.std.specs.Prelude.{◌≡◌, ◌≢◌, ◌+◌, ◌-◌, ◌<◌, ◌≤◌, ◌^◌, ℕ, true, ◌⊎◌, length, slice_index, Bool, List};
 ghost use Rattle.network_laws.specs.Network.{EndsBelow};
-ghost use Rattle.net_simplex.specs.Rooted.{above, IsRooted};
-ghost use Rattle.net_simplex.specs.Walks.{part, IsWalk, first_place};
+ghost use Rattle.net_simplex.specs.Rooted.{above, Hangs};
+ghost use Rattle.net_simplex.specs.Walks.{part, IsWalk, first_place, HasWalk};
 ghost use Rattle.net_simplex.specs.Turning.{Exchanges, AreResized, AreDistinct, IsTurnedTo, IsWayUp, Plants, ResizesLater, Settles, TurnsNext};
 
 use crate::rooted::{far_end, plant, upper};
+use crate::tree::{Tree, Walk};
 use network_laws::NetEdge;
 
 /// Of two nodes the later one goes up; `low` loses the block of `many` nodes, and `high` gains it.
 fn resize_later(
     edges: &[NetEdge],
-    place: &[u32],
-    parent: &[u32],
+    tree: &Tree,
     low: u32,
     high: u32,
     many: u32,
     size: &mut [u32],
 ) -> (u32, u32)
-    requires low { low < length parent.now }
-    requires high { high < length parent.now }
-    requires place { length place.now ≡ length parent.now }
-    requires size { length size.old ≡ length parent.now }
-    requires low_hangs { slice_index place.now high < slice_index place.now low → slice_index parent.now low < length edges.now }
-    requires loses { slice_index place.now high < slice_index place.now low → many ≤ slice_index size.old low }
-    requires high_hangs { slice_index place.now low ≤ slice_index place.now high → slice_index parent.now high < length edges.now }
-    requires gains { slice_index place.now low ≤ slice_index place.now high → slice_index size.old high + many < 2 ^ 32 }
-    ensures { ResizesLater edges.now place.now parent.now many low high size.old result.0 result.1 size.new }
+    requires low { low < length tree.now.parent.items }
+    requires high { high < length tree.now.parent.items }
+    requires place { length tree.now.place.items ≡ length tree.now.parent.items }
+    requires size { length size.old ≡ length tree.now.parent.items }
+    requires low_hangs { slice_index tree.now.place.items high < slice_index tree.now.place.items low → slice_index tree.now.parent.items low < length edges.now }
+    requires loses { slice_index tree.now.place.items high < slice_index tree.now.place.items low → many ≤ slice_index size.old low }
+    requires high_hangs { slice_index tree.now.place.items low ≤ slice_index tree.now.place.items high → slice_index tree.now.parent.items high < length edges.now }
+    requires gains { slice_index tree.now.place.items low ≤ slice_index tree.now.place.items high → slice_index size.old high + many < 2 ^ 32 }
+    ensures { ResizesLater edges.now tree.now.place.items tree.now.parent.items many low high size.old result.0 result.1 size.new }
 {
-    if place[high as usize] < place[low as usize] {
+    if tree.place_of(high) < tree.place_of(low) {
         size[low as usize] -= many;
-        return (upper(edges, parent, low), high);
+        return (upper(edges, tree, low), high);
     }
     size[high as usize] += many;
-    (low, upper(edges, parent, high))
+    (low, upper(edges, tree, high))
 }
 
 /// The block of `many` nodes goes from what `from` hangs on to what `to` hangs on, both included: the sizes on the way
 /// between them change.
-fn resize(
-    edges: &[NetEdge],
-    order: &[u32],
-    place: &[u32],
-    parent: &[u32],
-    from: u32,
-    to: u32,
-    many: u32,
-    size: &mut [u32],
-)
-    requires few { length order.now ≤ 2 ^ 23 }
-    requires block { many ≤ length order.now }
-    requires parent { length parent.now ≡ length order.now }
-    requires walk { IsWalk (length order.now) order.now place.now size.old (above edges.now parent.now) }
-    requires edges { (v : ℕ) → v < length order.now → 0 < slice_index place.now v → slice_index parent.now v < length edges.now }
-    requires from { from < length order.now }
-    requires to { to < length order.now }
-    requires held { (v : ℕ) → v < length order.now → part place.now size.old v from ≡ true → many ≤ slice_index size.old v }
-    ensures same { length size.new ≡ length order.now }
-    ensures sizes { AreResized (length order.now) place.now size.old many from to size.new }
+fn resize(edges: &[NetEdge], tree: &Tree, from: u32, to: u32, many: u32, size: &mut [u32])
+    requires few { length tree.now.order.items ≤ 2 ^ 23 }
+    requires block { many ≤ length tree.now.order.items }
+    requires parent { length tree.now.parent.items ≡ length tree.now.order.items }
+    requires walk { IsWalk (length tree.now.order.items) tree.now.order.items tree.now.place.items size.old (above edges.now tree.now.parent.items) }
+    requires edges { (v : ℕ) → v < length tree.now.order.items → 0 < slice_index tree.now.place.items v → slice_index tree.now.parent.items v < length edges.now }
+    requires from { from < length tree.now.order.items }
+    requires to { to < length tree.now.order.items }
+    requires held { (v : ℕ) → v < length tree.now.order.items → part tree.now.place.items size.old v from ≡ true → many ≤ slice_index size.old v }
+    ensures same { length size.new ≡ length tree.now.order.items }
+    ensures sizes { AreResized (length tree.now.order.items) tree.now.place.items size.old many from to size.new }
 {
-    let _nodes = order.len();
     let mut low = from;
     let mut high = to;
     'way: loop {
         if low == high {
             return;
         }
-        let next = resize_later(edges, place, parent, low, high, many, size);
+        let next = resize_later(edges, tree, low, high, many, size);
         low = next.0;
         high = next.1;
     }
@@ -136,125 +126,138 @@ fn settle(order: &mut [u32], start: u32, many: u32, after: u32, next: &mut [u32]
     copy_range(next, after, start + many, order);
 }
 
-/// The next node of the way is planted around the part of the node before, which has `held` places from `low` on, and
-/// hangs on that node.
-fn turn_next(
-    order: &[u32],
-    v: u32,
+/// The edge on which a node hangs, and its part: `held` places from `low` on.
+#[derive(Clone, Copy)]
+struct Part {
     link: u32,
     low: u32,
     held: u32,
-    base: u32,
-    many: u32,
-    place: &mut [u32],
-    size: &mut [u32],
-    parent: &mut [u32],
-    next: &mut [u32],
-)
-    requires few { length order.now ≤ 2 ^ 23 }
-    requires next { length next.old ≡ length order.now }
-    requires there { v < length place.old }
-    requires size { length size.old ≡ length place.old }
-    requires parent { length parent.old ≡ length place.old }
-    requires begins { slice_index place.old v ≤ low }
-    requires ends { low + held ≤ slice_index place.old v + slice_index size.old v }
-    requires in_order { slice_index place.old v + slice_index size.old v ≤ length order.now }
-    requires room { base + slice_index size.old v ≤ length order.now }
-    requires block { held ≤ many }
-    requires nodes { (was : List ℕ) × AreDistinct (length place.old) order.now was }
-    ensures { TurnsNext order.now v link low held base many place.old size.old parent.old next.old place.new size.new parent.new next.new }
+}
+
+fn part_of(tree: &Tree, walk: &Walk, v: u32) -> Part
+    requires place { v < length tree.now.place.items }
+    requires size { v < length walk.now.size.items }
+    requires parent { v < length tree.now.parent.items }
+    ensures link { result.link ≡ slice_index tree.now.parent.items v }
+    ensures low { result.low ≡ slice_index tree.now.place.items v }
+    ensures held { result.held ≡ slice_index walk.now.size.items v }
 {
-    let first = place[v as usize];
-    let last = first + size[v as usize];
-    plant_all(order, first, low, base + held, next, place);
+    Part {
+        link: tree.parent_of(v),
+        low: tree.place_of(v),
+        held: walk.size_of(v),
+    }
+}
+
+/// The next node of the way is planted around the part of the node before, and hangs on that node. Gives its edge and its
+/// part as they were.
+fn turn_next(tree: &mut Tree, walk: &mut Walk, v: u32, before: Part, base: u32, many: u32) -> Part
+    requires few { length tree.old.order.items ≤ 2 ^ 23 }
+    requires next { length walk.old.next.items ≡ length tree.old.order.items }
+    requires there { v < length tree.old.place.items }
+    requires size { length walk.old.size.items ≡ length tree.old.place.items }
+    requires parent { length tree.old.parent.items ≡ length tree.old.place.items }
+    requires begins { slice_index tree.old.place.items v ≤ before.low }
+    requires ends { before.low + before.held ≤ slice_index tree.old.place.items v + slice_index walk.old.size.items v }
+    requires in_order { slice_index tree.old.place.items v + slice_index walk.old.size.items v ≤ length tree.old.order.items }
+    requires room { base + slice_index walk.old.size.items v ≤ length tree.old.order.items }
+    requires block { before.held ≤ many }
+    requires nodes { (was : List ℕ) × AreDistinct (length tree.old.place.items) tree.old.order.items was }
+    ensures turned { TurnsNext tree.old.order.items v before.link before.low before.held base many tree.old.place.items walk.old.size.items tree.old.parent.items walk.old.next.items tree.new.place.items walk.new.size.items tree.new.parent.items walk.new.next.items }
+    ensures marks { tree.new.marks.items ≡ tree.old.marks.items }
+    ensures order { tree.new.order.items ≡ tree.old.order.items }
+    ensures link { result.link ≡ slice_index tree.old.parent.items v }
+    ensures low { result.low ≡ slice_index tree.old.place.items v }
+    ensures held { result.held ≡ slice_index walk.old.size.items v }
+{
+    let part = part_of(tree, walk, v);
+    let at = base + before.held;
     plant_all(
-        order,
-        low + held,
-        last,
-        base + held + (low - first),
-        next,
-        place,
+        &tree.order,
+        part.low,
+        before.low,
+        at,
+        &mut walk.next,
+        &mut tree.place,
     );
-    parent[v as usize] = link;
-    size[v as usize] = many - held;
+    plant_all(
+        &tree.order,
+        before.low + before.held,
+        part.low + part.held,
+        at + (before.low - part.low),
+        &mut walk.next,
+        &mut tree.place,
+    );
+    tree.parent[v as usize] = before.link;
+    walk.size[v as usize] = many - before.held;
+    part
 }
 
 /// The way from the node of the edge that enters up to the child of the one that leaves, each edge of it turned: the
 /// child's part is planted from place `base` on, the part of `from` first.
 fn turn_path(
     edges: &[NetEdge],
-    order: &[u32],
+    tree: &mut Tree,
+    walk: &mut Walk,
     child: u32,
     from: u32,
     by: u32,
     base: u32,
-    place: &mut [u32],
-    size: &mut [u32],
-    parent: &mut [u32],
-    next: &mut [u32],
 )
-    requires few { length order.now ≤ 2 ^ 23 }
-    requires next { length next.old ≡ length order.now }
-    requires room { base + slice_index size.old child ≤ length order.now }
-    requires way { (was : List ℕ) × IsWayUp (length order.now) edges.now order.now place.old was parent.old child from size.old }
-    ensures { (was : List ℕ) → IsWayUp (length order.now) edges.now order.now place.old was parent.old child from size.old → IsTurnedTo (length order.now) place.old was parent.old (above edges.now parent.old) child from base by child size.old place.new size.new parent.new next.new }
+    requires few { length tree.old.order.items ≤ 2 ^ 23 }
+    requires next { length walk.old.next.items ≡ length tree.old.order.items }
+    requires room { base + slice_index walk.old.size.items child ≤ length tree.old.order.items }
+    requires way { (was : List ℕ) × IsWayUp (length tree.old.order.items) edges.now tree.old.order.items tree.old.place.items was tree.old.parent.items child from walk.old.size.items }
+    ensures turned { (was : List ℕ) → IsWayUp (length tree.old.order.items) edges.now tree.old.order.items tree.old.place.items was tree.old.parent.items child from walk.old.size.items → IsTurnedTo (length tree.old.order.items) tree.old.place.items was tree.old.parent.items (above edges.now tree.old.parent.items) child from base by child walk.old.size.items tree.new.place.items walk.new.size.items tree.new.parent.items walk.new.next.items }
+    ensures marks { tree.new.marks.items ≡ tree.old.marks.items }
+    ensures order { tree.new.order.items ≡ tree.old.order.items }
 {
-    let many = size[child as usize];
+    let many = walk.size_of(child);
     let mut v = from;
-    let mut up = parent[from as usize];
-    let mut low = place[from as usize];
-    let mut held = size[from as usize];
-    plant_all(order, low, low + held, base, next, place);
-    parent[from as usize] = by;
-    size[from as usize] = many;
+    let mut part = part_of(tree, walk, from);
+    plant_all(
+        &tree.order,
+        part.low,
+        part.low + part.held,
+        base,
+        &mut walk.next,
+        &mut tree.place,
+    );
+    tree.parent[from as usize] = by;
+    walk.size[from as usize] = many;
     'way: loop {
         if v == child {
             return;
         }
-        let link = up;
-        let y = far_end(edges, link, v);
-        let first = place[y as usize];
-        let wide = size[y as usize];
-        up = parent[y as usize];
-        turn_next(
-            order, y, link, low, held, base, many, place, size, parent, next,
-        );
-        v = y;
-        low = first;
-        held = wide;
+        v = far_end(edges, part.link, v);
+        part = turn_next(tree, walk, v, part, base, many);
     }
 }
 
 /// Hangs the tree anew: the edge of `child` has left it, and `by`, which ends at `from`, has entered.
-pub fn turn(
-    edges: &[NetEdge],
-    tree: &[bool],
-    child: u32,
-    from: u32,
-    by: u32,
-    order: &mut [u32],
-    place: &mut [u32],
-    size: &mut [u32],
-    parent: &mut [u32],
-    next: &mut [u32],
-)
-    requires few { length order.old ≤ 2 ^ 23 }
-    requires ends { EndsBelow (length order.old) edges.now }
-    requires next { length next.old ≡ length order.old }
-    requires exchanges { (old : List Bool) × Exchanges (length order.old) edges.now old tree.now order.old place.old size.old parent.old child from by }
-    ensures rooted { IsRooted (length order.old) edges.now tree.now order.new place.new parent.new }
-    ensures walk { IsWalk (length order.old) order.new place.new size.new (above edges.now parent.new) }
+pub fn turn(edges: &[NetEdge], tree: &mut Tree, walk: &mut Walk, child: u32, from: u32, by: u32)
+    requires few { length tree.old.order.items ≤ 2 ^ 23 }
+    requires ends { EndsBelow (length tree.old.order.items) edges.now }
+    requires next { length walk.old.next.items ≡ length tree.old.order.items }
+    requires exchanges { (old : List Bool) × Exchanges (length tree.old.order.items) edges.now old tree.old.marks.items tree.old.order.items tree.old.place.items walk.old.size.items tree.old.parent.items child from by }
+    ensures marks { tree.new.marks.items ≡ tree.old.marks.items }
+    ensures rooted { Hangs (length tree.old.order.items) edges.now tree.new }
+    ensures walk { HasWalk (length tree.old.order.items) edges.now tree.new walk.new }
 {
-    let _marks = tree.len();
     let to = far_end(edges, by, from);
-    let start = place[child as usize];
-    let many = size[child as usize];
-    let after = place[to as usize] + 1;
-    let above = upper(edges, parent, child);
-    resize(edges, order, place, parent, above, to, many, size);
+    let start = tree.place_of(child);
+    let many = walk.size_of(child);
+    let after = tree.place_of(to) + 1;
+    let above = upper(edges, tree, child);
+    resize(edges, tree, above, to, many, &mut walk.size);
     let base = begin_at(start, many, after);
-    turn_path(
-        edges, order, child, from, by, base, place, size, parent, next,
+    turn_path(edges, tree, walk, child, from, by, base);
+    settle(
+        &mut tree.order,
+        start,
+        many,
+        after,
+        &mut walk.next,
+        &mut tree.place,
     );
-    settle(order, start, many, after, next, place);
 }

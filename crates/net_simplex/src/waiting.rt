@@ -19,6 +19,20 @@ pub struct Waiting {
     pub edge: Reverse<u32>,
 }
 
+/// The edges that lead out of the tree: those whose tail is in it, and those whose head is.
+#[derive(Drop)]
+pub struct Queues {
+    pub rising: BinaryHeap<Waiting>,
+    pub falling: BinaryHeap<Waiting>,
+}
+
+/// The edges by their tails, and by their heads.
+#[derive(Drop)]
+pub struct BothLinks {
+    pub tails: Links,
+    pub heads: Links,
+}
+
 /// The edge that rises least, ties by the number.
 fn first_waiting(queue: &BinaryHeap<Waiting>) -> Option<Waiting>
     requires { IsHeap waiting_order (heap_items queue.now) }

@@ -6,24 +6,26 @@ use Rattle.net_simplex.proofs.Departing.{lowest_start, lowest_more, lowest_end, 
 use Rattle.net_simplex.proofs.chain.leaving.Goals as goal
 
 pub loop-v-init : goal.loop-v-init
-loop-v-init c = (omega arith, lowest_start (length c.args.parent.now) c.args.edges.now c.args.tree.now c.args.order.now c.args.place.now c.args.parent.now c.requires.rooted c.requires.spanning c.requires.ends c.args.cut.now)
+loop-v-init c = (omega arith, lowest_start (length c.args.tree.now.parent.items) c.args.edges.now c.args.tree.now.marks.items c.args.tree.now.order.items c.args.tree.now.place.items c.args.tree.now.parent.items c.requires.rooted c.requires.spanning c.requires.ends c.args.cut.now)
 
 pub bounds-cut-k : goal.bounds-cut-k
 bounds-cut-k c =
-    let h = there (length c.args.parent.now) c.args.edges.now c.args.tree.now c.args.order.now c.args.place.now c.args.parent.now c.requires.rooted c.requires.spanning c.requires.ends c.args.cut.now c.loop-v.v c.loop-v.invariant.0 c.loop-v-test.true in
+    let t = c.loop-v-test.true in
+    let h = there (length c.args.tree.now.parent.items) c.args.edges.now c.args.tree.now.marks.items c.args.tree.now.order.items c.args.tree.now.place.items c.args.tree.now.parent.items c.requires.rooted c.requires.spanning c.requires.ends c.args.cut.now c.loop-v.v c.loop-v.invariant.0 (omega (arith, t)) in
     let a = h.0 in
     let n = c.requires.same in
-    omega (arith, a, n)
+    rw c.parent_of-k.ensures (omega (arith, a, n))
 
 pub loop-v-preserved : goal.loop-v-preserved
 loop-v-preserved c =
     let i = c.loop-v.v in
-    let k = get_or c.args.parent.now i 0 in
+    let t = c.loop-v-test.true in
+    let k = get_or c.args.tree.now.parent.items i 0 in
     let z = layer_of c.args.cut.now k in
     let f : FitsSigned w64 z = search rules in
-    let is = rw (to_z-of_z w64 z f) at c.is_negative.ensures in
-    let more = lowest_more (length c.args.parent.now) c.args.edges.now c.args.tree.now c.args.order.now c.args.place.now c.args.parent.now c.requires.rooted c.requires.spanning c.requires.ends c.args.cut.now i c.loop-v.invariant.0 c.loop-v-test.true c.loop-v.lowest c.loop-v.invariant.1 in
-    (omega arith, subst (λ o. IsLowest c.args.tree.now c.args.parent.now c.args.cut.now (i + 1) o) (sym (c.lower-lowest.ensures ∙ ap (lower_of c.loop-v.lowest k) is)) more)
+    let is = rw (c.parent_of-k.ensures, to_z-of_z w64 z f) at c.is_negative.ensures in
+    let more = lowest_more (length c.args.tree.now.parent.items) c.args.edges.now c.args.tree.now.marks.items c.args.tree.now.order.items c.args.tree.now.place.items c.args.tree.now.parent.items c.requires.rooted c.requires.spanning c.requires.ends c.args.cut.now i c.loop-v.invariant.0 (omega (arith, t)) c.loop-v.lowest c.loop-v.invariant.1 in
+    (omega arith, subst (λ o. IsLowest c.args.tree.now.marks.items c.args.tree.now.parent.items c.args.cut.now (i + 1) o) (sym ((rw c.parent_of-k.ensures at c.lower-lowest.ensures) ∙ ap (lower_of c.loop-v.lowest k) is)) more)
 
 pub returns : goal.returns
-returns c = lowest_end (length c.args.parent.now) c.args.edges.now c.args.tree.now c.args.order.now c.args.place.now c.args.parent.now c.requires.rooted c.requires.spanning c.requires.ends c.args.cut.now c.loop-v.v c.loop-v.lowest c.loop-v-test.false c.loop-v.invariant.1
+returns c = lowest_end (length c.args.tree.now.parent.items) c.args.edges.now c.args.tree.now.marks.items c.args.tree.now.order.items c.args.tree.now.place.items c.args.tree.now.parent.items c.requires.rooted c.requires.spanning c.requires.ends c.args.cut.now c.loop-v.v c.loop-v.lowest (let t = c.loop-v-test.false in omega (arith, t)) c.loop-v.invariant.1

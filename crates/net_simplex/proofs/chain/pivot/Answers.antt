@@ -6,7 +6,6 @@ use Rattle.network_laws.specs.Layering.{layer_of}
 use Rattle.net_simplex.specs.Tree.{State, IsState, IsSpanningTree, tail_part}
 use Rattle.net_simplex.specs.Pivots.{slack, shifted}
 use Rattle.net_simplex.specs.Rooted.{above, IsRooted}
-use Rattle.net_simplex.specs.Walks.{IsWalk}
 use Rattle.net_simplex.specs.Cuts.{AreCutValues}
 use Rattle.net_simplex.specs.Kept.{kept_state, StandsFor}
 use Rattle.net_simplex.proofs.FirstTree.{tells_some, tells_none, tells_slack}
@@ -25,7 +24,7 @@ child_of-child-requires c =
 pub entering-requires : goal.entering-requires
 entering-requires c =
     let net = c.requires.network in
-    let walk = c.requires.walk in
+    let walk = c.requires.walk.0 in
     let h = c.child_of-child.ensures in
     let child = child_there _ _ net _ _ _ _ _ c.requires.kept _ c.requires.leaves _ h.hangs h.holds in
     record {
@@ -41,13 +40,13 @@ entering-requires c =
 pub bounds-edges-by : goal.bounds-edges-by
 bounds-edges-by c =
     let h = c.child_of-child.ensures in
-    by_there _ _ c.requires.network _ _ _ _ _ c.requires.kept _ c.requires.leaves _ h.hangs h.holds _ c.requires.walk _ (tells_some _ _ _ c.in-Some.ensures)
+    by_there _ _ c.requires.network _ _ _ _ _ c.requires.kept _ c.requires.leaves _ h.hangs h.holds _ c.requires.walk.0 _ (tells_some _ _ _ c.in-Some.ensures)
 
 pub change_cuts-requires : goal.change_cuts-requires
 change_cuts-requires c =
     let n = length c.args.layers.now in
     let edges = c.args.edges.now in
-    let tree = c.args.tree.now in
+    let tree = c.args.tree.now.marks.items in
     let net = c.requires.network in
     let kept = c.requires.kept in
     let out = c.args.out in
@@ -55,16 +54,16 @@ change_cuts-requires c =
     let h = c.child_of-child.ensures in
     let is = tells_some _ _ _ c.in-Some.ensures in
     let o = sym kept.rooted.order_each in
-    let x = crosses_part _ _ net _ _ _ _ _ kept _ c.requires.leaves _ h.hangs h.holds _ c.requires.walk _ is in
+    let x = crosses_part _ _ net _ _ _ _ _ kept _ c.requires.leaves _ h.hangs h.holds _ c.requires.walk.0 _ is in
     record {
       ends = subst (λ m. EndsBelow m edges) o net.ends;
       weights = net.weight_fits;
       spanning = subst (λ m. IsSpanningTree m edges tree) o kept.is.spanning;
-      rooted = subst (λ m. IsRooted m edges tree c.args.order.now c.args.place.now c.args.parent.now) o kept.rooted;
+      rooted = subst (λ m. IsRooted m edges tree c.args.tree.now.order.items c.args.tree.now.place.items c.args.tree.now.parent.items) o kept.rooted;
       values = subst (λ m. AreCutValues m edges tree c.args.cut.now) o c.requires.values;
       out = out_there _ _ net _ _ _ _ _ kept _ c.requires.leaves;
       marked = out_marked _ _ net _ _ _ _ _ kept _ c.requires.leaves;
-      by = by_there _ _ net _ _ _ _ _ kept _ c.requires.leaves _ h.hangs h.holds _ c.requires.walk _ is;
+      by = by_there _ _ net _ _ _ _ _ kept _ c.requires.leaves _ h.hangs h.holds _ c.requires.walk.0 _ is;
       from = subst (λ m. tail_part m edges tree out (edge_at edges by).tail ≡ false) o x.0;
       to = subst (λ m. tail_part m edges tree out (edge_at edges by).head ≡ true) o x.1;
     }
@@ -74,7 +73,7 @@ move_by-requires c =
     let h = c.child_of-child.ensures in
     let z = c.in-Some.choice.slack in
     let fz : FitsSigned w128 z = search rules in
-    let g = gap_small _ _ c.requires.network _ _ _ _ _ c.requires.kept _ c.requires.leaves _ h.hangs h.holds _ c.requires.walk _ (tells_some _ _ _ c.in-Some.ensures) in
+    let g = gap_small _ _ c.requires.network _ _ _ _ _ c.requires.kept _ c.requires.leaves _ h.hangs h.holds _ c.requires.walk.0 _ (tells_some _ _ _ c.in-Some.ensures) in
     rw (to_z-of_z w128 z fz, tells_slack _ _ _ c.in-Some.ensures) (record { from = omega (arith, ints); to = omega (arith, ints, g) })
 
 pub shift-requires : goal.shift-requires
@@ -88,71 +87,46 @@ shift-requires c =
     let by = rw (to_z-of_z w128 z fz, tells_slack _ _ _ c.in-Some.ensures) at c.move_by.ensures in
     record {
       few = net.few_nodes;
-      walk = (above c.args.edges.now c.args.parent.now, c.requires.walk);
+      walk = (above c.args.edges.now c.args.tree.now.parent.items, c.requires.walk.0);
       child = child_there _ _ net _ _ _ _ _ c.requires.kept _ c.requires.leaves _ h.hangs h.holds;
-      small = rw (to_z-of_z w64 m fm) (new_small _ _ net _ _ _ _ _ c.requires.kept _ c.requires.leaves _ h.hangs h.holds _ c.requires.walk _ (tells_some _ _ _ c.in-Some.ensures) m by.up by.down);
+      small = rw (to_z-of_z w64 m fm) (new_small _ _ net _ _ _ _ _ c.requires.kept _ c.requires.leaves _ h.hangs h.holds _ c.requires.walk.0 _ (tells_some _ _ _ c.in-Some.ensures) m by.up by.down);
     }
 
-pub exchange-requires : goal.exchange-requires
-exchange-requires c =
+pub index_mut-requires : goal.index_mut-requires
+index_mut-requires c =
+    let kept = c.requires.kept in
+    let q = kept.is.spanning.mark_for_each in
+    let a = out_there _ _ c.requires.network _ _ _ _ _ kept _ c.requires.leaves in
+    omega (arith, a, q)
+
+pub index_mut-requires-in-Some : goal.index_mut-requires-in-Some
+index_mut-requires-in-Some c =
     let kept = c.requires.kept in
     let h = c.child_of-child.ensures in
     let q = kept.is.spanning.mark_for_each in
-    let a = out_there _ _ c.requires.network _ _ _ _ _ kept _ c.requires.leaves in
-    let b = by_there _ _ c.requires.network _ _ _ _ _ kept _ c.requires.leaves _ h.hangs h.holds _ c.requires.walk _ (tells_some _ _ _ c.in-Some.ensures) in
-    record { out = omega (arith, a, q); by = omega (arith, b, q) }
+    let b = by_there _ _ c.requires.network _ _ _ _ _ kept _ c.requires.leaves _ h.hangs h.holds _ c.requires.walk.0 _ (tells_some _ _ _ c.in-Some.ensures) in
+    omega (arith, b, q)
 
 pub turn-requires : goal.turn-requires
 turn-requires c =
-    let n = length c.args.layers.now in
-    let edges = c.args.edges.now in
-    let tree = c.args.tree.now in
     let net = c.requires.network in
     let h = c.child_of-child.ensures in
-    let from = c.lower_end-from.result in
     let ends = c.lower_end-from.ensures in
     let o = c.requires.kept.rooted.order_each in
-    let f = net.few_nodes in
-    let x = exchanges _ _ net _ _ _ _ _ c.requires.kept _ c.requires.leaves _ h.hangs h.holds _ c.requires.walk _ (tells_some _ _ _ c.in-Some.ensures) from ends.up ends.down in
-    record {
-      few = omega (arith, o, f);
-      ends = subst (λ m. EndsBelow m edges) (sym o) net.ends;
-      next = c.requires.next ∙ sym o;
-      exchanges = (tree, rw (o, c.exchange.ensures) x);
-    }
+    let x = exchanges _ _ net _ _ _ _ _ c.requires.kept _ c.requires.leaves _ h.hangs h.holds _ c.requires.walk.0 _ (tells_some _ _ _ c.in-Some.ensures) c.lower_end-from.result ends.up ends.down in
+    rw o (record { few = net.few_nodes; ends = net.ends; next = c.requires.walk.1; exchanges = (c.args.tree.now.marks.items, x) })
 
-pub returns-in-Some-clause-kept : goal.returns-in-Some-clause-kept
-returns-in-Some-clause-kept c =
+pub returns-in-Some : goal.returns-in-Some
+returns-in-Some c =
     let n = length c.args.layers.now in
     let edges = c.args.edges.now in
-    let net = c.requires.network in
-    let kept = c.requires.kept in
-    let h = c.child_of-child.ensures in
-    let is = tells_some _ _ _ c.in-Some.ensures in
-    let z = c.in-Some.choice.slack in
-    let fz : FitsSigned w128 z = search rules in
-    let m = c.move_by.result in
-    let fm : FitsSigned w64 m = search rules in
-    let by = rw (to_z-of_z w128 z fz, tells_slack _ _ _ c.in-Some.ensures) at c.move_by.ensures in
-    let e = rw (to_z-of_z w64 m fm) at c.shift.ensures in
-    let s = new_state _ _ net _ _ _ _ _ kept _ c.requires.leaves _ h.hangs h.holds _ c.requires.walk _ is m by.up by.down in
-    let r = new_root _ _ net _ _ _ _ _ kept _ c.requires.leaves _ h.hangs h.holds _ c.requires.walk _ is m by.up by.down in
-    record {
-      is = subst (λ t. IsState n edges (kept_state t c.shift.new.layers)) (sym c.exchange.ensures) (subst (λ ls. IsState n edges (kept_state (set (set c.args.tree.now c.args.out false) c.in-Some.choice.edge true) ls)) (sym e) s);
-      root = ap (λ ls. layer_of ls 0) e ∙ r;
-      rooted = subst (λ q. IsRooted q edges c.exchange.new.tree c.turn.new.order c.turn.new.place c.turn.new.parent) kept.rooted.order_each c.turn.ensures.rooted;
-    }
-
-pub returns-in-Some-clause-pivots : goal.returns-in-Some-clause-pivots
-returns-in-Some-clause-pivots c =
-    let n = length c.args.layers.now in
-    let edges = c.args.edges.now in
-    let tree = c.args.tree.now in
+    let tree = c.args.tree.now.marks.items in
     let layers = c.args.layers.now in
     let out = c.args.out in
     let by = c.in-Some.choice.edge in
     let net = c.requires.network in
     let kept = c.requires.kept in
+    let o = kept.rooted.order_each in
     let h = c.child_of-child.ensures in
     let is = tells_some _ _ _ c.in-Some.ensures in
     let z = c.in-Some.choice.slack in
@@ -161,24 +135,27 @@ returns-in-Some-clause-pivots c =
     let fm : FitsSigned w64 m = search rules in
     let moves = rw (to_z-of_z w128 z fz, tells_slack _ _ _ c.in-Some.ensures) at c.move_by.ensures in
     let e = rw (to_z-of_z w64 m fm) at c.shift.ensures in
-    let s = new_stands _ _ net _ _ _ _ _ kept _ c.requires.leaves _ h.hangs h.holds _ c.requires.walk _ is m moves.up moves.down in
-    let t : State = record { tree = set (set tree out false) by true; layers = shifted (λ v. not (tail_part n edges tree out v)) (pos (slack layers (edge_at edges by))) layers } in (
-      t,
-      pivot_is _ _ net _ _ _ _ _ kept _ c.requires.leaves _ h.hangs h.holds _ c.requires.walk _ is,
-      subst (λ x. StandsFor n t x c.shift.new.layers) (sym c.exchange.ensures) (subst (λ ls. StandsFor n t (set (set tree out false) by true) ls) (sym e) s),
-    )
-
-pub returns-in-Some-clause-values : goal.returns-in-Some-clause-values
-returns-in-Some-clause-values c =
-    let n = length c.args.layers.now in
-    let edges = c.args.edges.now in
-    let values = subst (λ m. AreCutValues m edges (set (set c.args.tree.now c.args.out false) c.in-Some.choice.edge true) c.change_cuts.new.cut) c.requires.kept.rooted.order_each c.change_cuts.ensures in
-    subst (λ t. AreCutValues n edges t c.change_cuts.new.cut) (sym c.exchange.ensures) values
-
-pub returns-in-Some-clause-walk : goal.returns-in-Some-clause-walk
-returns-in-Some-clause-walk c = subst (λ q. IsWalk q c.turn.new.order c.turn.new.place c.turn.new.size (above c.args.edges.now c.turn.new.parent)) c.requires.kept.rooted.order_each c.turn.ensures.walk
+    let s = new_state _ _ net _ _ _ _ _ kept _ c.requires.leaves _ h.hangs h.holds _ c.requires.walk.0 _ is m moves.up moves.down in
+    let r = new_root _ _ net _ _ _ _ _ kept _ c.requires.leaves _ h.hangs h.holds _ c.requires.walk.0 _ is m moves.up moves.down in
+    let stands = new_stands _ _ net _ _ _ _ _ kept _ c.requires.leaves _ h.hangs h.holds _ c.requires.walk.0 _ is m moves.up moves.down in
+    let t : State = record { tree = set (set tree out false) by true; layers = shifted (λ v. not (tail_part n edges tree out v)) (pos (slack layers (edge_at edges by))) layers } in
+    let marks = sym c.turn.ensures.marks in
+    record {
+      kept = record {
+        is = subst (λ ms. IsState n edges (kept_state ms c.shift.new.layers)) marks (subst (λ ls. IsState n edges (kept_state (set (set tree out false) by true) ls)) (sym e) s);
+        root = ap (λ ls. layer_of ls 0) e ∙ r;
+        rooted = rw o at c.turn.ensures.rooted;
+      };
+      walk = rw o at c.turn.ensures.walk;
+      values = subst (λ ms. AreCutValues n edges ms c.change_cuts.new.cut) marks (subst (λ m. AreCutValues m edges (set (set tree out false) by true) c.change_cuts.new.cut) o c.change_cuts.ensures);
+      pivots = (
+        t,
+        pivot_is _ _ net _ _ _ _ _ kept _ c.requires.leaves _ h.hangs h.holds _ c.requires.walk.0 _ is,
+        subst (λ ms. StandsFor n t ms c.shift.new.layers) marks (subst (λ ls. StandsFor n t (set (set tree out false) by true) ls) (sym e) stands),
+      );
+    }
 
 pub returns-in-None : goal.returns-in-None
 returns-in-None c =
     let h = c.child_of-child.ensures in
-    absurd (some_enters _ _ c.requires.network _ _ _ _ _ c.requires.kept _ c.requires.leaves _ h.hangs h.holds _ c.requires.walk (tells_none _ _ c.in-None.ensures))
+    absurd (some_enters _ _ c.requires.network _ _ _ _ _ c.requires.kept _ c.requires.leaves _ h.hangs h.holds _ c.requires.walk.0 (tells_none _ _ c.in-None.ensures))

@@ -3,4 +3,4 @@ use Rattle.net_simplex.proofs.Stepping.{IsShifted}
 use Rattle.net_simplex.proofs.chain.shift.Given as goal
 
 abbrev pub invariant-loop-i : goal.invariant-loop-i
-invariant-loop-i l = IsShifted l.place (get_or l.place l.child 0) l.by l.initial.layers l.i l.layers
+invariant-loop-i l = IsShifted l.tree.place.items (get_or l.tree.place.items l.child 0) l.by l.initial.layers l.i l.layers

@@ -5,16 +5,18 @@ use Rattle.net_simplex.proofs.Folding.{lift_start, lv, other, k_there, lifted_mo
 use Rattle.net_simplex.proofs.cuts.lift_all.Goals as goal
 
 pub loop-left-init : goal.loop-left-init
-loop-left-init c = (omega arith, lift_start (length c.args.order.now) c.args.edges.now c.args.tree.now c.args.order.now c.args.place.now c.args.parent.now c.requires.rooted c.requires.spanning c.requires.ends c.args.excess.now c.args.cut.now c.requires.excess c.requires.cut c.requires.tells c.requires.small)
+loop-left-init c =
+    let n : c.len-left.result ≡ length c.args.tree.now.order.items = omega arith in
+    rw n (omega arith, lift_start (length c.args.tree.now.order.items) c.args.edges.now c.args.tree.now.marks.items c.args.tree.now.order.items c.args.tree.now.place.items c.args.tree.now.parent.items c.requires.rooted c.requires.spanning c.requires.ends c.args.excess.now c.args.cut.now c.requires.excess c.requires.cut c.requires.tells c.requires.small)
 
 pub lift-requires : goal.lift-requires
 lift-requires c =
-    let n = length c.args.order.now in
+    let n = length c.args.tree.now.order.items in
     let edges = c.args.edges.now in
-    let tree = c.args.tree.now in
-    let order = c.args.order.now in
-    let place = c.args.place.now in
-    let parent = c.args.parent.now in
+    let tree = c.args.tree.now.marks.items in
+    let order = c.args.tree.now.order.items in
+    let place = c.args.tree.now.place.items in
+    let parent = c.args.tree.now.parent.items in
     let r = c.requires.rooted in
     let p = c.loop-left.left - 1 in
     let t = c.loop-left-test.true in
@@ -26,7 +28,8 @@ lift-requires c =
     let pe = r.parent_each in
     let small = s.small in
     let w = c.requires.weights in
-    record {
+    rw c.node_at.ensures
+    (record {
       node = let l = lv n edges tree order place parent r c.requires.spanning c.requires.ends p some there c.loop-left.excess c.loop-left.cut s in omega (arith, l, pe);
       there = k_there n edges tree order place parent r c.requires.spanning c.requires.ends p some there c.loop-left.excess c.loop-left.cut s;
       excess = s.number_each ∙ sym pe;
@@ -34,16 +37,16 @@ lift-requires c =
       cut = s.cut_each;
       other = other n edges tree order place parent r c.requires.spanning c.requires.ends p some there c.loop-left.excess c.loop-left.cut s;
       small = omega (arith, small, w);
-    }
+    })
 
 pub loop-left-preserved : goal.loop-left-preserved
 loop-left-preserved c =
-    let n = length c.args.order.now in
+    let n = length c.args.tree.now.order.items in
     let edges = c.args.edges.now in
-    let tree = c.args.tree.now in
-    let order = c.args.order.now in
-    let place = c.args.place.now in
-    let parent = c.args.parent.now in
+    let tree = c.args.tree.now.marks.items in
+    let order = c.args.tree.now.order.items in
+    let place = c.args.tree.now.place.items in
+    let parent = c.args.tree.now.parent.items in
     let p = c.loop-left.left - 1 in
     let t = c.loop-left-test.true in
     let b = c.loop-left.invariant.0 in
@@ -51,7 +54,7 @@ loop-left-preserved c =
     let there : p < n = omega (arith, t, b) in
     let one : c.loop-left.left ≡ p + 1 = omega (arith, t) in
     let s = subst (λ i. AreLifted n edges tree order place parent i c.loop-left.excess c.loop-left.cut) one c.loop-left.invariant.1 in
-    (omega (arith, b), lifted_more n edges tree order place parent c.requires.rooted c.requires.spanning c.requires.ends p some there c.loop-left.excess c.loop-left.cut s c.lift.new.excess c.lift.new.cut c.lift.ensures)
+    (omega (arith, b), lifted_more n edges tree order place parent c.requires.rooted c.requires.spanning c.requires.ends p some there c.loop-left.excess c.loop-left.cut s c.lift.new.excess c.lift.new.cut (rw c.node_at.ensures at c.lift.ensures))
 
 pub returns : goal.returns
-returns c = lifted_all (length c.args.order.now) c.args.edges.now c.args.tree.now c.args.order.now c.args.place.now c.args.parent.now c.requires.rooted c.requires.spanning c.requires.ends c.loop-left.left c.loop-left.excess c.loop-left.cut (let t = c.loop-left-test.false in omega (arith, t)) c.loop-left.invariant.1
+returns c = lifted_all (length c.args.tree.now.order.items) c.args.edges.now c.args.tree.now.marks.items c.args.tree.now.order.items c.args.tree.now.place.items c.args.tree.now.parent.items c.requires.rooted c.requires.spanning c.requires.ends c.loop-left.left c.loop-left.excess c.loop-left.cut (let t = c.loop-left-test.false in omega (arith, t)) c.loop-left.invariant.1

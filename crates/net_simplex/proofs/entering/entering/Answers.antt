@@ -16,7 +16,8 @@ loop-k-preserved c =
     let edges = c.args.edges.now in
     let layers = c.args.layers.now in
     let i = c.loop-k.k in
-    let inside = part_from c.args.root_in (part c.args.place.now c.args.size.now c.args.child) in
+    let inside = part_from c.args.root_in (part c.args.tree.now.place.items c.args.walk.now.size.items c.args.child) in
+    let leads : leads_back inside (edge_at edges i) ≡ c.leads_back_to.result = sym (rw (c.place_of-first.ensures, c.size_of-many.ensures) at c.leads_back_to.ensures) in
     elim c.if-leads_back_to.branch [
       | then-leads_back_to w ↦
           let e = edge_at edges i in
@@ -30,16 +31,16 @@ loop-k-preserved c =
           let fz : FitsSigned w128 z = search rules in
           let is = slack_value layers e low high z (c.requires.layering i c.loop-k-test.true) (rw (to_z-of_z w64 (layer_of layers e.tail) ft) at w.from.ensures) (rw (to_z-of_z w64 (layer_of layers e.head) fh) at w.from-then-leads_back_to.ensures) (rw (to_z-of_z w128 low fl, to_z-of_z w128 high fg) at w.slack_between-slack.ensures) in
           subst (λ o. Tells (λ k. slack layers (edge_at edges k)) (least_of (λ k. leads_back inside (edge_at edges k)) (λ k. slack layers (edge_at edges k)) (i + 1)) o) (sym (w.best-is ∙ (rw (to_z-of_z w128 z fz) at w.better-best.ensures)))
-          (looked_at (λ k. leads_back inside (edge_at edges k)) (λ k. slack layers (edge_at edges k)) i z c.loop-k.best (sym c.leads_back_to.ensures ∙ w.if-leads_back_to.true) is c.loop-k.invariant)
+          (looked_at (λ k. leads_back inside (edge_at edges k)) (λ k. slack layers (edge_at edges k)) i z c.loop-k.best (leads ∙ w.if-leads_back_to.true) is c.loop-k.invariant)
       | else-leads_back_to w ↦
           subst (λ o. Tells (λ k. slack layers (edge_at edges k)) (least_of (λ k. leads_back inside (edge_at edges k)) (λ k. slack layers (edge_at edges k)) (i + 1)) o) (sym w.best-is)
-          (passed_over (λ k. leads_back inside (edge_at edges k)) (λ k. slack layers (edge_at edges k)) i c.loop-k.best (sym c.leads_back_to.ensures ∙ w.if-leads_back_to.false) c.loop-k.invariant)
+          (passed_over (λ k. leads_back inside (edge_at edges k)) (λ k. slack layers (edge_at edges k)) i c.loop-k.best (leads ∙ w.if-leads_back_to.false) c.loop-k.invariant)
     ]
 
 pub returns : goal.returns
 returns c =
     let edges = c.args.edges.now in
     let layers = c.args.layers.now in
-    let inside = part_from c.args.root_in (part c.args.place.now c.args.size.now c.args.child) in
+    let inside = part_from c.args.root_in (part c.args.tree.now.place.items c.args.walk.now.size.items c.args.child) in
     let e : c.loop-k.k ≡ length edges = let t = c.loop-k-test.false in let a = c.loop-k.auto.k-end in omega (arith, t, a) in
     subst (λ n. Tells (λ k. slack layers (edge_at edges k)) (least_of (λ k. leads_back inside (edge_at edges k)) (λ k. slack layers (edge_at edges k)) n) c.loop-k.best) e c.loop-k.invariant

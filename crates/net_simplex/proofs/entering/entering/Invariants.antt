@@ -7,4 +7,4 @@ use Rattle.net_simplex.proofs.entering.entering.Given as goal
 
 abbrev pub invariant-loop-k : goal.invariant-loop-k
 invariant-loop-k l =
-    Tells (λ k. slack l.layers (edge_at l.edges k)) (least_of (λ k. leads_back (part_from l.root_in (part l.place l.size l.child)) (edge_at l.edges k)) (λ k. slack l.layers (edge_at l.edges k)) l.k) l.best
+    Tells (λ k. slack l.layers (edge_at l.edges k)) (least_of (λ k. leads_back (part_from l.root_in (part l.tree.place.items l.walk.size.items l.child)) (edge_at l.edges k)) (λ k. slack l.layers (edge_at l.edges k)) l.k) l.best

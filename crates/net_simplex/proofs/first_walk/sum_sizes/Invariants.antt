@@ -5,8 +5,8 @@ use Rattle.net_simplex.proofs.first_walk.sum_sizes.Given as goal
 
 abbrev pub invariant-loop-left : goal.invariant-loop-left
 invariant-loop-left l =
-    (0 < l.left) × (l.left ≤ length l.order)
-    × AreSizesTo (length l.order) l.order (above l.edges l.parent) l.left (length l.order - l.left) l.size
+    (0 < l.left) × (l.left ≤ length l.tree.order.items)
+    × AreSizesTo (length l.tree.order.items) l.tree.order.items (above l.edges l.tree.parent.items) l.left (length l.tree.order.items - l.left) l.size
 
 abbrev pub decreases-loop-left : goal.decreases-loop-left
 decreases-loop-left l = l.left

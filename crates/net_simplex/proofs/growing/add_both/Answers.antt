@@ -5,7 +5,7 @@ pub add_edges-requires : goal.add_edges-requires
 add_edges-requires c = record {
   few = c.requires.few;
   ends = c.requires.ends;
-  links = c.requires.tails;
+  links = c.requires.links.0;
   marks = c.requires.marks;
   there = c.requires.there;
   held = c.requires.held;
@@ -17,7 +17,7 @@ pub add_edges-requires-2 : goal.add_edges-requires-2
 add_edges-requires-2 c = record {
   few = c.requires.few;
   ends = c.requires.ends;
-  links = c.requires.heads;
+  links = c.requires.links.1;
   marks = c.requires.marks;
   there = c.requires.there;
   held = c.requires.held;

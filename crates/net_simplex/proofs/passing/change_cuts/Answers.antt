@@ -10,9 +10,9 @@ number_at-change-requires c = let n = c.requires.values.0 in let l = c.requires.
 
 pub pass_way-requires : goal.pass_way-requires
 pass_way-requires c =
-    let n = length c.args.order.now in
+    let n = length c.args.tree.now.order.items in
     let edges = c.args.edges.now in
-    let tree = c.args.tree.now in
+    let tree = c.args.tree.now.marks.items in
     let cut = c.args.cut.now in
     let m = c.number_at-change.result in
     let f : FitsSigned w64 m = search rules in
@@ -34,11 +34,11 @@ pass_way-requires c =
 
 pub opposite-requires : goal.opposite-requires
 opposite-requires c =
-    let n = length c.args.order.now in
+    let n = length c.args.tree.now.order.items in
     let m = c.number_at-change.result in
     let f : FitsSigned w64 m = search rules in
     let is = ap size_of c.number_at-change.ensures in
-    let o = value_small n c.args.edges.now c.args.tree.now c.requires.ends c.requires.spanning c.args.cut.now c.requires.values c.requires.weights c.args.out c.requires.out c.requires.marked in
+    let o = value_small n c.args.edges.now c.args.tree.now.marks.items c.requires.ends c.requires.spanning c.args.cut.now c.requires.values c.requires.weights c.args.out c.requires.out c.requires.marked in
     rw (to_z-of_z w64 m f) (omega (arith, is, o))
 
 pub put-requires : goal.put-requires
@@ -46,9 +46,9 @@ put-requires c = let n = c.pass_way.ensures.same in let l = c.requires.by in ome
 
 pub returns : goal.returns
 returns c =
-    let n = length c.args.order.now in
+    let n = length c.args.tree.now.order.items in
     let edges = c.args.edges.now in
-    let tree = c.args.tree.now in
+    let tree = c.args.tree.now.marks.items in
     let cut = c.args.cut.now in
     let out = c.args.out in
     let by = c.args.by in

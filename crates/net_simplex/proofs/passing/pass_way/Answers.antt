@@ -38,7 +38,7 @@ way-preserved c =
 pub way-smaller : goal.way-smaller
 way-smaller c =
     let r = c.requires.rooted in
-    let place = c.args.place.now in
+    let place = c.args.tree.now.place.items in
     let s = rw (to_z-of_z w64 c.args.by c.ranges.by) at c.way.invariant in
     let passes = rw (to_z-of_z w64 c.args.by c.ranges.by) at c.pass_later-next.ensures in
     elim passes [

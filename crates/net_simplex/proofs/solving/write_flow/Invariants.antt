@@ -5,5 +5,5 @@ use Rattle.net_simplex.proofs.solving.write_flow.Given as goal
 
 abbrev pub invariant-loop-k : goal.invariant-loop-k
 invariant-loop-k l =
-    (length l.flow ≡ length l.tree)
-    × ((j : ℕ) → j < l.k → get_or l.flow j 0 ≡ cond (is_marked l.tree j) (natural (layer_of l.cut j)) 0)
+    (length l.flow ≡ length l.marks)
+    × ((j : ℕ) → j < l.k → get_or l.flow j 0 ≡ cond (is_marked l.marks j) (natural (layer_of l.cut j)) 0)

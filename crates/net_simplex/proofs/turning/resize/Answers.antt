@@ -36,7 +36,7 @@ way-preserved c =
 
 pub way-smaller : goal.way-smaller
 way-smaller c =
-    let place = c.args.place.now in
+    let place = c.args.tree.now.place.items in
     let passes = c.resize_later-next.ensures in
     elim passes [
       | inl x ↦
