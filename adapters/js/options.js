@@ -1,70 +1,28 @@
 'use strict';
-// What the engine knows of options and algorithms: the tables of docs/FORMAT.md.
+// What the engine knows of options and algorithms, by data/options.json.
 
-const PREFIX = 'org.eclipse.elk.';
-const SPELLINGS = [PREFIX, 'elk.', ''];
+const { options, prefixes, unread } = require('./data/options.json');
 
-const DISTANCE = 'whole, 0 to 2^20';
+const [PREFIX] = prefixes;
 
-// Each option with the elements that read it, its values and its default, as in docs/FORMAT.md, and the type of the
-// values as ELK names it.
-const TABLE = [
-  ['algorithm', 'levels', 'layered, box, each also with elk. or org.eclipse.elk. before it', 'layered', 'STRING'],
-  ['direction', 'levels', 'UNDEFINED, RIGHT, LEFT, DOWN, UP', 'RIGHT', 'ENUM'],
-  ['portConstraints', 'nodes', 'UNDEFINED, FREE, FIXED_SIDE, FIXED_ORDER, FIXED_POS', 'FREE', 'ENUM'],
-  ['port.side', 'ports', 'UNDEFINED, NORTH, EAST, SOUTH, WEST', 'UNDEFINED', 'ENUM'],
-  ['port.index', 'ports', 'whole, -2^31 to 2^31 - 1', '0', 'INT'],
-  ['edgeRouting', 'levels', 'UNDEFINED, ORTHOGONAL', 'ORTHOGONAL', 'ENUM'],
-  [
-    'padding',
-    'levels',
-    'a text such as [top=12,left=12,bottom=12,right=12]; what is missing is 0',
-    '12 on each side',
-    'OBJECT',
-  ],
-  ['spacing.nodeNode', 'levels', DISTANCE, '20', 'INT'],
-  ['spacing.edgeNode', 'levels', DISTANCE, '10', 'INT'],
-  ['spacing.edgeEdge', 'levels', DISTANCE, '10', 'INT'],
-  ['layered.spacing.nodeNodeBetweenLayers', 'levels', DISTANCE, '20', 'INT'],
-  ['layered.spacing.edgeNodeBetweenLayers', 'levels', DISTANCE, '10', 'INT'],
-  ['layered.spacing.edgeEdgeBetweenLayers', 'levels', DISTANCE, '10', 'INT'],
-  [
-    'layered.nodePlacement.bk.fixedAlignment',
-    'levels',
-    'NONE, LEFTUP, LEFTDOWN, RIGHTUP, RIGHTDOWN',
-    'NONE',
-    'ENUM',
-  ],
-  [
-    'layered.nodePlacement.strategy',
-    'levels',
-    'BRANDES_KOEPF, NETWORK_SIMPLEX, SIMPLE, LINEAR_SEGMENTS, INTERACTIVE',
-    'BRANDES_KOEPF',
-    'ENUM',
-  ],
-  [
-    'layered.priority.shortness',
-    'edges',
-    'whole, -2^31 to 2^20; the weight of the edge is at least 1',
-    '0',
-    'INT',
-  ],
-  ['separateConnectedComponents', 'levels', 'true or false, also as texts', 'false', 'BOOLEAN'],
-  ['spacing.componentComponent', 'levels', DISTANCE, '20', 'INT'],
-];
+/** The options that the running engine reads, each with its values and its default. */
+const OPTIONS = options.filter(({ name }) => !unread.includes(name));
 
-const READERS = new Map(TABLE.map(([name, at]) => [name, at]));
+const READERS = new Map(OPTIONS.map(({ name, at }) => [name, at]));
 
 // The elements that read an option, as ELK names them.
 const TARGETS = { levels: ['PARENTS'], nodes: ['NODES', 'PARENTS'], ports: ['PORTS'], edges: ['EDGES'] };
 
 const words = (name) => name.split('.').at(-1).replace(/[A-Z]/g, (letter) => ` ${letter.toLowerCase()}`);
 
-/** All options that the engine reads. */
-const LAYOUT_OPTIONS = TABLE.map(([name, at, values, byDefault, type]) => ({
+/** The values of an option, as docs/FORMAT.md tells them. */
+const valuesOf = ({ words: told, values }) => told ?? values.join(', ');
+
+/** All options that the engine reads, in the form of elkjs. */
+const LAYOUT_OPTIONS = OPTIONS.map(({ name, at, type, default: byDefault, ...option }) => ({
   id: PREFIX + name,
   name: words(name),
-  description: `${values}; default ${byDefault}`,
+  description: `${valuesOf(option)}; default ${byDefault}`,
   group: name.split('.').slice(0, -1).join('.'),
   type,
   targets: TARGETS[at],
@@ -110,7 +68,7 @@ const LAYOUT_CATEGORIES = LAYOUT_ALGORITHMS.map(({ id, name, description }) => (
 
 /** The name of a known option, whichever of its three spellings the key is; undefined for every other key. */
 function optionName(key) {
-  const prefix = SPELLINGS.find((it) => key.startsWith(it));
+  const prefix = prefixes.find((it) => key.startsWith(it));
   const name = key.slice(prefix.length);
   return READERS.has(name) ? name : undefined;
 }
@@ -137,4 +95,13 @@ function withGeneral(own, general, role) {
 /** The options that the engine reads, wherever they stand. */
 const onlyKnown = (options) => Object.fromEntries(Object.entries(options).filter(([key]) => optionName(key)));
 
-module.exports = { LAYOUT_OPTIONS, LAYOUT_ALGORITHMS, LAYOUT_CATEGORIES, optionName, withGeneral, onlyKnown };
+module.exports = {
+  LAYOUT_ALGORITHMS,
+  LAYOUT_CATEGORIES,
+  LAYOUT_OPTIONS,
+  OPTIONS,
+  onlyKnown,
+  optionName,
+  valuesOf,
+  withGeneral,
+};

@@ -1,23 +1,12 @@
 'use strict';
 // What the engine says where it doesn't draw a document.
 
-// What each rule finds, in plain words; `it` is the element at which it finds it, as text of JSON.
-const RULES = [
-  () => 'the document is longer than 2^24 bytes',
-  () => 'the document is no JSON text that is taken, or is nested more than 127 deep',
-  () => 'a number is not whole',
-  () => 'a member has the wrong kind of value, or an id or an end is missing',
-  (it) => `a size of ${it} is not from 0 to 2^20, or its given place is out of range`,
-  () => 'there are more than 2,048 nodes, 4,096 ports or 2,048 edges',
-  () => 'nodes are nested more than 50 levels deep',
-  (it) => `the id ${it} stands twice`,
-  (it) => `the edge ${it} has an end that is no node or port of the document`,
-  (it) => `the edge ${it} has not exactly one source and one target`,
-  (it) => `the edge ${it} joins nodes of two levels`,
-  (it) => `an option of ${it} has a value that is not taken, or ${it} is a level of boxes with an edge`,
-  (it) => `the port ${it} lies inside its node, or touches no side of it`,
-  (it) => `${it} lacks a member that placed documents have, or has it in another form`,
-];
+const FAULTS = require('./data/faults.json');
+
+const RULES = new Map(FAULTS.rules.map(({ rule, words }) => [rule, words]));
+
+/** A template with each name in braces replaced by its text. */
+const filled = (template, texts) => template.replace(/\{(\w+)\}/g, (whole, name) => texts[name] ?? whole);
 
 /** A document that the engine refuses. */
 class Refusal extends Error {
@@ -27,9 +16,9 @@ class Refusal extends Error {
    * @param {string} [detail] what is known of it besides
    */
   constructor({ rule, name, id }, detail) {
-    const it = id === undefined ? 'an element without an id' : JSON.stringify(id);
-    const words = RULES[rule]?.(it) ?? 'the document is refused';
-    super(`${words}${detail ? `: ${detail}` : ''} (rule ${rule}, ${name})`);
+    const it = id === undefined ? FAULTS.withoutId : JSON.stringify(id);
+    const words = filled(RULES.get(rule) ?? FAULTS.unknown, { it });
+    super(filled(FAULTS.message, { words, detail: detail ? `: ${detail}` : '', rule, name }));
     this.rule = rule;
     this.name = name;
     this.id = id;

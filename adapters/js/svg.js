@@ -1,22 +1,16 @@
 'use strict';
 // The picture of a placed document as SVG, which needs no style sheet.
 
+const LOOK = require('./data/look.json');
 const { junctionPoints, routeOf } = require('./junctions');
+const { begin, widthOf } = require('./letters');
 const { elementsOf, endIds, Levels, numberOr0 } = require('./levels');
 
-const MARGIN = 8;
-const INK = '#33475b';
-const PALE_INK = '#7b8ea3';
-const PAPER = '#ffffff';
+const { ink: INK, paleInk: PALE_INK, paper: PAPER, tint, tintOpacity } = LOOK.light;
 // Each level is a shade darker than the one around it, since its tint lies above those of all levels around.
-const TINT = 'fill="#5b7fa6" fill-opacity="0.09"';
+const TINT = `fill="${tint}" fill-opacity="${tintOpacity}"`;
 
-const CORNER = 5;
-const BEND = 6;
-const ARROW = { length: 8, width: 7 };
-const DOT = 2.6;
-
-const TEXT = { largest: 12, smallest: 7, line: 1.25, widthOfLetter: 0.56 };
+const { arrow: ARROW, bend: BEND, corner: CORNER, dot: DOT, margin: MARGIN, text: TEXT } = LOOK;
 
 // Text of XML takes no other control characters, and no half of a pair.
 const UNFIT = /[\u0000-\u0008\u000b\u000c\u000e-\u001f\ufffe\uffff\ud800-\udfff]/gu;
@@ -48,18 +42,16 @@ function labelsOf(element, orId) {
 
 /** A text in the largest letters with which it fits a width, cut off where the smallest don't suffice. */
 function fitted(text, width) {
-  const letters = [...text];
-  const size = Math.min(TEXT.largest, width / (letters.length * TEXT.widthOfLetter));
+  const size = Math.min(TEXT.largest, width / Math.max(widthOf(text, 1), 0.1));
   if (size >= TEXT.smallest) {
     return { text, size };
   }
-  const most = Math.max(1, Math.floor(width / (TEXT.smallest * TEXT.widthOfLetter)) - 1);
-  return { text: `${letters.slice(0, most).join('')}…`, size: TEXT.smallest };
+  return { text: `${begin(text, width - widthOf('…', TEXT.smallest), TEXT.smallest).trimEnd()}…`, size: TEXT.smallest };
 }
 
-// A third of the size below the middle, letters stand in the middle.
+// Letters stand in the middle where their line is a third of their size below it.
 function textAt({ text, size }, { x, y, anchor = 'middle', ink = INK }) {
-  const place = `x="${num(x)}" y="${num(y + size * 0.35)}"`;
+  const place = `x="${num(x)}" y="${num(y + size * TEXT.drop)}"`;
   const look = `font-size="${num(size)}" text-anchor="${anchor}" fill="${ink}"`;
   return `<text ${place} ${look}>${escaped(text)}</text>`;
 }
@@ -267,9 +259,9 @@ function toSvg(placed, { arrows = true } = {}) {
   const paper = sheet(frameOf(levels));
   const view = [paper.left, paper.top, paper.width, paper.height].map(num);
   const size = `width="${view[2]}" height="${view[3]}" viewBox="${view.join(' ')}"`;
-  const line = `fill="none" stroke="${INK}" stroke-width="1.4" stroke-linejoin="round"`;
+  const line = `fill="none" stroke="${INK}" stroke-width="${LOOK.line}" stroke-linejoin="round"`;
   return [
-    `<svg xmlns="http://www.w3.org/2000/svg" ${size} font-family="Helvetica, Arial, sans-serif">`,
+    `<svg xmlns="http://www.w3.org/2000/svg" ${size} font-family="${LOOK.font}">`,
     box(paper, `fill="${PAPER}"/>`),
     group('class="nodes"', nodes.map(([node, place]) => nodeBox(node, place))),
     group(`class="edges" ${line}`, drawnEdges(levels, placed, arrows)),

@@ -123,7 +123,7 @@ test('labels stand for ids, are fitted to their node, and keep a place that is g
       { id: 'placed', width: 90, height: 40, x: 200, labels: [{ text: 'here', x: 10, y: 4, width: 30, height: 12 }] },
     ],
   });
-  assert.deepEqual(texts(svg), ['plain', 'a label that…', 'here']);
+  assert.deepEqual(texts(svg), ['plain', 'a label that i…', 'here']);
   assert.match(svg, /<text x="225" y="14.2" [^>]*>here</);
 });
 
