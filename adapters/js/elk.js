@@ -1,14 +1,12 @@
 'use strict';
-// The call that users of elkjs know, answered by the program `elk`.
+// The call that users of elkjs know.
 
-const path = require('node:path');
 const { copyOf, documentOf, place } = require('./document');
+const { engineOf } = require('./engines');
 const { junctionPoints } = require('./junctions');
 const { LAYOUT_ALGORITHMS, LAYOUT_CATEGORIES, LAYOUT_OPTIONS } = require('./options');
-const { Batch, ProgramError } = require('./process');
+const { ProgramError } = require('./program-error');
 const { Refusal, refusalOf } = require('./refusals');
-
-const LAUNCHER = path.join(__dirname, '..', '..', 'elk');
 
 const NUMBERS = ['ceil', 'exact'];
 
@@ -16,7 +14,7 @@ const copy = (list) => structuredClone(list);
 
 /** Lays out graphs in ELK's JSON. */
 class ELK {
-  #batch;
+  #engine;
   #numbers;
 
   /**
@@ -24,16 +22,17 @@ class ELK {
    * @param {Record<string, unknown>} [given.defaultLayoutOptions] the options of every call that gives none
    * @param {'ceil' | 'exact'} [given.numbers] 'ceil' rounds sizes up and places of ports to the nearest whole number
    *   before a call, 'exact' hands all on as given, so that fractions are refused
-   * @param {string} [given.program] the path of the program `elk`; else that of the environment's ELK_PROGRAM, else
-   *   the repository's launcher
+   * @param {string} [given.program] in Node, the path of the program `elk`, which then answers in place of the module
+   * @param {string | URL} [given.workerUrl] where the script of a worker stands, `lib/elk-worker.js`
+   * @param {(url?: string | URL) => object} [given.workerFactory] makes a worker of that script
    */
-  constructor({ defaultLayoutOptions = {}, numbers = 'ceil', program } = {}) {
+  constructor({ defaultLayoutOptions = {}, numbers = 'ceil', ...engine } = {}) {
     if (!NUMBERS.includes(numbers)) {
       throw new TypeError(`numbers is 'ceil' or 'exact', not ${JSON.stringify(numbers)}`);
     }
     this.defaultLayoutOptions = defaultLayoutOptions;
     this.#numbers = numbers;
-    this.#batch = new Batch(program ?? (process.env.ELK_PROGRAM || LAUNCHER));
+    this.#engine = engineOf(engine);
   }
 
   /**
@@ -54,7 +53,7 @@ class ELK {
     // Taken now, so that the caller may go on with the graph while the call waits.
     const placed = copyOf(graph);
     const document = documentOf(placed, { numbers: this.#numbers, general: layoutOptions ?? {} });
-    const { reply, seconds } = await this.#batch.ask(JSON.stringify(document));
+    const { reply, seconds } = await this.#engine.ask(JSON.stringify(document));
     place(placed, answerOf(reply, document));
     for (const [edge, points] of junctionPoints(placed)) {
       edge.junctionPoints = points;
@@ -85,9 +84,9 @@ class ELK {
     return copy(LAYOUT_CATEGORIES);
   }
 
-  /** Ends the process. Waiting calls fail; a later call starts it again. */
+  /** Ends what lays out. Waiting calls fail; a later call starts it again. */
   terminateWorker() {
-    this.#batch.stop();
+    this.#engine.stop();
   }
 }
 

@@ -2,6 +2,7 @@
 // The one process of the program that serves all calls, one after the other.
 
 const { spawn } = require('node:child_process');
+const { ProgramError } = require('./program-error');
 
 const LINE_FEED = 0x0a;
 
@@ -13,20 +14,6 @@ const USAGE = 5;
 
 // How much is kept of what the program says besides its replies.
 const MOST_NOTES = 4096;
-
-/** A program that can't be started, or that ended before it had replied. */
-class ProgramError extends Error {
-  /**
-   * @param {string} message
-   * @param {{ status?: number, signal?: string, cause?: Error }} [how] how it ended
-   */
-  constructor(message, { status, signal, cause } = {}) {
-    super(message, cause && { cause });
-    this.name = 'ProgramError';
-    this.status = status;
-    this.signal = signal;
-  }
-}
 
 /** Cuts a stream of bytes into lines. A line is decoded whole, since a piece may end within a letter. */
 class LineCutter {
@@ -240,4 +227,4 @@ class Batch {
   }
 }
 
-module.exports = { Batch, LineCutter, ProgramError };
+module.exports = { Batch, LineCutter };

@@ -49,7 +49,7 @@ test('the class is had in every way in which elkjs is', async () => {
   assert.equal(module.ELK, ELK);
   assert.equal(ELK.ELK, ELK);
   assert.equal(ELK.default, ELK);
-  assert.equal(new ELK({ workerUrl: 'worker.js', algorithms: ['layered'], workerFactory: () => {} }) instanceof ELK, true);
+  assert.equal(new ELK({ algorithms: ['layered'] }) instanceof ELK, true);
   assert.throws(() => new ELK({ numbers: 'round' }), /'ceil' or 'exact', not "round"/);
 });
 

@@ -4,7 +4,8 @@ const assert = require('node:assert/strict');
 const { spawnSync } = require('node:child_process');
 const path = require('node:path');
 const test = require('node:test');
-const { Batch, LineCutter, ProgramError } = require('../process');
+const { Batch, LineCutter } = require('../process');
+const { ProgramError } = require('../program-error');
 
 const PUPPET = path.join(__dirname, '..', 'testing', 'puppet');
 const ELK_MODULE = path.join(__dirname, '..', 'elk.js');

@@ -1,0 +1,34 @@
+'use strict';
+// Where the module stands in Node: the file that ELK_MODULE names, else the package's own, else the repository's.
+
+const { existsSync, readFileSync } = require('node:fs');
+const path = require('node:path');
+const { gunzipSync } = require('node:zlib');
+const { ProgramError } = require('./program-error');
+
+const NAME = 'elk.wasm.gz';
+
+const PLACES = [path.join(__dirname, NAME), path.join(__dirname, '..', '..', 'release', NAME)];
+
+/** The path of the module; undefined where there is none. */
+function moduleFile() {
+  return process.env.ELK_MODULE || PLACES.find((place) => existsSync(place));
+}
+
+const isPacked = (bytes) => bytes[0] === 0x1f && bytes[1] === 0x8b;
+
+/** The module's bytes, unpacked. */
+function moduleBytes() {
+  const file = moduleFile();
+  if (!file) {
+    throw new ProgramError(`there is no module: ${PLACES.join(' and ')} are not there, and ELK_MODULE names none`);
+  }
+  try {
+    const bytes = readFileSync(file);
+    return isPacked(bytes) ? gunzipSync(bytes) : bytes;
+  } catch (cause) {
+    throw new ProgramError(`the module ${file} can't be read: ${cause.message}`, { cause });
+  }
+}
+
+module.exports = { moduleBytes, moduleFile };

@@ -1,0 +1,74 @@
+'use strict';
+// What a worker does: it lays out one document after the other by its program.
+
+const { moduleBytes } = require('./module-file');
+const { Program } = require('./module');
+const { ProgramError } = require('./program-error');
+
+const encoder = new TextEncoder();
+
+const OUT_OF_MEMORY = 6;
+
+/** The text as a stream of input. */
+function reader(text) {
+  const bytes = encoder.encode(text);
+  let at = 0;
+  return (room) => {
+    const piece = bytes.subarray(at, at + room.length);
+    room.set(piece);
+    at += piece.length;
+    return piece.length;
+  };
+}
+
+/** What is written, as a text for each stream. */
+class Written {
+  #decoders = [undefined, new TextDecoder(), new TextDecoder()];
+  #texts = ['', '', ''];
+
+  take(bytes, stream) {
+    this.#texts[stream] += this.#decoders[stream].decode(bytes, { stream: true });
+    return bytes.length;
+  }
+
+  text(stream) {
+    return this.#texts[stream];
+  }
+}
+
+/** The program's reply to one document, as a line of `elk batch`, without its line feed. */
+function replyTo(program, text) {
+  const written = new Written();
+  const status = program.run(['batch'], { read: reader(text), write: (bytes, stream) => written.take(bytes, stream) });
+  if (status !== 0) {
+    const why = status === OUT_OF_MEMORY ? 'ran out of memory' : `ended with the status ${status}: ${written.text(2).trim()}`;
+    throw new ProgramError(`the program ${why}`, { status });
+  }
+  return written.text(1).replace(/\n$/, '');
+}
+
+const started = async () => new Program(await WebAssembly.compile(await moduleBytes()));
+
+/** Answers messages `{ text }` by `{ reply, seconds }`, or by `{ error }`, in their order. */
+class Server {
+  // Begun at once, so that the module is there when the first document is.
+  #program = started();
+
+  constructor() {
+    // Whoever asks is told.
+    this.#program.catch(() => {});
+  }
+
+  async answer({ text }) {
+    try {
+      const program = await this.#program;
+      const since = performance.now();
+      const reply = replyTo(program, text);
+      return { reply, seconds: (performance.now() - since) / 1000 };
+    } catch ({ message, status }) {
+      return { error: { message, status } };
+    }
+  }
+}
+
+module.exports = { Server };

@@ -1,0 +1,118 @@
+'use strict';
+// One worker and the calls of all who share it: it gets one document at a time, and the others wait here.
+
+const { ProgramError } = require('./program-error');
+
+/**
+ * Hears a worker of pages, or a thread of Node.
+ * @param {object} worker
+ * @param {{ onReply: (data: object) => void, onEnd: (why: string) => void }} listener
+ */
+function listen(worker, { onReply, onEnd }) {
+  if (typeof worker?.postMessage !== 'function') {
+    throw new TypeError("Created worker does not provide the required 'postMessage' function.");
+  }
+  if (typeof worker.on === 'function') {
+    worker.on('message', onReply);
+    worker.on('error', ({ message }) => onEnd(`: ${message}`));
+    worker.on('exit', () => onEnd(''));
+  } else {
+    worker.onmessage = ({ data }) => onReply(data);
+    worker.onerror = ({ message }) => onEnd(`: ${message ?? 'its script can not be loaded'}`);
+  }
+}
+
+class WorkerQueue {
+  #make;
+  #worker;
+  // The first of these is at the worker.
+  #calls = [];
+
+  /** @param {() => object} make makes a worker, which is done at the first call, and anew after its end */
+  constructor(make) {
+    this.#make = make;
+  }
+
+  /** Makes the worker before the first call. */
+  start() {
+    this.#worker ??= this.#made();
+    return this;
+  }
+
+  /**
+   * The engine of one of those who share the worker; its `stop` leaves the calls of the others alone.
+   * @returns {{ ask: (text: string) => Promise<{ reply: string, seconds: number }>, stop: () => void }}
+   */
+  client() {
+    const client = { ask: (text) => this.#ask(text, client), stop: () => this.#stop(client) };
+    return client;
+  }
+
+  #ask(text, client) {
+    return new Promise((resolve, reject) => {
+      this.#calls.push({ text, client, resolve, reject });
+      if (this.#calls.length === 1) {
+        this.#sendFirst();
+      }
+    });
+  }
+
+  #stop(client) {
+    const mine = this.#calls.filter((call) => call.client === client);
+    const isForAnother = this.#calls.length > 0 && this.#calls[0] !== mine[0];
+    this.#calls = this.#calls.filter((call) => call.client !== client);
+    if (!isForAnother) {
+      this.#worker?.terminate();
+      this.#worker = undefined;
+      this.#sendFirst();
+    }
+    const error = new ProgramError('the worker was ended by terminateWorker()');
+    mine.forEach(({ reject }) => reject(error));
+  }
+
+  #made() {
+    const worker = this.#make();
+    // What a worker says once it was ended is for no call of the next one.
+    const ifCurrent = (tell) => (it) => worker === this.#worker && tell(it);
+    listen(worker, {
+      onReply: ifCurrent((data) => this.#finishFirst(data)),
+      onEnd: ifCurrent((why) => this.#failAll(new ProgramError(`the worker ended${why}`))),
+    });
+    worker.unref?.();
+    return worker;
+  }
+
+  #sendFirst() {
+    if (this.#calls.length === 0) {
+      return;
+    }
+    try {
+      this.start();
+      // Node waits for a worker that is at work.
+      this.#worker.ref?.();
+      this.#worker.postMessage({ text: this.#calls[0].text });
+    } catch (cause) {
+      this.#failAll(new ProgramError(`the worker can't be started: ${cause.message}`, { cause }));
+    }
+  }
+
+  #finishFirst({ error, ...answer }) {
+    const { resolve, reject } = this.#calls.shift();
+    this.#worker.unref?.();
+    this.#sendFirst();
+    if (error) {
+      reject(new ProgramError(error.message, error));
+    } else {
+      resolve(answer);
+    }
+  }
+
+  #failAll(error) {
+    this.#worker = undefined;
+    for (const { reject } of this.#calls.splice(0)) {
+      reject(error);
+    }
+  }
+}
+
+module.exports = { WorkerQueue };
