@@ -3,7 +3,7 @@
 
 const { endIds, isObject, Levels } = require('./levels');
 const { withWholePlace, withWholeSize } = require('./numbers');
-const { onlyKnown, withGeneral } = require('./options');
+const { sentOptions } = require('./options');
 
 const LISTS = { ports: 'port', edges: 'edge', children: 'node' };
 
@@ -45,21 +45,21 @@ function roleOf(element, kind, isRoot) {
   return isRoot || (Array.isArray(element.children) && element.children.length > 0) ? 'levels' : 'nodes';
 }
 
-function withOptions(element, general, role) {
+/** The element with the options that it is sent with. */
+function withOptions(element, { general, numbers }, role) {
   const { layoutOptions: own = {} } = element;
   // What is no object of options is for the engine to refuse.
   if (!isObject(own)) {
     return element;
   }
-  const layoutOptions = withGeneral(own, general, role);
-  return Object.keys(layoutOptions).length === 0 ? element : { ...element, layoutOptions };
+  const sent = sentOptions(element, general, role);
+  const layoutOptions = numbers === 'exact' ? { ...own, ...sent } : sent;
+  const isBare = Object.keys(layoutOptions).length === 0 && !('layoutOptions' in element);
+  return isBare ? element : { ...element, layoutOptions };
 }
 
 function readable(element, kind, node) {
   const read = pick(element, READ[kind]);
-  if (isObject(read.layoutOptions)) {
-    read.layoutOptions = onlyKnown(read.layoutOptions);
-  }
   if (kind === 'edge') {
     return read;
   }
@@ -72,13 +72,13 @@ function readable(element, kind, node) {
  * @param {{ numbers: 'ceil' | 'exact', general: object }} how whether numbers are made whole, and the options that
  *   count wherever an element has none of its own
  */
-function documentOf(graph, { numbers, general }) {
+function documentOf(graph, how) {
   const rewrite = (element, kind, holder) => {
     if (!isObject(element)) {
       return element;
     }
-    const full = withOptions(element, general, roleOf(element, kind, !holder));
-    const sent = numbers === 'ceil' ? readable(full, kind, holder) : { ...full };
+    const full = withOptions(element, how, roleOf(element, kind, !holder));
+    const sent = how.numbers === 'ceil' ? readable(full, kind, holder) : { ...full };
     if (kind === 'node') {
       for (const name of listsOf(element)) {
         sent[name] = element[name].map((it) => rewrite(it, LISTS[name], element));
@@ -103,8 +103,8 @@ function placeEdge(edge, answer) {
   edge.sections = answer.sections;
 }
 
-// ELK tells with each edge the node to whose content its points are relative, and with each section its two ends.
-function tellEnds(graph) {
+/** The node to whose content the points of each edge are relative, which ELK tells with it. */
+function tellContainers(graph) {
   const levels = new Levels(graph);
   for (const declared of levels.declared) {
     const { edge } = declared;
@@ -112,8 +112,15 @@ function tellEnds(graph) {
     if (container !== undefined) {
       edge.container = container;
     }
+  }
+  return levels.declared;
+}
+
+/** Tells the two ends of an edge with its one section; several sections have told theirs. */
+function tellEnds(edge) {
+  if (edge.sections.length === 1) {
     const [incomingShape, outgoingShape] = ['source', 'target'].map((end) => endIds(edge, end)[0]);
-    edge.sections = edge.sections.map((section) => ({ ...section, incomingShape, outgoingShape }));
+    edge.sections = [{ ...edge.sections[0], incomingShape, outgoingShape }];
   }
 }
 
@@ -121,10 +128,13 @@ function tellEnds(graph) {
  * Writes the engine's answer into a graph from which the document was made.
  * @param {object} graph changed in place
  * @param {object} answer the placed document
+ * @param {import('./stages/draft').Draft} [draft] what was done with the graph before
  */
-function place(graph, answer) {
+function place(graph, answer, draft) {
   placeNode(graph, answer);
-  tellEnds(graph);
+  const declared = tellContainers(graph);
+  draft?.finish();
+  declared.forEach(({ edge }) => tellEnds(edge));
 }
 
 module.exports = { copyOf, documentOf, place, READ };

@@ -118,6 +118,9 @@ declare namespace ELK {
     bendPoints?: ElkPoint[];
     incomingShape?: Id;
     outgoingShape?: Id;
+    /** Of an edge with several ends: the sections before this one, and those after it. */
+    incomingSections?: string[];
+    outgoingSections?: string[];
   }
 
   export interface ElkLayering {

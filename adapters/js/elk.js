@@ -7,6 +7,7 @@ const { junctionPoints } = require('./junctions');
 const { LAYOUT_ALGORITHMS, LAYOUT_CATEGORIES, LAYOUT_OPTIONS } = require('./options');
 const { ProgramError } = require('./program-error');
 const { Refusal, refusalOf } = require('./refusals');
+const { draftOf } = require('./stages');
 
 const NUMBERS = ['ceil', 'exact'];
 
@@ -52,9 +53,11 @@ class ELK {
     }
     // Taken now, so that the caller may go on with the graph while the call waits.
     const placed = copyOf(graph);
-    const document = documentOf(placed, { numbers: this.#numbers, general: layoutOptions ?? {} });
+    const how = { numbers: this.#numbers, general: layoutOptions ?? {} };
+    const draft = draftOf(placed, how);
+    const document = documentOf(placed, how);
     const { reply, seconds } = await this.#engine.ask(JSON.stringify(document));
-    place(placed, answerOf(reply, document));
+    place(placed, answerOf(reply, document, draft), draft);
     for (const [edge, points] of junctionPoints(placed)) {
       edge.junctionPoints = points;
     }
@@ -90,8 +93,8 @@ class ELK {
   }
 }
 
-function answerOf(reply, document) {
-  const refusal = refusalOf(reply, document);
+function answerOf(reply, document, { owners }) {
+  const refusal = refusalOf(reply, document, owners);
   if (refusal) {
     throw refusal;
   }

@@ -15,9 +15,8 @@ function wayTo(from, to) {
   return to.y < from.y ? WAYS.up : WAYS.down;
 }
 
-/** The points of an edge's route, from its start to its end; none where it isn't placed. */
-function routeOf(edge) {
-  const [section] = elementsOf(edge.sections);
+/** The points of a section, from its start to its end; none where it isn't placed. */
+function pointsOf(section) {
   if (!isObject(section?.startPoint) || !isObject(section.endPoint)) {
     return [];
   }
@@ -27,6 +26,40 @@ function routeOf(edge) {
     y: numberOr0(y),
   }));
   return points.filter((point, at) => at === 0 || !sameAs(point, points[at - 1]));
+}
+
+/** The points of an edge's first section, from its start to its end; none where it isn't placed. */
+const routeOf = (edge) => pointsOf(elementsOf(edge.sections)[0]);
+
+/** The ways through sections that follow one another, each from one without a section before it to one without any after it. */
+function chainsOf(sections) {
+  const byId = new Map(sections.map((section) => [section.id, section]));
+  const chains = [];
+  const follow = (chain) => {
+    const ids = chain.at(-1).outgoingSections;
+    const next = (Array.isArray(ids) ? ids : []).map((id) => byId.get(id)).filter((it) => it && !chain.includes(it));
+    if (next.length === 0) {
+      chains.push(chain);
+    }
+    next.forEach((it) => follow([...chain, it]));
+  };
+  sections.filter(({ incomingSections }) => !incomingSections?.length).forEach((section) => follow([section]));
+  return chains;
+}
+
+/** The ways of an edge from a node to a node. */
+function pathsOf(edge, levels) {
+  const sections = elementsOf(edge.sections);
+  return chainsOf(sections).map((chain) => {
+    const points = chain.flatMap(pointsOf);
+    // A section of several tells its ends by itself.
+    const at = (end, shape) => (sections.length === 1 ? levels.nodeAt(edge, end) : levels.nodeOf(shape));
+    return {
+      edge,
+      points: points.filter((point, k) => k === 0 || !sameAs(point, points[k - 1])),
+      nodes: [at('source', chain[0].incomingShape), at('target', chain.at(-1).outgoingShape)],
+    };
+  });
 }
 
 const between = (low, value, high) => Math.min(low, high) < value && value < Math.max(low, high);
@@ -51,44 +84,43 @@ function passesOf(route, point) {
 // none they cross.
 const isParting = (one, other) => [1, 2, 4, 8].includes(one & other);
 
-/** The edges that are at each line on which a segment lies, so that only these are asked for a point. */
-function linesOf(routes) {
+/** The paths that are at each line on which a segment lies, so that only these are asked for a point. */
+function linesOf(paths) {
   const lines = new Map();
-  for (const [edge, route] of routes) {
-    for (let at = 1; at < route.length; at += 1) {
-      const line = route[at].y === route[at - 1].y ? `y${route[at].y}` : `x${route[at].x}`;
-      lines.set(line, (lines.get(line) ?? new Set()).add(edge));
+  for (const path of paths) {
+    const { points } = path;
+    for (let at = 1; at < points.length; at += 1) {
+      const line = points[at].y === points[at - 1].y ? `y${points[at].y}` : `x${points[at].x}`;
+      lines.set(line, (lines.get(line) ?? new Set()).add(path));
     }
   }
   return lines;
 }
 
-/** The first edge of those with a common dock whose route parts from another's at a point, or joins it there. */
-function firstParting(point, routes, lines) {
+/** The edge of the first of the paths with a common dock that parts from another at a point, or joins it there. */
+function firstParting(point, paths, lines) {
   const near = new Set([...(lines.get(`y${point.y}`) ?? []), ...(lines.get(`x${point.x}`) ?? [])]);
-  const passing = [...near].map((edge) => [edge, passesOf(routes.get(edge), point)]);
+  const passing = [...near].map((path) => [path, passesOf(path.points, point)]);
   const ways = new Set(passing.flatMap(([, passes]) => passes));
   const parts = ([, passes]) => passes.some((one) => [...ways].some((other) => isParting(one, other)));
-  const parting = new Set(passing.filter(parts).map(([edge]) => edge));
-  return [...routes.keys()].find((edge) => parting.has(edge));
+  const parting = new Set(passing.filter(parts).map(([path]) => path));
+  return [...paths].find((path) => parting.has(path))?.edge;
 }
 
-/** The routes of the edges at each dock: at one node and one anchor, in document order. */
-function routesByDock(levels) {
+/** The paths of the edges at each dock: at one node and one anchor, in document order. */
+function pathsByDock(levels) {
   const docks = new Map();
-  for (const { edge } of levels.declared) {
-    const route = routeOf(edge);
-    for (const [end, anchor] of [['source', route[0]], ['target', route.at(-1)]]) {
-      const node = levels.nodeAt(edge, end);
+  for (const path of levels.declared.flatMap(({ edge }) => pathsOf(edge, levels))) {
+    for (const [node, anchor] of [[path.nodes[0], path.points[0]], [path.nodes[1], path.points.at(-1)]]) {
       if (!anchor || !node) {
         continue;
       }
       const atNode = docks.get(node) ?? new Map();
       const key = `${anchor.x} ${anchor.y}`;
-      docks.set(node, atNode.set(key, (atNode.get(key) ?? new Map()).set(edge, route)));
+      docks.set(node, atNode.set(key, (atNode.get(key) ?? new Set()).add(path)));
     }
   }
-  return [...docks.values()].flatMap((atNode) => [...atNode.values()]).filter((routes) => routes.size > 1);
+  return [...docks.values()].flatMap((atNode) => [...atNode.values()]).filter((paths) => paths.size > 1);
 }
 
 /**
@@ -100,13 +132,13 @@ function routesByDock(levels) {
 function junctionPoints(placed) {
   const levels = new Levels(placed);
   const found = new Map();
-  for (const routes of routesByDock(levels)) {
-    const lines = linesOf(routes);
-    const bends = [...routes.values()].flatMap((route) => route.slice(1, -1));
+  for (const paths of pathsByDock(levels)) {
+    const lines = linesOf(paths);
+    const bends = [...paths].flatMap(({ points }) => points.slice(1, -1));
     const seen = new Set();
     for (const { x, y } of bends) {
       const key = `${x} ${y}`;
-      const edge = seen.has(key) ? undefined : firstParting({ x, y }, routes, lines);
+      const edge = seen.has(key) ? undefined : firstParting({ x, y }, paths, lines);
       seen.add(key);
       const told = edge && (found.get(edge) ?? []);
       if (told && !told.some((point) => sameAs(point, { x, y }))) {
@@ -117,4 +149,4 @@ function junctionPoints(placed) {
   return found;
 }
 
-module.exports = { junctionPoints, routeOf };
+module.exports = { junctionPoints, pointsOf, routeOf };

@@ -8,14 +8,19 @@ const elementsOf = (list) => (Array.isArray(list) ? list.filter(isObject) : []);
 
 const numberOr0 = (value) => (Number.isFinite(value) ? value : 0);
 
+const isExtended = (edge) => 'sources' in edge || 'targets' in edge;
+
 /** The ids at one end of an edge, in the extended or in the primitive form. */
 function endIds(edge, end) {
-  if ('sources' in edge || 'targets' in edge) {
+  if (isExtended(edge)) {
     const ids = edge[`${end}s`];
     return Array.isArray(ids) ? ids : [];
   }
   return [edge[`${end}Port`] ?? edge[end]];
 }
+
+/** Whether an end of an edge says that it names a port, which may be called like a node. */
+const namesPort = (edge, end) => !isExtended(edge) && (edge[`${end}Port`] ?? undefined) !== undefined;
 
 /** The nearest node that holds both, each counted among the nodes that it holds itself. */
 function commonHolder(places, one, other) {
@@ -33,7 +38,7 @@ function commonHolder(places, one, other) {
 /** The levels of one document, whose coordinates are relative to the parent. */
 class Levels {
   #nodesById = new Map();
-  #nodesByEnd = new Map();
+  #nodesByPort = new Map();
 
   /** @param {object} root the document */
   constructor(root) {
@@ -64,16 +69,22 @@ class Levels {
     if (node.id !== undefined) {
       this.#nodesById.set(node.id, node);
     }
-    for (const { id } of [node, ...elementsOf(node.ports)]) {
+    for (const { id } of elementsOf(node.ports)) {
       if (id !== undefined) {
-        this.#nodesByEnd.set(id, node);
+        this.#nodesByPort.set(id, node);
       }
     }
   }
 
   /** The node at the source or the target of an edge, which may be named by one of its ports. */
   nodeAt(edge, end) {
-    return this.#nodesByEnd.get(endIds(edge, end)[0]);
+    const [id] = endIds(edge, end);
+    return namesPort(edge, end) ? this.#nodesByPort.get(id) : this.nodeOf(id);
+  }
+
+  /** The node of an id, or that of the port of an id. */
+  nodeOf(id) {
+    return this.#nodesById.get(id) ?? this.#nodesByPort.get(id);
   }
 
   /** The node to whose content the points of an edge are relative. */
@@ -88,4 +99,4 @@ class Levels {
   }
 }
 
-module.exports = { Levels, elementsOf, endIds, isObject, numberOr0 };
+module.exports = { Levels, elementsOf, endIds, isObject, namesPort, numberOr0 };

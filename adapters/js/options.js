@@ -2,6 +2,8 @@
 // What the engine knows of options and algorithms, by data/options.json.
 
 const { options, prefixes, unread } = require('./data/options.json');
+const { meanings } = require('./endings');
+const { isObject } = require('./levels');
 
 const [PREFIX] = prefixes;
 
@@ -66,42 +68,81 @@ const LAYOUT_CATEGORIES = LAYOUT_ALGORITHMS.map(({ id, name, description }) => (
   knownLayouters: [id],
 }));
 
-/** The name of a known option, whichever of its three spellings the key is; undefined for every other key. */
+const NAMES = new Map();
+
+/** The name of the option of ELK that a key means; undefined where it is unclear or means none. */
+function nameOf(key) {
+  if (!NAMES.has(key)) {
+    const names = meanings(key);
+    NAMES.set(key, names.length === 1 ? names[0] : undefined);
+  }
+  return NAMES.get(key);
+}
+
+/** The name of an option that the engine reads, whichever clear spelling of it the key is; else undefined. */
 function optionName(key) {
-  const prefix = prefixes.find((it) => key.startsWith(it));
-  const name = key.slice(prefix.length);
+  const name = nameOf(key);
   return READERS.has(name) ? name : undefined;
 }
 
+/** Whether an element of a role reads an option. */
 const isReadBy = (name, role) =>
   READERS.get(name) === role || (role === 'levels' && READERS.get(name) === 'nodes');
 
 /**
- * The options of an element with the general ones of a call: each of these that an element of the role reads and that
- * it doesn't carry itself, under whatever spelling.
+ * The options that an element carries, each by its name with the key and the value: its `properties`, and above these
+ * its `layoutOptions`. Of several keys of one option the longest counts.
  */
-function withGeneral(own, general, role) {
-  const carried = new Set(Object.keys(own).map(optionName));
-  const joined = { ...own };
-  for (const [key, value] of Object.entries(general)) {
-    const name = optionName(key);
-    if (name && isReadBy(name, role) && !carried.has(name)) {
-      joined[key] = value;
+function carriedBy({ properties, layoutOptions }) {
+  const found = new Map();
+  for (const given of [properties, layoutOptions].filter(isObject)) {
+    const keys = Object.keys(given);
+    keys.sort((one, other) => one.length - other.length);
+    for (const key of keys) {
+      const name = nameOf(key);
+      if (name) {
+        found.set(name, { key, value: given[key] });
+      }
     }
   }
-  return joined;
+  return found;
 }
 
-/** The options that the engine reads, wherever they stand. */
-const onlyKnown = (options) => Object.fromEntries(Object.entries(options).filter(([key]) => optionName(key)));
+const isSpelling = (key, name) => prefixes.some((prefix) => key === prefix + name);
+
+/** The key by which the engine finds an option: the given one, or else the full name. */
+const keyFor = (name, key) => (isSpelling(key, name) ? key : PREFIX + name);
+
+/**
+ * The options that an element of a role is sent with, under keys that the engine finds: those that it carries, and
+ * the general ones of a call that it reads and doesn't carry itself.
+ * @param {object} element
+ * @param {object} general
+ * @param {'levels' | 'nodes' | 'ports' | 'edges'} role
+ */
+function sentOptions(element, general, role) {
+  const carried = carriedBy(element);
+  const sent = {};
+  for (const [name, { key, value }] of carried) {
+    if (READERS.has(name)) {
+      sent[keyFor(name, key)] = value;
+    }
+  }
+  for (const [name, { key, value }] of carriedBy({ layoutOptions: general })) {
+    if (isReadBy(name, role) && !carried.has(name)) {
+      sent[keyFor(name, key)] = value;
+    }
+  }
+  return sent;
+}
 
 module.exports = {
   LAYOUT_ALGORITHMS,
   LAYOUT_CATEGORIES,
   LAYOUT_OPTIONS,
   OPTIONS,
-  onlyKnown,
+  carriedBy,
   optionName,
+  sentOptions,
   valuesOf,
-  withGeneral,
 };

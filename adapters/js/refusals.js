@@ -47,21 +47,28 @@ function firstFraction(value, path = '') {
 }
 
 const NOT_WHOLE = 2;
+const HYPEREDGE = 9;
+
+const FOR_HYPEREDGE =
+  'several sources and several targets have no one tree of lines; make an edge for each source, with all its targets';
 
 /**
  * Reads a reply `refused <number> <name> <id or ->`.
  * @param {string} reply one line of the program
  * @param {object} document what was sent, in which a number that isn't whole is looked up
+ * @param {Map<unknown, unknown>} [owners] the caller's id for each id that only stands in what was sent
  * @returns {Refusal | undefined} nothing where the line is no refusal
  */
-function refusalOf(reply, document) {
+function refusalOf(reply, document, owners) {
   const [, number, name, place] = /^refused (\d+) (\w+) (.*)$/s.exec(reply) ?? [];
   if (!name) {
     return undefined;
   }
   const rule = Number(number);
-  const id = place === '-' ? undefined : JSON.parse(place);
-  return new Refusal({ rule, name, id }, rule === NOT_WHOLE ? firstFraction(document) : undefined);
+  const sent = place === '-' ? undefined : JSON.parse(place);
+  const id = owners?.has(sent) ? owners.get(sent) : sent;
+  const details = { [NOT_WHOLE]: () => firstFraction(document), [HYPEREDGE]: () => FOR_HYPEREDGE };
+  return new Refusal({ rule, name, id }, details[rule]?.());
 }
 
 module.exports = { Refusal, refusalOf };

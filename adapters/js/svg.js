@@ -2,7 +2,7 @@
 // The picture of a placed document as SVG, which needs no style sheet.
 
 const LOOK = require('./data/look.json');
-const { junctionPoints, routeOf } = require('./junctions');
+const { junctionPoints, pointsOf } = require('./junctions');
 const { begin, widthOf } = require('./letters');
 const { elementsOf, endIds, Levels, numberOr0 } = require('./levels');
 
@@ -196,17 +196,27 @@ function jointsOf(levels, placed) {
   return new Map(joints);
 }
 
-function edgeOf(declared, { levels, joints, sharp, arrows }) {
+/** The lines of an edge's sections; a section that others follow has no arrow head. */
+function linesOf(edge, place, { sharp, arrows }) {
+  return elementsOf(edge.sections).map((section) => {
+    const points = moved(pointsOf(section), place);
+    const hasArrow = arrows && points.length > 1 && !(section.outgoingSections?.length > 0);
+    if (points.length === 0) {
+      return '';
+    }
+    return hasArrow ? routeWithArrow(points, sharp) : `<path d="${pathOf(points, sharp)}"/>`;
+  });
+}
+
+function edgeOf(declared, { levels, joints, ...look }) {
   const { edge } = declared;
-  const points = moved(routeOf(edge), levels.places.get(levels.levelOf(declared)));
-  if (points.length === 0) {
+  const lines = linesOf(edge, levels.places.get(levels.levelOf(declared)), look).join('');
+  if (lines === '') {
     return '';
   }
-  const ends = ['source', 'target'].map((end) => wordsOf(endIds(edge, end)[0])).join(' → ');
-  const hasArrow = arrows && points.length > 1;
-  const route = hasArrow ? routeWithArrow(points, sharp) : `<path d="${pathOf(points, sharp)}"/>`;
+  const ends = ['source', 'target'].map((end) => endIds(edge, end).map(wordsOf).join(', ')).join(' → ');
   const dots = joints.get(edge).map(dotAt).join('');
-  return `<g class="edge" data-id="${escaped(idOf(edge))}">${titleOf(`${idOf(edge)}: ${ends}`)}${route}${dots}</g>`;
+  return `<g class="edge" data-id="${escaped(idOf(edge))}">${titleOf(`${idOf(edge)}: ${ends}`)}${lines}${dots}</g>`;
 }
 
 /** All that is drawn: the drawing's frame with what reaches beyond it. */

@@ -161,11 +161,25 @@ test('a copy shares nothing that is written', () => {
   assert.deepEqual(graph.children[0].edges, [{ id: 2 }]);
 });
 
-test('an option has three spellings', () => {
-  for (const key of ['org.eclipse.elk.direction', 'elk.direction', 'direction']) {
+test('an option is named by any ending that is clear', () => {
+  for (const key of ['org.eclipse.elk.direction', 'elk.direction', 'direction', 'eclipse.elk.direction']) {
     assert.equal(optionName(key), 'direction');
   }
-  for (const key of ['eclipse.elk.direction', 'Direction', 'layered.direction', '']) {
+  assert.equal(optionName('nodeNodeBetweenLayers'), 'layered.spacing.nodeNodeBetweenLayers');
+  // Two options that the engine reads, one that it doesn't, and none.
+  for (const key of ['strategy', 'thoroughness', 'Direction', 'layered.direction', '']) {
     assert.equal(optionName(key), undefined);
   }
+});
+
+test('options are sent under names that the engine finds, from properties too', () => {
+  const properties = { 'elk.direction': 'DOWN', nodeNodeBetweenLayers: 60, edgeEdge: 5, colour: 'red' };
+  const layoutOptions = { direction: 'UP', 'spacing.edgeEdge': 7, edgeEdge: 6 };
+  assert.deepEqual(sent({ properties, layoutOptions }), {
+    layoutOptions: {
+      direction: 'UP',
+      'org.eclipse.elk.layered.spacing.nodeNodeBetweenLayers': 60,
+      'spacing.edgeEdge': 7,
+    },
+  });
 });
