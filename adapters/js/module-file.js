@@ -3,7 +3,7 @@
 
 const { existsSync, readFileSync } = require('node:fs');
 const path = require('node:path');
-const { gunzipSync } = require('node:zlib');
+const { gunzipSync, gzipSync } = require('node:zlib');
 const { ProgramError } = require('./program-error');
 
 const NAME = 'elk.wasm.gz';
@@ -17,18 +17,28 @@ function moduleFile() {
 
 const isPacked = (bytes) => bytes[0] === 0x1f && bytes[1] === 0x8b;
 
-/** The module's bytes, unpacked. */
-function moduleBytes() {
+function bytesOfFile() {
   const file = moduleFile();
   if (!file) {
     throw new ProgramError(`there is no module: ${PLACES.join(' and ')} are not there, and ELK_MODULE names none`);
   }
   try {
-    const bytes = readFileSync(file);
-    return isPacked(bytes) ? gunzipSync(bytes) : bytes;
+    return readFileSync(file);
   } catch (cause) {
     throw new ProgramError(`the module ${file} can't be read: ${cause.message}`, { cause });
   }
 }
 
-module.exports = { moduleBytes, moduleFile };
+/** The module's bytes. */
+function moduleBytes() {
+  const bytes = bytesOfFile();
+  return isPacked(bytes) ? gunzipSync(bytes) : bytes;
+}
+
+/** The module as packages carry it. */
+function packedModule() {
+  const bytes = bytesOfFile();
+  return isPacked(bytes) ? bytes : gzipSync(bytes);
+}
+
+module.exports = { moduleBytes, moduleFile, packedModule };

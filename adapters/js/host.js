@@ -1,0 +1,30 @@
+'use strict';
+// The engines of Node: the native program, and threads with the module.
+
+const path = require('node:path');
+const { fileURLToPath } = require('node:url');
+const { Worker } = require('node:worker_threads');
+const { moduleFile } = require('./module-file');
+const { Batch } = require('./process');
+const { WorkerQueue } = require('./worker-queue');
+
+const LAUNCHER = path.join(__dirname, '..', '..', 'elk');
+
+const threadOf = (script) => new Worker(path.join(__dirname, 'thread.js'), { workerData: script });
+
+const programEngine = (program) => new Batch(program);
+
+/** A thread with a script that stands in a file. */
+const workerAt = (url) => threadOf(/^file:/.test(url) ? fileURLToPath(url) : path.resolve(String(url)));
+
+// All who don't ask for a worker of their own share this one, as making one takes time and memory.
+const shared = new WorkerQueue(() => threadOf(path.join(__dirname, 'worker.js')));
+
+function defaultEngine() {
+  if (process.env.ELK_PROGRAM || !moduleFile()) {
+    return programEngine(process.env.ELK_PROGRAM || LAUNCHER);
+  }
+  return shared.client();
+}
+
+module.exports = { defaultEngine, programEngine, workerAt };

@@ -1,0 +1,183 @@
+'use strict';
+// A Chromium without a window, asked through the pipe of its DevTools protocol.
+
+const { spawn } = require('node:child_process');
+const { accessSync, constants, mkdtempSync, rmSync, writeFileSync } = require('node:fs');
+const { tmpdir } = require('node:os');
+const path = require('node:path');
+
+const NAMES = ['chromium', 'chromium-browser', 'google-chrome'];
+
+const WORDS = [
+  '--headless=new',
+  '--remote-debugging-pipe',
+  '--no-sandbox',
+  '--no-first-run',
+  '--disable-gpu',
+  '--disable-dev-shm-usage',
+  '--disable-background-networking',
+  '--disable-component-update',
+];
+
+const SECONDS = 120;
+
+function isThere(file) {
+  try {
+    accessSync(file, constants.X_OK);
+    return true;
+  } catch {
+    return false;
+  }
+}
+
+/** The browser that the tests start: the one that ELK_BROWSER names, or a Chromium of the path. */
+function browserFile() {
+  const folders = (process.env.PATH ?? '').split(path.delimiter);
+  const found = NAMES.flatMap((name) => folders.map((folder) => path.join(folder, name)));
+  return process.env.ELK_BROWSER ?? found.find(isThere);
+}
+
+/** What a test that asks a browser is given: whether it is left out, and why. */
+const WITH_BROWSER = { skip: browserFile() ? false : 'no browser stands: ELK_BROWSER names a Chromium, or the path has one' };
+
+/** One page of a browser. */
+class Page {
+  #browser;
+  #session;
+  #loaded;
+
+  /** What went wrong in the page: errors that nobody caught, and those of the console. */
+  faults = [];
+
+  constructor(browser, session) {
+    this.#browser = browser;
+    this.#session = session;
+  }
+
+  /** Hears an event of this page. */
+  hear({ method, params }) {
+    if (method === 'Page.loadEventFired') {
+      this.#loaded?.();
+    } else if (method === 'Runtime.exceptionThrown') {
+      const { text, exception } = params.exceptionDetails;
+      this.faults.push(exception?.description ?? text);
+    } else if (method === 'Log.entryAdded' && params.entry.level === 'error') {
+      this.faults.push(params.entry.text);
+    } else if (method === 'Runtime.consoleAPICalled' && params.type === 'error') {
+      this.faults.push(params.args.map(({ value, description }) => value ?? description).join(' '));
+    }
+  }
+
+  send(method, params = {}) {
+    return this.#browser.send(method, params, this.#session);
+  }
+
+  async open(url) {
+    const loaded = new Promise((resolve) => {
+      this.#loaded = resolve;
+    });
+    const { errorText } = await this.send('Page.navigate', { url });
+    if (errorText) {
+      throw new Error(`${url}: ${errorText}`);
+    }
+    await loaded;
+  }
+
+  /** The value of an expression in the page, or that to which its promise resolves. It must be JSON. */
+  async evaluate(expression) {
+    const asked = { expression, awaitPromise: true, returnByValue: true };
+    const { result, exceptionDetails } = await this.send('Runtime.evaluate', asked);
+    if (exceptionDetails) {
+      throw new Error(exceptionDetails.exception?.description ?? exceptionDetails.text);
+    }
+    return result.value;
+  }
+
+  /** Writes what the page shows as PNG. */
+  async screenshot(file) {
+    const { data } = await this.send('Page.captureScreenshot', { format: 'png' });
+    writeFileSync(file, Buffer.from(data, 'base64'));
+  }
+}
+
+/** A running browser; `close` ends it. */
+class Browser {
+  #child;
+  #home = mkdtempSync(path.join(tmpdir(), 'elk-browser-'));
+  #calls = new Map();
+  #pages = new Map();
+  #next = 1;
+  #rest = '';
+  #watch;
+
+  constructor() {
+    this.#child = spawn(browserFile(), [...WORDS, `--user-data-dir=${this.#home}`], {
+      stdio: ['ignore', 'ignore', 'ignore', 'pipe', 'pipe'],
+    });
+    this.#child.stdio[4].setEncoding('utf8').on('data', (piece) => this.#take(piece));
+    this.#child.stdio[3].on('error', () => {});
+    this.#child.on('error', (error) => this.#fail(error));
+    this.#child.on('exit', () => this.#fail(new Error('the browser has ended')));
+    this.#watch = setTimeout(() => this.#child.kill('SIGKILL'), SECONDS * 1000);
+  }
+
+  // Messages end with a zero byte.
+  #take(piece) {
+    const messages = (this.#rest + piece).split('\0');
+    this.#rest = messages.pop();
+    messages.forEach((message) => this.#hear(JSON.parse(message)));
+  }
+
+  #hear(message) {
+    const { id, result, error, sessionId } = message;
+    if (id === undefined) {
+      this.#pages.get(sessionId)?.hear(message);
+      return;
+    }
+    const { resolve, reject } = this.#calls.get(id);
+    this.#calls.delete(id);
+    if (error) {
+      reject(new Error(error.message));
+    } else {
+      resolve(result);
+    }
+  }
+
+  #fail(error) {
+    this.#calls.forEach(({ reject }) => reject(error));
+    this.#calls.clear();
+  }
+
+  send(method, params, sessionId) {
+    return new Promise((resolve, reject) => {
+      const id = this.#next;
+      this.#next += 1;
+      this.#calls.set(id, { resolve, reject });
+      this.#child.stdio[3].write(`${JSON.stringify({ id, method, params, sessionId })}\0`);
+    });
+  }
+
+  /** A page that shows an address, such as `file:///..`. */
+  async open(url, { width = 1000, height = 700 } = {}) {
+    const { targetId } = await this.send('Target.createTarget', { url: 'about:blank' });
+    const { sessionId } = await this.send('Target.attachToTarget', { targetId, flatten: true });
+    const page = new Page(this, sessionId);
+    this.#pages.set(sessionId, page);
+    await Promise.all(['Page', 'Runtime', 'Log'].map((domain) => page.send(`${domain}.enable`)));
+    await page.send('Emulation.setDeviceMetricsOverride', { width, height, deviceScaleFactor: 1, mobile: false });
+    await page.open(url);
+    return page;
+  }
+
+  async close() {
+    const ended = new Promise((resolve) => {
+      this.#child.once('exit', resolve);
+    });
+    this.send('Browser.close').catch(() => {});
+    await (this.#child.exitCode === null && this.#child.signalCode === null ? ended : undefined);
+    clearTimeout(this.#watch);
+    rmSync(this.#home, { recursive: true, force: true, maxRetries: 5 });
+  }
+}
+
+module.exports = { Browser, WITH_BROWSER, browserFile };
