@@ -1,0 +1,32 @@
+"""Layered drawings of block diagrams, by the program `elk`: documents of ELK's JSON in, placed documents out.
+
+    from elk_layout import layout
+    placed = layout({"id": "root", "children": [{"id": "a", "width": 30, "height": 30}]})
+
+`layout`, `check`, `layout_many` and `replies` ask the program, `to_svg` draws a placed document, and `from_networkx`,
+`positions` and `to_networkx` lead from graphs of networkx and back.
+"""
+
+from .calls import check, close, layout, layout_many, replies
+from .document import Placed
+from .errors import ElkError, ProgramError, Refusal
+from .junctions import junction_points
+from .svg import to_svg
+from .verdict import Verdict
+
+__version__ = "0.1.0"
+
+__all__ = [
+    "ElkError",
+    "Placed",
+    "ProgramError",
+    "Refusal",
+    "Verdict",
+    "check",
+    "close",
+    "junction_points",
+    "layout",
+    "layout_many",
+    "replies",
+    "to_svg",
+]

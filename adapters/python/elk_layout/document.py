@@ -1,0 +1,210 @@
+"""The document that the engine reads of a given one, and its answer put back into a copy of the given one."""
+
+from __future__ import annotations
+
+import json
+import math
+from decimal import Decimal
+from numbers import Integral, Real
+from typing import Any, Dict, Mapping, Optional
+
+from .errors import Refusal
+from .options import general_options, readable, with_general
+from .whole import make_port_whole, make_size_whole
+
+Element = Dict[str, Any]
+
+LISTS = ("ports", "edges", "children")
+
+# The members that the engine reads, by docs/FORMAT.md. Nothing else is sent, so that neither a fraction in a label nor
+# a program's own data stands in its way.
+READ = {
+    "node": frozenset(("id", "width", "height", "layoutOptions", *LISTS)),
+    "port": frozenset(("id", "width", "height", "x", "y", "layoutOptions")),
+    "edge": frozenset(
+        ("id", "sources", "targets", "source", "target", "sourcePort", "targetPort", "layoutOptions")
+    ),
+}
+
+# What else is read of a placed document.
+PLACED = {
+    "node": READ["node"] | {"x", "y", "layering"},
+    "port": READ["port"],
+    "edge": READ["edge"] | {"sections"},
+}
+
+WRITTEN = ("x", "y", "width", "height", "layering")
+
+# What an earlier drawing may have left at an edge.
+OUTDATED = ("sections", "bendPoints", "junctionPoints", "sourcePoint", "targetPoint", "container")
+
+MEASURES = frozenset(("width", "height", "x", "y"))
+
+# Values of these classes are JSON as they are.
+PLAIN = frozenset((str, int, bool, type(None)))
+
+
+
+def plain(value: Any) -> Any:
+    """A value in Python's own classes, numbers that are whole without a fraction, as JavaScript writes them."""
+    if value.__class__ in PLAIN:
+        return value
+    if isinstance(value, Integral):
+        return int(value)
+    if isinstance(value, (Real, Decimal)):
+        number = float(value)
+        if not math.isfinite(number):
+            return None
+        return int(number) if number.is_integer() else number
+    if isinstance(value, (list, tuple)):
+        return [plain(it) for it in value]
+    if isinstance(value, Mapping):
+        return {key: plain(it) for key, it in value.items()}
+    return value.item() if hasattr(value, "item") else value
+
+
+def _default(value: Any) -> Any:
+    found = plain(value)
+    if found is value:
+        raise TypeError(f"a value of class {type(value).__name__} is none of JSON: {value!r}")
+    return found
+
+
+_encode = json.JSONEncoder(
+    ensure_ascii=False, check_circular=False, allow_nan=False, separators=(",", ":"), default=_default
+).encode
+
+_decode = json.JSONDecoder().decode
+
+
+def finite(value: Any) -> Any:
+    """A value with null in place of numbers that JSON doesn't have."""
+    if isinstance(value, (list, tuple)):
+        return [finite(it) for it in value]
+    if isinstance(value, Mapping):
+        return {key: finite(it) for key, it in value.items()}
+    return None if isinstance(value, (Real, Decimal)) and not math.isfinite(value) else value
+
+
+def _role(node: Element, is_root: bool) -> str:
+    children = node.get("children")
+    return "levels" if is_root or (isinstance(children, (list, tuple)) and children) else "nodes"
+
+
+class Sender:
+    """Makes the lines that the program reads of documents.
+
+    `numbers` is `ceil` where numbers are made whole and only what is read is sent, else `exact`; `options` are those
+    that count wherever an element has none of its own; `is_placed` says that what a drawing wrote is read too.
+    """
+
+    def __init__(
+        self, numbers: str = "ceil", options: Optional[Mapping[str, Any]] = None, is_placed: bool = False
+    ) -> None:
+        if numbers not in ("ceil", "exact"):
+            raise ValueError(f"numbers is 'ceil' or 'exact', not {numbers!r}")
+        self._is_exact = numbers == "exact"
+        # A drawing is judged as it is.
+        self._is_rounding = not (self._is_exact or is_placed)
+        self._read = PLACED if is_placed else READ
+        self._general = general_options(options)
+
+    def line_of(self, document: Any) -> bytes:
+        """The line that is sent for a document, with its line feed."""
+        try:
+            text = self._text_of(document)
+        except RecursionError:
+            raise Refusal(1, "NotJson", None, "lists and objects stand too deep in one another, or in themselves") from None
+        try:
+            return text.encode() + b"\n"
+        except UnicodeEncodeError:
+            # Half of a pair of surrogates has no bytes of its own.
+            return json.dumps(json.loads(text)).encode() + b"\n"
+
+    def _text_of(self, document: Any) -> str:
+        sent = document if self._is_exact and not self._general else self._node(document, True)
+        try:
+            return _encode(sent)
+        except ValueError:
+            return _encode(finite(sent))
+
+    def _node(self, node: Any, is_root: bool = False) -> Any:
+        if not isinstance(node, dict):
+            return node
+        sent = self._own(node, "node", _role(node, is_root))
+        ports, edges, children = node.get("ports"), node.get("edges"), node.get("children")
+        if isinstance(ports, (list, tuple)):
+            sent["ports"] = [self._port(it, node) for it in ports]
+        if isinstance(edges, (list, tuple)):
+            sent["edges"] = [self._own(it, "edge", "edges") for it in edges]
+        if isinstance(children, (list, tuple)):
+            sent["children"] = [self._node(it) for it in children]
+        if self._is_rounding:
+            make_size_whole(sent)
+        return sent
+
+    def _port(self, port: Any, node: Element) -> Any:
+        sent = self._own(port, "port", "ports")
+        if self._is_rounding and isinstance(sent, dict):
+            make_port_whole(sent, node)
+        return sent
+
+    def _own(self, element: Any, kind: str, role: str) -> Any:
+        """An element with its own members, as far as they are sent."""
+        if not isinstance(element, dict):
+            return element
+        sent = dict(element) if self._is_exact else self._readable(element, kind)
+        own = sent.get("layoutOptions", {})
+        # What is no object of options is for the engine to refuse.
+        if (own or role in self._general) and isinstance(own, dict):
+            joined = with_general(own, self._general.get(role, []))
+            sent["layoutOptions"] = joined if self._is_exact else readable(joined)
+        return sent
+
+    def _readable(self, element: Element, kind: str) -> Element:
+        read = self._read[kind]
+        kept = MEASURES if self._is_rounding else ()
+        return {
+            name: value if value.__class__ in PLAIN or name in kept else plain(value)
+            for name, value in element.items()
+            if name in read and name not in LISTS
+        }
+
+
+class Placed(Element):
+    """A placed document. A notebook shows it as its picture."""
+
+    def to_svg(self, *, arrows: bool = True) -> str:
+        """The picture as a document of SVG."""
+        from .svg import to_svg
+
+        return to_svg(self, arrows=arrows)
+
+    def _repr_svg_(self) -> str:
+        return self.to_svg()
+
+
+def placed_of(document: Element, reply: str) -> Placed:
+    """A document with the engine's answer put in. Its elements and lists are its own; all else it shares."""
+    answer = _decode(reply)
+    return Placed(_placed_node(document, answer))
+
+
+def _placed_node(node: Element, answer: Element) -> Element:
+    placed = dict(node)
+    for name in WRITTEN:
+        if name in answer:
+            placed[name] = answer[name]
+    for name in LISTS:
+        if name in node:
+            place = _placed_edge if name == "edges" else _placed_node
+            placed[name] = [place(*pair) for pair in zip(node[name], answer[name])]
+    return placed
+
+
+def _placed_edge(edge: Element, answer: Element) -> Element:
+    placed = dict(edge)
+    for name in OUTDATED:
+        placed.pop(name, None)
+    placed["sections"] = answer["sections"]
+    return placed

@@ -1,0 +1,242 @@
+"""Processes that are kept, die, are slow, or say what nobody asked."""
+
+import contextlib
+import io
+import os
+import signal
+import subprocess
+import sys
+import tempfile
+import threading
+import time
+import unittest
+import unittest.mock
+
+from .program import PACKAGE, PUPPET
+from elk_layout import ProgramError, Refusal, close, layout, layout_many, replies
+from elk_layout.batch import Batch, Ticket, _running
+from elk_layout.calls import _kept
+
+
+def ask(id, **more):
+    return layout({"id": id}, program=PUPPET, **more)
+
+
+def pid():
+    return layout({"id": "pid"}, program=PUPPET) and _kept[PUPPET]._runs[0]._process.pid
+
+
+def asked(batch, text):
+    ticket = Ticket(text.encode() + b"\n")
+    batch.ask(ticket)
+    return ticket.reply
+
+
+class Kept(unittest.TestCase):
+    def tearDown(self):
+        close()
+
+    def test_one_process_answers_all_calls(self):
+        self.assertEqual(len({pid() for _ in range(20)}), 1)
+
+    def test_a_process_that_died_is_started_again(self):
+        before = pid()
+        os.kill(before, signal.SIGKILL)
+        self.assertEqual(ask("on")["id"], "on")
+        self.assertNotEqual(pid(), before)
+
+    def test_a_line_at_which_the_program_dies_is_sent_a_second_time(self):
+        with tempfile.TemporaryDirectory() as folder:
+            id = f"once {folder}/died"
+            self.assertEqual(ask(id)["id"], id)
+
+    def test_a_line_at_which_the_program_dies_twice_fails(self):
+        for id, status, words in (
+            ("kill", -9, "was ended by signal 9"),
+            ("exit 6", 6, "ended with the status 6: the notes of the end"),
+        ):
+            with self.subTest(id), self.assertRaisesRegex(ProgramError, words) as caught:
+                ask(id)
+            self.assertEqual(caught.exception.status, status)
+        self.assertEqual(ask("on")["id"], "on")
+
+    def test_a_program_that_is_none_fails(self):
+        for program, words in (
+            ("/no/such/program", "can't be started"),
+            (str(PACKAGE), "can't be started"),
+            ("/bin/true", "ended with the status 0"),
+        ):
+            with self.subTest(program), self.assertRaisesRegex(ProgramError, words):
+                layout({"id": "a"}, program=program)
+
+    def test_a_reply_that_is_no_answer_fails(self):
+        with self.assertRaisesRegex(ProgramError, "no answer"):
+            ask("odd")
+
+    def test_a_line_that_nobody_asked_for_is_no_reply_to_the_next_call(self):
+        before = pid()
+        for _ in range(3):
+            ask("twice")
+            time.sleep(0.05)
+            self.assertEqual(ask("on", numbers="exact")["id"], "on")
+        self.assertNotEqual(pid(), before)
+
+    def test_letters_that_are_torn_between_two_pieces_are_whole(self):
+        batch = Batch(PUPPET)
+        self.assertEqual(asked(batch, '{"id": "pieces é 😀"}'), '{"id": "pieces é 😀"}')
+        batch.stop()
+
+    def test_very_long_lines_pass_both_ways(self):
+        batch = Batch(PUPPET)
+        text = '{"id": "%s"}' % ("ü" * 3_000_000)
+        self.assertEqual(asked(batch, text), text)
+        batch.stop()
+
+    def test_threads_get_their_own_replies(self):
+        wrong = []
+
+        def work(name):
+            wrong.extend(it for it in range(50) if ask(f"{name} {it}")["id"] != f"{name} {it}")
+
+        threads = [threading.Thread(target=work, args=(name,)) for name in "abcdef"]
+        for thread in threads:
+            thread.start()
+        for thread in threads:
+            thread.join()
+        self.assertEqual(wrong, [])
+
+    def test_a_copy_of_this_process_has_a_process_of_its_own(self):
+        before = pid()
+        child = os.fork()
+        if child == 0:
+            try:
+                good = pid() != before and ask("child")["id"] == "child"
+                close()
+            except BaseException:
+                good = False
+            os._exit(0 if good else 1)
+        self.assertEqual(os.waitpid(child, 0)[1], 0)
+        self.assertEqual(pid(), before)
+
+    def test_the_launcher_is_heard_and_nothing_else_is(self):
+        for words, heard in (("elk: building the program", "elk: building the program\n"), ("else", "")):
+            note = io.StringIO()
+            with contextlib.redirect_stderr(note):
+                ask(f"note {words}")
+                # What is said may come after the reply.
+                for _ in range(20):
+                    ask("on")
+                    time.sleep(0.005)
+            self.assertEqual(note.getvalue(), heard)
+
+    def test_no_process_outlives_python(self):
+        script = (
+            "import sys; sys.path.insert(0, sys.argv[1])\n"
+            "from elk_layout import layout, layout_many\nfrom elk_layout.calls import _kept\n"
+            "layout({'id': 'a'}, program=sys.argv[2])\n"
+            "stream = layout_many(({'id': f'slow 5'} for _ in range(3)), program=sys.argv[2], held=1)\n"
+            "print(_kept[sys.argv[2]]._runs[0]._process.pid)\n"
+        )
+        words = [sys.executable, "-W", "error", "-c", script, str(PACKAGE), PUPPET]
+        ended = subprocess.run(words, stdout=subprocess.PIPE, stderr=subprocess.PIPE, timeout=20)
+        self.assertEqual((ended.returncode, ended.stderr), (0, b""))
+        with self.assertRaises(ProcessLookupError):
+            os.kill(int(ended.stdout), 0)
+
+
+class Streams(unittest.TestCase):
+    def many(self, ids, **more):
+        return layout_many(({"id": id} for id in ids), program=PUPPET, **more)
+
+    def test_results_keep_the_order_whichever_process_is_slow(self):
+        ids = [f"slow {0.05 if at % 7 == 0 else 0} {at}" for at in range(60)]
+        for processes in (1, 2, 3):
+            with self.subTest(processes=processes):
+                self.assertEqual([it["id"] for it in self.many(ids, processes=processes)], ids)
+
+    def test_a_process_that_is_killed_in_the_middle_loses_and_doubles_nothing(self):
+        stream = self.many((str(at) for at in range(3000)), processes=2, held=100)
+        seen = []
+        for result in stream:
+            seen.append(result["id"])
+            if len(seen) in (500, 1500):
+                os.kill(a_child(), signal.SIGKILL)
+        self.assertEqual(seen, [str(at) for at in range(3000)])
+
+    def test_the_stream_is_read_a_bounded_number_of_documents_ahead(self):
+        read = []
+
+        def documents():
+            for at in range(500):
+                read.append(at)
+                yield {"id": str(at)}
+
+        most = 0
+        for done, _ in enumerate(layout_many(documents(), program=PUPPET, held=20), 1):
+            most = max(most, len(read) - done)
+        self.assertLessEqual(most, 20)
+        self.assertEqual(len(read), 500)
+
+    def test_a_document_at_which_the_program_dies_twice_is_told_in_its_place(self):
+        results = list(self.many(["a", "kill", "b", "refuse 7 DoubleId 5", "c"], errors="return", processes=2))
+        self.assertEqual([it["id"] for it in (results[0], results[2], results[4])], ["a", "b", "c"])
+        self.assertIsInstance(results[1], ProgramError)
+        self.assertIsInstance(results[3], Refusal)
+        self.assertEqual([results[1].index, results[3].index, results[3].id], [1, 3, 5])
+
+    def test_a_refusal_that_is_raised_tells_its_place(self):
+        stream = self.many(["a", "b", "refuse 7 DoubleId 5", "c"])
+        self.assertEqual([next(stream)["id"], next(stream)["id"]], ["a", "b"])
+        with self.assertRaises(Refusal) as caught:
+            next(stream)
+        self.assertEqual((caught.exception.index, caught.exception.rule), (2, 7))
+
+    def test_a_stream_that_is_left_ends_its_processes(self):
+        stream = self.many((str(at) for at in range(1000)), processes=2)
+        next(stream)
+        child = a_child()
+        stream.close()
+        with self.assertRaises(ProcessLookupError):
+            os.kill(child, 0)
+
+    def test_a_run_reads_only_so_much_and_another_takes_over(self):
+        batch = Batch(PUPPET, 1, most_bytes=1000)
+        tickets = [batch.put(Ticket(b'{"id": "pid %d"}\n' % at)) for at in range(200)]
+        while not all(it.is_done for it in tickets):
+            batch.turn()
+        batch.stop()
+        pids = [it.reply.split('"pid": ')[1] for it in tickets]
+        self.assertEqual([f'"pid {at}"' in it.reply for at, it in enumerate(tickets)], [True] * 200)
+        self.assertGreater(len(set(pids)), 3)
+
+    def test_no_document_makes_no_result(self):
+        self.assertEqual(list(self.many([])), [])
+
+    def test_progress_is_told(self):
+        told = []
+        documents = [{"id": str(at)} for at in range(5)]
+        list(layout_many(documents, program=PUPPET, progress=lambda done, total: told.append((done, total))))
+        self.assertEqual(told, [(at, 5) for at in range(1, 6)])
+        for hidden in ({}, {"tqdm": None}):
+            note = io.StringIO()
+            with unittest.mock.patch.dict(sys.modules, hidden), contextlib.redirect_stderr(note):
+                list(layout_many(documents, program=PUPPET, progress=True))
+            self.assertIn("5", note.getvalue())
+
+    def test_lines_are_replied_to_as_they_are(self):
+        lines = ['{"id": "a"}', b'{"id": "b"}\n', '{"id": "refuse 7 DoubleId 5"}\n']
+        self.assertEqual(list(replies(lines, program=PUPPET)), ['{"id": "a"}', '{"id": "b"}', "refused 7 DoubleId 5"])
+
+    def test_wrong_words_are_told_at_once(self):
+        for wrong in ({"processes": 0}, {"errors": "ignore"}, {"numbers": "floor"}):
+            with self.subTest(wrong), self.assertRaises(ValueError):
+                self.many([], **wrong)
+
+
+def a_child():
+    """One of the processes that are running."""
+    return next(iter(_running))._process.pid
+
+
+if __name__ == "__main__":
+    unittest.main()

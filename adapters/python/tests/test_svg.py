@@ -1,0 +1,125 @@
+"""Pictures are the same as those of the adapter for JavaScript."""
+
+import json
+import random
+import subprocess
+import unittest
+import xml.etree.ElementTree as xml
+
+from .program import PROGRAM, TOP, with_program
+from elk_layout import Placed, layout, layout_many, to_svg
+
+SCRIPT = """
+const { toSvg } = require(process.argv[1] + '/adapters/js/svg.js');
+const documents = JSON.parse(require('node:fs').readFileSync(0, 'utf8'));
+console.log(JSON.stringify(documents.map(([placed, look]) => toSvg(placed, look))));
+"""
+
+HOSTILE = (
+    *("<script>alert(1)</script>", '"/><svg onload=alert(1)>', "'&amp;&#0;]]>", "<![CDATA[", "tab\t line\n\r feed"),
+    *("\0\7\x1b\ufffe\uffff", "😀 é ‮ text", " ", "", 0, -1, 1.5, 2.0, True, {"a": [1.0, "é"]}, "x" * 500),
+)
+
+
+def drawn_by_javascript(documents):
+    """The pictures of documents, each with its look."""
+    words = ["node", "-e", SCRIPT, str(TOP)]
+    ended = subprocess.run(words, input=json.dumps(documents).encode(), stdout=subprocess.PIPE, check=True)
+    return json.loads(ended.stdout)
+
+
+with_node = unittest.skipIf(
+    subprocess.run(["sh", "-c", "node -e 'process.exit(0)'"], stderr=subprocess.DEVNULL).returncode,
+    "node isn't there",
+)
+
+
+def box(of, id, depth):
+    """A node of a random document: a leaf with ports and labels, or a level."""
+    node = {"id": id, "width": of.randrange(0, 90), "height": of.randrange(0, 60)}
+    if of.random() < 0.5:
+        texts = [of.choice(["", "a label", "a much longer label — of WIDE letters", "é😀", 7]) for _ in range(of.randrange(3))]
+        node["labels"] = [{"text": it} for it in texts]
+    if depth and of.random() < 0.3:
+        return {**node, **level(of, f"{id}.", depth - 1)}
+    sides = ["WEST", "EAST", "NORTH", "SOUTH"]
+    node["ports"] = [
+        {"id": f"{id}:{at}", "width": 6, "height": 6, "labels": [{"text": f"p{at}"}], "layoutOptions": {"port.side": of.choice(sides)}}
+        for at in range(of.randrange(4))
+    ]
+    node["layoutOptions"] = {"portConstraints": of.choice(["FREE", "FIXED_SIDE"])}
+    return node
+
+
+def level(of, prefix, depth):
+    nodes = [box(of, f"{prefix}{at}", depth) for at in range(of.randrange(1, 7))]
+    ends = [it for node in nodes for it in (node["id"], *(port["id"] for port in node.get("ports", ())))]
+    edges = [
+        {"id": f"{prefix}e{at}", "sources": [of.choice(ends)], "targets": [of.choice(ends)]}
+        for at in range(of.randrange(2 * len(nodes)))
+    ]
+    options = {"direction": of.choice(["RIGHT", "DOWN", "LEFT", "UP"])}
+    options["padding"] = of.choice(["[top=12,left=12,bottom=12,right=12]", "[top=30,left=5,bottom=5,right=5]"])
+    return {"children": nodes, "edges": edges, "layoutOptions": options}
+
+
+def hostile(id):
+    """A placed document all of whose ids and texts are one."""
+    point = {"x": 30, "y": 10.125}
+    route = {"startPoint": point, "bendPoints": [{"x": 30, "y": 40}], "endPoint": {"x": 60, "y": 40}}
+    node = {"id": id, "x": 10, "y": 10, "width": 40, "height": 20, "labels": [{"text": id}, {"text": id, "x": 1, "y": 1}]}
+    port = {"id": id, "x": 40, "y": 5, "width": 5, "height": 5, "labels": [{"text": id}]}
+    children = [{**node, "ports": [port]}, {**node, "x": 70, "children": [{**node, "width": 10}]}]
+    edge = {"id": id, "sources": [id], "targets": [id], "sections": [route], "junctionPoints": [point]}
+    return {"id": id, "width": 120, "height": 60, "labels": [{"text": id}], "children": children, "edges": [edge]}
+
+
+ODD = [
+    {},
+    {"id": {"a": 1}, "width": '"><b', "height": None, "ports": {}, "labels": 7},
+    {"width": 10, "height": 10, "children": [None, 5, {"x": None, "width": "1", "labels": [None, {"text": [1]}, {"text": 1, "x": 1, "y": "2"}]}]},
+    {"edges": [{}, None, 7, {"id": 1, "sections": [{}]}, {"sections": 7}, {"sources": [{}], "sections": [{"startPoint": {"x": "<"}, "endPoint": {}}]}]},
+    {"width": 0.005, "height": -0.001, "children": [{"x": 1.115, "y": 0.125, "width": 2.675, "height": 0.375}]},
+]
+
+
+class Pictures(unittest.TestCase):
+    def compare(self, documents):
+        for (placed, look), theirs in zip(documents, drawn_by_javascript(documents)):
+            mine = to_svg(placed, **look)
+            xml.fromstring(mine)
+            self.assertEqual(mine, theirs, json.dumps(placed)[:2000])
+
+    @with_node
+    @with_program
+    def test_random_documents_look_the_same(self):
+        of = random.Random(5)
+        documents = [{"id": f"r{at}", **level(of, "", 2)} for at in range(150)]
+        placed = list(layout_many(documents, program=PROGRAM))
+        self.compare([(it, {"arrows": at % 2 == 0}) for at, it in enumerate(placed)])
+
+    @with_node
+    @with_program
+    def test_the_examples_look_the_same(self):
+        documents = [json.loads((TOP / "examples" / f"{name}.json").read_text()) for name in ("diagram", "circuit")]
+        placed = [layout(it, program=PROGRAM) for it in documents]
+        self.compare([(it, {}) for it in placed])
+        self.assertEqual(to_svg(placed[0]), (TOP / "docs" / "diagram.svg").read_text())
+        self.assertEqual(to_svg(placed[1], arrows=False), (TOP / "docs" / "circuit.svg").read_text())
+
+    @with_node
+    def test_hostile_and_odd_values_look_the_same(self):
+        self.compare([(it, {}) for it in (*map(hostile, HOSTILE), *ODD)])
+
+    def test_half_of_a_pair_is_replaced(self):
+        xml.fromstring(to_svg(hostile("\ud800 alone \udc00")))
+
+    @with_program
+    def test_a_notebook_shows_a_result_as_its_picture(self):
+        placed = layout({"id": "r", "children": [{"id": "a", "width": 30, "height": 30}]}, program=PROGRAM)
+        self.assertIsInstance(placed, Placed)
+        self.assertEqual(placed._repr_svg_(), to_svg(placed))
+
+
+if __name__ == "__main__":
+    unittest.main()
