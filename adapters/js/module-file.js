@@ -1,9 +1,11 @@
 'use strict';
-// Where the module stands in Node: the file that ELK_MODULE names, else the package's own, else the repository's.
+// Where the module stands in Node: the file that ELK_MODULE names, else the package's own, else the repository's. ELK_MEMORY is
+// an upper limit of the program's memory, in bytes.
 
 const { existsSync, readFileSync } = require('node:fs');
 const path = require('node:path');
 const { gunzipSync, gzipSync } = require('node:zlib');
+const { withMemoryLimit } = require('./module');
 const { ProgramError } = require('./program-error');
 
 const NAME = 'elk.wasm.gz';
@@ -29,10 +31,12 @@ function bytesOfFile() {
   }
 }
 
-/** The module's bytes. */
+/** The module's bytes, with its limit. */
 function moduleBytes() {
   const bytes = bytesOfFile();
-  return isPacked(bytes) ? gunzipSync(bytes) : bytes;
+  const plain = isPacked(bytes) ? gunzipSync(bytes) : bytes;
+  const limit = process.env.ELK_MEMORY;
+  return limit ? withMemoryLimit(plain, Number(limit)) : plain;
 }
 
 /** The module as packages carry it. */

@@ -5,23 +5,32 @@ const { readFileSync } = require('node:fs');
 const path = require('node:path');
 const test = require('node:test');
 const ELK = require('../elk');
+const { WITH_MODULE } = require('../testing/module');
 const { PROGRAM, run, TOP, WITH_PROGRAM } = require('../testing/program');
+
+// Where a native program is named, it answers in place of the module.
+delete process.env.ELK_PROGRAM;
 
 const PUPPET = path.join(__dirname, '..', 'testing', 'puppet');
 
 const example = (name) => JSON.parse(readFileSync(path.join(TOP, 'examples', `${name}.json`), 'utf8'));
 
-/** A test that lays graphs out by the program. */
+/** A test that lays graphs out, by the native program and by the module. */
 function drawn(name, use) {
-  test(name, WITH_PROGRAM, async (t) => {
-    const program = PROGRAM;
-    const made = [];
-    await use((given) => {
-      made.push(new ELK({ program, ...given }));
-      return made.at(-1);
-    }, t);
-    made.forEach((elk) => elk.terminateWorker());
-  });
+  const engines = [
+    ['the program', { program: PROGRAM }, WITH_PROGRAM],
+    ['the module', {}, WITH_MODULE],
+  ];
+  for (const [engine, how, skip] of engines) {
+    test(`${name}: ${engine}`, skip, async (t) => {
+      const made = [];
+      await use((given) => {
+        made.push(new ELK({ ...how, ...given }));
+        return made.at(-1);
+      }, t);
+      made.forEach((elk) => elk.terminateWorker());
+    });
+  }
 }
 
 /** Freezes a graph whole, so that whoever writes into it fails. */
