@@ -9,7 +9,7 @@ from numbers import Integral, Real
 from typing import Any, Dict, Mapping, Optional
 
 from .errors import Refusal
-from .options import general_options, readable, with_general
+from .options import general_options, sent_options
 from .whole import make_port_whole, make_size_whole
 
 Element = Dict[str, Any]
@@ -108,6 +108,7 @@ class Sender:
         self._is_rounding = not (self._is_exact or is_placed)
         self._read = PLACED if is_placed else READ
         self._general = general_options(options)
+        self._rewrites = not self._is_exact or any(self._general.values())
 
     def line_of(self, document: Any) -> bytes:
         """The line that is sent for a document, with its line feed."""
@@ -122,7 +123,7 @@ class Sender:
             return json.dumps(json.loads(text)).encode() + b"\n"
 
     def _text_of(self, document: Any) -> str:
-        sent = document if self._is_exact and not self._general else self._node(document, True)
+        sent = self._node(document, True) if self._rewrites else document
         try:
             return _encode(sent)
         except ValueError:
@@ -156,9 +157,9 @@ class Sender:
         sent = dict(element) if self._is_exact else self._readable(element, kind)
         own = sent.get("layoutOptions", {})
         # What is no object of options is for the engine to refuse.
-        if (own or role in self._general) and isinstance(own, dict):
-            joined = with_general(own, self._general.get(role, []))
-            sent["layoutOptions"] = joined if self._is_exact else readable(joined)
+        if (own or self._general[role] or "properties" in element) and isinstance(own, dict):
+            options = sent_options(element, self._general[role])
+            sent["layoutOptions"] = {**own, **options} if self._is_exact else plain(options)
         return sent
 
     def _readable(self, element: Element, kind: str) -> Element:

@@ -3,7 +3,7 @@
 from __future__ import annotations
 
 from functools import lru_cache
-from typing import Any, Dict, Iterable, List, Mapping, Optional, Set, Tuple
+from typing import Any, Dict, Mapping, Optional, Set, Tuple
 
 from .shared import table
 
@@ -40,33 +40,38 @@ def option_name(key: str) -> Optional[str]:
     return next(iter(names)) if len(names) == 1 and names <= _readers().keys() else None
 
 
-def engine_key(key: str) -> str:
-    """The key under which the engine reads an option: the same, but for one that is meant by its ending."""
-    name = option_name(key) or key
-    return key if key in {prefix + name for prefix in table("options")["prefixes"]} else name
+# Options by their names, each with the key under which the engine finds it and its value.
+Carried = Dict[str, Tuple[str, Any]]
 
 
-# For each role the names, keys and values of the options that its elements read.
-General = Dict[str, List[Tuple[str, str, Any]]]
+@lru_cache(maxsize=4096)
+def _engine_key(key: str, name: str) -> str:
+    """The key under which the engine finds an option: the same, or else the full name."""
+    prefixes = table("options")["prefixes"]
+    return key if key in [prefix + name for prefix in prefixes] else str(prefixes[0] + name)
 
 
-def general_options(options: Optional[Mapping[str, Any]]) -> General:
+def carried_by(*given: Any) -> Carried:
+    """The options that some objects carry; the later count above the earlier, and the longest of several keys."""
+    carried: Carried = {}
+    for options in given:
+        for key in sorted(options, key=len) if isinstance(options, Mapping) else ():
+            name = option_name(key)
+            if name:
+                carried[name] = _engine_key(key, name), options[key]
+    return carried
+
+
+def general_options(options: Optional[Mapping[str, Any]]) -> Dict[str, Carried]:
     """The options of a call by the role of the elements that read them."""
-    general: General = {}
-    for key, value in (options or {}).items():
-        name = option_name(key)
-        for role, readers in READS.items():
-            if name and _readers()[name] in readers:
-                general.setdefault(role, []).append((name, engine_key(key), value))
-    return general
+    carried = carried_by(options)
+    return {
+        role: {name: option for name, option in carried.items() if _readers()[name] in readers}
+        for role, readers in READS.items()
+    }
 
 
-def with_general(own: Mapping[str, Any], general: Iterable[Tuple[str, str, Any]]) -> Dict[str, Any]:
-    """An element's options with those of its role that it doesn't carry itself, under whatever spelling."""
-    carried = {option_name(key) for key in own}
-    return {**own, **{key: value for name, key, value in general if name not in carried}}
-
-
-def readable(options: Mapping[str, Any]) -> Dict[str, Any]:
-    """The options that the engine reads, wherever they stand, under keys that it knows."""
-    return {engine_key(key): value for key, value in options.items() if option_name(key)}
+def sent_options(element: Mapping[str, Any], general: Carried) -> Dict[str, Any]:
+    """The options that an element is sent with: those that it carries, and the general ones that it doesn't carry."""
+    carried = {**general, **carried_by(element.get("properties"), element.get("layoutOptions"))}
+    return dict(carried.values())

@@ -112,8 +112,8 @@ class Sent(unittest.TestCase):
         for key, key_sent in (
             ("elk.direction", "elk.direction"),
             ("org.eclipse.elk.direction", "org.eclipse.elk.direction"),
-            ("nodeNodeBetweenLayers", "layered.spacing.nodeNodeBetweenLayers"),
-            ("nodePlacement.strategy", "layered.nodePlacement.strategy"),
+            ("nodeNodeBetweenLayers", "org.eclipse.elk.layered.spacing.nodeNodeBetweenLayers"),
+            ("nodePlacement.strategy", "org.eclipse.elk.layered.nodePlacement.strategy"),
             ("strategy", None),
             ("thoroughness", None),
             ("elk.directon", None),
@@ -122,6 +122,17 @@ class Sent(unittest.TestCase):
             with self.subTest(key):
                 found = sent({"id": "r", "layoutOptions": {key: "1"}})["layoutOptions"]
                 self.assertEqual(list(found), [] if key_sent is None else [key_sent])
+
+    def test_properties_stand_for_options_and_the_longest_of_several_keys_counts(self):
+        for properties, options, found in (
+            ({"direction": "UP"}, {}, {"direction": "UP"}),
+            ({"elk.direction": "UP"}, {"direction": "DOWN"}, {"direction": "DOWN"}),
+            (None, {"direction": "UP", "elk.direction": "DOWN"}, {"elk.direction": "DOWN"}),
+            ("DOWN", {"spacing.nodeNode": 5.0}, {"spacing.nodeNode": 5}),
+        ):
+            with self.subTest(found):
+                document = {"id": "r", "properties": properties, "layoutOptions": options}
+                self.assertEqual(sent(document)["layoutOptions"], found)
 
     @needs("numpy", "pandas")
     def test_numbers_of_numpy_and_pandas_are_taken(self):

@@ -1,0 +1,126 @@
+"""The command, which lays out files into a folder."""
+
+import json
+import os
+import shutil
+import subprocess
+import sys
+import tempfile
+import unittest
+from pathlib import Path
+
+from .program import PACKAGE, PROGRAM, chain, with_program
+from elk_layout import to_svg
+
+
+class Command(unittest.TestCase):
+    def setUp(self):
+        folder = tempfile.TemporaryDirectory()
+        self.addCleanup(folder.cleanup)
+        self.folder = Path(folder.name)
+
+    def run_command(self, *words, **more):
+        environment = {**os.environ, "PYTHONPATH": str(PACKAGE), "ELK_PROGRAM": PROGRAM, **more}
+        return subprocess.run(
+            [sys.executable, "-m", "elk_layout", *map(str, words)],
+            **{"stdout": subprocess.PIPE, "stderr": subprocess.PIPE, "cwd": self.folder, "env": environment},
+            text=True,
+        )
+
+    def file(self, name, document):
+        path = self.folder / name
+        path.parent.mkdir(parents=True, exist_ok=True)
+        path.write_text(document if isinstance(document, str) else json.dumps(document))
+        return name
+
+    @with_program
+    def test_files_come_out_as_the_program_writes_them_with_pictures_where_they_are_asked_for(self):
+        files = [self.file(f"in/{at}/{at}.json", chain(at)) for at in range(1, 8)]
+        (self.folder / "list").write_text("\n".join(files) + "\n")
+        for jobs, words in ((1, files), (3, ["@list"])):
+            ended = self.run_command("layout", *words, "-o", f"out{jobs}", "--svg", "--jobs", jobs)
+            self.assertEqual((ended.returncode, ended.stdout, ended.stderr), (0, "7 of 7 files laid out\n", ""))
+            for file in files:
+                placed = (self.folder / f"out{jobs}" / file[3:]).read_text()
+                own = subprocess.run([PROGRAM, "layout"], input=(self.folder / file).read_bytes(), stdout=subprocess.PIPE)
+                self.assertEqual(placed, own.stdout.decode(), file)
+                picture = (self.folder / f"out{jobs}" / file[3:]).with_suffix(".svg")
+                self.assertEqual(picture.read_text(), to_svg(json.loads(placed)))
+            self.assertEqual((self.folder / f"out{jobs}" / "refused.jsonl").read_text(), "")
+        written = [it.name for it in (self.folder / "out1").rglob("*") if it.is_file()]
+        self.assertEqual(len(written), 15)
+
+    @with_program
+    def test_a_report_tells_which_files_were_refused_and_why(self):
+        files = [
+            self.file("good.json", chain(3)),
+            self.file("double.json", {"id": "é", "children": [{"id": "é"}]}),
+            self.file("fraction.json", {"id": 1, "layoutOptions": {"elk.spacing.nodeNode": 0.5}}),
+            self.file("broken.json", '{"id":\n  5,, }'),
+            self.file("again.json", {"id": 5, "children": [{"id": 5}]}),
+            "missing.json",
+        ]
+        for jobs in (1, 2):
+            ended = self.run_command("layout", *files, "-o", "out", "--jobs", jobs)
+            self.assertEqual((ended.returncode, ended.stderr), (2, ""))
+            self.assertEqual(
+                ended.stdout.splitlines(),
+                [
+                    *("1 of 6 files laid out", "1 not read or not written", "1 refused by rule 1, NotJson"),
+                    *("1 refused by rule 2, NotWhole", "2 refused by rule 7, DoubleId"),
+                    "which and why: out/refused.jsonl",
+                ],
+            )
+            report = [json.loads(it) for it in (self.folder / "out" / "refused.jsonl").read_text().splitlines()]
+            self.assertEqual([it["file"] for it in report], files[1:])
+            self.assertEqual([it.get("rule") for it in report], [7, 2, 1, 7, None])
+            self.assertEqual([it.get("id") for it in report], ["é", None, None, 5, None])
+            self.assertIn('the id "é" stands twice', report[0]["reason"])
+            self.assertIn("layoutOptions", report[1]["reason"])
+            self.assertIn("line 2 column 5", report[2]["reason"])
+        self.assertEqual(sorted(it.name for it in (self.folder / "out").iterdir()), ["good.json", "refused.jsonl"])
+
+    @with_program
+    def test_options_hold_where_a_document_has_none(self):
+        self.file("a.json", chain(2))
+        ended = self.run_command("layout", "a.json", "-o", "out", "--option", "elk.direction=DOWN")
+        self.assertEqual(ended.returncode, 0, ended.stderr)
+        first, second = json.loads((self.folder / "out" / "a.json").read_text())["children"]
+        self.assertEqual(first["x"], second["x"])
+
+    def test_words_that_are_not_taken_are_told(self):
+        self.file("a.json", chain(2))
+        self.file("b/a.json", chain(2))
+        for words, note in (
+            ([], "required"),
+            (["layout", "a.json"], "-o/--output"),
+            (["layout", "a.json", "-o", "."], "is one of the given files"),
+            (["layout", "a.json", "a.json", "-o", "out", "--jobs", "0"], "--jobs is at least 1"),
+            (["layout", "a.json", "a.txt", "-o", "out"], "would both be written"),
+            (["layout", "a.json", "-o", "a.json"], "exists"),
+        ):
+            with self.subTest(words):
+                ended = self.run_command(*words)
+                self.assertEqual((ended.returncode, ended.stdout), (5, ""))
+                self.assertIn(note, ended.stderr)
+
+    def test_a_program_that_is_not_there_is_told_once(self):
+        self.file("a.json", chain(2))
+        shutil.copytree(PACKAGE / "elk_layout", self.folder / "elk_layout")
+        ended = self.run_command("layout", "a.json", "-o", "out", ELK_PROGRAM="", PATH="/nowhere", PYTHONPATH=".")
+        self.assertEqual((ended.returncode, ended.stdout), (70, ""))
+        self.assertIn("the program elk isn't found", ended.stderr)
+
+    @with_program
+    def test_a_copy_of_the_folder_and_an_archive_of_it_work_by_themselves(self):
+        away = self.folder / "away"
+        shutil.copytree(PACKAGE / "elk_layout", away / "elk_layout")
+        archive = shutil.make_archive(str(self.folder / "archive"), "zip", away, "elk_layout")
+        self.file("a.json", chain(2))
+        for path in (away, archive):
+            ended = self.run_command("layout", "a.json", "-o", "out", "--svg", PYTHONPATH=str(path))
+            self.assertEqual((ended.returncode, ended.stderr), (0, ""), path)
+
+
+if __name__ == "__main__":
+    unittest.main()
