@@ -10,6 +10,7 @@
 from .calls import check, close, layout, layout_many, replies
 from .document import Placed
 from .errors import ElkError, ProgramError, Refusal
+from .graphs import from_networkx, positions, to_networkx
 from .junctions import junction_points
 from .svg import to_svg
 from .verdict import Verdict
@@ -24,9 +25,12 @@ __all__ = [
     "Verdict",
     "check",
     "close",
+    "from_networkx",
     "junction_points",
     "layout",
     "layout_many",
+    "positions",
     "replies",
+    "to_networkx",
     "to_svg",
 ]
