@@ -10,6 +10,7 @@ import unittest
 
 import corpus
 import counting
+import slanted
 
 sys.dont_write_bytecode = True
 TOOLS = pathlib.Path(__file__).resolve().parent.parent / "tools"
@@ -74,6 +75,49 @@ class Counting(unittest.TestCase):
         self.assertEqual(0, counting.counts(outer)["crossings"])
         inner["x"] = 0
         self.assertEqual(1, counting.counts(outer)["crossings"])
+
+
+SLANTED = (
+    ("two lines that cross", 1, "0,0 10,10", "0,10 10,0"),
+    ("a line that ends on another touches it", 0, "0,0 10,10", "0,10 5,5"),
+    ("a bend on a line, and on to its other side", 1, "0,0 10,0", "2,5 5,0 8,-5"),
+    ("a bend on a line, and back", 0, "0,0 10,0", "2,5 5,0 8,5"),
+    ("two bends at one point that pass through each other", 1, "0,0 5,5 10,2", "0,10 5,5 10,0"),
+    ("two bends at one point that turn away from each other", 0, "0,0 5,5 10,0", "0,10 5,5 10,10"),
+    ("lines from one point", 0, "0,0 10,10", "0,0 10,5"),
+    ("lines that share a piece and part", 0, "0,0 5,0 10,5", "0,0 5,0 10,-5"),
+    ("a line crosses each of two that share a piece", 2, "0,0 5,0 10,5", "0,0 5,0 10,-5", "3,-5 3,5"),
+    ("a line that crosses itself", 0, "0,0 10,10 10,0 0,10"),
+    ("two lines that cross three times", 3, "0,0 12,0", "1,-1 3,1 6,-1 9,1"),
+    ("a bend on a straight line is none", 1, "0,0 5,5 10,10", "0,10 5,5 10,0"),
+)
+
+
+class Slanted(unittest.TestCase):
+    def test_worked_lines(self):
+        for name, due, *routes in SLANTED:
+            with self.subTest(name):
+                lines = [[tuple(map(float, point.split(","))) for point in route.split()] for route in routes]
+                self.assertEqual(due, slanted.crossings(lines))
+                self.assertEqual(due, slanted.crossings([line[::-1] for line in lines[::-1]]))
+
+    def test_routes_with_right_angles_have_the_crossings_of_the_other_count(self):
+        draws = corpus.Draws("routes")
+        for at in range(200):
+            routes = [staircase(draws) for _ in range(draws.between(2, 8))]
+            with self.subTest(f"drawing {at}"):
+                due = counting.crossings([counting.Route(counting.tidy(points), (), None) for points in routes])
+                self.assertEqual(due, slanted.crossings(routes))
+
+
+def staircase(draws):
+    """A route of three to seven pieces. No two routes have a coordinate in common, so none of them touch."""
+    points, axis = [(draws.chance(), draws.chance())], draws.below(2)
+    for _ in range(draws.between(3, 7)):
+        x, y = points[-1]
+        points.append((draws.chance(), y) if axis else (x, draws.chance()))
+        axis = 1 - axis
+    return [(round(1e6 * x), round(1e6 * y)) for x, y in points]
 
 
 class Quality(unittest.TestCase):
