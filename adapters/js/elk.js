@@ -56,8 +56,10 @@ class ELK {
     const how = { numbers: this.#numbers, general: layoutOptions ?? {} };
     const draft = draftOf(placed, how);
     const document = documentOf(placed, how);
-    const { reply, seconds } = await this.#engine.ask(JSON.stringify(document));
-    place(placed, answerOf(reply, document, draft), draft);
+    const text = JSON.stringify(document);
+    const { reply, seconds } = await this.#engine.ask(text);
+    const { owners } = draft;
+    place(placed, answerOf(reply, text, { graph, document, owners, general: how.general }), draft);
     for (const [edge, points] of junctionPoints(placed)) {
       edge.junctionPoints = points;
     }
@@ -93,8 +95,8 @@ class ELK {
   }
 }
 
-function answerOf(reply, document, { owners }) {
-  const refusal = refusalOf(reply, document, owners);
+function answerOf(reply, text, call) {
+  const refusal = refusalOf(reply, text, call);
   if (refusal) {
     throw refusal;
   }

@@ -32,4 +32,7 @@ function meanings(key) {
   return NAMES.has(name) ? [name] : BY_ENDING.get(key) ?? [];
 }
 
-module.exports = { ALL_NAMES, meanings };
+/** What a key without a prefix may be, to mean one option. */
+const CLEAR_KEYS = [...BY_ENDING].filter(([ending, names]) => names.length === 1 && !ending.includes('elk.')).map(([ending]) => ending);
+
+module.exports = { ALL_NAMES, CLEAR_KEYS, meanings };

@@ -1,0 +1,77 @@
+'use strict';
+// The faults of a graph that a call was given, found in what was sent for it, and told in the caller's own words.
+
+const { faultsOf } = require('./faults');
+const { isObject } = require('./levels');
+const { carriedBy } = require('./options');
+
+const valueAt = (root, steps) => steps.reduce((value, step) => value?.[step], root);
+
+const isLost = (value) => typeof value === 'number' && !Number.isFinite(value);
+
+/** The steps to the reference of an edge of several ends that was sent as the end of a pair. */
+function stepsToEnd(edge, { steps, told }) {
+  const name = ['sources', 'targets'].find((it) => Array.isArray(edge.value?.[it]) && edge.value[it].includes(told.found));
+  return name ? [...edge.steps, name, edge.value[name].indexOf(told.found)] : steps;
+}
+
+/** The steps to an option under the key that the caller gave it. */
+function stepsToOption(element, name, steps, general) {
+  const key = isObject(element) ? carriedBy(element).get(name)?.key : undefined;
+  if (key === undefined) {
+    return { steps: ['layoutOptions', carriedBy({ layoutOptions: general }).get(name)?.key ?? steps.at(-1)], isOfCall: true };
+  }
+  const holder = isObject(element.layoutOptions) && Object.hasOwn(element.layoutOptions, key) ? 'layoutOptions' : 'properties';
+  return { steps: [...steps.slice(0, -2), holder, key] };
+}
+
+/**
+ * Turns what a rule finds in a sent document into what it finds in the graph.
+ * @param {object} graph the caller's
+ * @param {{ owners?: Map<unknown, unknown>, general?: object }} sent the caller's id for each id that only stands in
+ *   what was sent, and the options of the call
+ */
+function originIn(graph, { owners = new Map(), general = {} }) {
+  const ownerOf = (element, context) =>
+    context.elements.find(({ kind, value }) => value?.id === owners.get(element.value.id) && kind === element.kind) ??
+    context.elements.find(({ value }) => value?.id === owners.get(element.value.id)) ??
+    element;
+
+  return (find, context) => {
+    const { key, element, told = {} } = find;
+    const isMade = element !== undefined && owners.has(element.value?.id);
+    const owner = isMade ? ownerOf(element, context) : element;
+    const names = find.steps.slice(element?.steps.length ?? 0);
+    const steps = isMade ? [...owner.steps, ...(owner.kind === element.kind ? names : [])] : find.steps;
+    const given = owner && { steps: owner.steps, value: valueAt(graph, owner.steps) };
+    const lost = valueAt(graph, steps);
+    const turned = {
+      ...find,
+      steps,
+      ...(find.id !== undefined && isMade && { id: owners.get(find.id) }),
+      ...(isLost(lost) && { told: { ...told, found: lost } }),
+    };
+    if (key === 'unknown' || key === 'noPort') {
+      return { ...turned, steps: stepsToEnd(given, turned) };
+    }
+    if (key === 'option') {
+      return { ...turned, ...stepsToOption(given.value, told.option.name, steps, general) };
+    }
+    return key === 'ends' && told.found > 1 ? { ...turned, key: 'manyToMany' } : turned;
+  };
+}
+
+/**
+ * All faults of a graph as a call takes it: fractions are rounded before, options have any clear name, and an edge may
+ * have several ends at one side.
+ * @param {object} graph the caller's
+ * @param {object} document what was sent for it
+ * @param {{ owners?: Map<unknown, unknown>, general?: object }} [sent]
+ * @returns {import('./faults').Fault[]}
+ */
+function faultsOfCall(graph, document, sent = {}) {
+  // What JSON has no word for is sent as null, or not at all.
+  return faultsOf(JSON.parse(JSON.stringify(document)), { origin: originIn(graph, sent) });
+}
+
+module.exports = { faultsOfCall };

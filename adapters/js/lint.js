@@ -1,0 +1,67 @@
+'use strict';
+// All that can be said of the text of a document before it is laid out, each with its line and column.
+
+const { faultsOfCall } = require('./call-faults');
+const limits = require('./data/limits.json');
+const { copyOf, documentOf } = require('./document');
+const { faultsOf, notJson, tooLong } = require('./faults');
+const { JsonFault, linesOf, readJson } = require('./jsontext');
+const { draftOf } = require('./stages');
+const { doubleMember, warningsOf } = require('./warnings');
+
+const byteLength = (text) => new TextEncoder().encode(text).length;
+
+/** The faults of a value that a call of the adapter is given. */
+function faultsAsCall(value, { numbers = 'ceil', layoutOptions: general = {} }) {
+  const how = { numbers, general };
+  const graph = copyOf(value);
+  const { owners } = draftOf(graph, how);
+  return faultsOfCall(value, documentOf(graph, how), { owners, general });
+}
+
+function readAll(text, lineAt) {
+  try {
+    return readJson(text);
+  } catch (error) {
+    if (!(error instanceof JsonFault)) {
+      throw error;
+    }
+    return { fault: notJson(error, lineAt(error.at)) };
+  }
+}
+
+/**
+ * The faults of the text of a document, in the order of the rules.
+ * @param {string} text
+ * @param {{ call?: { numbers?: 'ceil' | 'exact', layoutOptions?: object } }} [given] `call` where it is told what a
+ *   call of the adapter refuses, which takes more than the program
+ * @returns {(import('./faults').Fault & { line?: number, column?: number, source?: string, mark?: number })[]}
+ */
+function faultsOfText(text, { call } = {}) {
+  return lint(text, { call }).faults;
+}
+
+/**
+ * The faults and the warnings of the text of a document, each with its line, its column and the line itself.
+ * @param {string} text
+ * @param {{ call?: { numbers?: 'ceil' | 'exact', layoutOptions?: object } }} [given]
+ * @returns {{ faults: object[], warnings: object[] }}
+ */
+function lint(text, { call } = {}) {
+  const bytes = byteLength(text);
+  if (bytes > limits.bytes) {
+    return { faults: [tooLong(bytes)], warnings: [] };
+  }
+  const lineAt = linesOf(text);
+  const { fault, value, fractions, doubles, placeOf } = readAll(text, lineAt);
+  if (fault) {
+    return { faults: [fault], warnings: [] };
+  }
+  const placed = (part) => (it) => ({ ...it, ...lineAt(placeOf(it.steps, part)) });
+  const faults = call ? faultsAsCall(value, call) : faultsOf(value, { fractions });
+  const twice = doubles.map(({ steps, at }) => ({ ...doubleMember(steps), ...lineAt(at) }));
+  const warnings = warningsOf(value, { isCall: call !== undefined, general: call?.layoutOptions });
+  return { faults: faults.map(placed('value')), warnings: [...twice, ...warnings.map(placed('name'))] };
+}
+
+module.exports = { faultsOfText, lint };

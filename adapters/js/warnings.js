@@ -1,0 +1,170 @@
+'use strict';
+// What a document has without the effect that was meant: options that nothing reads, and members that look like those
+// that are read. The drawing is made all the same.
+
+const FAULTS = require('./data/faults.json');
+const { adapter, prefixes } = require('./data/options.json');
+const { elementsIn } = require('./elements');
+const { ALL_NAMES, CLEAR_KEYS, meanings } = require('./endings');
+const { filled, pathOf, textOf } = require('./faults');
+const { isObject } = require('./levels');
+const { nearest } = require('./near');
+const { OPTIONS } = require('./options');
+
+const { members: MEMBERS, readers: READERS, kinds: KINDS, warnings: WORDS } = FAULTS;
+
+const MEANT = Object.fromEntries(Object.entries(FAULTS.meant).map(([kind, names]) => [kind, new Map(Object.entries(names))]));
+
+// Names of this engine's options come first, where several are as near.
+const NEAR_KEYS = [...OPTIONS.map(({ name }) => name), ...ALL_NAMES, ...CLEAR_KEYS];
+
+const READ = new Map([...adapter, ...OPTIONS].map(({ name, at }) => [name, at]));
+
+const PLACES = { node: ['levels', 'nodes'], port: ['ports'], edge: ['edges'] };
+
+// So many names of an unclear key are told.
+const MOST_NAMES = 4;
+
+// A document has few keys and many elements.
+const MOST_KEPT = 10_000;
+
+/** A function of two texts that looks up what it has found before. */
+function remembered(find) {
+  const kept = new Map();
+  return (one, other) => {
+    const key = `${other} ${one}`;
+    if (!kept.has(key)) {
+      if (kept.size >= MOST_KEPT) {
+        kept.clear();
+      }
+      kept.set(key, find(one, other));
+    }
+    return kept.get(key);
+  };
+}
+
+const prefixOf = (key) => /^((?:org\.eclipse\.)?elk\.)?/.exec(key)[0];
+
+const bareOf = (key) => key.slice(prefixOf(key).length);
+
+/** The key that was meant, with the prefix that the written one has. */
+function nearKey(key) {
+  const bare = bareOf(key);
+  // It may be too short for its prefix, be written wrong, or have something else before its last point.
+  const meant = [bare, nearest(bare, NEAR_KEYS) ?? '', bare.split('.').at(-1)].map(meanings);
+  const [name] = meant.find((names) => names.length === 1) ?? [];
+  return name === undefined ? undefined : prefixOf(key) + name;
+}
+
+function unclear(names) {
+  const told = names.slice(0, MOST_NAMES).map((name) => `elk.${name}`);
+  return ['unclearOption', { names: [...told, ...(names.length > MOST_NAMES ? ['others'] : [])].join(', ') }];
+}
+
+const isWhole = (key, name) => prefixes.some((prefix) => key === prefix + name);
+
+const OWN = new Set(OPTIONS.map(({ name }) => name));
+
+/** What keeps an option from its effect on the program, which the call of an adapter helps. */
+function programWarning(key, option) {
+  if (!OWN.has(option)) {
+    return ['adapterOption', { option }];
+  }
+  return isWhole(key, option) ? undefined : ['shortOption', { option, near: `elk.${option}` }];
+}
+
+/** What keeps an option from its effect in a call: the sentence on it and what fills that; nothing where it has one. */
+const optionWarning = remembered((key, kind) => {
+  const names = meanings(key);
+  if (names.length !== 1) {
+    const several = names.length > 0 ? names : meanings(bareOf(key));
+    return several.length > 1 ? unclear(several) : ['unknownOption', { near: nearKey(key) }];
+  }
+  const [option] = names;
+  const at = READ.get(option);
+  if (at === undefined) {
+    return ['foreignOption', { option }];
+  }
+  return PLACES[kind].includes(at) ? undefined : ['misplacedOption', { option, readers: READERS[at], kind: KINDS[kind] }];
+});
+
+/**
+ * @typedef {object} Warning
+ * @property {string} kind the name of its sentence in data/faults.json
+ * @property {string | number | bigint} [id] of the element
+ * @property {(string | number)[]} steps the members that lead to it
+ * @property {string} path the same as a script would write it
+ * @property {string} [near] what was meant, perhaps
+ * @property {string} [option] the name of the option
+ * @property {string} message
+ */
+
+/** @returns {Warning} */
+function toldOf(kind, { steps, id, near, isOfCall, ...told }) {
+  const path = isOfCall ? filled(FAULTS.ofCall, { path: pathOf(steps) }) : pathOf(steps);
+  const texts = { ...told, path, near: near === undefined ? '' : filled(FAULTS.near, { near: textOf(near) }) };
+  return {
+    ...{ kind, id, steps, path },
+    ...(near !== undefined && { near }),
+    ...(told.option !== undefined && { option: told.option }),
+    message: filled(WORDS[kind], texts),
+  };
+}
+
+function* optionsOf(element, holder, isCall) {
+  const { kind, value } = element;
+  for (const key of Object.keys(value[holder])) {
+    const [warning, told] = optionWarning(key, kind) ?? (isCall ? [] : programWarning(key, meanings(key)[0]) ?? []);
+    if (warning) {
+      yield toldOf(warning, { steps: [...element.steps, holder, key], id: value.id, ...told });
+    }
+  }
+}
+
+/** The member that was meant by one that ELK doesn't have at this kind of element. */
+const nearMember = remembered((name, kind) =>
+  MEMBERS[kind].includes(name) ? undefined : MEANT[kind].get(name) ?? nearest(name, MEMBERS[kind]),
+);
+
+function* membersOf(element) {
+  const { kind, value } = element;
+  for (const name of Object.keys(value)) {
+    const near = nearMember(name, kind);
+    // Where the member itself is there, the other is an editor's own.
+    if (near !== undefined && !(near in value)) {
+      yield toldOf('unknownMember', { steps: [...element.steps, name], id: value.id, near });
+    }
+  }
+}
+
+/**
+ * What a document has without effect, in document order.
+ * @param {unknown} document
+ * @param {object} [how]
+ * @param {boolean} [how.isCall] whether a call of the adapter is given it, rather than the program
+ * @param {object} [how.general] the options of that call, which come first
+ * @returns {Warning[]}
+ */
+function warningsOf(document, { isCall = true, general = {} } = {}) {
+  const found = [];
+  for (const key of Object.keys(general)) {
+    // They hold for every kind of element, and so stand nowhere wrong.
+    const [warning, told] = optionWarning(key, 'node') ?? [];
+    if (warning && warning !== 'misplacedOption') {
+      found.push(toldOf(warning, { steps: ['layoutOptions', key], isOfCall: true, ...told }));
+    }
+  }
+  const holders = isCall ? ['layoutOptions', 'properties'] : ['layoutOptions'];
+  for (const element of elementsIn(document).filter(({ value }) => isObject(value))) {
+    for (const holder of holders.filter((name) => isObject(element.value[name]))) {
+      found.push(...optionsOf(element, holder, isCall));
+    }
+    found.push(...membersOf(element));
+  }
+  return found;
+}
+
+/** The warning of a member that stands twice in a text. */
+const doubleMember = (steps) => toldOf('doubleMember', { steps });
+
+module.exports = { doubleMember, warningsOf };
