@@ -242,10 +242,10 @@ class Laid(unittest.TestCase):
         if subprocess.run(["node", "-e", ""], stderr=subprocess.DEVNULL).returncode:
             self.skipTest("node isn't there")
         script = """
-            const { Refusal } = require(process.argv[1] + '/adapters/js/elk.js');
+            const { messageOf } = require(process.argv[1] + '/adapters/js/faults.js');
             for (let rule = 0; rule < 15; rule += 1) {
               for (const id of ['a "b" {it}', 5, undefined]) {
-                console.log(new Refusal({ rule, name: 'Name', id }, rule === 2 ? 'x is 1.5' : undefined).message);
+                console.log(messageOf({ rule, name: 'Name', id }, rule === 2 ? 'x is 1.5' : undefined));
               }
             }"""
         told = subprocess.run(["node", "-e", script, str(TOP)], stdout=subprocess.PIPE, check=True).stdout.decode()
