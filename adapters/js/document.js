@@ -1,7 +1,7 @@
 'use strict';
 // The document that the engine reads of a graph, and its answer put back into the graph.
 
-const { endIds, isObject, Levels } = require('./levels');
+const { elementsOf, endIds, isObject, Levels } = require('./levels');
 const { withWholePlace, withWholeSize } = require('./numbers');
 const { sentOptions } = require('./options');
 
@@ -103,38 +103,46 @@ function placeEdge(edge, answer) {
   edge.sections = answer.sections;
 }
 
-/** The node to whose content the points of each edge are relative, which ELK tells with it. */
+/** Tells with each edge the node to whose content its points are relative, as ELK does. */
 function tellContainers(graph) {
   const levels = new Levels(graph);
   for (const declared of levels.declared) {
-    const { edge } = declared;
     const container = levels.levelOf(declared).id;
     if (container !== undefined) {
-      edge.container = container;
+      declared.edge.container = container;
     }
   }
-  return levels.declared;
 }
 
-/** Tells the two ends of an edge with its one section; several sections have told theirs. */
-function tellEnds(edge) {
-  if (edge.sections.length === 1) {
-    const [incomingShape, outgoingShape] = ['source', 'target'].map((end) => endIds(edge, end)[0]);
-    edge.sections = [{ ...edge.sections[0], incomingShape, outgoingShape }];
+/** Tells the two ends of each edge with its one section; several sections have told theirs. */
+function tellEnds(node) {
+  for (const edge of elementsOf(node.edges)) {
+    if (edge.sections.length === 1) {
+      const [incomingShape, outgoingShape] = ['source', 'target'].map((end) => endIds(edge, end)[0]);
+      edge.sections = [{ ...edge.sections[0], incomingShape, outgoingShape }];
+    }
   }
+  elementsOf(node.children).forEach(tellEnds);
 }
 
 /**
  * Writes the engine's answer into a graph from which the document was made.
  * @param {object} graph changed in place
  * @param {object} answer the placed document
- * @param {import('./stages/draft').Draft} [draft] what was done with the graph before
  */
-function place(graph, answer, draft) {
+function place(graph, answer) {
   placeNode(graph, answer);
-  const declared = tellContainers(graph);
-  draft?.finish();
-  declared.forEach(({ edge }) => tellEnds(edge));
+  tellContainers(graph);
 }
 
-module.exports = { copyOf, documentOf, place, READ };
+/**
+ * Makes a placed graph the caller's again.
+ * @param {object} graph changed in place
+ * @param {import('./stages/draft').Draft} draft what was done with it before it was placed
+ */
+function finish(graph, draft) {
+  draft.finish();
+  tellEnds(graph);
+}
+
+module.exports = { copyOf, documentOf, finish, place, READ };

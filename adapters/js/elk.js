@@ -1,13 +1,13 @@
 'use strict';
 // The call that users of elkjs know.
 
-const { copyOf, documentOf, place } = require('./document');
+const { copyOf, documentOf, finish, place } = require('./document');
 const { engineOf } = require('./engines');
 const { junctionPoints } = require('./junctions');
 const { LAYOUT_ALGORITHMS, LAYOUT_CATEGORIES, LAYOUT_OPTIONS } = require('./options');
 const { ProgramError } = require('./program-error');
 const { Refusal, refusalOf } = require('./refusals');
-const { draftOf } = require('./stages');
+const { draftOf, lacksOf } = require('./stages');
 
 const NUMBERS = ['ceil', 'exact'];
 
@@ -51,15 +51,8 @@ class ELK {
     if (!graph) {
       throw new Error("Missing mandatory parameter 'graph'.");
     }
-    // Taken now, so that the caller may go on with the graph while the call waits.
-    const placed = copyOf(graph);
-    const how = { numbers: this.#numbers, general: layoutOptions ?? {} };
-    const draft = draftOf(placed, how);
-    const document = documentOf(placed, how);
-    const text = JSON.stringify(document);
-    const { reply, seconds } = await this.#engine.ask(text);
-    const { owners } = draft;
-    place(placed, answerOf(reply, text, { graph, document, owners, general: how.general }), draft);
+    const how = { numbers: this.#numbers, general: layoutOptions ?? {}, lacks: new Map() };
+    const { placed, seconds } = await this.#place(graph, how);
     for (const [edge, points] of junctionPoints(placed)) {
       edge.junctionPoints = points;
     }
@@ -72,6 +65,30 @@ class ELK {
       };
     }
     return placed;
+  }
+
+  /**
+   * The placed graph, and the seconds that it took. Levels that turn out too small for their labels are laid out once
+   * more with the room that they lack.
+   */
+  async #place(graph, how) {
+    // Taken now, so that the caller may go on with the graph while the call waits.
+    const placed = copyOf(graph);
+    const draft = draftOf(placed, how);
+    const isLast = draft.leasts.size === 0 || how.lacks.size > 0;
+    const again = isLast ? undefined : copyOf(graph);
+    const document = documentOf(placed, how);
+    const text = JSON.stringify(document);
+    const { reply, seconds } = await this.#engine.ask(text);
+    const { owners } = draft;
+    place(placed, answerOf(reply, text, { graph, document, owners, general: how.general }));
+    const lacks = isLast ? undefined : lacksOf(draft);
+    if (lacks) {
+      const drawn = await this.#place(again, { ...how, lacks });
+      return { ...drawn, seconds: seconds + drawn.seconds };
+    }
+    finish(placed, draft);
+    return { placed, seconds };
   }
 
   /** All options that the engine reads. */

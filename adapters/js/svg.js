@@ -110,9 +110,14 @@ function sideOf(port, node) {
   return Object.keys(beyond).reduce((best, side) => (beyond[side] > beyond[best] ? side : best));
 }
 
-/** The label of a port stands within its node, beside the port. */
+/** The labels of a port where the document places them; else the first stands within the node, beside the port. */
 function portText(port, node, { left, top }) {
-  const [label] = labelsOf(port, false);
+  const labels = labelsOf(port, false);
+  if (labels.some(isPlacedLabel)) {
+    const place = { left: left + numberOr0(port.x), top: top + numberOr0(port.y) };
+    return labels.filter(isPlacedLabel).map((label) => placedLabel(label, place)).join('');
+  }
+  const [label] = labels;
   if (!label) {
     return '';
   }
@@ -249,6 +254,15 @@ function drawnEdges(levels, placed, arrows) {
   return levels.declared.map((declared) => edgeOf(declared, { levels, joints, sharp, arrows })).filter(Boolean);
 }
 
+/** The labels of edges that the document places. */
+function drawnEdgeLabels(levels) {
+  return levels.declared.flatMap((declared) =>
+    labelsOf(declared.edge, false)
+      .filter(isPlacedLabel)
+      .map((label) => placedLabel(label, levels.places.get(levels.levelOf(declared)))),
+  );
+}
+
 function drawnPorts(nodes) {
   return nodes.flatMap(([node, place]) =>
     elementsOf(node.ports).map((port) => portBox(port, place) + portText(port, node, place)),
@@ -276,7 +290,10 @@ function toSvg(placed, { arrows = true } = {}) {
     group('class="nodes"', nodes.map(([node, place]) => nodeBox(node, place))),
     group(`class="edges" ${line}`, drawnEdges(levels, placed, arrows)),
     group('class="ports"', drawnPorts(nodes)),
-    group('class="labels"', nodes.map(([node, place]) => nodeTexts(node, place)).filter(Boolean)),
+    group('class="labels"', [
+      ...nodes.map(([node, place]) => nodeTexts(node, place)).filter(Boolean),
+      ...drawnEdgeLabels(levels),
+    ]),
     '</svg>\n',
   ].join('\n');
 }

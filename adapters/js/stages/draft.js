@@ -3,6 +3,7 @@
 
 const { elementsOf, endIds, isObject, namesPort } = require('../levels');
 const { carriedBy } = require('../options');
+const { numberIn } = require('./labels');
 
 const ENDS = ['source', 'target'];
 
@@ -29,6 +30,10 @@ class Draft {
     this.owners = new Map();
     /** The levels with other nodes or edges than given, whose certificate tells of these. */
     this.altered = new Set();
+    /** The least sizes that levels ask for, by their nodes' numbers. */
+    this.leasts = new Map();
+    /** The edges that are turned round. */
+    this.turned = new Set();
     this.#enter(root, undefined);
   }
 
@@ -60,10 +65,26 @@ class Draft {
     return (this.#carried.get(element).get(name) ?? this.#general.get(name))?.value;
   }
 
+  /** The number that an element asks for, or else ELK's default. */
+  number(element, name, byDefault) {
+    return Math.ceil(numberIn(this.option(element, name), byDefault));
+  }
+
+  /** The direction of a level. */
+  directionOf(level) {
+    const direction = String(this.option(level, 'direction') ?? '').toUpperCase();
+    return ['LEFT', 'DOWN', 'UP'].includes(direction) ? direction : 'RIGHT';
+  }
+
   /** The rule for the ports of a node. */
   ruleOf(node) {
     const rule = String(this.option(node, 'portConstraints') ?? 'FREE').toUpperCase();
     return rule === 'UNDEFINED' ? 'FREE' : rule;
+  }
+
+  /** Whether a node has a level, as the root does in any case. */
+  isLevel(node) {
+    return elementsOf(node.children).length > 0 || !this.parents.get(node);
   }
 
   /** Whether the ports of a node stand where they are given, those that are made too. */
@@ -75,11 +96,24 @@ class Draft {
   ask(element, options) {
     const full = Object.entries(options).map(([name, value]) => [`org.eclipse.elk.${name}`, value]);
     this.change(element, { layoutOptions: { ...element.layoutOptions, ...Object.fromEntries(full) } });
+    this.#carried.delete(element);
   }
 
   /** The id of a port of size 0 for an end at a node, which several edges may share; nothing where ports are pinned. */
   dockAt(node) {
     return this.isPinned(node) ? undefined : this.add(node, 'ports', { id: this.freshId('dock', node.id) }).id;
+  }
+
+  /** An end of an edge as one at a port; the end as it is where none can be made. */
+  dockOf(end) {
+    const id = end.port ? undefined : this.dockAt(end.node);
+    return id ? { node: end.node, port: this.#portsById.get(id).port, id } : end;
+  }
+
+  /** The room that labels of edges of a level keep. */
+  besideEdge(level) {
+    const beside = this.number(level, 'spacing.edgeLabel', 2);
+    return { gap: this.number(level, 'spacing.labelLabel', 0), out: beside, aside: beside };
   }
 
   /** An id that nothing has yet. A refusal that names it is told of the owner instead. */
@@ -152,6 +186,10 @@ class Draft {
     node[list].push(element);
     if (list === 'ports') {
       this.#portsById.set(element.id, { node, port: element });
+    }
+    if (list === 'children') {
+      this.parents.set(element, node);
+      element.ports.forEach((port) => this.#portsById.set(port.id, { node: element, port }));
     }
     return element;
   }

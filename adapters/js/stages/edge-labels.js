@@ -1,0 +1,147 @@
+'use strict';
+// Labels of edges. One in mid-edge stands in a layer of its own: it is sent as a leaf between two pieces of the edge.
+// Labels at an end stand beside the line, where the end has room for them, or in such a layer next to the node.
+
+const { numberOr0 } = require('../levels');
+const { columnsOf } = require('./columns');
+const { isTrue, labelsOf, namesIn, placeStack, stackOf } = require('./labels');
+const { placeLoops } = require('./loops');
+const { pointsOf, route } = require('./sections');
+const { AHEAD, BEHIND, along, boxAt, isUpright, spotsAt } = require('./sides');
+
+const FULL = 'org.eclipse.elk.';
+
+/** Where a label stands along its edge. */
+function kindOf(draft, edge, label) {
+  const names = namesIn(draft.option(label, 'edgeLabels.placement') ?? draft.option(edge, 'edgeLabels.placement'));
+  return ['HEAD', 'TAIL'].find((name) => names.has(name)) ?? 'CENTER';
+}
+
+/**
+ * @param {import('./draft').Draft} draft
+ * @param {import('./strips').Strips} strips takes what stands beside lines at nodes
+ */
+function placeEdgeLabels(draft, strips, sides) {
+  const labelled = [...draft.edges()].map((found) => [found, labelsOf(found.edge)]).filter(([, labels]) => labels.length > 0);
+  const isLoop = ([{ source, target }]) => source.node === target.node;
+  for (const [found, labels] of labelled.filter((it) => !isLoop(it))) {
+    placeAlong(draft, strips, sides, found, labels);
+  }
+  // They stand beyond what the others put at their ports.
+  const loops = labelled.filter(isLoop);
+  if (loops.length > 0) {
+    placeLoops(draft, strips, loops);
+  }
+}
+
+function placeAlong(draft, strips, sides, found, labels) {
+  const { edge, level } = found;
+  const byKind = { TAIL: [], CENTER: [], HEAD: [] };
+  labels.forEach((label) => byKind[kindOf(draft, edge, label)].push(label));
+  const kinds = draft.turned.has(edge) ? ['HEAD', 'CENTER', 'TAIL'] : ['TAIL', 'CENTER', 'HEAD'];
+  const direction = draft.directionOf(level);
+  const ends = { source: found.source, target: found.target };
+  const stops = [];
+  for (const [at, kind] of kinds.entries()) {
+    const end = ['source', undefined, 'target'][at];
+    const list = byKind[kind];
+    if (list.length === 0) {
+      continue;
+    }
+    const side = end === 'source' ? AHEAD[direction] : BEHIND[direction];
+    if (end && fits(draft, ends[end].node, sides, { side, level, labels: list })) {
+      ends[end] = draft.dockOf(ends[end]);
+      strips.add(ends[end].port, { labels: list, ...draft.besideEdge(level), owner: level });
+    } else {
+      stops.push({ labels: list, end });
+    }
+  }
+  draft.change(edge, { sources: [ends.source.id], targets: [ends.target.id] });
+  if (stops.length > 0) {
+    passThrough(draft, { ...found, direction }, stops);
+  }
+}
+
+/** Whether labels fit between the lines at a side of a node. With two lines one stands above, the other below. */
+function fits(draft, node, sides, { side, level, labels }) {
+  const docks = sides.get(node)[side];
+  if (draft.isPinned(node) && docks.some(({ port }) => !port)) {
+    return false;
+  }
+  if (docks.length <= 2) {
+    return true;
+  }
+  const constraints = namesIn(draft.option(node, 'nodeSize.constraints'));
+  if (constraints.has('PORTS') && constraints.has('PORT_LABELS') && !draft.isPinned(node)) {
+    return true;
+  }
+  const spots = spotsAt(draft, node, side, docks);
+  const room = Math.min(...spots.slice(1).map((spot, at) => spot - spots[at]));
+  return room >= along(side, stackOf(labels, 0)) + draft.number(level, 'spacing.edgeLabel', 2);
+}
+
+/** Leads an edge through a leaf for each stop. */
+function passThrough(draft, { edge, at, level, direction }, stops) {
+  const { layoutOptions, properties } = edge;
+  const leaves = stops.map((stop) => leafOf(draft, edge, level, direction, stop));
+  const [target] = edge.targets;
+  draft.altered.add(level);
+  const pieces = leaves.map(({ leaf }, k) => ({
+    id: draft.freshId('piece', edge.id),
+    sources: [leaf.ports[1].id],
+    targets: [leaves[k + 1]?.leaf.ports[0].id ?? target],
+    layoutOptions,
+    properties,
+  }));
+  draft.change(edge, { targets: [leaves[0].leaf.ports[0].id] });
+  pieces.forEach((piece) => draft.add(at, 'edges', piece));
+  const all = [edge, ...pieces];
+  // A label of an end stays next to its node: the piece between them is dearer than the rest.
+  const near = stops.flatMap(({ end }) => (end === 'source' ? [edge] : end === 'target' ? [pieces.at(-1)] : []));
+  const shortness = Math.max(1, draft.number(edge, 'layered.priority.shortness', 0)) + 1;
+  near.forEach((piece) => draft.ask(piece, { 'layered.priority.shortness': shortness }));
+  draft.after(() => {
+    route(edge, all.flatMap((piece) => pointsOf(piece.sections[0])));
+    leaves.forEach(({ place }) => place());
+  });
+}
+
+/** The leaf that holds a stop's labels below the line, or on it, and how they are placed once it is. */
+function leafOf(draft, edge, level, direction, { labels, end }) {
+  const isInline = labels.every((label) => isTrue(draft.option(label, 'edgeLabels.inline') ?? draft.option(edge, 'edgeLabels.inline')));
+  const gap = draft.number(level, 'spacing.labelLabel', 0);
+  const beside = isInline ? 0 : draft.number(level, 'spacing.edgeLabel', 2);
+  const side = AHEAD[direction];
+  const stack = stackOf(labels, gap);
+  const size = boxAt(side, along(side, stack) + beside, isUpright(side) ? stack.width : stack.height);
+  const line = isInline ? Math.floor(along(side, size) / 2) : 0;
+  const spots = { WEST: [0, line], EAST: [size.width, line], NORTH: [line, 0], SOUTH: [line, size.height] };
+  const port = (at) => ({
+    id: draft.freshId('stop', edge.id),
+    width: 0,
+    height: 0,
+    x: spots[at][0],
+    y: spots[at][1],
+    layoutOptions: { [`${FULL}port.side`]: at },
+  });
+  const leaf = draft.add(level, 'children', {
+    id: draft.freshId('label', edge.id),
+    ...size,
+    ports: [port(BEHIND[direction]), port(side)],
+    layoutOptions: { [`${FULL}portConstraints`]: 'FIXED_POS' },
+  });
+  const place = () => {
+    const free = columnsOf(draft, level).get(leaf);
+    const shift = { source: free.behind, target: free.ahead }[end] ?? Math.round((free.behind + free.ahead) / 2);
+    const [x, y] = [numberOr0(leaf.x), numberOr0(leaf.y)];
+    placeStack(labels, {
+      ...(isUpright(side) ? { x: x + shift, y: y + beside } : { x: x + beside, y: y + shift }),
+      width: stack.width,
+      gap,
+      align: isInline || isUpright(side) ? 'center' : 'left',
+    });
+  };
+  return { leaf, place };
+}
+
+module.exports = { placeEdgeLabels };

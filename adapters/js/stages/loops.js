@@ -1,0 +1,96 @@
+'use strict';
+// Labels of self-loops. A loop from a side to the same side is drawn close to the node afterwards, with its label beyond
+// it, for which the node keeps room. The label of any other loop stands at one of its ports.
+
+const { numberOr0 } = require('../levels');
+const { placeStack, stackOf } = require('./labels');
+const { pointsOf, route } = require('./sections');
+const { BORDERS, SIDES, along, axesOf, boxAt, isUpright, linesAt, outward, placeAt, sidesOf, spotsAt } = require('./sides');
+
+/** The side at which an end of a loop stands. */
+function sideOfEnd(sides, { node, port }, edge, end) {
+  const isEnd = (dock) => (port ? dock.port === port : dock.edge === edge && dock.end === end);
+  return SIDES.find((side) => sides.get(node)[side].some(isEnd));
+}
+
+/**
+ * @param {import('./draft').Draft} draft
+ * @param {import('./strips').Strips} strips
+ * @param {[object, object[]][]} loops each with its labels
+ */
+function placeLoops(draft, strips, loops) {
+  const sides = sidesOf(draft);
+  const counts = new Map();
+  for (const { source, target } of draft.edges()) {
+    [source, target].forEach(({ port }) => counts.set(port, (counts.get(port) ?? 0) + 1));
+  }
+  for (const [loop, labels] of loops) {
+    placeLoop(draft, strips, sides, loop, labels, (port) => counts.get(port) > 1);
+  }
+}
+
+function placeLoop(draft, strips, sides, { edge, level, source, target }, labels, isShared) {
+  const [side, other] = [source, target].map((it, at) => sideOfEnd(sides, it, edge, ['source', 'target'][at]));
+  const { gap, out: beside } = draft.besideEdge(level);
+  const { node } = source;
+  const ports = [source.port, target.port].filter(Boolean);
+  if (ports.length > 0 && (side !== other || source.port === target.port)) {
+    strips.add(ports[0], { labels, gap, out: beside, aside: beside, owner: level });
+    return;
+  }
+  const size = stackOf(labels, gap);
+  const length = along(side, size);
+  const docks = sides.get(node)[side];
+  const own = docks.filter((dock) => dock.edge === edge || (ports.includes(dock.port) && !isShared(dock.port)));
+  const reaches = docks.map(({ port }) => (port ? strips.reachOf(port, side).out : 0));
+  const depth = Math.max(...reaches) + draft.number(level, 'spacing.edgeNode', 10);
+  const foreign = docks.filter((dock) => !own.includes(dock));
+  const { before, behind } = overhangs(draft, node, side, { docks, length, beside, isAlone: foreign.length === 0 });
+  strips.reserve(node, side, depth + beside + outward(side, size));
+  strips.reserve(node, BORDERS[side][0], before);
+  strips.reserve(node, BORDERS[side][1], behind);
+  draft.after(() => {
+    const ends = close(edge, node, side, depth);
+    const from = fromOf(ends, linesAt(node, side, foreign), { length, beside });
+    const place = placeAt(side, size, { from, away: depth + beside, node });
+    const align = isUpright(side) ? (side === 'EAST' ? 'left' : 'right') : 'center';
+    const [x, y] = [place.x + numberOr0(node.x), place.y + numberOr0(node.y)];
+    placeStack(labels, { x, y, width: size.width, gap, align });
+  });
+}
+
+/** How far a label of a loop may reach beyond the two ends of a side: in its middle, or beyond its last line. */
+function overhangs(draft, node, side, { docks, length, beside, isAlone }) {
+  if (draft.isLevel(node)) {
+    return { before: isAlone ? Math.ceil(length / 2) : 0, behind: isAlone ? Math.ceil(length / 2) : length + beside };
+  }
+  const spots = spotsAt(draft, node, side, docks);
+  const from = isAlone ? Math.floor((spots[0] + spots.at(-1) - length) / 2) : spots.at(-1) + beside;
+  return { before: -from, behind: from + length - along(side, node) };
+}
+
+/** Moves the outer piece of a loop close to its node, and tells where its two ends are along the side. */
+function close(edge, node, side, depth) {
+  const { down, back } = axesOf(side);
+  const points = pointsOf(edge.sections[0]).map((point) => ({ ...point }));
+  const place = placeAt(side, boxAt(side, 0, 0), { from: 0, away: depth, node })[back] + numberOr0(node[back]);
+  if (points.length === 4) {
+    points[1][back] = place;
+    points[2][back] = place;
+    route(edge, points);
+  }
+  const ends = [points[0], points.at(-1)].map((point) => point[down] - numberOr0(node[down]));
+  return ends.sort((one, other) => one - other);
+}
+
+/** Where along the side a label begins so that no other line meets it: beyond the loop, or else beyond the last line. */
+function fromOf([first, last], foreign, { length, beside }) {
+  const lines = [first, ...foreign.filter((line) => first < line && line < last), last];
+  const between = lines.slice(1).map((line, at) => [lines[at], line]);
+  const [low, high] = between.reduce((best, it) => (it[1] - it[0] > best[1] - best[0] ? it : best));
+  const middle = Math.floor((low + high - length) / 2);
+  const isClear = !foreign.some((line) => middle - beside < line && line < middle + length + beside);
+  return isClear ? middle : Math.max(last, ...foreign) + beside;
+}
+
+module.exports = { placeLoops };
