@@ -111,16 +111,6 @@ class Command(unittest.TestCase):
         self.assertEqual((ended.returncode, ended.stdout), (70, ""))
         self.assertIn("the program elk isn't found", ended.stderr)
 
-    @with_program
-    def test_a_copy_of_the_folder_and_an_archive_of_it_work_by_themselves(self):
-        away = self.folder / "away"
-        shutil.copytree(PACKAGE / "elk_layout", away / "elk_layout")
-        archive = shutil.make_archive(str(self.folder / "archive"), "zip", away, "elk_layout")
-        self.file("a.json", chain(2))
-        for path in (away, archive):
-            ended = self.run_command("layout", "a.json", "-o", "out", "--svg", PYTHONPATH=str(path))
-            self.assertEqual((ended.returncode, ended.stderr), (0, ""), path)
-
 
 if __name__ == "__main__":
     unittest.main()
