@@ -1,10 +1,17 @@
-// The interface of elkjs, and what this engine adds to it.
+// The types of elkjs, so that what compiles with them compiles with these, and what this engine adds to them.
 
 declare class ELK {
   constructor(given?: ELK.ELKConstructorArguments);
 
-  /** Lays out a graph. The given object stays as it is; the result's elements and lists are its own. */
-  layout<T extends ELK.ElkNode>(graph: T, given?: ELK.ElkLayoutArguments): Promise<ELK.Placed<T>>;
+  /**
+   * Lays out a graph. The given object stays as it is; the result's elements and lists are its own.
+   * The promise is rejected by a Refusal where the engine doesn't draw the graph.
+   */
+  layout<T extends ELK.AnyNode>(
+    graph: T & ELK.NoElkNode<T>,
+    given?: ELK.AnyLayoutArguments,
+  ): Promise<ELK.Placed<T>>;
+  layout<T extends ELK.ElkNode>(graph: T, given?: ELK.AnyLayoutArguments): Promise<ELK.PlacedElkNode<T>>;
 
   /** All options that the engine reads. */
   knownLayoutOptions(): Promise<ELK.ElkLayoutOptionDescription[]>;
@@ -15,44 +22,21 @@ declare class ELK {
   /** The kinds of drawing that the algorithms make. */
   knownLayoutCategories(): Promise<ELK.ElkLayoutCategoryDescription[]>;
 
-  /** Ends the process. Waiting calls fail; a later call starts it again. */
+  /** Ends what lays out. Waiting calls fail; a later call starts it again. */
   terminateWorker(): void;
 
   /** The options of every call that gives none. */
-  defaultLayoutOptions: ELK.LayoutOptions;
+  defaultLayoutOptions?: ELK.AnyOptions;
 }
 
 declare namespace ELK {
   export { ELK, ELK as default };
 
-  export interface ELKConstructorArguments {
-    /** The options of every call that gives none. */
-    defaultLayoutOptions?: LayoutOptions;
-    /** 'ceil', the default, rounds sizes up and places of ports to the nearest; 'exact' hands all on as given. */
-    numbers?: 'ceil' | 'exact';
-    /** The path of the program `elk`; else that of the environment's ELK_PROGRAM, else the repository's launcher. */
-    program?: string;
-    /** Taken as elkjs takes it, without effect. */
-    algorithms?: string[];
-    /** Taken as elkjs takes it, without effect. */
-    workerUrl?: string;
-    /** Taken as elkjs takes it, without effect. */
-    workerFactory?: (url?: string) => unknown;
+  // What elkjs has.
+
+  export interface LayoutOptions {
+    [key: string]: string;
   }
-
-  export interface ElkLayoutArguments {
-    /** Options of every element that has none of its own; they stand in place of the constructor's. */
-    layoutOptions?: LayoutOptions;
-    /** Whether `logging` of the result tells which program answered. */
-    logging?: boolean;
-    /** Whether it tells how many seconds that took. */
-    measureExecutionTime?: boolean;
-  }
-
-  export type LayoutOptions = Record<string, string | number | boolean>;
-
-  /** Numbers and texts differ: 1 and '1' are two ids. */
-  export type Id = string | number;
 
   export interface ElkPoint {
     x: number;
@@ -60,7 +44,7 @@ declare namespace ELK {
   }
 
   export interface ElkGraphElement {
-    id?: Id;
+    id?: string;
     labels?: ElkLabel[];
     layoutOptions?: LayoutOptions;
   }
@@ -73,17 +57,14 @@ declare namespace ELK {
   }
 
   export interface ElkNode extends ElkShape {
+    id: string;
     children?: ElkNode[];
     ports?: ElkPort[];
-    edges?: ElkEdge[];
-    /** The certificate of a level: layers by child, reversed edges, and a flow that shows that the span is least. */
-    layering?: ElkLayering;
-    /** Which program answered, and its time, where the call asked for it. */
-    logging?: ElkLogging;
+    edges?: ElkExtendedEdge[];
   }
 
   export interface ElkPort extends ElkShape {
-    id: Id;
+    id: string;
   }
 
   export interface ElkLabel extends ElkShape {
@@ -91,38 +72,182 @@ declare namespace ELK {
   }
 
   export interface ElkEdge extends ElkGraphElement {
-    id: Id;
-    /** The extended form: one id each, of a node or a port. */
-    sources?: Id[];
-    targets?: Id[];
-    /** The primitive form. */
-    source?: Id;
-    sourcePort?: Id;
-    target?: Id;
-    targetPort?: Id;
-    /** The node to whose content the points are relative. */
-    container?: Id;
-    sections?: ElkEdgeSection[];
+    id: string;
     /** Where the route parts from those of other edges with the same port, or joins them; each is told at one edge. */
     junctionPoints?: ElkPoint[];
+    /** The node to whose content the points are relative. */
+    container?: string;
   }
 
-  export type ElkExtendedEdge = ElkEdge & { sources: Id[]; targets: Id[] };
+  export interface ElkPrimitiveEdge extends ElkEdge {
+    source: string;
+    sourcePort?: string;
+    target: string;
+    targetPort?: string;
+    /** These are in documents of others; here every edge has sections. */
+    sourcePoint?: ElkPoint;
+    targetPoint?: ElkPoint;
+    bendPoints?: ElkPoint[];
+  }
 
-  export type ElkPrimitiveEdge = ElkEdge & { source: Id; target: Id };
+  export interface ElkExtendedEdge extends ElkEdge {
+    sources: string[];
+    targets: string[];
+    sections?: ElkEdgeSection[];
+  }
 
-  export interface ElkEdgeSection {
+  export interface ElkEdgeSection extends ElkGraphElement {
     id: string;
     startPoint: ElkPoint;
     endPoint: ElkPoint;
     bendPoints?: ElkPoint[];
-    incomingShape?: Id;
-    outgoingShape?: Id;
+    incomingShape?: string;
+    outgoingShape?: string;
     /** Of an edge with several ends: the sections before this one, and those after it. */
     incomingSections?: string[];
     outgoingSections?: string[];
   }
 
+  export interface ElkLayoutArguments {
+    /** Options of every element that has none of its own; they stand in place of the constructor's. */
+    layoutOptions?: LayoutOptions;
+    /** Whether `logging` of the result tells which program answered, and what had no effect. */
+    logging?: boolean;
+    /** Whether it tells how many seconds that took. */
+    measureExecutionTime?: boolean;
+  }
+
+  export interface ElkCommonDescription {
+    id?: string;
+    name?: string;
+    description?: string;
+  }
+
+  export interface ElkLayoutAlgorithmDescription extends ElkCommonDescription {
+    category?: string;
+    knownOptions?: string[];
+    supportedFeatures?: string[];
+  }
+
+  export interface ElkLayoutOptionDescription extends ElkCommonDescription {
+    group?: string;
+    type?: string;
+    targets?: string[];
+  }
+
+  export interface ElkLayoutCategoryDescription extends ElkCommonDescription {
+    knownLayouters?: string[];
+  }
+
+  export interface ELKConstructorArguments {
+    /** The options of every call that gives none. */
+    defaultLayoutOptions?: AnyOptions;
+    /** Taken as elkjs takes it, without effect. */
+    algorithms?: string[];
+    /** Where the script of a worker stands, `lib/elk-worker.js`. */
+    workerUrl?: string;
+    /** Makes a worker of that script. */
+    workerFactory?: (url?: string) => any;
+    /** 'ceil', the default, rounds sizes up and places of ports to the nearest; 'exact' hands all on as given. */
+    numbers?: 'ceil' | 'exact';
+    /** In Node, the path of the program `elk`, which then answers in place of the module. */
+    program?: string;
+    /** Is told of what has no effect; else the console is, once for each name. */
+    onWarning?: (warning: Warning) => void;
+  }
+
+  /** elkjs calls them so too. */
+  export type ElkConstructorArguments = ELKConstructorArguments;
+
+  /** A graph with its drawing. */
+  export type PlacedElkNode<T extends ElkNode> = {
+    [K in keyof T]: K extends 'children' ? Items<T[K], ElkNode> : K extends 'edges' ? Items<T[K], Routed> : T[K];
+  } & PlacedRoot &
+    ElkNode;
+
+  // What this engine adds.
+
+  /** A graph may also have numbers for ids: 1 and '1' are two. */
+  export type Id = string | number;
+
+  /** Values may also be numbers and truth values. */
+  export interface AnyOptions {
+    [key: string]: string | number | boolean;
+  }
+
+  export interface AnyLayoutArguments extends Omit<ElkLayoutArguments, 'layoutOptions'> {
+    layoutOptions?: AnyOptions;
+  }
+
+  export interface AnyElement {
+    id?: Id;
+    labels?: AnyLabel[];
+    layoutOptions?: AnyOptions;
+    properties?: AnyOptions;
+  }
+
+  export interface AnyShape extends AnyElement {
+    x?: number;
+    y?: number;
+    width?: number;
+    height?: number;
+  }
+
+  export interface AnyLabel extends AnyShape {
+    text?: string;
+  }
+
+  export interface AnyPort extends AnyShape {
+    id: Id;
+  }
+
+  /** In the extended form, or in the primitive one. */
+  export interface AnyEdge extends AnyElement {
+    id: Id;
+    sources?: Id[];
+    targets?: Id[];
+    source?: Id;
+    sourcePort?: Id;
+    target?: Id;
+    targetPort?: Id;
+  }
+
+  /** A node with any ids, values of options and forms of edges that the engine takes. */
+  export interface AnyNode extends AnyShape {
+    children?: AnyNode[];
+    ports?: AnyPort[];
+    edges?: AnyEdge[];
+  }
+
+  /** A graph of any form with its drawing. */
+  export type Placed<T extends AnyNode> = {
+    [K in keyof T]: K extends 'children' ? Items<T[K], AnyShape> : K extends 'edges' ? Items<T[K], Routed> : T[K];
+  } & PlacedRoot;
+
+  /** What graphs of elkjs, and of no type at all, are not: for these the types of elkjs hold. */
+  export type NoElkNode<T> = 0 extends 1 & T ? never : T extends ElkNode ? never : unknown;
+
+  /** What the items of a list have besides, once they are placed. */
+  export type Items<L, Added> = L extends readonly (infer Item)[] ? (Item & Added)[] : L;
+
+  export interface Routed {
+    sections?: ElkEdgeSection[];
+    junctionPoints?: ElkPoint[];
+    container?: any;
+  }
+
+  export interface PlacedRoot {
+    x: number;
+    y: number;
+    width: number;
+    height: number;
+    /** The certificate of a level, where it was drawn as given. */
+    layering?: ElkLayering;
+    /** Where the call asked for it. */
+    logging?: ElkLogging;
+  }
+
+  /** Layers by child, reversed edges, and a flow that shows that the span is least. */
   export interface ElkLayering {
     layers: number[];
     reversed: Id[];
@@ -138,45 +263,66 @@ declare namespace ELK {
     children: ElkLogging[];
   }
 
-  /** A graph with its drawing. */
-  export type Placed<T extends ElkNode> = T & {
-    x: number;
-    y: number;
-    width: number;
-    height: number;
-    layering: ElkLayering;
-  };
-
-  export interface ElkCommonDescription {
-    id: string;
-    name: string;
-    description: string;
+  /** One thing for which a document is refused. */
+  export interface Fault {
+    /** The number of the rule, 0 to 13, and its name, such as CrossLevel. */
+    readonly rule: number;
+    readonly name: string;
+    /** The id of the element at which the rule found something, where it names one. */
+    readonly id?: Id;
+    /** The members that lead to what is wrong, and the same as a script would write it. */
+    readonly steps: readonly (string | number)[];
+    readonly path: string;
+    /** What stands there, and what may. */
+    readonly found?: unknown;
+    readonly allowed?: string;
+    /** What was meant, perhaps. */
+    readonly near?: Id;
+    /** At an end of an edge: which. */
+    readonly end?: 'source' | 'target';
+    /** At an option: its name and, where they are few, all its values. */
+    readonly option?: string;
+    readonly values?: readonly string[];
+    /** The sentence on this place, and the whole one with the rule. */
+    readonly detail: string;
+    readonly message: string;
   }
 
-  export interface ElkLayoutAlgorithmDescription extends ElkCommonDescription {
-    category: string;
-    knownOptions: string[];
-    supportedFeatures: string[];
-  }
-
-  export interface ElkLayoutOptionDescription extends ElkCommonDescription {
-    group: string;
-    type: string;
-    targets: string[];
-  }
-
-  export interface ElkLayoutCategoryDescription extends ElkCommonDescription {
-    knownLayouters: string[];
+  /** Something that has not the effect that was meant. */
+  export interface Warning {
+    readonly kind:
+      | 'unknownOption'
+      | 'unclearOption'
+      | 'foreignOption'
+      | 'misplacedOption'
+      | 'shortOption'
+      | 'adapterOption'
+      | 'unknownMember'
+      | 'doubleMember';
+    readonly id?: Id;
+    readonly steps: readonly (string | number)[];
+    readonly path: string;
+    readonly near?: string;
+    readonly option?: string;
+    readonly message: string;
   }
 
   /** The engine refuses a document. */
   export class Refusal extends Error {
-    /** The number of the rule, 0 to 13. */
+    /** The number of the rule, 0 to 13, and its name, such as CrossLevel. */
     readonly rule: number;
-    /** The name of the rule, such as CrossLevel. */
     readonly name: string;
     /** The id of the element at which the rule found something, where it names one. */
     readonly id?: Id;
+    /** Of the first fault. */
+    readonly path?: string;
+    readonly found?: unknown;
+    readonly allowed?: string;
+    readonly near?: Id;
+    readonly option?: string;
+    readonly values?: readonly string[];
+    /** All faults of the document, that of the rule first. */
+    readonly faults: readonly Fault[];
   }
 
   /** The program can't be started, or ended before it had replied. */

@@ -8,6 +8,7 @@ const { LAYOUT_ALGORITHMS, LAYOUT_CATEGORIES, LAYOUT_OPTIONS } = require('./opti
 const { ProgramError } = require('./program-error');
 const { Refusal, refusalOf } = require('./refusals');
 const { draftOf, lacksOf } = require('./stages');
+const { warningsOf, warnOnce } = require('./warnings');
 
 const NUMBERS = ['ceil', 'exact'];
 
@@ -17,22 +18,26 @@ const copy = (list) => structuredClone(list);
 class ELK {
   #engine;
   #numbers;
+  #onWarning;
 
   /**
    * @param {object} [given]
    * @param {Record<string, unknown>} [given.defaultLayoutOptions] the options of every call that gives none
    * @param {'ceil' | 'exact'} [given.numbers] 'ceil' rounds sizes up and places of ports to the nearest whole number
    *   before a call, 'exact' hands all on as given, so that fractions are refused
+   * @param {(warning: import('./warnings').Warning) => void} [given.onWarning] is told of each option that has no
+   *   effect, and of each member that is written nearly as one that is read; else the console is, once for each name
    * @param {string} [given.program] in Node, the path of the program `elk`, which then answers in place of the module
    * @param {string | URL} [given.workerUrl] where the script of a worker stands, `lib/elk-worker.js`
    * @param {(url?: string | URL) => object} [given.workerFactory] makes a worker of that script
    */
-  constructor({ defaultLayoutOptions = {}, numbers = 'ceil', ...engine } = {}) {
+  constructor({ defaultLayoutOptions = {}, numbers = 'ceil', onWarning = warnOnce, ...engine } = {}) {
     if (!NUMBERS.includes(numbers)) {
       throw new TypeError(`numbers is 'ceil' or 'exact', not ${JSON.stringify(numbers)}`);
     }
     this.defaultLayoutOptions = defaultLayoutOptions;
     this.#numbers = numbers;
+    this.#onWarning = onWarning;
     this.#engine = engineOf(engine);
   }
 
@@ -42,7 +47,7 @@ class ELK {
    * @param {object} [given]
    * @param {Record<string, unknown>} [given.layoutOptions] options of every element that has none of its own; they
    *   stand in place of the constructor's
-   * @param {boolean} [given.logging] whether `logging` of the result tells which program answered
+   * @param {boolean} [given.logging] whether `logging` of the result tells which program answered, and what had no effect
    * @param {boolean} [given.measureExecutionTime] whether it tells how many seconds that took
    * @returns {Promise<object>} the placed graph; a Refusal where the engine doesn't draw it, a ProgramError where the
    *   program fails
@@ -52,6 +57,8 @@ class ELK {
       throw new Error("Missing mandatory parameter 'graph'.");
     }
     const how = { numbers: this.#numbers, general: layoutOptions ?? {}, lacks: new Map() };
+    const warnings = warningsOf(graph, how);
+    warnings.forEach((warning) => this.#onWarning(warning));
     const { placed, seconds } = await this.#place(graph, how);
     for (const [edge, points] of junctionPoints(placed)) {
       edge.junctionPoints = points;
@@ -60,7 +67,7 @@ class ELK {
       placed.logging = {
         name: 'elk batch',
         ...(measureExecutionTime && { executionTime: seconds }),
-        ...(logging && { logs: [] }),
+        ...(logging && { logs: warnings.map(({ message }) => message) }),
         children: [],
       };
     }

@@ -18,9 +18,11 @@ const MEANT = Object.fromEntries(Object.entries(FAULTS.meant).map(([kind, names]
 // Names of this engine's options come first, where several are as near.
 const NEAR_KEYS = [...OPTIONS.map(({ name }) => name), ...ALL_NAMES, ...CLEAR_KEYS];
 
-const READ = new Map([...adapter, ...OPTIONS].map(({ name, at }) => [name, at]));
+const READ = new Map([...adapter, ...OPTIONS].map(({ name, at }) => [name, [at].flat()]));
 
-const PLACES = { node: ['levels', 'nodes'], port: ['ports'], edge: ['edges'] };
+const BY_ADAPTER = new Map(adapter.map((option) => [option.name, option]));
+
+const PLACES = { node: ['levels', 'nodes'], port: ['ports'], edge: ['edges'], label: ['labels'] };
 
 // So many names of an unclear key are told.
 const MOST_NAMES = 4;
@@ -85,8 +87,30 @@ const optionWarning = remembered((key, kind) => {
   if (at === undefined) {
     return ['foreignOption', { option }];
   }
-  return PLACES[kind].includes(at) ? undefined : ['misplacedOption', { option, readers: READERS[at], kind: KINDS[kind] }];
+  const readers = at.map((it) => READERS[it]).join(' and ');
+  return at.some((it) => PLACES[kind].includes(it)) ? undefined : ['misplacedOption', { option, readers, kind: KINDS[kind] }];
 });
+
+const NUMBER = /^\s*-?\d+(\.\d+)?\s*$/;
+
+/** The words of a value that an option of the adapter doesn't know. The engine's own are refused where they are wrong. */
+function unknownWords({ type, values }, value) {
+  if (type === 'DOUBLE') {
+    return typeof value === 'number' || NUMBER.test(String(value)) ? [] : [String(value)];
+  }
+  const known = (word) => values === undefined || values.some((it) => it.toLowerCase() === word.toLowerCase());
+  return (type === 'ENUMSET' ? String(value).match(/\w+/g) ?? [] : [String(value)]).filter((word) => !known(word));
+}
+
+/** What keeps the value of an option from its effect. */
+function valueWarning(option, value) {
+  const [word] = option ? unknownWords(option, value) : [];
+  if (word === undefined) {
+    return undefined;
+  }
+  const { name, values, words = values.join(', ') } = option;
+  return ['unknownValue', { option: name, found: textOf(word), values: words, near: values && nearest(word, values) }];
+}
 
 /**
  * @typedef {object} Warning
@@ -111,12 +135,31 @@ function toldOf(kind, { steps, id, near, isOfCall, ...told }) {
   };
 }
 
-function* optionsOf(element, holder, isCall) {
+/** What keeps one option of an element from its effect. */
+function warningOf(key, value, { kind, isCall }) {
+  const [name] = meanings(key);
+  const inCall = () => (isCall ? valueWarning(BY_ADAPTER.get(name), value) : programWarning(key, name));
+  return optionWarning(key, kind) ?? inCall() ?? [];
+}
+
+function* optionsOf({ kind, value, steps }, holder, isCall) {
+  for (const [key, asked] of Object.entries(value[holder])) {
+    const [warning, told] = warningOf(key, asked, { kind, isCall });
+    // Properties may well be an editor's own, where they look like no option.
+    const isOwn = warning === 'unknownOption' && holder === 'properties' && told.near === undefined;
+    if (warning && !isOwn) {
+      yield toldOf(warning, { steps: [...steps(), holder, key], id: value.id, ...told });
+    }
+  }
+}
+
+/** An element and its labels, each with the steps to it. */
+function* withLabels(element) {
   const { kind, value } = element;
-  for (const key of Object.keys(value[holder])) {
-    const [warning, told] = optionWarning(key, kind) ?? (isCall ? [] : programWarning(key, meanings(key)[0]) ?? []);
-    if (warning) {
-      yield toldOf(warning, { steps: [...element.steps, holder, key], id: value.id, ...told });
+  yield { kind, value, steps: () => element.steps };
+  for (const [at, label] of Array.isArray(value.labels) ? value.labels.entries() : []) {
+    if (isObject(label)) {
+      yield { kind: 'label', value: label, steps: () => [...element.steps, 'labels', at] };
     }
   }
 }
@@ -126,12 +169,15 @@ const nearMember = remembered((name, kind) =>
   MEMBERS[kind].includes(name) ? undefined : MEANT[kind].get(name) ?? nearest(name, MEMBERS[kind]),
 );
 
+// An edge that tells an end in the one form doesn't need the other.
+const OTHER_FORM = { sources: 'source', source: 'sources', targets: 'target', target: 'targets' };
+
 function* membersOf(element) {
   const { kind, value } = element;
   for (const name of Object.keys(value)) {
     const near = nearMember(name, kind);
     // Where the member itself is there, the other is an editor's own.
-    if (near !== undefined && !(near in value)) {
+    if (near !== undefined && !(near in value) && !(OTHER_FORM[near] in value)) {
       yield toldOf('unknownMember', { steps: [...element.steps, name], id: value.id, near });
     }
   }
@@ -147,17 +193,18 @@ function* membersOf(element) {
  */
 function warningsOf(document, { isCall = true, general = {} } = {}) {
   const found = [];
-  for (const key of Object.keys(general)) {
+  for (const [key, asked] of Object.entries(general)) {
     // They hold for every kind of element, and so stand nowhere wrong.
-    const [warning, told] = optionWarning(key, 'node') ?? [];
+    const [warning, told] = warningOf(key, asked, { kind: 'node', isCall: true });
     if (warning && warning !== 'misplacedOption') {
       found.push(toldOf(warning, { steps: ['layoutOptions', key], isOfCall: true, ...told }));
     }
   }
   const holders = isCall ? ['layoutOptions', 'properties'] : ['layoutOptions'];
   for (const element of elementsIn(document).filter(({ value }) => isObject(value))) {
-    for (const holder of holders.filter((name) => isObject(element.value[name]))) {
-      found.push(...optionsOf(element, holder, isCall));
+    for (const holding of withLabels(element)) {
+      const used = holders.filter((name) => isObject(holding.value[name]));
+      used.forEach((holder) => found.push(...optionsOf(holding, holder, isCall)));
     }
     found.push(...membersOf(element));
   }
@@ -167,4 +214,15 @@ function warningsOf(document, { isCall = true, general = {} } = {}) {
 /** The warning of a member that stands twice in a text. */
 const doubleMember = (steps) => toldOf('doubleMember', { steps });
 
-module.exports = { doubleMember, warningsOf };
+const said = new Set();
+
+/** Writes a warning to the console, each kind of fault and each name once. */
+function warnOnce({ kind, steps, message }) {
+  const key = `${kind} ${steps.at(-1)}`;
+  if (!said.has(key)) {
+    said.add(key);
+    console.warn(`elk: ${message}`);
+  }
+}
+
+module.exports = { doubleMember, warnOnce, warningsOf };

@@ -1,0 +1,115 @@
+'use strict';
+
+const assert = require('node:assert/strict');
+const test = require('node:test');
+const ELK = require('../elk');
+const { PROGRAM, WITH_PROGRAM } = require('../testing/program');
+const { warningsOf } = require('../warnings');
+
+const messages = (document, how) => warningsOf(document, how).map(({ message }) => message);
+
+const withOption = (key) => ({ id: 'r', layoutOptions: { [key]: '1' } });
+
+test('an option without effect is told, with the name that was meant', () => {
+  for (const [key, message] of [
+    ['elk.direction', undefined],
+    ['org.eclipse.elk.direction', undefined],
+    ['nodeNodeBetweenLayers', undefined],
+    ['elk.directon', 'layoutOptions["elk.directon"] is no option of ELK; did you mean "elk.direction"?'],
+    ['direciton', 'layoutOptions.direciton is no option of ELK; did you mean "direction"?'],
+    ['elk.spacing.nodenode', 'layoutOptions["elk.spacing.nodenode"] is no option of ELK; did you mean "elk.spacing.nodeNode"?'],
+    ['elk.spacing.nodeNodeBetweenLayers', /no option of ELK; did you mean "elk\.layered\.spacing\.nodeNodeBetweenLayers"\?$/],
+    ['elk.layered.nodeNode', /no option of ELK; did you mean "elk\.spacing\.nodeNode"\?$/],
+    ['nodePlacment.strategy', /no option of ELK; did you mean "layered\.nodePlacement\.strategy"\?$/],
+    ['colour', 'layoutOptions.colour is no option of ELK'],
+    ['strategy', /^layoutOptions\.strategy may be elk\.layered\.nodePlacement\.strategy, .*, others; write one of them$/],
+    ['elk.stress.epsilon', /^layoutOptions\["elk\.stress\.epsilon"\] has no effect, since this engine does not have/],
+    ['elk.port.side', 'layoutOptions["elk.port.side"] has no effect, since it is an option of ports and stands at a node'],
+    ['constructor', 'layoutOptions.constructor is no option of ELK'],
+    ['__proto__', 'layoutOptions.__proto__ is no option of ELK'],
+  ]) {
+    const [found] = messages(withOption(key));
+    if (message instanceof RegExp) {
+      assert.match(found, message, key);
+    } else {
+      assert.equal(found, message, key);
+    }
+  }
+});
+
+test('options of every element are looked at, and those of a call', () => {
+  const port = { id: 'p', layoutOptions: { portConstraints: 'FREE' } };
+  const edge = { id: 'e', source: 'a', target: 'a', layoutOptions: { 'elk.direction': 'UP' } };
+  const document = { id: 'r', children: [{ id: 'a', ports: [port], properties: { 'elk.foo': 1, directoin: 'UP' } }], edges: [edge] };
+  assert.deepEqual(messages(document, { general: { 'elk.aspectRatios': 1, 'elk.port.side': 'EAST' } }), [
+    'layoutOptions["elk.aspectRatios"] of the call is no option of ELK; did you mean "elk.aspectRatio"?',
+    'edges[0].layoutOptions["elk.direction"] has no effect, since it is an option of nodes with children and stands at an edge',
+    'children[0].properties.directoin is no option of ELK; did you mean "direction"?',
+    'children[0].ports[0].layoutOptions.portConstraints has no effect, since it is an option of nodes and stands at a port',
+  ]);
+});
+
+test('a value that the adapter does not know is told', () => {
+  const label = { text: 'a', layoutOptions: { 'elk.edgeLabels.placement': 'HAED' } };
+  const options = {
+    'elk.nodeLabels.placement': 'INSIDE, H_CENTRE V_TOP',
+    'elk.nodeSize.constraints': '[]',
+    'elk.layered.mergeEdges': true,
+    'elk.spacing.edgeLabel': '5.5',
+    'elk.spacing.labelNode': 'wide',
+  };
+  const document = { id: 'r', layoutOptions: options, edges: [{ id: 'e', source: 'r', target: 'r', labels: [label] }] };
+  assert.deepEqual(messages(document), [
+    'layoutOptions["elk.nodeLabels.placement"] has no effect: it may be INSIDE, OUTSIDE, H_LEFT, H_CENTER, ' +
+      'H_RIGHT, V_TOP, V_CENTER, V_BOTTOM, H_PRIORITY, and not "H_CENTRE"; did you mean "H_CENTER"?',
+    'layoutOptions["elk.spacing.labelNode"] has no effect: it may be a number, and not "wide"',
+    'edges[0].labels[0].layoutOptions["elk.edgeLabels.placement"] has no effect: it may be CENTER, HEAD, TAIL, and not "HAED"; ' +
+      'did you mean "HEAD"?',
+  ]);
+});
+
+test('the program finds options by their whole names alone', () => {
+  const document = { layoutOptions: { nodeNodeBetweenLayers: 5, 'elk.direction': 'UP' }, properties: { nonsense: 1 } };
+  assert.deepEqual(messages(document, { isCall: false }), [
+    'layoutOptions.nodeNodeBetweenLayers has no effect, since the program finds options by their whole names; ' +
+      'did you mean "elk.layered.spacing.nodeNodeBetweenLayers"?',
+  ]);
+});
+
+test('members that are written nearly as others are told, and an editor\'s own are not', () => {
+  const node = { id: 'a', widht: 30, Height: 20, data: {}, type: 'x', position: {}, style: {}, selected: true, label: 'a' };
+  const flow = { id: 'e', from: 'a', animated: true, markerEnd: {}, source: 'a', target: 'a', sourceHandle: null };
+  const edges = [flow, { id: 'f', from: 'a', to: 'a' }];
+  assert.deepEqual(messages({ id: 'r', childs: [], children: [node], edges, zoom: 1 }), [
+    'edges[0].sourceHandle is not read; did you mean "sourcePort"?',
+    'edges[1].from is not read; did you mean "sources"?',
+    'edges[1].to is not read; did you mean "targets"?',
+    'children[0].widht is not read; did you mean "width"?',
+    'children[0].Height is not read; did you mean "height"?',
+    'children[0].label is not read; did you mean "labels"?',
+  ]);
+});
+
+test('a call tells its warnings, to the callback and in its log', WITH_PROGRAM, async () => {
+  const told = [];
+  const elk = new ELK({ program: PROGRAM, onWarning: (warning) => told.push(warning) });
+  const graph = { id: 'r', layoutOptions: { 'elk.directon': 'UP' }, children: [{ id: 'a', heigth: 5 }] };
+  const { logging } = await elk.layout(graph, { logging: true });
+  elk.terminateWorker();
+  assert.deepEqual(told.map(({ kind, id, path, near }) => [kind, id, path, near]), [
+    ['unknownOption', 'r', 'layoutOptions["elk.directon"]', 'elk.direction'],
+    ['unknownMember', 'a', 'children[0].heigth', 'height'],
+  ]);
+  assert.deepEqual(logging.logs, told.map(({ message }) => message));
+});
+
+test('without a callback the console tells each name once', WITH_PROGRAM, async (t) => {
+  const lines = [];
+  t.mock.method(console, 'warn', (line) => lines.push(line));
+  const elk = new ELK({ program: PROGRAM });
+  const graph = { id: 'r', layoutOptions: { 'elk.paddding': '[]' }, children: [{ id: 'a', layoutOptions: { 'elk.paddding': '[]' } }] };
+  await elk.layout(graph);
+  await elk.layout(graph);
+  elk.terminateWorker();
+  assert.deepEqual(lines, ['elk: layoutOptions["elk.paddding"] is no option of ELK; did you mean "elk.padding"?']);
+});
