@@ -81,8 +81,9 @@ class Copy:
 
 class Launcher(unittest.TestCase):
     def setUp(self):
-        # The launcher of this checkout unpacks or builds the real program.
-        subprocess.run([TOP / "elk"], stdin=subprocess.DEVNULL, capture_output=True)
+        if not PROGRAM.exists():
+            PROGRAM.parent.mkdir(parents=True, exist_ok=True)
+            subprocess.run([TOP / "tools/unpack", PROGRAM])
         folder = tempfile.TemporaryDirectory()
         self.addCleanup(folder.cleanup)
         self.room = pathlib.Path(folder.name)
