@@ -25,6 +25,9 @@ function bundled(packed) {
 /** The call alone, for pages that serve the worker as a file of its own. */
 const api = () => universal('ELK', bundle('elk.js', { places: { 'host.js': 'page/api-host.js' } }));
 
+/** Pictures of placed documents, for <script> tags. */
+const pictures = () => universal('ElkSvg', bundle('svg.js'));
+
 // In a page the file is a script that leaves the class behind; a bundler hands it over.
 const BUNDLED_MODULE = `import * as bundled from './elk.bundled.js';
 
@@ -53,6 +56,7 @@ function library() {
     'elk.bundled.js': bundled(packed),
     'elk.bundled.d.ts': TYPES,
     'elk.bundled.mjs': BUNDLED_MODULE,
+    'elk-svg.js': pictures(),
   };
 }
 

@@ -42,7 +42,7 @@ const SCRIPT = '<script src="elk.bundled.js"></script>';
 const STRICT = "script-src 'self' 'unsafe-inline' 'wasm-unsafe-eval'; worker-src 'self'";
 
 const HEADS = {
-  'page.html': SCRIPT,
+  'page.html': `${SCRIPT}<script src="elk-svg.js"></script>`,
   'module.html': `<script type="module">import ELK from './elk.bundled.mjs'; window.elk = new ELK();</script>`,
   'url.html': `${SCRIPT}<script>window.elk = new ELK({ workerUrl: 'elk-worker.js' });</script>`,
   'api.html': `<script src="elk-api.js"></script><script>window.elk = new ELK({ workerUrl: 'elk-worker.min.js' });</script>`,
@@ -116,6 +116,16 @@ test('a page of one script lays out, from a file, and stays free meanwhile', WIT
     return { most, all: performance.now() - since };
   })()`);
   assert.ok(most < all / 2, `a tick came ${most} ms late in a layout of ${all} ms`);
+  assert.deepEqual(page.faults, []);
+});
+
+test('a page draws what it has laid out', WITH_BOTH, async () => {
+  const page = await pageOfFile();
+  const texts = await page.evaluate(`new ELK().layout(pair()).then((placed) => {
+    document.body.innerHTML = ElkSvg.toSvg(placed);
+    return [...document.querySelectorAll('svg text')].map(({ textContent }) => textContent);
+  })`);
+  assert.deepEqual(texts.sort(), ['a', 'b']);
   assert.deepEqual(page.faults, []);
 });
 

@@ -58,7 +58,11 @@ const LAY_OUT = `
 new ELK().layout({ id: 'r', children: [{ id: 'a', width: 30, height: 30 }] })
   .then(({ width, height }) => console.log(width, height));`;
 
+// As what runs tests of pages in Node takes it: without workers.
+const FILE_FOR_PAGES = `require('node:path').join(require.resolve('elk-layout/package.json'), '..', 'lib', 'elk.bundled.js')`;
+
 const WAYS = [
+  ['--input-type=commonjs', `const ELK = require(${FILE_FOR_PAGES}); ${LAY_OUT}`],
   ['--input-type=commonjs', `const ELK = require('elk-layout'); ${LAY_OUT}`],
   ['--input-type=commonjs', `const { ELK } = require('elk-layout/lib/main'); ${LAY_OUT}`],
   ['--input-type=commonjs', `const ELK = require('elk-layout/lib/elk.bundled.js').default; ${LAY_OUT}`],
