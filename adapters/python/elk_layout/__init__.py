@@ -10,6 +10,7 @@
 from .calls import check, close, layout, layout_many, replies
 from .document import Placed
 from .errors import ElkError, ProgramError, Refusal
+from .faults import Fault
 from .graphs import from_networkx, positions, to_networkx
 from .junctions import junction_points
 from .svg import to_svg
@@ -19,6 +20,7 @@ __version__ = "0.1.0"
 
 __all__ = [
     "ElkError",
+    "Fault",
     "Placed",
     "ProgramError",
     "Refusal",

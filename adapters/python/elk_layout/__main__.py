@@ -10,7 +10,7 @@ from pathlib import Path
 from typing import List, NoReturn, Optional
 
 from .errors import ProgramError
-from .files import Fault, Task, lay_out_files, pairs_of
+from .files import Failure, Task, lay_out_files, pairs_of
 from .many import shown
 from .program import find_program
 
@@ -73,7 +73,7 @@ def main(words: Optional[List[str]] = None) -> int:
     return REFUSED if faults else DONE
 
 
-def _tell(count: int, faults: List[Fault], report: Path) -> None:
+def _tell(count: int, faults: List[Failure], report: Path) -> None:
     print(f"{count - len(faults):,} of {count:,} files laid out")
     for kind, times in sorted(Counter(it.kind for it in faults).items()):
         print(f"{times:,} {kind}")

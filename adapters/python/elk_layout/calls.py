@@ -63,7 +63,7 @@ def layout(
         _kept.setdefault(path, Batch(path)).ask(ticket)
     if isinstance(ticket.error, ProgramError):
         raise ticket.error
-    result: Union[Placed, Refusal] = _result(ticket, raises)
+    result: Union[Placed, Refusal] = _result(ticket, raises, options)
     return result
 
 
@@ -136,7 +136,7 @@ def layout_many(
     if total is None and isinstance(documents, Sized):
         total = len(documents)
     tickets = answered((_ticket(it, sender) for it in documents), batch, held or HELD * processes)
-    return shown(_results(tickets, raises), progress, total)
+    return shown(_results(tickets, raises, options), progress, total)
 
 
 def replies(
@@ -166,10 +166,10 @@ def _ticket(document: Any, sender: Sender) -> Ticket:
         return ticket
 
 
-def _results(tickets: Iterator[Ticket], raises: bool) -> Iterator[Any]:
+def _results(tickets: Iterator[Ticket], raises: bool, options: Options) -> Iterator[Any]:
     for index, ticket in enumerate(tickets):
         try:
-            result = _result(ticket, raises)
+            result = _result(ticket, raises, options)
         except ElkError as error:
             error.index = index
             raise
@@ -178,11 +178,12 @@ def _results(tickets: Iterator[Ticket], raises: bool) -> Iterator[Any]:
         yield result
 
 
-def _result(ticket: Ticket, raises: bool) -> Any:
+def _result(ticket: Ticket, raises: bool, options: Options) -> Any:
     reply, error = ticket.reply or "", ticket.error
     if reply.startswith("{"):
         return placed_of(ticket.about, reply)
-    error = error or refusal_of(reply, ticket.line) or ProgramError(f"the reply is no answer: {reply[:80]}")
+    error = error or refusal_of(reply, ticket.line, ticket.about, options)
+    error = error or ProgramError(f"the reply is no answer: {reply[:80]}")
     if raises or getattr(error, "status", None) in HOPELESS:
         raise error
     return error

@@ -107,6 +107,8 @@ class Sender:
         # A drawing is judged as it is.
         self._is_rounding = not (self._is_exact or is_placed)
         self._read = PLACED if is_placed else READ
+        # These are looked at by themselves.
+        self._kept = frozenset(LISTS) if is_placed else MEASURES.union(LISTS)
         self._general = general_options(options)
         self._rewrites = not self._is_exact or any(self._general.values())
 
@@ -163,12 +165,11 @@ class Sender:
         return sent
 
     def _readable(self, element: Element, kind: str) -> Element:
-        read = self._read[kind]
-        kept = MEASURES if self._is_rounding else ()
+        read, kept = self._read[kind], self._kept
         return {
             name: value if value.__class__ in PLAIN or name in kept else plain(value)
             for name, value in element.items()
-            if name in read and name not in LISTS
+            if name in read
         }
 
 
@@ -192,14 +193,18 @@ def placed_of(document: Element, reply: str) -> Placed:
 
 
 def _placed_node(node: Element, answer: Element) -> Element:
-    placed = dict(node)
+    placed = _placed_shape(node, answer)
+    for name, place in PLACERS.items():
+        if name in node:
+            placed[name] = [place(*pair) for pair in zip(node[name], answer[name])]
+    return placed
+
+
+def _placed_shape(shape: Element, answer: Element) -> Element:
+    placed = dict(shape)
     for name in WRITTEN:
         if name in answer:
             placed[name] = answer[name]
-    for name in LISTS:
-        if name in node:
-            place = _placed_edge if name == "edges" else _placed_node
-            placed[name] = [place(*pair) for pair in zip(node[name], answer[name])]
     return placed
 
 
@@ -209,3 +214,6 @@ def _placed_edge(edge: Element, answer: Element) -> Element:
         placed.pop(name, None)
     placed["sections"] = answer["sections"]
     return placed
+
+
+PLACERS = {"ports": _placed_shape, "edges": _placed_edge, "children": _placed_node}

@@ -3,15 +3,13 @@
 from __future__ import annotations
 
 import json
-import math
 import re
-from typing import Any, Optional, Union
+from typing import Any, Optional, Sequence, Union
 
-from .shared import table
+from .faults import Fault, faults_of, message_of
 
 Id = Union[str, int, None]
 
-NOT_WHOLE = 2
 TOO_MANY = 5
 
 
@@ -25,19 +23,26 @@ class Refusal(ElkError):
     """A document that the engine refuses.
 
     `rule` is the number of the rule, `name` its name, and `id` that of the element at which it was found, None where
-    it names none.
+    it names none. `faults` are all faults of the document, that of the rule first; where they are known, `path` leads
+    to what is wrong, `found` stands there, and `allowed` may stand there.
     """
 
-    def __init__(self, rule: int, name: str, id: Id = None, detail: Optional[str] = None) -> None:
-        super().__init__(_message(rule, name, id, detail))
+    def __init__(
+        self, rule: int, name: str, id: Id = None, detail: Optional[str] = None, faults: Sequence[Fault] = ()
+    ) -> None:
+        super().__init__(faults[0].message if faults else message_of(rule, name, id, detail))
         self.rule = rule
         self.name = name
         self.id = id
         self.detail = detail
+        self.faults = tuple(faults)
+        self.path, self.found, self.allowed = (
+            (faults[0].path, faults[0].found, faults[0].allowed) if faults else (None, None, None)
+        )
 
     def __reduce__(self) -> Any:
         # An exception is sent from one process to another by what it was made of.
-        return Refusal, (self.rule, self.name, self.id, self.detail)
+        return Refusal, (self.rule, self.name, self.id, self.detail, self.faults)
 
 
 class ProgramError(ElkError):
@@ -54,46 +59,19 @@ class ProgramError(ElkError):
         return ProgramError, (self.args[0], self.status)
 
 
-def _message(rule: int, name: str, id: Id, detail: Optional[str]) -> str:
-    texts = table("faults")
-    words = {it["rule"]: it["words"] for it in texts["rules"]}.get(rule, texts["unknown"])
-    it = texts["withoutId"] if id is None else json.dumps(id, ensure_ascii=False)
-    parts = {"{rule}": str(rule), "{name}": name, "{detail}": f": {detail}" if detail else ""}
-    parts["{words}"] = words.replace("{it}", it)
-    # One pass, so that an id with braces stays what it is.
-    return re.sub(r"\{\w+\}", lambda found: parts.get(found[0], found[0]), texts["message"])
-
-
-def _is_whole(value: float) -> bool:
-    # The engine takes whole numbers of 64 bits, signed or unsigned.
-    return value.is_integer() and -(2.0**63) <= value < 2.0**64
-
-
-def first_fraction(value: Any, path: str = "") -> Optional[str]:
-    """The first number of a value that isn't whole, with the members that lead to it."""
-    if isinstance(value, float):
-        return f"{path or 'the document'} is {value}" if math.isfinite(value) and not _is_whole(value) else None
-    if isinstance(value, dict):
-        steps = ((f".{it}" if re.fullmatch(r"\w+", str(it)) else f"[{json.dumps(it)}]", value[it]) for it in value)
-    elif isinstance(value, (list, tuple)):
-        steps = ((f"[{at}]", it) for at, it in enumerate(value))
-    else:
-        return None
-    found = (first_fraction(inner, (path + step).lstrip(".")) for step, inner in steps)
-    return next((it for it in found if it), None)
-
-
 REFUSED = re.compile(r"refused (\d+) (\w+) (.*)", re.DOTALL)
 
 
-def refusal_of(reply: str, line: bytes) -> Optional[Refusal]:
+def refusal_of(reply: str, line: bytes, document: Any = None, options: Any = None) -> Optional[Refusal]:
     """Reads a reply `refused <number> <name> <id or ->`; None where it is no refusal.
 
-    `line` is what was sent, in which a number that isn't whole is looked up.
+    `line` is what was sent for the document, and `options` are those of the call.
     """
-    found = REFUSED.fullmatch(reply)
-    if not found:
+    told = REFUSED.fullmatch(reply)
+    if not told:
         return None
-    rule = int(found[1])
-    id = None if found[3] == "-" else json.loads(found[3])
-    return Refusal(rule, found[2], id, first_fraction(json.loads(line)) if rule == NOT_WHOLE else None)
+    rule, name = int(told[1]), told[2]
+    id = None if told[3] == "-" else json.loads(told[3])
+    faults = faults_of(rule, line, document, options)
+    first = [it for it in faults if it.rule == rule and str(it.id) == str(id)][:1]
+    return Refusal(rule, name, id, None, first and first + [it for it in faults if it is not first[0]])

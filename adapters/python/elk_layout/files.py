@@ -13,6 +13,7 @@ from typing import Any, Dict, Iterator, List, Optional, Tuple
 from .calls import layout
 from .document import Element, Placed
 from .errors import ElkError, Refusal
+from .faults import NOT_JSON, not_json_at
 
 
 @dataclass(frozen=True)
@@ -27,7 +28,7 @@ class Task:
 
 
 @dataclass(frozen=True)
-class Fault:
+class Failure:
     """A file that wasn't laid out, and why; `kind` is the rule, or what went wrong with the file."""
 
     file: str
@@ -36,12 +37,13 @@ class Fault:
     rule: Optional[int] = None
     name: Optional[str] = None
     id: Any = None
+    path: Optional[str] = None
 
     def line(self) -> str:
         """The line of a report."""
         told: Dict[str, Any] = {"file": self.file, "reason": self.reason}
         if self.rule is not None:
-            told.update(rule=self.rule, name=self.name, id=self.id)
+            told.update(rule=self.rule, name=self.name, id=self.id, path=self.path)
         return json.dumps(told, ensure_ascii=False)
 
 
@@ -60,7 +62,7 @@ def pairs_of(files: List[str], folder: str) -> List[Tuple[str, Path]]:
     return list(zip(files, targets))
 
 
-def lay_out_files(pairs: List[Tuple[str, Path]], task: Task, jobs: int = 1) -> Iterator[Optional[Fault]]:
+def lay_out_files(pairs: List[Tuple[str, Path]], task: Task, jobs: int = 1) -> Iterator[Optional[Failure]]:
     """Lays files out, some at once, and tells for each in order nothing, or what was wrong with it."""
     work = partial(_lay_out, task)
     if jobs == 1:
@@ -70,25 +72,28 @@ def lay_out_files(pairs: List[Tuple[str, Path]], task: Task, jobs: int = 1) -> I
         yield from pool.map(work, pairs, chunksize=max(1, min(16, len(pairs) // (4 * jobs))))
 
 
-def _lay_out(task: Task, pair: Tuple[str, Path]) -> Optional[Fault]:
+def _lay_out(task: Task, pair: Tuple[str, Path]) -> Optional[Failure]:
     file, target = pair
     try:
         placed = layout(_read(file), options=task.options, numbers=task.numbers, program=task.program)
         _write(placed, target, task)
     except Refusal as it:
-        return Fault(file, f"refused by rule {it.rule}, {it.name}", str(it), it.rule, it.name, it.id)
+        return Failure(file, f"refused by rule {it.rule}, {it.name}", str(it), it.rule, it.name, it.id, it.path)
     except ElkError as error:
-        return Fault(file, "left by the program", str(error))
+        return Failure(file, "left by the program", str(error))
     except OSError as error:
-        return Fault(file, "not read or not written", str(error))
+        return Failure(file, "not read or not written", str(error))
     return None
 
 
 def _read(file: str) -> Element:
     try:
         document: Element = json.loads(Path(file).read_bytes())
+    except json.JSONDecodeError as error:
+        fault = not_json_at(error.lineno, error.colno, error.msg)
+        raise Refusal(fault.rule, fault.name, faults=[fault]) from error
     except (ValueError, RecursionError) as error:
-        raise Refusal(1, "NotJson", None, str(error)) from error
+        raise Refusal(NOT_JSON, "NotJson", None, str(error)) from error
     return document
 
 

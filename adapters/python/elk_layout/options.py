@@ -3,7 +3,7 @@
 from __future__ import annotations
 
 from functools import lru_cache
-from typing import Any, Dict, Mapping, Optional, Set, Tuple
+from typing import Any, Dict, Mapping, NamedTuple, Optional, Set
 
 from .shared import table
 
@@ -40,8 +40,12 @@ def option_name(key: str) -> Optional[str]:
     return next(iter(names)) if len(names) == 1 and names <= _readers().keys() else None
 
 
-# Options by their names, each with the key under which the engine finds it and its value.
-Carried = Dict[str, Tuple[str, Any]]
+class Carried(NamedTuple):
+    """An option with the key under which it is given, the one under which the engine finds it, and its value."""
+
+    given: str
+    key: str
+    value: Any
 
 
 @lru_cache(maxsize=4096)
@@ -51,18 +55,20 @@ def _engine_key(key: str, name: str) -> str:
     return key if key in [prefix + name for prefix in prefixes] else str(prefixes[0] + name)
 
 
-def carried_by(*given: Any) -> Carried:
-    """The options that some objects carry; the later count above the earlier, and the longest of several keys."""
-    carried: Carried = {}
+def carried_by(*given: Any) -> Dict[str, Carried]:
+    """The options that some objects carry, by their names; the later objects count above the earlier, and the longest
+    of several keys.
+    """
+    carried: Dict[str, Carried] = {}
     for options in given:
         for key in sorted(options, key=len) if isinstance(options, Mapping) else ():
             name = option_name(key)
             if name:
-                carried[name] = _engine_key(key, name), options[key]
+                carried[name] = Carried(key, _engine_key(key, name), options[key])
     return carried
 
 
-def general_options(options: Optional[Mapping[str, Any]]) -> Dict[str, Carried]:
+def general_options(options: Optional[Mapping[str, Any]]) -> Dict[str, Dict[str, Carried]]:
     """The options of a call by the role of the elements that read them."""
     carried = carried_by(options)
     return {
@@ -71,7 +77,7 @@ def general_options(options: Optional[Mapping[str, Any]]) -> Dict[str, Carried]:
     }
 
 
-def sent_options(element: Mapping[str, Any], general: Carried) -> Dict[str, Any]:
+def sent_options(element: Mapping[str, Any], general: Dict[str, Carried]) -> Dict[str, Any]:
     """The options that an element is sent with: those that it carries, and the general ones that it doesn't carry."""
     carried = {**general, **carried_by(element.get("properties"), element.get("layoutOptions"))}
-    return dict(carried.values())
+    return {it.key: it.value for it in carried.values()}

@@ -4,6 +4,7 @@ The program is the one that ELK_PROGRAM names, or else the one that was built. N
 """
 
 import os
+import shutil
 import sys
 import unittest
 from pathlib import Path
@@ -18,6 +19,8 @@ PUPPET = str(PACKAGE / "tests" / "puppet")
 with_program = unittest.skipUnless(
     os.access(PROGRAM, os.X_OK), "no program stands: ELK_PROGRAM names one, or the gate builds it"
 )
+
+with_node = unittest.skipUnless(shutil.which("node"), "node isn't there")
 
 
 def needs(*names):

@@ -77,7 +77,8 @@ class Command(unittest.TestCase):
             self.assertEqual([it.get("id") for it in report], ["é", None, None, 5, None])
             self.assertIn('the id "é" stands twice', report[0]["reason"])
             self.assertIn("layoutOptions", report[1]["reason"])
-            self.assertIn("line 2 column 5", report[2]["reason"])
+            self.assertIn("the document is no JSON: line 2, column 5", report[2]["reason"])
+            self.assertEqual(report[0]["path"], "children[0].id")
         self.assertEqual(sorted(it.name for it in (self.folder / "out").iterdir()), ["good.json", "refused.jsonl"])
 
     @with_program

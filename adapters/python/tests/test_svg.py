@@ -6,7 +6,7 @@ import subprocess
 import unittest
 import xml.etree.ElementTree as xml
 
-from .program import PROGRAM, TOP, with_program
+from .program import PROGRAM, TOP, with_node, with_program
 from elk_layout import Placed, layout, layout_many, to_svg
 
 SCRIPT = """
@@ -26,12 +26,6 @@ def drawn_by_javascript(documents):
     words = ["node", "-e", SCRIPT, str(TOP)]
     ended = subprocess.run(words, input=json.dumps(documents).encode(), stdout=subprocess.PIPE, check=True)
     return json.loads(ended.stdout)
-
-
-with_node = unittest.skipIf(
-    subprocess.run(["sh", "-c", "node -e 'process.exit(0)'"], stderr=subprocess.DEVNULL).returncode,
-    "node isn't there",
-)
 
 
 def box(of, id, depth):
