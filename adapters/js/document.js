@@ -3,7 +3,7 @@
 
 const { elementsOf, endIds, isObject, Levels } = require('./levels');
 const { withWholePlace, withWholeSize } = require('./numbers');
-const { sentOptions } = require('./options');
+const { carriedBy, sentOptions } = require('./options');
 
 const LISTS = { ports: 'port', edges: 'edge', children: 'node' };
 
@@ -34,8 +34,16 @@ function copyOf(element) {
   return copy;
 }
 
-const pick = (element, names) =>
-  Object.fromEntries(names.filter((name) => name in element).map((name) => [name, element[name]]));
+/** The members of an element that have these names. */
+function pick(element, names) {
+  const picked = {};
+  for (const name of names) {
+    if (name in element) {
+      picked[name] = element[name];
+    }
+  }
+  return picked;
+}
 
 /** Whose options an element reads; `kind` is node, port or edge. */
 function roleOf(element, kind, isRoot) {
@@ -53,9 +61,10 @@ function withOptions(element, { general, numbers }, role) {
     return element;
   }
   const sent = sentOptions(element, general, role);
-  const layoutOptions = numbers === 'exact' ? { ...own, ...sent } : sent;
-  const isBare = Object.keys(layoutOptions).length === 0 && !('layoutOptions' in element);
-  return isBare ? element : { ...element, layoutOptions };
+  if (Object.keys(sent).length === 0 && element.layoutOptions === undefined) {
+    return element;
+  }
+  return { ...element, layoutOptions: numbers === 'exact' ? { ...own, ...sent } : sent };
 }
 
 function readable(element, kind, node) {
@@ -72,13 +81,14 @@ function readable(element, kind, node) {
  * @param {{ numbers: 'ceil' | 'exact', general: object }} how whether numbers are made whole, and the options that
  *   count wherever an element has none of its own
  */
-function documentOf(graph, how) {
+function documentOf(graph, { numbers, general: given }) {
+  const how = { numbers, general: carriedBy({ layoutOptions: given }) };
   const rewrite = (element, kind, holder) => {
     if (!isObject(element)) {
       return element;
     }
     const full = withOptions(element, how, roleOf(element, kind, !holder));
-    const sent = how.numbers === 'ceil' ? readable(full, kind, holder) : { ...full };
+    const sent = numbers === 'ceil' ? readable(full, kind, holder) : { ...full };
     if (kind === 'node') {
       for (const name of listsOf(element)) {
         sent[name] = element[name].map((it) => rewrite(it, LISTS[name], element));

@@ -4,6 +4,7 @@
 const { options, prefixes, unread } = require('./data/options.json');
 const { meanings } = require('./endings');
 const { isObject } = require('./levels');
+const { standIns } = require('./stand-ins');
 
 const [PREFIX] = prefixes;
 
@@ -110,31 +111,46 @@ function carriedBy({ properties, layoutOptions }) {
 
 const isSpelling = (key, name) => prefixes.some((prefix) => key === prefix + name);
 
+const KEYS = new Map();
+
 /** The key by which the engine finds an option: the given one, or else the full name. */
-const keyFor = (name, key) => (isSpelling(key, name) ? key : PREFIX + name);
+function keyFor(name, key) {
+  if (!KEYS.has(key)) {
+    KEYS.set(key, isSpelling(key, name) ? key : PREFIX + name);
+  }
+  return KEYS.get(key);
+}
 
 /**
- * The options that an element of a role is sent with, under keys that the engine finds: those that it carries, and
- * the general ones of a call that it reads and doesn't carry itself.
+ * The options that an element of a role is sent with, under keys that the engine finds: those that it carries, the
+ * general ones of a call that it reads and doesn't carry itself, and those that stand for options of ELK.
  * @param {object} element
- * @param {object} general
+ * @param {Map<string, { key: string, value: unknown }>} general the options of a call, by `carriedBy`
  * @param {'levels' | 'nodes' | 'ports' | 'edges'} role
  */
 function sentOptions(element, general, role) {
-  const carried = carriedBy(element);
+  const carried = element.layoutOptions || element.properties ? carriedBy(element) : NONE;
   const sent = {};
   for (const [name, { key, value }] of carried) {
     if (READERS.has(name)) {
       sent[keyFor(name, key)] = value;
     }
   }
-  for (const [name, { key, value }] of carriedBy({ layoutOptions: general })) {
+  for (const [name, { key, value }] of general) {
     if (isReadBy(name, role) && !carried.has(name)) {
       sent[keyFor(name, key)] = value;
     }
   }
+  if (role === 'levels') {
+    const asked = (name) => (carried.get(name) ?? general.get(name))?.value;
+    for (const [name, value] of standIns(asked, (it) => READERS.has(it))) {
+      sent[`elk.${name}`] = value;
+    }
+  }
   return sent;
 }
+
+const NONE = new Map();
 
 module.exports = {
   LAYOUT_ALGORITHMS,

@@ -45,11 +45,11 @@ class Draft {
     this.parents.set(node, parent);
     if (node.id !== undefined) {
       this.#ids.add(String(node.id));
-      this.#nodesById.set(node.id, node);
+      this.#nodesById.set(node.id, { node, id: node.id });
     }
     for (const port of elementsOf(node.ports)) {
       this.#ids.add(String(port.id));
-      this.#portsById.set(port.id, { node, port });
+      this.#portsById.set(port.id, { node, port, id: port.id });
     }
     for (const edge of elementsOf(node.edges)) {
       this.#ids.add(String(edge.id));
@@ -107,7 +107,7 @@ class Draft {
   /** An end of an edge as one at a port; the end as it is where none can be made. */
   dockOf(end) {
     const id = end.port ? undefined : this.dockAt(end.node);
-    return id ? { node: end.node, port: this.#portsById.get(id).port, id } : end;
+    return id ? this.#portsById.get(id) : end;
   }
 
   /** The room that labels of edges of a level keep. */
@@ -136,16 +136,14 @@ class Draft {
   renamePort(node, port) {
     const id = this.freshId('port', port.id);
     this.change(port, { id });
-    this.#portsById.set(id, { node, port });
+    this.#portsById.set(id, { node, port, id });
     return id;
   }
 
   /** The node, the port where one is named, and the id at an end of an edge; nothing where it names nothing. */
   endOf(edge, end) {
     const [id] = endIds(edge, end);
-    const node = namesPort(edge, end) ? undefined : this.#nodesById.get(id);
-    const found = node ? { node } : this.#portsById.get(id);
-    return found && { ...found, id };
+    return (namesPort(edge, end) ? undefined : this.#nodesById.get(id)) ?? this.#portsById.get(id);
   }
 
   /** The edges that join nodes of one level, in document order, each with its two ends. */
@@ -185,11 +183,11 @@ class Draft {
     }
     node[list].push(element);
     if (list === 'ports') {
-      this.#portsById.set(element.id, { node, port: element });
+      this.#portsById.set(element.id, { node, port: element, id: element.id });
     }
     if (list === 'children') {
       this.parents.set(element, node);
-      element.ports.forEach((port) => this.#portsById.set(port.id, { node: element, port }));
+      element.ports.forEach((port) => this.#portsById.set(port.id, { node: element, port, id: port.id }));
     }
     return element;
   }

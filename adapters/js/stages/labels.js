@@ -39,6 +39,9 @@ const hasSize = ({ width, height }) => width > 0 && height > 0;
 
 /** A label of its own with a size: where none is given, that of its text. */
 function measured(label) {
+  if (hasSize(label)) {
+    return { ...label };
+  }
   const lines = typeof label.text === 'string' && label.text !== '' ? label.text.split('\n') : [];
   const size = {
     width: Math.ceil(Math.max(0, ...lines.map((line) => widthOf(line, TEXT.largest)))),

@@ -6,11 +6,25 @@ const path = require('node:path');
 const test = require('node:test');
 const ELK = require('../elk');
 const { copyOf, documentOf, READ } = require('../document');
-const { optionName } = require('../options');
+const { optionName, OPTIONS } = require('../options');
 
 const FORMAT = readFileSync(path.join(__dirname, '..', '..', '..', 'docs', 'FORMAT.md'), 'utf8');
 
-const sent = (graph, general = {}) => documentOf(graph, { numbers: 'ceil', general });
+const SLOTS = 'elk.layered.slots';
+
+/** A document without what every level is asked for besides. */
+function plainly(node) {
+  if (node?.layoutOptions?.[SLOTS] !== undefined) {
+    delete node.layoutOptions[SLOTS];
+  }
+  if (node?.layoutOptions && Object.keys(node.layoutOptions).length === 0) {
+    delete node.layoutOptions;
+  }
+  (Array.isArray(node?.children) ? node.children : []).forEach(plainly);
+  return node;
+}
+
+const sent = (graph, general = {}) => plainly(documentOf(graph, { numbers: 'ceil', general }));
 
 /** The rows of the table of docs/FORMAT.md below a heading, each as its cells. */
 function tableOf(heading) {
@@ -146,7 +160,7 @@ test('general options count where an element that reads them has none of its own
 test('exact hands all on as given', () => {
   const child = { id: 'a', ports: [{ id: 'p', x: 0.5 }], labels: [{ width: 0.5 }] };
   const graph = { id: 'r', width: 1.5, own: [1.5], children: [child] };
-  assert.deepEqual(documentOf(graph, { numbers: 'exact', general: {} }), graph);
+  assert.deepEqual(plainly(documentOf(graph, { numbers: 'exact', general: {} })), graph);
 });
 
 test('a copy shares nothing that is written', () => {
@@ -182,4 +196,19 @@ test('options are sent under names that the engine finds, from properties too', 
       'spacing.edgeEdge': 7,
     },
   });
+});
+
+test('every level is asked for lines that cross no more than they must', () => {
+  const isRead = OPTIONS.some(({ name }) => name === 'layered.slots');
+  const graph = { children: [{ id: 'a', children: [{ id: 'b' }] }] };
+  const document = documentOf(graph, { numbers: 'ceil', general: {} });
+  const asked = isRead ? 'UNCROSSED' : undefined;
+  assert.deepEqual(
+    [document, document.children[0]].map(({ layoutOptions }) => layoutOptions?.[SLOTS]),
+    [asked, asked],
+  );
+  assert.equal(document.children[0].children[0].layoutOptions, undefined);
+  const general = { slots: 'FEWEST' };
+  const given = documentOf(graph, { numbers: 'ceil', general }).layoutOptions;
+  assert.deepEqual(given, isRead ? { 'org.eclipse.elk.layered.slots': 'FEWEST' } : undefined);
 });

@@ -4,6 +4,7 @@ const assert = require('node:assert/strict');
 const { readFileSync } = require('node:fs');
 const path = require('node:path');
 const test = require('node:test');
+const { documentOf } = require('../document');
 const ELK = require('../elk');
 const { WITH_MODULE } = require('../testing/module');
 const { PROGRAM, run, TOP, WITH_PROGRAM } = require('../testing/program');
@@ -130,7 +131,7 @@ drawn('a graph is placed as the program places it, and the answer is judged righ
   for (const name of ['diagram', 'circuit', 'labels', 'spaced']) {
     const graph = unlabelled(example(name));
     const placed = await made().layout(graph);
-    const plain = JSON.parse(run(['layout'], JSON.stringify(graph)).stdout);
+    const plain = JSON.parse(run(['layout'], JSON.stringify(documentOf(graph, { numbers: 'ceil', general: {} }))).stdout);
     for (const part of ['x', 'y', 'width', 'height', 'layering']) {
       assert.deepEqual(placed[part], plain[part], part);
     }
