@@ -1,13 +1,11 @@
 'use strict';
 // The call that users of elkjs know.
 
-const { copyOf, documentOf, finish, place } = require('./document');
 const { engineOf } = require('./engines');
-const { junctionPoints } = require('./junctions');
+const { laidOut } = require('./layout');
 const { LAYOUT_ALGORITHMS, LAYOUT_CATEGORIES, LAYOUT_OPTIONS } = require('./options');
 const { ProgramError } = require('./program-error');
-const { Refusal, refusalOf } = require('./refusals');
-const { draftOf, lacksOf } = require('./stages');
+const { Refusal } = require('./refusals');
 const { warningsOf, warnOnce } = require('./warnings');
 
 const NUMBERS = ['ceil', 'exact'];
@@ -56,13 +54,10 @@ class ELK {
     if (!graph) {
       throw new Error("Missing mandatory parameter 'graph'.");
     }
-    const how = { numbers: this.#numbers, general: layoutOptions ?? {}, lacks: new Map() };
+    const how = { numbers: this.#numbers, general: layoutOptions ?? {} };
     const warnings = warningsOf(graph, how);
     warnings.forEach((warning) => this.#onWarning(warning));
-    const { placed, seconds } = await this.#place(graph, how);
-    for (const [edge, points] of junctionPoints(placed)) {
-      edge.junctionPoints = points;
-    }
+    const { placed, seconds } = await laidOut(graph, how, this.#engine);
     if (logging || measureExecutionTime) {
       placed.logging = {
         name: 'elk batch',
@@ -72,30 +67,6 @@ class ELK {
       };
     }
     return placed;
-  }
-
-  /**
-   * The placed graph, and the seconds that it took. Levels that turn out too small for their labels are laid out once
-   * more with the room that they lack.
-   */
-  async #place(graph, how) {
-    // Taken now, so that the caller may go on with the graph while the call waits.
-    const placed = copyOf(graph);
-    const draft = draftOf(placed, how);
-    const isLast = draft.leasts.size === 0 || how.lacks.size > 0;
-    const again = isLast ? undefined : copyOf(graph);
-    const document = documentOf(placed, how);
-    const text = JSON.stringify(document);
-    const { reply, seconds } = await this.#engine.ask(text);
-    const { owners } = draft;
-    place(placed, answerOf(reply, text, { graph, document, owners, general: how.general }));
-    const lacks = isLast ? undefined : lacksOf(draft);
-    if (lacks) {
-      const drawn = await this.#place(again, { ...how, lacks });
-      return { ...drawn, seconds: seconds + drawn.seconds };
-    }
-    finish(placed, draft);
-    return { placed, seconds };
   }
 
   /** All options that the engine reads. */
@@ -117,18 +88,6 @@ class ELK {
   terminateWorker() {
     this.#engine.stop();
   }
-}
-
-function answerOf(reply, text, call) {
-  const refusal = refusalOf(reply, text, call);
-  if (refusal) {
-    throw refusal;
-  }
-  // What the program writes begins with a brace, whatever it answers.
-  if (!reply.startsWith('{')) {
-    throw new ProgramError(`the program's reply is no answer: ${reply.slice(0, 80)}`);
-  }
-  return JSON.parse(reply);
 }
 
 // One object for `require`, for `import ELK from` and for `import { ELK } from`.
