@@ -6,6 +6,7 @@ const { withWholePlace, withWholeSize } = require('../numbers');
 const { Draft } = require('./draft');
 const { placeEdgeLabels } = require('./edge-labels');
 const { splitHyperedges } = require('./hyper');
+const { moveInsets } = require('./insets');
 const { isTrue } = require('./labels');
 const { mergeEnds } = require('./merge');
 const { renamePorts } = require('./names');
@@ -59,6 +60,7 @@ function draftOf(graph, { numbers, general, lacks }) {
   const draft = new Draft(graph, general);
   renamePorts(draft);
   splitHyperedges(draft);
+  moveInsets(draft);
   const levels = levelsOf(draft);
   const merged = new Set(levels.filter((level) => isTrue(draft.option(level, 'layered.mergeEdges'))));
   const isLabelled = draft.nodes.some(areLabelled);

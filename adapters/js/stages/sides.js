@@ -2,6 +2,7 @@
 // The sides of nodes, and which ports and ends of edges stand at them.
 
 const { elementsOf, numberOr0 } = require('../levels');
+const { pointsOf, sectionOf } = require('./sections');
 
 const AHEAD = { RIGHT: 'EAST', LEFT: 'WEST', DOWN: 'SOUTH', UP: 'NORTH' };
 const BEHIND = { RIGHT: 'WEST', LEFT: 'EAST', DOWN: 'NORTH', UP: 'SOUTH' };
@@ -114,6 +115,16 @@ function spotsAt(draft, node, side, docks) {
   return spots.sort((one, other) => one - other);
 }
 
+/** Draws a route on to where it ends now, so far outward from the node. */
+function drawOn(edge, end, { node, side, away }) {
+  const { back } = axesOf(side);
+  const place = placeAt(side, { width: 0, height: 0 }, { from: 0, away, node })[back] + numberOr0(node[back]);
+  const [section] = edge.sections;
+  const points = pointsOf(section).map((point) => ({ ...point }));
+  points.at(end === 'source' ? 0 : -1)[back] = place;
+  edge.sections = [sectionOf(points, section)];
+}
+
 /** Where the line of a placed dock lies along a side, from the node's corner on. */
 function axisOf({ port, edge, end }, node, side) {
   const { down } = axesOf(side);
@@ -136,6 +147,7 @@ module.exports = {
   axesOf,
   axisOf,
   boxAt,
+  drawOn,
   isUpright,
   linesAt,
   middle,

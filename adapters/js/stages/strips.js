@@ -5,9 +5,8 @@
 
 const { elementsOf, numberOr0 } = require('../levels');
 const { placeStack, stackOf } = require('./labels');
-const { pointsOf, sectionOf } = require('./sections');
 const { ENDS } = require('./draft');
-const { SIDES, along, axesOf, axisOf, boxAt, linesAt, middle, outward, placeAt, sidesOf } = require('./sides');
+const { SIDES, along, axesOf, axisOf, boxAt, drawOn, linesAt, middle, outward, placeAt, sidesOf } = require('./sides');
 
 const sized = (block) => ({ ...block, size: block.size ?? stackOf(block.labels, block.gap) });
 
@@ -189,16 +188,6 @@ function shrink({ port, small, given }, { node, side, axis }) {
 function awayOf({ port, small }, node, side) {
   const { back } = axesOf(side);
   return side === 'WEST' || side === 'NORTH' ? -port[back] : port[back] + outward(side, small) - outward(side, node);
-}
-
-/** Draws a route on to a port's face. */
-function drawOn(edge, end, { node, side, away }) {
-  const { back } = axesOf(side);
-  const place = placeAt(side, { width: 0, height: 0 }, { from: 0, away, node })[back] + numberOr0(node[back]);
-  const [section] = edge.sections;
-  const points = pointsOf(section).map((point) => ({ ...point }));
-  points.at(end === 'source' ? 0 : -1)[back] = place;
-  edge.sections = [sectionOf(points, section)];
 }
 
 /** Whether there is room before a line, but not behind it. */
