@@ -1,7 +1,8 @@
 'use strict';
 // The faults of a graph that a call was given, found in what was sent for it, and told in the caller's own words.
 
-const { faultsOf } = require('./faults');
+const limits = require('./data/limits.json');
+const { faultsOf, notWritable, tooLong } = require('./faults');
 const { isObject } = require('./levels');
 const { carriedBy } = require('./options');
 
@@ -23,6 +24,16 @@ function stepsToOption(element, name, steps, general) {
   }
   const holder = isObject(element.layoutOptions) && Object.hasOwn(element.layoutOptions, key) ? 'layoutOptions' : 'properties';
   return { steps: [...steps.slice(0, -2), holder, key] };
+}
+
+/** Several ends at one side alone are no fault of a call, and several at both are one. */
+function endsOfCall(find) {
+  const { sources, targets } = find.element.value;
+  const isMany = sources.length > 1 && targets.length > 1;
+  if (isMany) {
+    return find.steps.at(-1) === 'sources' ? { ...find, steps: find.steps.slice(0, -1), key: 'manyToMany' } : undefined;
+  }
+  return find.told.found === 0 ? find : undefined;
 }
 
 /**
@@ -57,21 +68,28 @@ function originIn(graph, { owners = new Map(), general = {} }) {
     if (key === 'option') {
       return { ...turned, ...stepsToOption(given.value, told.option.name, steps, general) };
     }
-    return key === 'ends' && told.found > 1 ? { ...turned, key: 'manyToMany' } : turned;
+    return key === 'ends' ? endsOfCall(turned) : turned;
   };
 }
+
+const byteLength = (text) => new TextEncoder().encode(text).length;
 
 /**
  * All faults of a graph as a call takes it: fractions are rounded before, options have any clear name, and an edge may
  * have several ends at one side.
+ * @param {string} text what was sent for the graph
  * @param {object} graph the caller's
- * @param {object} document what was sent for it
  * @param {{ owners?: Map<unknown, unknown>, general?: object }} [sent]
  * @returns {import('./faults').Fault[]}
  */
-function faultsOfCall(graph, document, sent = {}) {
-  // What JSON has no word for is sent as null, or not at all.
-  return faultsOf(JSON.parse(JSON.stringify(document)), { origin: originIn(graph, sent) });
+function faultsOfCall(text, graph, sent = {}) {
+  const bytes = byteLength(text);
+  if (bytes > limits.bytes) {
+    return [tooLong(bytes)];
+  }
+  const unwritable = notWritable(text);
+  // What JSON has no word for is sent as null, or not at all: so what was sent is read again.
+  return unwritable ? [unwritable] : faultsOf(JSON.parse(text), { origin: originIn(graph, sent) });
 }
 
-module.exports = { faultsOfCall };
+module.exports = { byteLength, faultsOfCall };

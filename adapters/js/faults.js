@@ -151,7 +151,8 @@ function toldOf(find, context, near) {
  * @param {object} [given]
  * @param {{ steps: (string | number)[], text: string }[]} [given.fractions] the numbers that aren't whole, where the
  *   text of the document tells them
- * @param {(find: object, context: object) => object} [given.origin] what a rule finds, as it is to be told
+ * @param {(find: object, context: object) => object | undefined} [given.origin] what a rule finds, as it is to be told
+ *   where it is
  * @returns {Fault[]}
  */
 function faultsOf(document, { fractions, origin = (find) => find } = {}) {
@@ -164,7 +165,8 @@ function faultsOf(document, { fractions, origin = (find) => find } = {}) {
     rest -= 1;
     return rest < 0 ? undefined : nearId(id, [...candidates]);
   };
-  return finds.map((find) => toldOf(origin(find, context), context, near));
+  const own = finds.map((find) => origin(find, context)).filter(Boolean);
+  return own.map((find) => toldOf(find, context, near));
 }
 
 /** The fault of a document that is too long. */
@@ -190,17 +192,17 @@ function notUtf8() {
   return { ...fault, detail: FAULTS.json.bytes, message: messageOf(fault, FAULTS.json.bytes, FAULTS.json.words) };
 }
 
-/** The fault of a text that a call has written, where only the steps to it tell the caller something. */
+/** The fault of a text that a call has written, of which the steps alone tell the caller something; or nothing. */
 function notWritable(text) {
   try {
     readJson(text);
+    return undefined;
   } catch ({ reason, steps = [] }) {
     const { rule, name } = RULES.get(1);
     const detail = filled(FAULTS.json.in, { path: pathOf(steps), reason: FAULTS.json[reason] });
     const fault = { rule, name, id: undefined, steps, path: pathOf(steps) };
-    return [{ ...fault, detail, message: messageOf(fault, detail, reason === 'deep' ? undefined : FAULTS.json.words) }];
+    return { ...fault, detail, message: messageOf(fault, detail, reason === 'deep' ? undefined : FAULTS.json.words) };
   }
-  return [];
 }
 
 module.exports = { faultsOf, filled, messageOf, notJson, notUtf8, notWritable, pathOf, textOf, tooLong };

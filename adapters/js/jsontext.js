@@ -65,6 +65,7 @@ function setMember(object, name, value) {
 /** One reading of a text. */
 class Reader {
   #text;
+  #isStrict;
   #at = 0;
   #depth = 0;
   // The steps to the value that is being read.
@@ -75,8 +76,9 @@ class Reader {
   fractions = [];
   doubles = [];
 
-  constructor(text) {
+  constructor(text, isStrict) {
     this.#text = text;
+    this.#isStrict = isStrict;
   }
 
   document() {
@@ -132,7 +134,7 @@ class Reader {
 
   #nested(read, steps) {
     this.#depth += 1;
-    if (this.#depth > MOST_NESTED) {
+    if (this.#isStrict && this.#depth > MOST_NESTED) {
       this.#fail('deep');
     }
     const value = read.call(this, steps);
@@ -236,7 +238,7 @@ class Reader {
       value += mark === '\\' ? this.#escape() : this.#control(mark);
     }
     // Halves that were written one by one may have made a whole.
-    if (HALF.test(value)) {
+    if (this.#isStrict && HALF.test(value)) {
       this.#fail('half', {}, start);
     }
     return value;
@@ -270,6 +272,9 @@ class Reader {
       this.#fail('number', { found: (text + rest).slice(0, 20) || '-' }, start);
     }
     const value = Number(text);
+    if (!this.#isStrict) {
+      return value;
+    }
     if (!Number.isFinite(value)) {
       this.#fail('large', { found: text.slice(0, 20) }, start);
     }
@@ -302,6 +307,8 @@ const isWhole64 = (value) => value >= -(2n ** 63n) && value < 2n ** 64n;
 /**
  * Reads a text of JSON. Whole numbers that a number of JavaScript can't hold are given as BigInt.
  * @param {string} text
+ * @param {{ isStrict?: boolean }} [how] where it isn't strict, the text is read as JavaScript reads it, which has no
+ *   bounds and takes all numbers alike
  * @returns {{
  *   value: unknown,
  *   fractions: { steps: (string | number)[], text: string }[],
@@ -311,8 +318,8 @@ const isWhole64 = (value) => value >= -(2n ** 63n) && value < 2n ** 64n;
  *   text the value or the name stands to which steps lead, or the last one on the way to it
  * @throws {JsonFault}
  */
-function readJson(text) {
-  const reader = new Reader(text);
+function readJson(text, { isStrict = true } = {}) {
+  const reader = new Reader(text, isStrict);
   const { value, start } = reader.document();
   const placeOf = (steps, part = 'value') => {
     let inner = value;

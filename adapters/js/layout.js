@@ -44,7 +44,7 @@ async function laidOut(graph, how, engine, lacks = new Map()) {
   const text = JSON.stringify(document);
   const { reply, seconds } = await engine.ask(text);
   const { owners } = draft;
-  place(placed, answerOf(reply, text, { graph, document, owners, general: how.general }));
+  place(placed, answerOf(reply, text, { graph, owners, general: how.general }));
   const more = isLast ? undefined : lacksOf(draft);
   if (more) {
     const drawn = await laidOut(again, how, engine, more);

@@ -1,7 +1,7 @@
 'use strict';
 // All that can be said of the text of a document before it is laid out, each with its line and column.
 
-const { faultsOfCall } = require('./call-faults');
+const { byteLength, faultsOfCall } = require('./call-faults');
 const limits = require('./data/limits.json');
 const { copyOf, documentOf } = require('./document');
 const { faultsOf, notJson, tooLong } = require('./faults');
@@ -9,19 +9,17 @@ const { JsonFault, linesOf, readJson } = require('./jsontext');
 const { draftOf } = require('./stages');
 const { doubleMember, warningsOf } = require('./warnings');
 
-const byteLength = (text) => new TextEncoder().encode(text).length;
-
 /** The faults of a value that a call of the adapter is given. */
 function faultsAsCall(value, { numbers = 'ceil', layoutOptions: general = {} }) {
-  const how = { numbers, general };
+  const how = { numbers, general, lacks: new Map() };
   const graph = copyOf(value);
   const { owners } = draftOf(graph, how);
-  return faultsOfCall(value, documentOf(graph, how), { owners, general });
+  return faultsOfCall(JSON.stringify(documentOf(graph, how)), value, { owners, general });
 }
 
-function readAll(text, lineAt) {
+function readAll(text, lineAt, how) {
   try {
-    return readJson(text);
+    return readJson(text, how);
   } catch (error) {
     if (!(error instanceof JsonFault)) {
       throw error;
@@ -49,11 +47,11 @@ function faultsOfText(text, { call } = {}) {
  */
 function lint(text, { call } = {}) {
   const bytes = byteLength(text);
-  if (bytes > limits.bytes) {
+  if (!call && bytes > limits.bytes) {
     return { faults: [tooLong(bytes)], warnings: [] };
   }
   const lineAt = linesOf(text);
-  const { fault, value, fractions, doubles, placeOf } = readAll(text, lineAt);
+  const { fault, value, fractions, doubles, placeOf } = readAll(text, lineAt, { isStrict: !call });
   if (fault) {
     return { faults: [fault], warnings: [] };
   }

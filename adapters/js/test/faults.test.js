@@ -5,10 +5,11 @@ const assert = require('node:assert/strict');
 const { readFileSync } = require('node:fs');
 const path = require('node:path');
 const test = require('node:test');
+const ELK = require('../elk');
 const { faultsOf } = require('../faults');
 const { faultsOfText } = require('../lint');
 const { damagedDocument, damagedText } = require('../testing/damage');
-const { run, TOP, WITH_PROGRAM } = require('../testing/program');
+const { PROGRAM, run, TOP, WITH_PROGRAM } = require('../testing/program');
 
 const COUNT = Number(process.env.ELK_DAMAGED ?? 400);
 
@@ -90,4 +91,41 @@ test('all faults are told, in the order of the rules', () => {
     'RIGHT',
     ['UNDEFINED', 'RIGHT', 'LEFT', 'DOWN', 'UP'],
   ]);
+});
+
+test('a call refuses what is told of it before, and for the same', WITH_PROGRAM, async () => {
+  const elk = new ELK({ program: PROGRAM, onWarning: () => {} });
+  for (let seed = 0; seed < COUNT / 2; seed += 1) {
+    const text = damagedDocument(seed);
+    const [first] = faultsOfText(text, { call: {} });
+    const said = await elk.layout(JSON.parse(text)).then(
+      () => undefined,
+      ({ message, path: at, faults }) => ({ message, path: at, count: faults.length > 0 }),
+    );
+    assert.deepEqual(said, first && { message: first.message, path: first.path, count: true }, `seed ${seed}: ${text.slice(0, 2000)}`);
+  }
+  elk.terminateWorker();
+});
+
+test('a refusal has what mends it', WITH_PROGRAM, async () => {
+  const elk = new ELK({ program: PROGRAM });
+  const children = [{ id: 'a', width: 30.5 }, { id: 'box', children: [{ id: 'c', layoutOptions: { 'portConstraints': 'FIXD_POS' } }] }];
+  const edges = [{ id: 'e', sources: ['a'], targets: ['C', 'a'] }, { id: 'f', sources: ['a'], targets: ['c'] }];
+  const graph = { id: 'r', properties: { spacing: 1, nodeNodeBetweenLayers: 'wide' }, children, edges };
+  const error = await elk.layout(graph, { layoutOptions: { 'elk.edgeRouting': 'SPLINES' } }).catch((it) => it);
+  elk.terminateWorker();
+  assert.ok(error instanceof ELK.Refusal);
+  const { rule, name, id, path: at, found, allowed, near } = error;
+  assert.deepEqual([rule, name, id, at, found, allowed, near], [8, 'UnknownEnd', 'e', 'edges[0].targets[0]', 'C', undefined, 'c']);
+  assert.deepEqual(
+    error.faults.map((fault) => [fault.rule, fault.id, fault.path, fault.found, fault.near]),
+    [
+      [8, 'e', 'edges[0].targets[0]', 'C', 'c'],
+      [10, 'f', 'edges[1]', undefined, undefined],
+      [11, 'r', 'layoutOptions["elk.edgeRouting"] of the call', 'SPLINES', undefined],
+      [11, 'r', 'properties.nodeNodeBetweenLayers', 'wide', undefined],
+      [11, 'box', 'layoutOptions["elk.edgeRouting"] of the call', 'SPLINES', undefined],
+      [11, 'c', 'children[1].children[0].layoutOptions.portConstraints', 'FIXD_POS', 'FIXED_POS'],
+    ],
+  );
 });

@@ -32,6 +32,10 @@ test('the refusal of the page says what the page says', WITH_PROGRAM, () => {
   assert.deepEqual(said, [...page.matchAll(/console\.log\(.*\/\/ (.*)/g)].map(([, comment]) => comment));
 });
 
+test('the warning of the page says what the page says', WITH_PROGRAM, () => {
+  assert.equal(scriptBelow('What has no effect').trim(), /await elk\.layout\(.*\/\/ (unknownOption .*)/.exec(page)[1]);
+});
+
 test('the flow of the page is placed', WITH_PROGRAM, () => {
   const places = scriptBelow('Ports and nesting, in the manner of React Flow');
   assert.deepEqual([...places.matchAll(/id: '(\w+)'/g)].map(([, id]) => id), ['read', 'group', 'parse', 'check']);

@@ -31,11 +31,11 @@ const RICH = JSON.stringify({
       ...{ id: 'a', width: 40, height: 30, layoutOptions: { 'elk.portConstraints': 'FIXED_POS' } },
       ports: [
         { id: 'a1', x: -4, y: 5, width: 4, height: 4, layoutOptions: { 'elk.port.side': 'WEST' } },
-        { id: 'a2', x: 40, y: 5, width: 4, height: 4 },
+        { id: 'a2', x: 40, y: 5, width: 4, height: 4, labels: [{ text: 'out' }] },
       ],
     },
     { id: 1, width: 20, height: 20, ports: [{ id: '1', layoutOptions: { 'elk.port.index': 3 } }] },
-    { id: 'boxes', layoutOptions: { 'elk.algorithm': 'box' }, children: [{ id: 'b1', width: 9, height: 9 }, { id: 'b2' }] },
+    { id: 'boxes', labels: [{ id: 'l', text: 'boxes', width: 30, height: 12 }], layoutOptions: { 'elk.algorithm': 'box' }, children: [{ id: 'b1', width: 9, height: 9 }, { id: 'b2' }] },
     {
       ...{ id: 'in', layoutOptions: { 'elk.portConstraints': 'FIXED_POS' } },
       ports: [{ id: 'ip', x: 0, y: 7, layoutOptions: { 'elk.port.side': 'EAST' } }],
@@ -46,7 +46,7 @@ const RICH = JSON.stringify({
   edges: [
     { id: 'e1', sources: ['a2'], targets: [1], layoutOptions: { 'elk.layered.priority.shortness': 4 } },
     { id: 'e2', source: 1, sourcePort: '1', target: 'boxes' },
-    { id: 'e3', source: 'in', target: 'a', targetPort: 'a1' },
+    { id: 'e3', source: 'in', target: 'a', targetPort: 'a1', labels: [{ text: 'three', width: 20, height: 10 }] },
     { id: 2, sources: ['a'], targets: ['a'] },
   ],
 });

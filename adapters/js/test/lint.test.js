@@ -1,0 +1,125 @@
+'use strict';
+
+const assert = require('node:assert/strict');
+const { spawnSync } = require('node:child_process');
+const { mkdtempSync, readFileSync, rmSync, writeFileSync } = require('node:fs');
+const { tmpdir } = require('node:os');
+const path = require('node:path');
+const test = require('node:test');
+const { lint } = require('../lint');
+const { TOP } = require('../testing/program');
+
+const LINT = path.join(TOP, 'adapters', 'js', 'bin', 'elk-lint');
+
+const command = (words, input = '') => spawnSync(LINT, words, { input, encoding: 'utf8' });
+
+// Each text that is no JSON, with the place and the reason.
+const NO_JSON = [
+  ['', '1:1 there is no text'],
+  ['  \n ', '2:2 there is no text'],
+  ['{"a": [1, 2,]}', '1:12 no comma stands before ]'],
+  ['{"a": 1,\n}', '1:8 no comma stands before }'],
+  ['{"a": 1\n "b": 2}', '2:2 a comma or } is due'],
+  ['[1 2]', '1:4 a comma or ] is due'],
+  ['{a: 1}', '1:2 the name a stands between double quotes'],
+  ["{'a': 1}", '1:2 texts stand between double quotes'],
+  ["['a']", '1:2 texts stand between double quotes'],
+  ['{"a" 1}', '1:6 a colon is due after "a"'],
+  ['{,}', '1:2 a name is due, between double quotes'],
+  ['[', '1:2 the text ends before a value'],
+  ['{"a": [1', '1:9 the text ends before ]'],
+  ['{"a":', '1:6 the text ends before a value'],
+  ['{"a"', '1:5 the text ends before }'],
+  ['["abc', '1:2 the text that begins here has no end'],
+  ['[NaN]', '1:2 NaN is no value of JSON'],
+  ['[undefined]', '1:2 undefined is no value of JSON'],
+  ['[True]', '1:2 True is no value of JSON'],
+  ['[;]', '1:2 a value is due'],
+  ['[01]', '1:2 01 is no number of JSON'],
+  ['[.5]', '1:2 .5 is no number of JSON'],
+  ['[5px]', '1:2 5px is no number of JSON'],
+  ['[-]', '1:2 - is no number of JSON'],
+  ['[1e999]', '1:2 1e999 is too large for a number'],
+  ['{} // end', '1:4 there are no comments in JSON'],
+  ['/* */ {}', '1:1 there are no comments in JSON'],
+  ['{} {}', '1:4 something stands behind the end of the document'],
+  ['["a\nb"]', '1:4 within a text this letter is written \\n'],
+  ['["\\x"]', '1:3 \\x stands for no letter'],
+  ['["\\u12"]', '1:3 \\u12"] stands for no letter'],
+  ['["\\ud800"]', '1:2 a text has half of a pair of surrogates'],
+  ['\ufeff{}', '1:1 the text begins with the mark of a byte order, which is left out'],
+  ['['.repeat(128), '1:128 arrays and objects are nested more than 127 deep'],
+];
+
+test('a text that is no JSON is told with its place and its reason', () => {
+  for (const [text, said] of NO_JSON) {
+    const { faults, warnings } = lint(text);
+    const [{ rule, line, column, detail }] = faults;
+    assert.deepEqual([faults.length, warnings.length, rule], [1, 0, 1]);
+    assert.equal(`${line}:${column} ${detail.replace(/^line \d+, column \d+: /, '')}`, said, text.slice(0, 40));
+  }
+});
+
+test('places are those of values for faults, and those of names for warnings', () => {
+  const text = '{\r\n  "id": "r", "é😀": 1,\n  "children": [ { "id": "a", "width": 0.5 } ],\n  "layoutOptions": { "elk.directon": "UP" }\n}';
+  const { faults, warnings } = lint(text);
+  assert.deepEqual(faults.map(({ line, column, source, mark }) => [line, column, source[mark]]), [[3, 39, '0']]);
+  assert.deepEqual(warnings.map(({ line, column, source, mark }) => [line, column, source[mark]]), [[4, 22, '"']]);
+});
+
+test('of a long line a piece is shown', () => {
+  const text = `{"id":"r","own":"${'x'.repeat(5000)}","children":[{"id":"a","width":0.5}],"more":"${'y'.repeat(5000)}"}`;
+  const [{ source, mark }] = lint(text).faults;
+  assert.ok(source.length < 200);
+  assert.equal(source.slice(mark, mark + 3), '0.5');
+});
+
+test('a member that stands twice is told, and the last one counts', () => {
+  const { faults, warnings } = lint('{"id":"r","width":0.5,"width":1}');
+  assert.deepEqual([faults, warnings.map(({ message }) => message)], [[], ['width stands twice, and the last one counts']]);
+});
+
+test('numbers that JavaScript can\'t hold are read as the program reads them', () => {
+  const ids = (one, other) => `{"children":[{"id":${one}},{"id":${other}}]}`;
+  assert.deepEqual(lint(ids('9007199254740993', '9007199254740992')).faults, []);
+  assert.deepEqual(lint(ids('18446744073709551615', '-9223372036854775808')).faults, []);
+  assert.deepEqual(lint(ids('9007199254740993', '9007199254740993')).faults.map(({ rule }) => rule), [7]);
+  const fractions = ['1.0', '-0', '1e2', '18446744073709551616', '-9223372036854775809'];
+  const found = lint(`{"own":[${fractions}]}`).faults;
+  assert.deepEqual(found.map(({ detail }) => detail), fractions.map((text, at) => `own[${at}] is ${text}`));
+});
+
+test('the command tells faults and warnings of files, and ends with its status', (t) => {
+  const folder = mkdtempSync(path.join(tmpdir(), 'elk-lint-'));
+  t.after(() => rmSync(folder, { recursive: true }));
+  const file = (name, content) => {
+    writeFileSync(path.join(folder, name), content);
+    return path.join(folder, name);
+  };
+  const good = file('good.json', '{"id":"r"}');
+  const bad = file('bad.json', '{"id":"r","children":[{"id":"a","widht":1,"height":0.5}]}');
+  const binary = file('binary.json', Buffer.from([0x22, 0xff, 0x22]));
+  for (const [words, status, stdout, stderr] of [
+    [[good], 0, /^$/, /^$/],
+    [[good, bad], 2, /^\S+bad\.json:1:52: a number is not whole: .*\n.*\n +\^\n\S+bad\.json:1:33: warning: children\[0\]\.widht is/, /^$/],
+    [['--call', bad], 0, /^\S+bad\.json:1:33: warning: children\[0\]\.widht is not read; did you mean "width"\?\n/, /^$/],
+    [[binary], 2, /^\S+binary\.json: the document is no JSON: the bytes are no text in UTF-8 \(rule 1, NotJson\)\n$/, /^$/],
+    [[path.join(folder, 'none.json'), bad], 3, /a number is not whole/, /^elk-lint: \S+none\.json can't be read: /],
+    [['--help'], 5, /^$/, /^usage: elk-lint/],
+  ]) {
+    const ran = command(words);
+    assert.equal(ran.status, status, words.join(' '));
+    assert.match(ran.stdout, stdout);
+    assert.match(ran.stderr, stderr);
+  }
+  const told = command(['--json', good, bad]).stdout.trimEnd().split('\n').map((line) => JSON.parse(line));
+  assert.deepEqual(told.map((it) => [it.file, it.faults.length, it.warnings.length]), [[good, 0, 0], [bad, 1, 1]]);
+  assert.deepEqual([told[1].faults[0].path, told[1].faults[0].line], ['children[0].height', 1]);
+});
+
+test('the page shows what the command says', () => {
+  const page = readFileSync(path.join(TOP, 'docs', 'EDITORS.md'), 'utf8');
+  const [, block] = /echo '(.*)' \| adapters\/js\/bin\/elk-lint\n((?: {4}.*\n)+)/.exec(page) ?? [];
+  const [, , shown] = /echo '(.*)' \| adapters\/js\/bin\/elk-lint\n((?: {4}.*\n)+)/.exec(page);
+  assert.equal(command([], `${block}\n`).stdout, shown.replace(/^ {4}/gm, ''));
+});
