@@ -41,6 +41,14 @@ test('the flow of the page is placed', WITH_PROGRAM, () => {
   assert.deepEqual([...places.matchAll(/id: '(\w+)'/g)].map(([, id]) => id), ['read', 'group', 'parse', 'check']);
 });
 
+test('the labels of the page are in its picture', WITH_PROGRAM, () => {
+  const texts = elementsOfXml(scriptBelow('Labels')).filter(({ name }) => name === 'text');
+  const told = texts.map(({ content }) => content);
+  for (const text of ['power on', 'idle', 'request / start timer', 'poll']) {
+    assert.ok(told.includes(text), text);
+  }
+});
+
 test('the circuit of the page tells its junctions', WITH_PROGRAM, () => {
   assert.equal(scriptBelow('A circuit').match(/x: \d+, y: \d+/g).length, 4);
 });
