@@ -78,7 +78,7 @@ def check(placed: Element, *, numbers: str = "ceil", program: Program = None) ->
 
     With `exact` fractions anywhere in it are refused, else only those that are read.
     """
-    return judge(find_program(program), Sender(numbers, is_placed=True).line_of(placed))
+    return judge(find_program(program), Sender(numbers, is_placed=True).sent_of(placed).line)
 
 
 @overload
@@ -159,9 +159,10 @@ def _is_raising(errors: str) -> bool:
 
 def _ticket(document: Any, sender: Sender) -> Ticket:
     try:
-        return Ticket(sender.line_of(document), document)
+        sent = sender.sent_of(document)
+        return Ticket(sent.line, (document, sent.is_all))
     except Refusal as refusal:
-        ticket = Ticket(b"", document)
+        ticket = Ticket(b"")
         ticket.error = refusal
         return ticket
 
@@ -181,8 +182,9 @@ def _results(tickets: Iterator[Ticket], raises: bool, options: Options) -> Itera
 def _result(ticket: Ticket, raises: bool, options: Options) -> Any:
     reply, error = ticket.reply or "", ticket.error
     if reply.startswith("{"):
-        return placed_of(ticket.about, reply)
-    error = error or refusal_of(reply, ticket.line, ticket.about, options)
+        document, is_all = ticket.about
+        return placed_of(document, reply, is_all)
+    error = error or refusal_of(reply, ticket.line, ticket.about[0], options)
     error = error or ProgramError(f"the reply is no answer: {reply[:80]}")
     if raises or getattr(error, "status", None) in HOPELESS:
         raise error

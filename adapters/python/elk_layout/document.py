@@ -3,18 +3,18 @@
 from __future__ import annotations
 
 import json
-import math
-from decimal import Decimal
-from numbers import Integral, Real
-from typing import Any, Dict, Mapping, Optional
+import re
+from typing import Any, Dict, Mapping, NamedTuple, Optional
 
 from .errors import Refusal
-from .options import general_options, sent_options
+from .options import general_options, sent_options, spellings
+from .plain import PLAIN, decode, encode, encode_plain, plain
 from .whole import make_port_whole, make_size_whole
 
 Element = Dict[str, Any]
 
-LISTS = ("ports", "edges", "children")
+KINDS = {"ports": "port", "edges": "edge", "children": "node"}
+LISTS = KINDS.keys()
 
 # The members that the engine reads, by docs/FORMAT.md. Nothing else is sent, so that neither a fraction in a label nor
 # a program's own data stands in its way.
@@ -40,50 +40,28 @@ OUTDATED = ("sections", "bendPoints", "junctionPoints", "sourcePoint", "targetPo
 
 MEASURES = frozenset(("width", "height", "x", "y"))
 
-# Values of these classes are JSON as they are.
-PLAIN = frozenset((str, int, bool, type(None)))
+# A number of class float in the text of a document, and letters of which it has some, which are found much faster.
+FRACTION = re.compile(r"[:,\[]-?[0-9]+[.e]")
+MARKS = (".", "e-", "e+")
 
 
-
-def plain(value: Any) -> Any:
-    """A value in Python's own classes, numbers that are whole without a fraction, as JavaScript writes them."""
-    if value.__class__ in PLAIN:
-        return value
-    if isinstance(value, Integral):
-        return int(value)
-    if isinstance(value, (Real, Decimal)):
-        number = float(value)
-        if not math.isfinite(number):
-            return None
-        return int(number) if number.is_integer() else number
-    if isinstance(value, (list, tuple)):
-        return [plain(it) for it in value]
-    if isinstance(value, Mapping):
-        return {key: plain(it) for key, it in value.items()}
-    return value.item() if hasattr(value, "item") else value
+def _reads_all(element: Element, kind: str) -> bool:
+    """Whether the engine reads all members and options of an element, and of all that it holds."""
+    if not READ[kind].issuperset(element):
+        return False
+    if "layoutOptions" in element and not spellings().issuperset(element["layoutOptions"]):
+        return False
+    if kind != "node":
+        return True
+    lists = element.keys() & LISTS
+    return not lists or all(_reads_all(it, KINDS[name]) for name in lists for it in element[name])
 
 
-def _default(value: Any) -> Any:
-    found = plain(value)
-    if found is value:
-        raise TypeError(f"a value of class {type(value).__name__} is none of JSON: {value!r}")
-    return found
+class Sent(NamedTuple):
+    """What is sent for a document: the line with its line feed, and whether that has all that the document has."""
 
-
-_encode = json.JSONEncoder(
-    ensure_ascii=False, check_circular=False, allow_nan=False, separators=(",", ":"), default=_default
-).encode
-
-_decode = json.JSONDecoder().decode
-
-
-def finite(value: Any) -> Any:
-    """A value with null in place of numbers that JSON doesn't have."""
-    if isinstance(value, (list, tuple)):
-        return [finite(it) for it in value]
-    if isinstance(value, Mapping):
-        return {key: finite(it) for key, it in value.items()}
-    return None if isinstance(value, (Real, Decimal)) and not math.isfinite(value) else value
+    line: bytes
+    is_all: bool
 
 
 def _role(node: Element, is_root: bool) -> str:
@@ -110,26 +88,35 @@ class Sender:
         # These are looked at by themselves.
         self._kept = frozenset(LISTS) if is_placed else MEASURES.union(LISTS)
         self._general = general_options(options)
-        self._rewrites = not self._is_exact or any(self._general.values())
+        self._has_general = any(self._general.values())
+        self._rewrites = not self._is_exact or self._has_general
 
-    def line_of(self, document: Any) -> bytes:
-        """The line that is sent for a document, with its line feed."""
+    def sent_of(self, document: Any) -> Sent:
+        """What is sent for a document."""
         try:
-            text = self._text_of(document)
+            text = self._text_of_all(document)
+            is_all = text is not None
+            if text is None:
+                text = encode(self._node(document, True) if self._rewrites else document)
         except RecursionError:
             raise Refusal(1, "NotJson", None, "lists and objects stand too deep in one another, or in themselves") from None
         try:
-            return text.encode() + b"\n"
+            return Sent(text.encode() + b"\n", is_all)
         except UnicodeEncodeError:
             # Half of a pair of surrogates has no bytes of its own.
-            return json.dumps(json.loads(text)).encode() + b"\n"
+            return Sent(json.dumps(json.loads(text)).encode() + b"\n", is_all)
 
-    def _text_of(self, document: Any) -> str:
-        sent = self._node(document, True) if self._rewrites else document
+    def _text_of_all(self, document: Any) -> Optional[str]:
+        """The text of a document that needs no other members and numbers than it has, which is most of the work less."""
+        if not self._is_rounding or self._has_general:
+            return None
         try:
-            return _encode(sent)
-        except ValueError:
-            return _encode(finite(sent))
+            text = encode_plain(document) if _reads_all(document, "node") else None
+        except (TypeError, ValueError):
+            return None
+        if text and any(mark in text for mark in MARKS) and FRACTION.search(text):
+            return None
+        return text
 
     def _node(self, node: Any, is_root: bool = False) -> Any:
         if not isinstance(node, dict):
@@ -186,10 +173,13 @@ class Placed(Element):
         return self.to_svg()
 
 
-def placed_of(document: Element, reply: str) -> Placed:
-    """A document with the engine's answer put in. Its elements and lists are its own; all else it shares."""
-    answer = _decode(reply)
-    return Placed(_placed_node(document, answer))
+def placed_of(document: Element, reply: str, is_all: bool) -> Placed:
+    """A document with the engine's answer put in. Its elements and lists are its own; all else it shares.
+
+    `is_all` says that all of the document was sent, so that the answer has it.
+    """
+    answer = decode(reply)
+    return Placed(answer if is_all else _placed_node(document, answer))
 
 
 def _placed_node(node: Element, answer: Element) -> Element:

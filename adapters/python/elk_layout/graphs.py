@@ -6,11 +6,12 @@ import math
 from typing import Any, Callable, Dict, Hashable, Mapping, NamedTuple, Optional, Set, Tuple, Union
 
 from .calls import layout
-from .document import Element, plain
+from .document import Element
 from .errors import TOO_MANY, Refusal
 from .junctions import route_of
 from .letters import width_of
 from .levels import Levels, Place, elements_of, number_or_0
+from .plain import plain
 from .program import Program
 from .shared import table
 

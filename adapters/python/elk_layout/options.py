@@ -3,7 +3,7 @@
 from __future__ import annotations
 
 from functools import lru_cache
-from typing import Any, Dict, Mapping, NamedTuple, Optional, Set
+from typing import Any, Dict, FrozenSet, Mapping, NamedTuple, Optional, Set
 
 from .shared import table
 
@@ -40,6 +40,12 @@ def option_name(key: str) -> Optional[str]:
     return next(iter(names)) if len(names) == 1 and names <= _readers().keys() else None
 
 
+@lru_cache(maxsize=None)
+def spellings() -> FrozenSet[str]:
+    """The keys under which the engine finds options."""
+    return frozenset(prefix + name for prefix in table("options")["prefixes"] for name in _readers())
+
+
 class Carried(NamedTuple):
     """An option with the key under which it is given, the one under which the engine finds it, and its value."""
 
@@ -51,8 +57,7 @@ class Carried(NamedTuple):
 @lru_cache(maxsize=4096)
 def _engine_key(key: str, name: str) -> str:
     """The key under which the engine finds an option: the same, or else the full name."""
-    prefixes = table("options")["prefixes"]
-    return key if key in [prefix + name for prefix in prefixes] else str(prefixes[0] + name)
+    return key if key in spellings() else str(table("options")["prefixes"][0] + name)
 
 
 def carried_by(*given: Any) -> Dict[str, Carried]:

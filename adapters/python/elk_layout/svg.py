@@ -8,10 +8,10 @@ import re
 from decimal import ROUND_HALF_UP, Decimal
 from typing import Any, Dict, Iterable, List, NamedTuple, Set, Tuple
 
-from .document import plain
 from .junctions import Point, junctions_of, point_of, route_of
 from .letters import begin, width_of
 from .levels import Declared, Element, Levels, Place, elements_of, end_ids, number_or_0
+from .plain import plain
 from .shared import table
 from .whole import is_measure
 

@@ -18,7 +18,7 @@ from elk_layout.program import find_program
 
 
 def sent(document, **how):
-    return json.loads(Sender(**how).line_of(document))
+    return json.loads(Sender(**how).sent_of(document).line)
 
 
 def lay_out(document, **how):
@@ -83,7 +83,7 @@ class Sent(unittest.TestCase):
 
     def test_exact_hands_on(self):
         document = {"id": "r", "width": 30.0, "labels": [{"text": "a"}], "mine": math.nan, "t": (1, 2)}
-        line = Sender("exact").line_of(document)
+        line = Sender("exact").sent_of(document).line
         self.assertEqual(line, b'{"id":"r","width":30.0,"labels":[{"text":"a"}],"mine":null,"t":[1,2]}\n')
 
     def test_options_of_a_call_go_to_the_elements_that_read_them(self):
@@ -191,6 +191,20 @@ class Laid(unittest.TestCase):
         self.assertIsNot(placed["children"][1]["children"], document["children"][1]["children"])
         self.assertEqual(set(placed["edges"][0]), {"id", "sources", "targets", "sections"})
         self.assertTrue(check(placed, program=PROGRAM))
+
+    def test_a_document_comes_out_the_same_whether_it_is_sent_as_it_is_or_not(self):
+        mine = object()
+        for document in (
+            chain(5),
+            {"id": 1, "layoutOptions": {"elk.direction": "UP"}, "children": [{"id": "1", "ports": [{"id": "p", "x": 0}]}]},
+            {"id": "a\"b\\", "children": ({"id": "é"}, {"id": "😀:1.5"})},
+            {"id": "r", "children": [], "edges": []},
+        ):
+            with self.subTest(document):
+                plain = lay_out(document)
+                changed = {**document, "mine": mine}
+                self.assertEqual(lay_out(changed), {**plain, "mine": mine})
+                self.assertEqual(lay_out(document, options={"elk.port.side": "UNDEFINED"}), plain)
 
     def test_a_placed_document_may_be_laid_out_again(self):
         placed = lay_out(chain(4), options={"elk.direction": "DOWN"})
