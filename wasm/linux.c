@@ -45,18 +45,16 @@ __asm__(".globl _start\n_start: mov x29, #0\n mov x30, #0\n mov x0, sp\n bl begi
 #endif
 
 static word count_of_words;
-static const char *const *words, *const *entries;
+static const char *const *words;
 static unsigned char *memory, *reached;
 
 int main(int count, const char *const *first);
 
-/* Owes the program its words and memory, and the system its status. On the stack are the number of words, the words, a null, and the
- * entries of the environment with a null behind them. */
+/* Owes the program its words and memory, and the system its status. On the stack are the number of words, and then the words. */
 __attribute__((used)) static void begin(const word *stack)
 {
     count_of_words = stack[0];
     words = (const char *const *)(stack + 1);
-    entries = words + count_of_words + 1;
     reached = (unsigned char *)ask(BREAK, 0, 0, 0, 0);
     memory = (unsigned char *)(((size_t)reached + 15) & ~(size_t)15);
     ask(EXIT, main((int)count_of_words, words), 0, 0, 0);
@@ -110,9 +108,12 @@ word __sysv_signal(int number, word handler)
     return told(ask(SIGNAL, number, (word)&action, 0, sizeof action.mask));
 }
 
-/* Owes a text and how long it is, or why it isn't all there. */
-static word copied(const char *text, unsigned char *into, size_t length)
+/* Owes a word of the command line, of which the first is the program's name, and how long it is, or why it isn't all there. */
+word rattle_arg(size_t index, unsigned char *into, size_t length)
 {
+    if (index >= (size_t)count_of_words)
+        return MISSING;
+    const char *text = words[index];
     for (size_t at = 0;; at++) {
         if (!text[at])
             return (word)at;
@@ -120,38 +121,6 @@ static word copied(const char *text, unsigned char *into, size_t length)
             return TOO_LONG;
         into[at] = (unsigned char)text[at];
     }
-}
-
-/* Owes a word of the command line, of which the first is the program's name. */
-word rattle_arg(size_t index, unsigned char *into, size_t length)
-{
-    return index < (size_t)count_of_words ? copied(words[index], into, length) : MISSING;
-}
-
-/* Owes an entry of the environment, NAME=VALUE. */
-word rattle_env_at(size_t index, unsigned char *into, size_t length)
-{
-    for (size_t at = 0; at < index; at++)
-        if (!entries[at])
-            return MISSING;
-    return entries[index] ? copied(entries[index], into, length) : MISSING;
-}
-
-/* The value of an entry that has this name, or null. */
-static const char *value_of(const char *entry, const char *name)
-{
-    while (*name && *entry == *name)
-        entry++, name++;
-    return !*name && *entry == '=' ? entry + 1 : 0;
-}
-
-/* Owes the value that the environment has for a name. */
-word rattle_env(const char *name, unsigned char *into, size_t length)
-{
-    for (const char *const *entry = entries; *entry; entry++)
-        if (value_of(*entry, name))
-            return copied(value_of(*entry, name), into, length);
-    return MISSING;
 }
 
 /* As in C, for the compiler, which makes calls of them. */

@@ -80,19 +80,6 @@ count rattle_arg(size_t index, unsigned char *into, size_t length)
     return (size_t)has > length ? TOO_LONG : has;
 }
 
-/* A module has no environment. */
-count rattle_env(const char *name, unsigned char *into, size_t length)
-{
-    (void)name, (void)into, (void)length;
-    return MISSING;
-}
-
-count rattle_env_at(size_t index, unsigned char *into, size_t length)
-{
-    (void)index, (void)into, (void)length;
-    return MISSING;
-}
-
 /* A module gets no signals, so there is nothing to ignore. */
 uint64_t __sysv_signal(int number, uint64_t handler)
 {
