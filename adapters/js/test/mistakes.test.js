@@ -42,7 +42,6 @@ const MISTAKES = [
   ['a padding is one number', options({ 'elk.padding': '12' })],
   ['a level of boxes has edges', options({ 'elk.algorithm': 'box' })],
   ['a port faces one side and stands at another', pinned({ id: 'p', x: -4, y: 5, width: 4, height: 4, layoutOptions: { 'elk.port.side': 'EAST' } })],
-  ['a fixed port stands within its node', pinned({ id: 'p', x: 10, y: 5, width: 4, height: 4 })],
   ['an option is misspelt', options({ 'elk.directon': 'DOWN' })],
   ['an option lacks a part of its name', options({ 'elk.spacing.nodeNodeBetweenLayers': '40' })],
   ['an option stands at the wrong element', options({ 'elk.port.side': 'EAST' })],
