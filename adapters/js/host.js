@@ -17,14 +17,15 @@ const programEngine = (program) => new Batch(program);
 /** A thread with a script that stands in a file. */
 const workerAt = (url) => threadOf(/^file:/.test(url) ? fileURLToPath(url) : path.resolve(String(url)));
 
-// All who don't ask for a worker of their own share this one, as making one takes time and memory.
+// All who don't ask for a worker of their own share this one, as making one takes time and memory. It is made when the first of them
+// is, so that it is ready when the first graph is.
 const shared = new WorkerQueue(() => threadOf(path.join(__dirname, 'worker.js')));
 
 function defaultEngine() {
   if (process.env.ELK_PROGRAM || !moduleFile()) {
     return programEngine(process.env.ELK_PROGRAM || LAUNCHER);
   }
-  return shared.client();
+  return shared.prepare().client();
 }
 
 module.exports = { defaultEngine, programEngine, workerAt };

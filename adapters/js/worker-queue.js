@@ -33,10 +33,19 @@ class WorkerQueue {
     this.#make = make;
   }
 
-  /** Makes the worker before the first call. */
+  /** Makes the worker before the first call, and throws where it can't be made. */
   start() {
     this.#worker ??= this.#made();
     return this;
+  }
+
+  /** Makes the worker before the first call, which is told where that fails. */
+  prepare() {
+    try {
+      return this.start();
+    } catch {
+      return this;
+    }
   }
 
   /**
@@ -62,7 +71,7 @@ class WorkerQueue {
     const isForAnother = this.#calls.length > 0 && this.#calls[0] !== mine[0];
     this.#calls = this.#calls.filter((call) => call.client !== client);
     if (!isForAnother) {
-      this.#worker?.terminate();
+      this.#worker?.terminate?.();
       this.#worker = undefined;
       this.#sendFirst();
     }
@@ -97,6 +106,10 @@ class WorkerQueue {
   }
 
   #finishFirst({ error, ...answer }) {
+    if (this.#calls.length === 0) {
+      this.#failAll(new ProgramError('the worker said something unasked'));
+      return;
+    }
     const { resolve, reject } = this.#calls.shift();
     this.#worker.unref?.();
     this.#sendFirst();
@@ -108,6 +121,7 @@ class WorkerQueue {
   }
 
   #failAll(error) {
+    this.#worker?.terminate?.();
     this.#worker = undefined;
     for (const { reject } of this.#calls.splice(0)) {
       reject(error);

@@ -19,9 +19,10 @@ function workerOfPage() {
   return new Worker(url);
 }
 
-// All who don't ask for a worker of their own share this one, as making one takes time and memory.
+// All who don't ask for a worker of their own share this one, as making one takes time and memory. It is made when the first of them
+// is, so that it is ready when the first graph is.
 const shared = new WorkerQueue(workerOfPage);
 
-const defaultEngine = () => shared.client();
+const defaultEngine = () => shared.prepare().client();
 
 module.exports = { defaultEngine, programEngine, workerAt };

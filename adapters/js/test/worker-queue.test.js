@@ -108,8 +108,29 @@ test('a worker that fails fails what waits, and another is made at the next call
   assert.equal((await next).reply, 'THREE');
 });
 
+test('a worker that speaks unasked is followed by another', async () => {
+  const { queue, made } = queueOfPuppets();
+  queue.prepare();
+  made[0].reply('UNASKED');
+  assert.equal(made[0].isEnded, true);
+  const call = queue.client().ask('one');
+  made[1].reply('ONE');
+  assert.equal((await call).reply, 'ONE');
+});
+
+test('a worker is made before the first call where that is asked for', async () => {
+  const { queue, made } = queueOfPuppets();
+  const { ask } = queue.prepare().client();
+  assert.equal(made.length, 1);
+  const call = ask('one');
+  made[0].reply('ONE');
+  assert.equal((await call).reply, 'ONE');
+  assert.equal(made.length, 1);
+});
+
 test('what is no worker is refused', async () => {
   const queue = new WorkerQueue(() => ({}));
   assert.throws(() => queue.start(), /does not provide the required 'postMessage' function/);
+  queue.prepare();
   await assert.rejects(queue.client().ask('one'), endedBy(/^the worker can't be started: .*postMessage/));
 });
