@@ -17,8 +17,8 @@ const programEngine = (program) => new Batch(program);
 /** A thread with a script that stands in a file. */
 const workerAt = (url) => threadOf(/^file:/.test(url) ? fileURLToPath(url) : path.resolve(String(url)));
 
-// All who don't ask for a worker of their own share this one, as making one takes time and memory. It is made when the first of them
-// is, so that it is ready when the first graph is.
+// All who don't ask for a worker of their own share this one, as making one takes time and memory. It is made when the
+// first of them is, so that it is ready when the first graph is.
 const shared = new WorkerQueue(() => threadOf(path.join(__dirname, 'worker.js')));
 
 function defaultEngine() {

@@ -35,9 +35,10 @@ class Program {
     const instance = this.#instance ?? this.#started();
     // It is kept again only when the call has returned: a trap leaves its memory in no known state.
     this.#instance = undefined;
-    this.#call = { memory: instance.exports.memory, words: ['elk', ...words].map((word) => encoder.encode(word)), read, write };
+    const { memory } = instance.exports;
+    this.#call = { memory, words: ['elk', ...words].map((word) => encoder.encode(word)), read, write };
     const status = runMain(instance);
-    if (instance.exports.memory.buffer.byteLength <= MOST_KEPT) {
+    if (memory.buffer.byteLength <= MOST_KEPT) {
       this.#instance = instance;
     }
     return status;

@@ -19,8 +19,8 @@ function workerOfPage() {
   return new Worker(url);
 }
 
-// All who don't ask for a worker of their own share this one, as making one takes time and memory. It is made when the first of them
-// is, so that it is ready when the first graph is.
+// All who don't ask for a worker of their own share this one, as making one takes time and memory. It is made when the
+// first of them is, so that it is ready when the first graph is.
 const shared = new WorkerQueue(workerOfPage);
 
 const defaultEngine = () => shared.prepare().client();

@@ -33,8 +33,10 @@ function run(program, input, words = []) {
   return { status: program.run(words, { read, write }), out: written[1], notes: written[2] };
 }
 
-const command = (input, environment = {}) =>
-  spawnSync(COMMAND, ['one', 'two'], { input, encoding: 'utf8', env: { ...process.env, ELK_MODULE: PUPPET_MODULE, ...environment } });
+function command(input, environment = {}) {
+  const env = { ...process.env, ELK_MODULE: PUPPET_MODULE, ...environment };
+  return spawnSync(COMMAND, ['one', 'two'], { input, encoding: 'utf8', env });
+}
 
 test('words, input and output pass through a module', () => {
   const text = 'any input that is longer than a piece, é 😀';
@@ -98,7 +100,8 @@ test('the command says why it has no program to run', () => {
     return [status, stderr.replace('elk\none\ntwo\n', '')];
   };
   assert.deepEqual(seen('T'), [70, 'elk: the program was ended by a trap: unreachable\n']);
-  assert.deepEqual(seen('', { ELK_MEMORY: '5' }), [70, 'elk: a limit of 5 bytes is below the 131072 with which the program starts\n']);
+  const limit = 'elk: a limit of 5 bytes is below the 131072 with which the program starts\n';
+  assert.deepEqual(seen('', { ELK_MEMORY: '5' }), [70, limit]);
   const [status, note] = seen('', { ELK_MODULE: '/no/such/module' });
   assert.equal(status, 70);
   assert.match(note, /^elk: the module \/no\/such\/module can't be read: /);

@@ -78,7 +78,8 @@ const WAYS = [
   [
     '--input-type=commonjs',
     `const Whole = require('elk-layout');
-     class ELK extends Whole { constructor() { super({ workerUrl: require.resolve('elk-layout/lib/elk-worker.js') }); } } ${LAY_OUT}`,
+     const workerUrl = require.resolve('elk-layout/lib/elk-worker.js');
+     class ELK extends Whole { constructor() { super({ workerUrl }); } } ${LAY_OUT}`,
   ],
 ];
 
@@ -99,7 +100,8 @@ test('the package answers a document where nothing else is', WITH_NPM, async (t)
     const switched = installed(tarball, 'elkjs');
     const paths = ['elkjs', 'elkjs/lib/elk.bundled.js', 'elkjs/lib/main'];
     for (const from of paths) {
-      assert.equal(run(switched, [process.execPath, '--input-type=commonjs', '--eval', `const ELK = require('${from}'); ${LAY_OUT}`]), '54 54\n');
+      const words = ['--input-type=commonjs', '--eval', `const ELK = require('${from}'); ${LAY_OUT}`];
+      assert.equal(run(switched, [process.execPath, ...words]), '54 54\n');
     }
     const imports = paths.map((from, at) => `import ELK${at} from '${from}';`);
     const calls = paths.map((_, at) => `new ELK${at}().layout({ id: 'r' }).then(({ width }) => width)`);

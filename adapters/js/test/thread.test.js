@@ -94,7 +94,8 @@ test('want of memory fails its call, and the next one is answered', () => {
 });
 
 test('a module that is none fails the calls', () => {
-  const ended = script(`new ELK().layout({ id: 'r' }).catch(({ name, message }) => console.log(name, message));`, { ELK_MODULE: __filename });
+  const source = `new ELK().layout({ id: 'r' }).catch(({ name, message }) => console.log(name, message));`;
+  const ended = script(source, { ELK_MODULE: __filename });
   assert.equal(ended.status, 0);
   assert.match(ended.stdout, /^ProgramError .*WebAssembly/);
 });
