@@ -41,13 +41,31 @@ function replyTo(program, text) {
   const written = new Written();
   const status = program.run(['batch'], { read: reader(text), write: (bytes, stream) => written.take(bytes, stream) });
   if (status !== 0) {
-    const why = status === OUT_OF_MEMORY ? 'ran out of memory' : `ended with the status ${status}: ${written.text(2).trim()}`;
-    throw new ProgramError(`the program ${why}`, { status });
+    const ended = `ended with the status ${status}: ${written.text(2).trim()}`;
+    throw new ProgramError(`the program ${status === OUT_OF_MEMORY ? 'ran out of memory' : ended}`, { status });
   }
   return written.text(1).replace(/\n$/, '');
 }
 
-const started = async () => new Program(await WebAssembly.compile(await moduleBytes()));
+// Engines compile what a module runs when it first runs it. This document runs most of it before anyone waits.
+const FIRST = JSON.stringify({
+  children: [
+    { id: 'a', width: 30, height: 30, ports: [{ id: 'p', width: 5, height: 5 }] },
+    { id: 'b', width: 30, height: 30 },
+    { id: 'c', children: [{ id: 'd' }] },
+  ],
+  edges: [['p', 'b'], ['b', 'a'], ['p', 'c'], ['a', 'c']].map(([source, target], id) => ({ id, source, target })),
+});
+
+async function started() {
+  const program = new Program(await WebAssembly.compile(await moduleBytes()));
+  try {
+    replyTo(program, FIRST);
+  } catch {
+    // Whoever asks next is told, if it happens again.
+  }
+  return program;
+}
 
 /** Answers messages `{ text }` by `{ reply, seconds }`, or by `{ error }`, in their order. */
 class Server {
