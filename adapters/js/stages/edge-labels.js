@@ -68,16 +68,15 @@ function fits(draft, node, sides, { side, level, labels }) {
   if (draft.isPinned(node) && docks.some(({ port }) => !port)) {
     return false;
   }
-  if (docks.length <= 2) {
-    return true;
-  }
   const constraints = namesIn(draft.option(node, 'nodeSize.constraints'));
-  if (constraints.has('PORTS') && constraints.has('PORT_LABELS') && !draft.isPinned(node)) {
+  const grows = constraints.has('PORTS') && constraints.has('PORT_LABELS') && draft.ruleOf(node) !== 'FIXED_POS';
+  if (docks.length <= 2 || grows) {
     return true;
   }
   const spots = spotsAt(draft, node, side, docks);
   const room = Math.min(...spots.slice(1).map((spot, at) => spot - spots[at]));
-  return room >= along(side, stackOf(labels, 0)) + draft.number(level, 'spacing.edgeLabel', 2);
+  const half = Math.max(...docks.map(({ port }) => (port ? Math.ceil(along(side, port) / 2) : 0)));
+  return room >= along(side, stackOf(labels, 0)) + half + draft.number(level, 'spacing.edgeLabel', 2);
 }
 
 /** Leads an edge through a leaf for each stop. */

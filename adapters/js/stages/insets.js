@@ -6,8 +6,8 @@ const { elementsOf, numberOr0 } = require('../levels');
 const { withWholePlace, withWholeSize } = require('../numbers');
 const { SIDES, axesOf, drawOn, outward, placeAt } = require('./sides');
 
-// A port that lies deeper inside is taken for a mistake, and refused.
-const DEEPEST = 1 / 4;
+// A port that lies as deep inside is taken for a mistake, and refused.
+const TOO_DEEP = 1 / 4;
 
 /** How far a port lies inside of each side. */
 function depthsOf(port, node) {
@@ -34,7 +34,7 @@ function moveInsets(draft) {
       const whole = withWholePlace(port, node);
       const depths = depthsOf(whole, box);
       const side = sideOfInner(draft, port, depths);
-      if (side && depths[side] <= outward(side, box) * DEEPEST) {
+      if (side && depths[side] < outward(side, box) * TOO_DEEP) {
         const { back } = axesOf(side);
         Object.assign(port, whole, { [back]: placeAt(side, whole, { from: 0, away: -outward(side, whole), node: box })[back] });
         moved.set(port, { node, side, depth: depths[side], back, place: whole[back] });

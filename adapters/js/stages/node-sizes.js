@@ -51,8 +51,9 @@ function lengthOf(docks, { side, strips, portLabels, withLabels, between }) {
 }
 
 /** How large a node has to be so that labels of its ports fit inside, and those to the left and right keep clear of all above and below. */
-function roomAtCorners(docks, { groups, frame, pad, portLabels }) {
+function roomAtCorners(docks, { groups, frame, pad, portLabels, isPinned }) {
   const inside = (side) => docks[side].map(({ port }) => portLabels.get(port)).filter((it) => it?.isInside);
+  const lowest = (side) => Math.max(0, ...docks[side].map(({ port }) => (port ? numberOr0(port.y) + numberOr0(port.height) : 0)));
   const longest = (list, side) => Math.max(0, ...list.map(({ size }) => along(side, size)));
   const [top, , low] = heightsOf(groups);
   const above = frame.NORTH + (top > 0 ? top + pad.top : 0);
@@ -60,6 +61,9 @@ function roomAtCorners(docks, { groups, frame, pad, portLabels }) {
   const heights = ['WEST', 'EAST'].map((side) => {
     const list = inside(side);
     const half = Math.ceil(longest(list, side) / 2) + 1;
+    if (list.length > 0 && isPinned) {
+      return lowest(side) + half + below;
+    }
     return list.length > 0 ? (docks[side].length + 1) * (Math.max(above, below) + half) : 0;
   });
   return { width: longest([...inside('NORTH'), ...inside('SOUTH')], 'NORTH'), height: Math.max(...heights) };
@@ -84,7 +88,8 @@ function leastOf(draft, node, { sides, groups, frame, ...rest }) {
   if (withLabels) {
     least.width += frame.WEST + frame.EAST;
     least.height += frame.NORTH + frame.SOUTH;
-    widen(roomAtCorners(sides.get(node), { groups, frame, pad, ...rest }));
+    const isPinned = draft.ruleOf(node) === 'FIXED_POS';
+    widen(roomAtCorners(sides.get(node), { groups, frame, pad, isPinned, ...rest }));
   }
   if (constraints.has('PORTS') && draft.ruleOf(node) !== 'FIXED_POS') {
     const between = draft.number(draft.parents.get(node) ?? node, 'spacing.portPort', 10);

@@ -6,7 +6,7 @@
 const { elementsOf, numberOr0 } = require('../levels');
 const { placeStack, stackOf } = require('./labels');
 const { ENDS } = require('./draft');
-const { SIDES, along, axesOf, axisOf, boxAt, drawOn, linesAt, middle, outward, placeAt, sidesOf } = require('./sides');
+const { SIDES, along, axesOf, axisOf, boxAt, drawOn, middle, outward, placeAt, sidesOf } = require('./sides');
 
 const sized = (block) => ({ ...block, size: block.size ?? stackOf(block.labels, block.gap) });
 
@@ -168,15 +168,21 @@ function grown(draft, strips, { node, side, port }) {
 
 function growSide(draft, { node, side, docks, ends }, ports) {
   draft.after(() => {
-    const axes = linesAt(node, side, docks);
+    const spans = docks.map((dock) => ({ axis: axisOf(dock, node, side), half: halfOf(dock, side, ports) }));
     for (const it of ports) {
       const axis = axisOf(it, node, side);
       shrink(it, { node, side, axis });
       const away = awayOf(it, node, side);
       (ends.get(it.port) ?? []).forEach(({ edge, end }) => drawOn(edge, end, { node, side, away }));
-      placeBlocks(it, { node, side, axis, away, isBefore: isBefore(axes, axis, it.needs) });
+      placeBlocks(it, { node, side, axis, away, isBefore: isBefore(spans, axis, it.needs) });
     }
   });
+}
+
+/** How far a dock reaches from its line along a side, with the size that its port has in the end. */
+function halfOf({ port }, side, ports) {
+  const size = ports.find((it) => it.port === port)?.small ?? port;
+  return size ? Math.ceil(along(side, size) / 2) : 0;
 }
 
 function shrink({ port, small, given }, { node, side, axis }) {
@@ -190,10 +196,10 @@ function awayOf({ port, small }, node, side) {
   return side === 'WEST' || side === 'NORTH' ? -port[back] : port[back] + outward(side, small) - outward(side, node);
 }
 
-/** Whether there is room before a line, but not behind it. */
-function isBefore(axes, axis, needs) {
-  const behind = Math.min(...axes.filter((other) => other > axis).map((other) => other - axis));
-  const before = Math.min(...axes.filter((other) => other < axis).map((other) => axis - other));
+/** Whether there is room before a line for what it needs, but not behind it, where docks reach so far along the side. */
+function isBefore(spans, axis, needs) {
+  const behind = Math.min(...spans.filter((other) => other.axis > axis).map((other) => other.axis - other.half - axis));
+  const before = Math.min(...spans.filter((other) => other.axis < axis).map((other) => axis - other.half - other.axis));
   return behind < needs && before > behind;
 }
 
