@@ -157,6 +157,12 @@ test('the largest documents that are taken, and the smallest that are not', opti
   }
 });
 
+test('a chain of 2,047 nodes takes 25 MB at most', options, () => {
+  const instance = started();
+  assert.strictEqual(instance.run(['layout'], chain(2047)).status, 0);
+  assert.ok(instance.memory <= 25e6, `it takes ${instance.memory} bytes`);
+});
+
 test('a word that is too long for the program is one that is not taken', options, () => {
   assert.strictEqual(started().run(['x'.repeat(2 ** 17)], '').status, 5);
 });
