@@ -7,7 +7,7 @@ import re
 from typing import Any, Dict, Mapping, NamedTuple, Optional
 
 from .errors import Refusal
-from .options import general_options, sent_options, spellings
+from .options import carried_by, general_for, sent_options, spellings, stand_ins
 from .plain import PLAIN, decode, encode, encode_plain, plain
 from .whole import make_port_whole, make_size_whole
 
@@ -45,8 +45,10 @@ FRACTION = re.compile(r"[:,\[]-?[0-9]+[.e]")
 MARKS = (".", "e-", "e+")
 
 
-def _reads_all(element: Element, kind: str) -> bool:
-    """Whether the engine reads all members and options of an element, and of all that it holds."""
+def _reads_all(element: Element, kind: str, is_root: bool = False) -> bool:
+    """Whether the engine reads all members and options of an element, and of all that it holds, and nothing is to be
+    asked for besides, but at the root.
+    """
     if not READ[kind].issuperset(element):
         return False
     if "layoutOptions" in element and not spellings().issuperset(element["layoutOptions"]):
@@ -54,7 +56,11 @@ def _reads_all(element: Element, kind: str) -> bool:
     if kind != "node":
         return True
     lists = element.keys() & LISTS
-    return not lists or all(_reads_all(it, KINDS[name]) for name in lists for it in element[name])
+    if not lists:
+        return True
+    if not is_root and element.get("children") and stand_ins({}):
+        return False
+    return all(_reads_all(it, KINDS[name]) for name in lists for it in element[name])
 
 
 class Sent(NamedTuple):
@@ -87,9 +93,8 @@ class Sender:
         self._read = PLACED if is_placed else READ
         # These are looked at by themselves.
         self._kept = frozenset(LISTS) if is_placed else MEASURES.union(LISTS)
-        self._general = general_options(options)
-        self._has_general = any(self._general.values())
-        self._rewrites = not self._is_exact or self._has_general
+        self._general = carried_by(options)
+        self._rewrites = not self._is_exact or bool(self._general)
 
     def sent_of(self, document: Any) -> Sent:
         """What is sent for a document."""
@@ -108,15 +113,16 @@ class Sender:
 
     def _text_of_all(self, document: Any) -> Optional[str]:
         """The text of a document that needs no other members and numbers than it has, which is most of the work less."""
-        if not self._is_rounding or self._has_general:
+        if not self._is_rounding or self._general or not isinstance(document, dict):
             return None
         try:
-            text = encode_plain(document) if _reads_all(document, "node") else None
+            if not _reads_all(document, "node", True):
+                return None
+            options = sent_options(document, {}, "levels")
+            text = encode_plain({**document, "layoutOptions": options} if options else document)
         except (TypeError, ValueError):
             return None
-        if text and any(mark in text for mark in MARKS) and FRACTION.search(text):
-            return None
-        return text
+        return None if any(mark in text for mark in MARKS) and FRACTION.search(text) else text
 
     def _node(self, node: Any, is_root: bool = False) -> Any:
         if not isinstance(node, dict):
@@ -146,9 +152,17 @@ class Sender:
         sent = dict(element) if self._is_exact else self._readable(element, kind)
         own = sent.get("layoutOptions", {})
         # What is no object of options is for the engine to refuse.
-        if (own or self._general[role] or "properties" in element) and isinstance(own, dict):
-            options = sent_options(element, self._general[role])
-            sent["layoutOptions"] = {**own, **options} if self._is_exact else plain(options)
+        if not isinstance(own, dict):
+            return sent
+        if self._is_exact:
+            carried = carried_by(own)
+            general = {it.key: it.value for name, it in general_for(self._general, role).items() if name not in carried}
+            if general:
+                sent["layoutOptions"] = {**general, **own}
+        elif own or self._general or role == "levels" or "properties" in element:
+            options = sent_options(element, self._general, role)
+            if options or "layoutOptions" in element:
+                sent["layoutOptions"] = plain(options)
         return sent
 
     def _readable(self, element: Element, kind: str) -> Element:
@@ -179,7 +193,13 @@ def placed_of(document: Element, reply: str, is_all: bool) -> Placed:
     `is_all` says that all of the document was sent, so that the answer has it.
     """
     answer = decode(reply)
-    return Placed(answer if is_all else _placed_node(document, answer))
+    if not is_all:
+        return Placed(_placed_node(document, answer))
+    # More may have been asked for at the root.
+    answer.pop("layoutOptions", None)
+    if "layoutOptions" in document:
+        answer["layoutOptions"] = document["layoutOptions"]
+    return Placed(answer)
 
 
 def _placed_node(node: Element, answer: Element) -> Element:

@@ -11,7 +11,7 @@ from .batch import Batch, Ticket
 
 # Lines that wait, and those whose results wait for the one before, have together no more bytes than these for each
 # process, or are a single one.
-HELD_BYTES = 2**22
+HELD_BYTES = 2**20
 
 Progress = Union[bool, Callable[[int, Optional[int]], Any]]
 

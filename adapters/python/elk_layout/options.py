@@ -1,9 +1,9 @@
-"""Which option of the engine a key of options means, and to which elements an option of a whole call goes."""
+"""Which option of ELK a key of options means, and which options an element is sent with."""
 
 from __future__ import annotations
 
 from functools import lru_cache
-from typing import Any, Dict, FrozenSet, Mapping, NamedTuple, Optional, Set
+from typing import Any, Callable, Dict, FrozenSet, List, Mapping, NamedTuple, Optional, Set, Tuple
 
 from .shared import table
 
@@ -13,6 +13,7 @@ READS = {"levels": ("levels", "nodes"), "nodes": ("nodes",), "ports": ("ports",)
 
 @lru_cache(maxsize=None)
 def _readers() -> Dict[str, str]:
+    """The options that the running engine reads, each with the elements that read it."""
     options = table("options")
     return {it["name"]: it["at"] for it in options["options"] if it["name"] not in options["unread"]}
 
@@ -32,12 +33,12 @@ def _names_by_ending() -> Dict[str, Set[str]]:
 
 @lru_cache(maxsize=4096)
 def option_name(key: str) -> Optional[str]:
-    """The name of the engine's option that a key means: under a prefix or none, or by an ending that is clear."""
+    """The name of the option that a key means: under a prefix or none, or by an ending that is clear."""
     prefix = next(it for it in table("options")["prefixes"] if key.startswith(it))
-    names = {key[len(prefix) :]}
-    if names.isdisjoint(_readers()):
-        names = _names_by_ending().get(key, set())
-    return next(iter(names)) if len(names) == 1 and names <= _readers().keys() else None
+    name = key[len(prefix) :]
+    endings = _names_by_ending()
+    names = {name} if name in endings and name in endings[name] else endings.get(key, set())
+    return next(iter(names)) if len(names) == 1 else None
 
 
 @lru_cache(maxsize=None)
@@ -73,16 +74,49 @@ def carried_by(*given: Any) -> Dict[str, Carried]:
     return carried
 
 
-def general_options(options: Optional[Mapping[str, Any]]) -> Dict[str, Dict[str, Carried]]:
-    """The options of a call by the role of the elements that read them."""
-    carried = carried_by(options)
-    return {
-        role: {name: option for name, option in carried.items() if _readers()[name] in readers}
-        for role, readers in READS.items()
-    }
+def _order_where(value: Any, is_none: bool) -> Optional[str]:
+    return "DOCUMENT" if (str(value).upper() == "NONE") is is_none else None
 
 
-def sent_options(element: Mapping[str, Any], general: Dict[str, Carried]) -> Dict[str, Any]:
-    """The options that an element is sent with: those that it carries, and the general ones that it doesn't carry."""
-    carried = {**general, **carried_by(element.get("properties"), element.get("layoutOptions"))}
-    return {it.key: it.value for it in carried.values()}
+def _effort(value: Any) -> Any:
+    try:
+        return 1000 if float(value) > 1000 else value
+    except (TypeError, ValueError):
+        return value
+
+
+# Options of ELK with those of the engine that stand for them, and the value of the one for that of the other; None where
+# it asks for nothing. Then what is asked for where a level says nothing.
+STAND_INS: List[Tuple[str, str, Callable[[Any], Any]]] = [
+    ("layered.thoroughness", "layered.effort", _effort),
+    ("layered.crossingMinimization.strategy", "layered.order", lambda value: _order_where(value, True)),
+    ("layered.considerModelOrder.strategy", "layered.order", lambda value: _order_where(value, False)),
+]
+DEFAULTS = {"layered.slots": "UNCROSSED"}
+
+
+def stand_ins(asked: Mapping[str, Carried]) -> Dict[str, Any]:
+    """The options that a level is sent with besides those that it asks for itself, by their names."""
+    found = dict(DEFAULTS)
+    for name, by, value_of in STAND_INS:
+        value = value_of(asked[name].value) if name in asked else None
+        if value is not None:
+            found[by] = value
+    return {name: value for name, value in found.items() if name in _readers() and name not in asked}
+
+
+def general_for(general: Mapping[str, Carried], role: str) -> Dict[str, Carried]:
+    """The options of a call that the elements of a role read."""
+    return {name: it for name, it in general.items() if _readers().get(name) in READS[role]}
+
+
+def sent_options(element: Mapping[str, Any], general: Mapping[str, Carried], role: str) -> Dict[str, Any]:
+    """The options that an element of a role is sent with: those that it carries, those of the call that it doesn't
+    carry, and those that stand for others.
+    """
+    carried = carried_by(element.get("properties"), element.get("layoutOptions"))
+    own = {name: it for name, it in carried.items() if name in _readers()}
+    sent = {it.key: it.value for it in {**general_for(general, role), **own}.values()}
+    if role == "levels":
+        sent.update((f"elk.{name}", value) for name, value in stand_ins({**general, **carried}).items())
+    return sent

@@ -16,6 +16,7 @@ from .program import PACKAGE, PUPPET
 from elk_layout import ProgramError, Refusal, close, layout, layout_many, replies
 from elk_layout.batch import Batch, Ticket, _running
 from elk_layout.calls import _kept
+from elk_layout.many import HELD_BYTES
 
 
 def ask(id, **more):
@@ -176,6 +177,19 @@ class Streams(unittest.TestCase):
             most = max(most, len(read) - done)
         self.assertLessEqual(most, 20)
         self.assertEqual(len(read), 500)
+
+    def test_large_documents_are_fewer_at_once(self):
+        read = []
+
+        def documents():
+            for at in range(60):
+                read.append(at)
+                yield {"id": str(at), "children": [{"id": "x" * 2**18}]}
+
+        most = 0
+        for done, _ in enumerate(layout_many(documents(), program=PUPPET), 1):
+            most = max(most, len(read) - done)
+        self.assertLessEqual(most, HELD_BYTES / 2**18)
 
     def test_a_document_at_which_the_program_dies_twice_is_told_in_its_place(self):
         results = list(self.many(["a", "kill", "b", "refuse 7 DoubleId 5", "c"], errors="return", processes=2))

@@ -20,7 +20,7 @@ const { faultsOf, notWritable, messageOf } = require(`${top}/faults.js`);
 const said = ({ found, detail, id, ...fault }) => fault;
 const told = Array.from({ length: Number(process.argv[2]) }, (_, seed) => {
   const text = damagedDocument(seed);
-  return { text, faults: faultsOf(JSON.parse(text)).map(said), unwritable: notWritable(text).map(said) };
+  return { text, faults: faultsOf(JSON.parse(text)).map(said), unwritable: [notWritable(text) ?? []].flat().map(said) };
 });
 const rules = Array.from({ length: 15 }, (_, rule) => rule);
 const words = rules.flatMap((rule) => ['a "b" {it}', 5, undefined].map((id) => messageOf({ rule, name: 'Name', id }, 'x')));

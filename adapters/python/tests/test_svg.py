@@ -96,7 +96,7 @@ class Pictures(unittest.TestCase):
     @with_program
     def test_the_examples_look_the_same(self):
         documents = [json.loads((TOP / "examples" / f"{name}.json").read_text()) for name in ("diagram", "circuit")]
-        placed = [layout(it, program=PROGRAM) for it in documents]
+        placed = [layout(it, numbers="exact", program=PROGRAM) for it in documents]
         self.compare([(it, {}) for it in placed])
         self.assertEqual(to_svg(placed[0]), (TOP / "docs" / "diagram.svg").read_text())
         self.assertEqual(to_svg(placed[1], arrows=False), (TOP / "docs" / "circuit.svg").read_text())
