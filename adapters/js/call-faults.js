@@ -68,6 +68,9 @@ function originIn(graph, { owners = new Map(), general = {} }) {
     if (key === 'option') {
       return { ...turned, ...stepsToOption(given.value, told.option.name, steps, general) };
     }
+    if (key === 'many' && owners.size > 0) {
+      return { ...turned, key: 'manyWithLabels' };
+    }
     return key === 'ends' ? endsOfCall(turned) : turned;
   };
 }

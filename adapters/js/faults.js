@@ -75,6 +75,7 @@ function liftedEnds(context, { value }) {
 }
 
 const DETAILS = {
+  manyWithLabels: (find) => DETAILS.many(find),
   many: ({ told }) => ({ texts: { found: grouped(told.found) }, found: told.found, allowed: grouped(told.limit) }),
   deep: ({ told }) => ({ found: told.found, allowed: String(told.limit) }),
   fraction: ({ told }) => ({ texts: { found: told.written ?? textOf(told.found) }, allowed: FAULTS.allowed.whole }),

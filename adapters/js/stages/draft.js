@@ -150,7 +150,8 @@ class Draft {
   *edges() {
     for (const at of this.nodes) {
       for (const edge of elementsOf(at.edges)) {
-        const [source, target] = ENDS.map((end) => this.endOf(edge, end));
+        const source = this.endOf(edge, 'source');
+        const target = this.endOf(edge, 'target');
         const level = source && this.parents.get(source.node);
         if (level && target && level === this.parents.get(target.node)) {
           yield { edge, at, level, source, target };

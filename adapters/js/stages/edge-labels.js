@@ -7,7 +7,7 @@ const { columnsOf } = require('./columns');
 const { isTrue, labelsOf, namesIn, placeStack, stackOf } = require('./labels');
 const { placeLoops } = require('./loops');
 const { pointsOf, route } = require('./sections');
-const { AHEAD, BEHIND, along, boxAt, isUpright, spotsAt } = require('./sides');
+const { AHEAD, BEHIND, along, boxAt, isUpright, sideOfEnd, spotsAt } = require('./sides');
 
 const FULL = 'org.eclipse.elk.';
 
@@ -48,8 +48,7 @@ function placeAlong(draft, strips, sides, found, labels) {
     if (list.length === 0) {
       continue;
     }
-    const side = end === 'source' ? AHEAD[direction] : BEHIND[direction];
-    if (end && fits(draft, ends[end].node, sides, { side, level, labels: list })) {
+    if (end && fits(draft, sides, { edge, end, level, labels: list, ...found[end] })) {
       ends[end] = draft.dockOf(ends[end]);
       strips.add(ends[end].port, { labels: list, ...draft.besideEdge(level), owner: level });
     } else {
@@ -63,9 +62,10 @@ function placeAlong(draft, strips, sides, found, labels) {
 }
 
 /** Whether labels fit between the lines at a side of a node. With two lines one stands above, the other below. */
-function fits(draft, node, sides, { side, level, labels }) {
+function fits(draft, sides, { edge, end, level, labels, node, port }) {
+  const side = sideOfEnd(sides, { node, port }, edge, end);
   const docks = sides.get(node)[side];
-  if (draft.isPinned(node) && docks.some(({ port }) => !port)) {
+  if (draft.isPinned(node) && docks.some((dock) => !dock.port)) {
     return false;
   }
   const constraints = namesIn(draft.option(node, 'nodeSize.constraints'));
@@ -75,7 +75,7 @@ function fits(draft, node, sides, { side, level, labels }) {
   }
   const spots = spotsAt(draft, node, side, docks);
   const room = Math.min(...spots.slice(1).map((spot, at) => spot - spots[at]));
-  const half = Math.max(...docks.map(({ port }) => (port ? Math.ceil(along(side, port) / 2) : 0)));
+  const half = Math.max(...docks.map((dock) => (dock.port ? Math.ceil(along(side, dock.port) / 2) : 0)));
   return room >= along(side, stackOf(labels, 0)) + half + draft.number(level, 'spacing.edgeLabel', 2);
 }
 

@@ -5,13 +5,7 @@
 const { numberOr0 } = require('../levels');
 const { placeStack, stackOf } = require('./labels');
 const { pointsOf, route } = require('./sections');
-const { BORDERS, SIDES, along, axesOf, boxAt, isUpright, linesAt, outward, placeAt, sidesOf, spotsAt } = require('./sides');
-
-/** The side at which an end of a loop stands. */
-function sideOfEnd(sides, { node, port }, edge, end) {
-  const isEnd = (dock) => (port ? dock.port === port : dock.edge === edge && dock.end === end);
-  return SIDES.find((side) => sides.get(node)[side].some(isEnd));
-}
+const { BORDERS, along, axesOf, boxAt, isUpright, linesAt, outward, placeAt, sideOfEnd, sidesOf, spotsAt } = require('./sides');
 
 /**
  * @param {import('./draft').Draft} draft

@@ -100,6 +100,12 @@ function sidesOf(draft) {
   return sides;
 }
 
+/** The side at which an end of an edge stands. */
+function sideOfEnd(sides, { node, port }, edge, end) {
+  const isEnd = (dock) => (port ? dock.port === port : dock.edge === edge && dock.end === end);
+  return SIDES.find((side) => sides.get(node)[side].some(isEnd));
+}
+
 /**
  * Where along a side of a leaf its docks stand, in ascending order. Which of them stands where is only known where
  * they are pinned.
@@ -153,6 +159,7 @@ module.exports = {
   middle,
   outward,
   placeAt,
+  sideOfEnd,
   sidesOf,
   spotsAt,
 };

@@ -45,3 +45,23 @@ test('what the engine is asked for these documents it answers rightly', WITH_PRO
     assert.equal(run(['check'], stdout).stdout, 'yes\n', `document ${seed}`);
   }
 });
+
+const chain = (count, labels) => ({
+  id: 'r',
+  children: Array.from({ length: count }, (_, id) => ({ id, width: 10, height: 10 })),
+  edges: Array.from({ length: count - 1 }, (_, id) => ({ id, sources: [id], targets: [id + 1], labels })),
+});
+
+test('labels in mid-edge count towards the limits, and a refusal says so', WITH_PROGRAM, async () => {
+  const elk = new ELK({ program: PROGRAM });
+  const labels = [{ text: 'x', width: 9, height: 9 }];
+  await assert.rejects(elk.layout(chain(1200, labels)), {
+    name: 'TooMany',
+    found: 2400,
+    message: /2,400 nodes are sent, with those that stand for labels/,
+  });
+  const placed = await elk.layout(chain(900, labels));
+  assert.ok(placed.edges.every((edge) => Number.isFinite(edge.labels[0].x) && edge.sections.length === 1));
+  assert.equal((await elk.layout(chain(1200, [{ text: '' }]))).edges.length, 1199);
+  elk.terminateWorker();
+});
