@@ -27,18 +27,19 @@ typedef struct {
 /* The first block stands at place 1, eight bytes early, so that what its owner uses is at a multiple of 16. */
 enum { FIRST = 1 };
 
-static place end;          /* where blocks end; a head without a size stands there. 0 before the first call. */
+static unsigned char *begin;  /* the first byte of memory, once a block was asked for */
+static place end;             /* where blocks end; a head without a size stands there. 0 before the first call. */
 static place lists[CLASSES];
 static uint64_t has_any[CLASSES / 64];
 
 static Block *at(place where)
 {
-    return (Block *)(memory_begin() + (size_t)where * PIECE - HEAD);
+    return (Block *)(begin + (size_t)where * PIECE - HEAD);
 }
 
 static place place_of(const Block *block)
 {
-    return (place)(((size_t)((const unsigned char *)block - memory_begin()) + HEAD) / PIECE);
+    return (place)(((size_t)((const unsigned char *)block - begin) + HEAD) / PIECE);
 }
 
 static void *bytes_of(Block *block)
@@ -178,6 +179,7 @@ static void cut(Block *block, uint32_t size)
 static Block *at_end(uint32_t size)
 {
     if (!end) {
+        begin = memory_begin();
         if (!end_at(FIRST))
             return 0;
         at(end)->before = 0;

@@ -16,7 +16,7 @@ void *heap_resize(void *block, size_t bytes);
 /* Takes a block back, to be used again. */
 void heap_give(void *block);
 
-/* What the system below owes. The first byte of its memory, a multiple of 16, the same at each call. */
+/* What the system below owes. The first byte of its memory, a multiple of 16. */
 unsigned char *memory_begin(void);
 
 /* Makes all bytes below the place `end` usable and answers 1; or answers 0, and changes nothing. */

@@ -20,10 +20,11 @@ static wide of(half low, half high)
     return both.all;
 }
 
+static const half mask = ((half)1 << QUARTER) - 1;
+
 /* The whole product of two halves, by quarters. */
 static Halves product(half a, half b)
 {
-    const half mask = ((half)1 << QUARTER) - 1;
     half lowest = (a & mask) * (b & mask), middle = (a >> QUARTER) * (b & mask), other = (a & mask) * (b >> QUARTER);
     half carried = (lowest >> QUARTER) + (middle & mask) + (other & mask);
     Halves whole;
@@ -76,11 +77,34 @@ wide __ashrti3(wide a, int count)
     return moved_down(a, count, a < 0 ? ~(half)0 : 0);
 }
 
-/* Divides bit by bit, as by hand, and leaves the rest. */
+/* One step of a division by hand: the next quarter comes down to the rest. */
+static half next_quarter(half *rest, half quarter, half b)
+{
+    half from = *rest << QUARTER | quarter;
+    *rest = from % b;
+    return from / b;
+}
+
+/* Divides by a number of one quarter, as nearly all are, and leaves the rest. */
+static positive_wide divided_by_quarter(Halves a, half b, positive_wide *rest)
+{
+    Halves found;
+    half left = 0;
+    found.high = next_quarter(&left, a.high >> QUARTER, b) << QUARTER;
+    found.high |= next_quarter(&left, a.high & mask, b);
+    found.low = next_quarter(&left, a.low >> QUARTER, b) << QUARTER;
+    found.low |= next_quarter(&left, a.low & mask, b);
+    *rest = left;
+    return (positive_wide)found.all;
+}
+
+/* Divides bit by bit, and leaves the rest. */
 static positive_wide divided(positive_wide a, positive_wide b, positive_wide *rest)
 {
     Halves from, found;
     from.all = (wide)a;
+    if (b <= mask)
+        return divided_by_quarter(from, (half)b, rest);
     found.all = 0;
     positive_wide left = 0;
     for (int bit = WHOLE - 1; bit >= 0; bit--) {
