@@ -1,7 +1,6 @@
 'use strict';
 // The faults of a graph that a call was given, found in what was sent for it, and told in the caller's own words.
 
-const limits = require('./data/limits.json');
 const { faultsOf, notWritable, tooLong } = require('./faults');
 const { isObject } = require('./levels');
 const { carriedBy } = require('./options');
@@ -12,7 +11,8 @@ const isLost = (value) => typeof value === 'number' && !Number.isFinite(value);
 
 /** The steps to the reference of an edge of several ends that was sent as the end of a pair. */
 function stepsToEnd(edge, { steps, told }) {
-  const name = ['sources', 'targets'].find((it) => Array.isArray(edge.value?.[it]) && edge.value[it].includes(told.found));
+  const isIn = (name) => Array.isArray(edge.value?.[name]) && edge.value[name].includes(told.found);
+  const name = ['sources', 'targets'].find(isIn);
   return name ? [...edge.steps, name, edge.value[name].indexOf(told.found)] : steps;
 }
 
@@ -20,10 +20,11 @@ function stepsToEnd(edge, { steps, told }) {
 function stepsToOption(element, name, steps, general) {
   const key = isObject(element) ? carriedBy(element).get(name)?.key : undefined;
   if (key === undefined) {
-    return { steps: ['layoutOptions', carriedBy({ layoutOptions: general }).get(name)?.key ?? steps.at(-1)], isOfCall: true };
+    const asked = carriedBy({ layoutOptions: general }).get(name)?.key;
+    return { steps: ['layoutOptions', asked ?? steps.at(-1)], isOfCall: true };
   }
-  const holder = isObject(element.layoutOptions) && Object.hasOwn(element.layoutOptions, key) ? 'layoutOptions' : 'properties';
-  return { steps: [...steps.slice(0, -2), holder, key] };
+  const isAbove = isObject(element.layoutOptions) && Object.hasOwn(element.layoutOptions, key);
+  return { steps: [...steps.slice(0, -2), isAbove ? 'layoutOptions' : 'properties', key] };
 }
 
 /** Several ends at one side alone are no fault of a call, and several at both are one. */
@@ -86,13 +87,9 @@ const byteLength = (text) => new TextEncoder().encode(text).length;
  * @returns {import('./faults').Fault[]}
  */
 function faultsOfCall(text, graph, sent = {}) {
-  const bytes = byteLength(text);
-  if (bytes > limits.bytes) {
-    return [tooLong(bytes)];
-  }
-  const unwritable = notWritable(text);
+  const fault = tooLong(byteLength(text)) ?? notWritable(text);
   // What JSON has no word for is sent as null, or not at all: so what was sent is read again.
-  return unwritable ? [unwritable] : faultsOf(JSON.parse(text), { origin: originIn(graph, sent) });
+  return fault ? [fault] : faultsOf(JSON.parse(text), { origin: originIn(graph, sent) });
 }
 
 module.exports = { byteLength, faultsOfCall };

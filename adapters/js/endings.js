@@ -33,6 +33,8 @@ function meanings(key) {
 }
 
 /** What a key without a prefix may be, to mean one option. */
-const CLEAR_KEYS = [...BY_ENDING].filter(([ending, names]) => names.length === 1 && !ending.includes('elk.')).map(([ending]) => ending);
+const CLEAR_KEYS = [...BY_ENDING]
+  .filter(([ending, names]) => names.length === 1 && !ending.includes('elk.'))
+  .map(([ending]) => ending);
 
 module.exports = { ALL_NAMES, CLEAR_KEYS, meanings };

@@ -1,5 +1,5 @@
 'use strict';
-// What is wrong with a document, told so that it can be mended at once: where it stands, what is there, and what may be.
+// What is wrong with a document, told so that it can be mended: where it stands, what is there, and what may be.
 
 const FAULTS = require('./data/faults.json');
 const limits = require('./data/limits.json');
@@ -82,7 +82,8 @@ const DETAILS = {
   ends: ({ told }) => ({ texts: { found: told.found }, allowed: '1' }),
   unknown: ({ told }, context, near) => ({ near: near(told.found, context.ends.values()), end: told.end }),
   noPort: ({ told }, context, near) => {
-    const ports = [...context.ends.values()].filter(({ kind, holder }) => kind === 'port' && holder.value.id === told.node);
+    const isItsPort = ({ kind, holder }) => kind === 'port' && holder.value.id === told.node;
+    const ports = [...context.ends.values()].filter(isItsPort);
     return { near: near(told.found, ports), texts: { node: textOf(told.node) }, end: told.end };
   },
   double: ({ told }) => ({ texts: { other: pathOf(told.other) } }),
@@ -93,7 +94,8 @@ const DETAILS = {
     return { texts: { ...texts, ...lifted }, key: lifted ? 'lifted' : 'cross' };
   },
   option: ({ told: { found, option } }) => {
-    const isElsewhere = isText(found) && option.elsewhere?.some((it) => it === found.replace(/^(org\.eclipse\.)?elk\./, ''));
+    const bare = isText(found) ? found.replace(/^(org\.eclipse\.)?elk\./, '') : undefined;
+    const isElsewhere = option.elsewhere?.includes(bare) === true;
     return {
       key: isElsewhere ? 'elsewhere' : 'option',
       near: isElsewhere ? undefined : nearValue(option, found),
@@ -103,6 +105,8 @@ const DETAILS = {
     };
   },
   boxes: ({ told }) => ({ texts: { edge: idText(told.edge) } }),
+  unplaced: ({ told }) => ({ allowed: filled(FAULTS.allowed[told.allowed], told) }),
+  misplaced: ({ told }) => ({ allowed: filled(FAULTS.allowed[told.allowed], told) }),
   facing: ({ told }) => ({ allowed: filled(FAULTS.allowed[told.allowed], told), texts: { side: told.side } }),
   inside: ({ told }) => ({ texts: told }),
 };
@@ -152,15 +156,14 @@ function toldOf(find, context, near) {
  * @param {object} [given]
  * @param {{ steps: (string | number)[], text: string }[]} [given.fractions] the numbers that aren't whole, where the
  *   text of the document tells them
+ * @param {boolean} [given.isPlaced] whether it is to be a placed document, as `elk check` takes it
  * @param {(find: object, context: object) => object | undefined} [given.origin] what a rule finds, as it is to be told
  *   where it is
  * @returns {Fault[]}
  */
-function faultsOf(document, { fractions, origin = (find) => find } = {}) {
-  const { context, finds } = findsIn(
-    document,
-    fractions?.map(({ steps, text }) => ({ key: 'fraction', steps, told: { found: Number(text), written: text } })),
-  );
+function faultsOf(document, { fractions, isPlaced, origin = (find) => find } = {}) {
+  const asFind = ({ steps, text }) => ({ key: 'fraction', steps, told: { found: Number(text), written: text } });
+  const { context, finds } = findsIn(document, { fractions: fractions?.map(asFind), isPlaced });
   let rest = MOST_NEAR;
   const near = (id, candidates) => {
     rest -= 1;
@@ -170,12 +173,17 @@ function faultsOf(document, { fractions, origin = (find) => find } = {}) {
   return own.map((find) => toldOf(find, context, near));
 }
 
-/** The fault of a document that is too long. */
-function tooLong(bytes) {
+/** The fault of a document of so many bytes; nothing where it is no longer than it may be. */
+function tooLong(bytes, limit = limits.bytes) {
+  if (bytes <= limit) {
+    return undefined;
+  }
   const { rule, name } = RULES.get(0);
-  const detail = filled(FAULTS.cases.tooLong.detail, { found: grouped(bytes), limit: grouped(limits.bytes) });
-  const fault = { rule, name, id: undefined, steps: [], path: pathOf([]), found: bytes, allowed: grouped(limits.bytes) };
-  return { ...fault, detail, message: messageOf(fault, detail) };
+  const { words, detail: template } = FAULTS.cases.tooLong;
+  const [found, allowed] = [bytes, limit].map(grouped);
+  const detail = filled(template, { found, allowed });
+  const fault = { rule, name, id: undefined, steps: [], path: pathOf([]), found: bytes, allowed };
+  return { ...fault, detail, message: messageOf(fault, detail, limit === limits.bytes ? undefined : words) };
 }
 
 /** The fault of a text that is no JSON, by the place at which its reading ended. */

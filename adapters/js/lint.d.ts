@@ -17,15 +17,10 @@ export interface Judgement {
 
 /**
  * All that can be said of the text of a document before it is laid out.
- * @param how `call` where it is told what `ELK.layout` refuses, which takes more than the program
+ * @param how as the program takes it; with `call` as `ELK.layout` takes it, which takes more; with `isPlaced` as
+ *   `elk check` takes it
  */
 export function lint(
   text: string,
-  how?: { call?: { numbers?: 'ceil' | 'exact'; layoutOptions?: ELK.LayoutOptions } },
+  how?: { call?: { numbers?: 'ceil' | 'exact'; layoutOptions?: ELK.AnyOptions }; isPlaced?: boolean },
 ): Judgement;
-
-/** The faults alone. */
-export function faultsOfText(
-  text: string,
-  how?: { call?: { numbers?: 'ceil' | 'exact'; layoutOptions?: ELK.LayoutOptions } },
-): (ELK.Fault & Place)[];

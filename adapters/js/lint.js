@@ -29,26 +29,18 @@ function readAll(text, lineAt, how) {
 }
 
 /**
- * The faults of the text of a document, in the order of the rules.
- * @param {string} text
- * @param {{ call?: { numbers?: 'ceil' | 'exact', layoutOptions?: object } }} [given] `call` where it is told what a
- *   call of the adapter refuses, which takes more than the program
- * @returns {(import('./faults').Fault & { line?: number, column?: number, source?: string, mark?: number })[]}
- */
-function faultsOfText(text, { call } = {}) {
-  return lint(text, { call }).faults;
-}
-
-/**
  * The faults and the warnings of the text of a document, each with its line, its column and the line itself.
  * @param {string} text
- * @param {{ call?: { numbers?: 'ceil' | 'exact', layoutOptions?: object } }} [given]
- * @returns {{ faults: object[], warnings: object[] }}
+ * @param {object} [how] as the program takes it to lay it out, or
+ * @param {{ numbers?: 'ceil' | 'exact', layoutOptions?: object }} [how.call] as a call of the adapter takes it, which
+ *   takes more
+ * @param {boolean} [how.isPlaced] as the program takes it to judge it
+ * @returns {{ faults: object[], warnings: object[] }} the faults in the order of the rules, none where it is taken
  */
-function lint(text, { call } = {}) {
-  const bytes = byteLength(text);
-  if (!call && bytes > limits.bytes) {
-    return { faults: [tooLong(bytes)], warnings: [] };
+function lint(text, { call, isPlaced = false } = {}) {
+  const long = call ? undefined : tooLong(byteLength(text), isPlaced ? limits.checkBytes : limits.bytes);
+  if (long) {
+    return { faults: [long], warnings: [] };
   }
   const lineAt = linesOf(text);
   const { fault, value, fractions, doubles, placeOf } = readAll(text, lineAt, { isStrict: !call });
@@ -56,10 +48,10 @@ function lint(text, { call } = {}) {
     return { faults: [fault], warnings: [] };
   }
   const placed = (part) => (it) => ({ ...it, ...lineAt(placeOf(it.steps, part)) });
-  const faults = call ? faultsAsCall(value, call) : faultsOf(value, { fractions });
+  const faults = call ? faultsAsCall(value, call) : faultsOf(value, { fractions, isPlaced });
   const twice = doubles.map(({ steps, at }) => ({ ...doubleMember(steps), ...lineAt(at) }));
   const warnings = warningsOf(value, { isCall: call !== undefined, general: call?.layoutOptions });
   return { faults: faults.map(placed('value')), warnings: [...twice, ...warnings.map(placed('name'))] };
 }
 
-module.exports = { faultsOfText, lint };
+module.exports = { lint };

@@ -18,7 +18,8 @@ class Refusal extends Error {
     this.name = name;
     this.id = id;
     const { path, found, allowed, near, option, values } = first ?? {};
-    Object.assign(this, { path, found, allowed, ...(option && { option, values }), ...(near !== undefined && { near }) });
+    Object.assign(this, { path, found, allowed });
+    Object.assign(this, near !== undefined && { near }, option !== undefined && { option, values });
     this.faults = faults;
   }
 }

@@ -8,6 +8,7 @@ const { elementsIn } = require('./elements');
 const { isWhole64 } = require('./jsontext');
 const { isObject } = require('./levels');
 const { isReadBy, OPTIONS } = require('./options');
+const { lacking } = require('./placed');
 const { ALGORITHMS, algorithmNamed, isTaken } = require('./values');
 
 const isNumber = (value) => typeof value === 'number' || typeof value === 'bigint';
@@ -21,7 +22,8 @@ const numberAt = (value, name) => (has(value, name) && isNumber(value[name]) ? v
 
 // A number that a call holds is sent as JSON writes it.
 const isWholeNumber = (value) =>
-  typeof value === 'bigint' || (Number.isInteger(value) && !/e/.test(String(value)) && isWhole64(BigInt(String(value))));
+  typeof value === 'bigint' ||
+  (Number.isInteger(value) && !String(value).includes('e') && isWhole64(BigInt(String(value))));
 
 /**
  * What a rule finds.
@@ -55,10 +57,13 @@ const FORMS = {
   number: isNumber,
 };
 
+const OPTIONS_FORM = { layoutOptions: 'object' };
+const SIZE_FORM = { width: 'number', height: 'number' };
+
 const MEMBERS = {
-  node: { children: 'array', ports: 'array', edges: 'array', layoutOptions: 'object', width: 'number', height: 'number' },
-  port: { layoutOptions: 'object', width: 'number', height: 'number', x: 'number', y: 'number' },
-  edge: { layoutOptions: 'object' },
+  node: { children: 'array', ports: 'array', edges: 'array', ...OPTIONS_FORM, ...SIZE_FORM },
+  port: { ...OPTIONS_FORM, ...SIZE_FORM, x: 'number', y: 'number' },
+  edge: OPTIONS_FORM,
 };
 
 const isExtended = (edge) => has(edge, 'sources') || has(edge, 'targets');
@@ -96,7 +101,7 @@ function* badMembers(element) {
   }
   for (const [name, form, isDue] of membersOf(element)) {
     if (!has(value, name)) {
-      yield* isDue ? [find(name === 'id' ? 'noId' : 'missing', element, [name], { kind: element.kind, allowed: form })] : [];
+      yield* isDue ? [find(name === 'id' ? 'noId' : 'missing', element, [name], { allowed: form })] : [];
     } else if (!FORMS[form](value[name])) {
       const key = form === 'number' && value[name] === null ? 'unmeasured' : 'form';
       yield find(key, element, [name], { found: value[name], allowed: form });
@@ -270,6 +275,8 @@ function* crossLevels({ joins }) {
   }
 }
 
+const isTrue = (value) => String(value).toLowerCase() === 'true';
+
 /** The options under the keys that the program finds, the longest of each, by their names. */
 function spelledIn(given) {
   const found = new Map();
@@ -285,7 +292,8 @@ function spelledIn(given) {
 
 /** The options that an element reads, by their names, and those whose values aren't taken. */
 function optionsOf(element) {
-  const given = has(element.value, 'layoutOptions') && isObject(element.value.layoutOptions) ? element.value.layoutOptions : {};
+  const asked = has(element.value, 'layoutOptions') ? element.value.layoutOptions : undefined;
+  const given = isObject(asked) ? asked : {};
   const keys = spelledIn(given);
   const values = {};
   const bad = [];
@@ -297,7 +305,8 @@ function optionsOf(element) {
       bad.push({ option, key });
     }
   }
-  return { keys, values, bad, isGood: bad.length === 0 };
+  const isSplit = isTrue(values.separateConnectedComponents) && algorithmNamed(ALGORITHMS, values.algorithm) !== 'box';
+  return { keys, values, bad, isGood: bad.length === 0, isSplit };
 }
 
 /** The first edge of each level, by the node of the level. */
@@ -323,7 +332,8 @@ function* badOptions(context) {
       yield find('option', element, ['layoutOptions', key], { found: element.value.layoutOptions[key], option });
     }
     if (element.isLevel && isOfBoxes(element) && edges.has(element)) {
-      yield find('boxes', element, ['layoutOptions', element.options.keys.get('algorithm')], { edge: edges.get(element).value.id });
+      const key = element.options.keys.get('algorithm');
+      yield find('boxes', element, ['layoutOptions', key], { edge: edges.get(element).value.id });
     }
   }
 }
@@ -331,9 +341,17 @@ function* badOptions(context) {
 /** For each side, the member of a port that tells its outer face there, and how far it may be from that of its node. */
 const FACES = {
   WEST: { name: 'x', isInside: ({ x }) => x > 0, bound: () => 0 },
-  EAST: { name: 'x', isInside: ({ x, width }, node) => x + width < node.width, bound: ({ width }, node) => node.width - width },
   NORTH: { name: 'y', isInside: ({ y }) => y > 0, bound: () => 0 },
-  SOUTH: { name: 'y', isInside: ({ y, height }, node) => y + height < node.height, bound: ({ height }, node) => node.height - height },
+  EAST: {
+    name: 'x',
+    isInside: ({ x, width }, node) => x + width < node.width,
+    bound: ({ width }, node) => node.width - width,
+  },
+  SOUTH: {
+    name: 'y',
+    isInside: ({ y, height }, node) => y + height < node.height,
+    bound: ({ height }, node) => node.height - height,
+  },
 };
 
 const boxOf = (value) =>
@@ -357,6 +375,27 @@ function* portsInside({ elements }) {
   }
 }
 
+/** Rule 13. */
+function* notPlaced({ elements, joins, isPlaced }) {
+  if (!isPlaced) {
+    return;
+  }
+  const all = elements.filter(({ kind }) => kind === 'edge');
+  const [edges, turnable] = [new Map(), new Map()];
+  for (const join of joins) {
+    const [source, target] = nodesOf(join) ?? [];
+    const level = source?.holder;
+    edges.set(level, (edges.get(level) ?? 0) + 1);
+    if (source !== target) {
+      turnable.set(level, (turnable.get(level) ?? new Set()).add(join.edge));
+    }
+  }
+  const edgesOf = (level) => ({ all, count: edges.get(level) ?? 0, turnable: turnable.get(level) ?? new Set() });
+  for (const element of elements.filter(({ value }) => isObject(value))) {
+    yield* [...lacking(element, edgesOf)].map((it) => ({ ...it, element }));
+  }
+}
+
 const RULES = [
   [2, ({ fractions, value }) => fractions ?? numbersNotWhole(value)],
   [3, badShapes],
@@ -369,31 +408,34 @@ const RULES = [
   [10, crossLevels],
   [11, badOptions],
   [12, portsInside],
+  [13, notPlaced],
 ];
 
 // These rules name no element.
 const NOWHERE = new Set([2, 3, 5, 6]);
 
 /** What the rules look at: the elements with their options, the ends by their ids, and what each edge joins. */
-function contextOf(value, fractions) {
+function contextOf(value, fractions, isPlaced) {
   const elements = elementsIn(value);
   for (const element of elements) {
     element.options = optionsOf(element);
   }
   const ends = byId(elements, ({ kind }) => kind !== 'edge');
-  const context = { value, fractions, elements, ends, edges: byId(elements, ({ kind }) => kind === 'edge') };
+  const context = { value, fractions, isPlaced, elements, ends, edges: byId(elements, ({ kind }) => kind === 'edge') };
   context.joins = formed(context).map((edge) => ({ edge, ends: endsOf(edge, context) }));
   return context;
 }
 
 /**
- * All that the rules 2 to 12 find in a document, in the order of the rules, and for each in that of the document.
+ * All that the rules from 2 on find in a document, in the order of the rules, and for each in that of the document.
  * @param {unknown} value the document; whole numbers that need it are BigInt
- * @param {Find[]} [fractions] what rule 2 finds, where the text tells it better than the value
+ * @param {object} [given]
+ * @param {Find[]} [given.fractions] what rule 2 finds, where the text tells it better than the value
+ * @param {boolean} [given.isPlaced] whether rule 13 is asked, which is for placed documents
  * @returns {{ context: object, finds: (Find & { rule: number, id?: string | number | bigint })[] }}
  */
-function findsIn(value, fractions) {
-  const context = contextOf(value, fractions);
+function findsIn(value, { fractions, isPlaced = false } = {}) {
+  const context = contextOf(value, fractions, isPlaced);
   const finds = RULES.flatMap(([rule, finder]) =>
     [...finder(context)].map((it) => ({ ...it, rule, id: NOWHERE.has(rule) ? undefined : it.element?.value.id })),
   );

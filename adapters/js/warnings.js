@@ -13,7 +13,7 @@ const { OPTIONS } = require('./options');
 
 const { members: MEMBERS, readers: READERS, kinds: KINDS, warnings: WORDS } = FAULTS;
 
-const MEANT = Object.fromEntries(Object.entries(FAULTS.meant).map(([kind, names]) => [kind, new Map(Object.entries(names))]));
+const MEANT = new Map(Object.entries(FAULTS.meant).map(([kind, names]) => [kind, new Map(Object.entries(names))]));
 
 // Names of this engine's options come first, where several are as near.
 const NEAR_KEYS = [...OPTIONS.map(({ name }) => name), ...ALL_NAMES, ...CLEAR_KEYS];
@@ -91,12 +91,13 @@ const optionWarning = remembered((key, kind) => {
     return ['foreignOption', { option }];
   }
   const readers = at.map((it) => READERS[it]).join(' and ');
-  return at.some((it) => PLACES[kind].includes(it)) ? undefined : ['misplacedOption', { option, readers, kind: KINDS[kind] }];
+  const isRead = at.some((it) => PLACES[kind].includes(it));
+  return isRead ? undefined : ['misplacedOption', { option, readers, kind: KINDS[kind] }];
 });
 
 const NUMBER = /^\s*-?\d+(\.\d+)?\s*$/;
 
-/** The words of a value that an option of the adapter doesn't know. The engine's own are refused where they are wrong. */
+/** The words of a value that an option of the adapter doesn't know. Wrong values of the engine's own are refused. */
 function unknownWords({ type, values }, value) {
   if (type === 'DOUBLE') {
     return typeof value === 'number' || NUMBER.test(String(value)) ? [] : [String(value)];
@@ -169,7 +170,7 @@ function* withLabels(element) {
 
 /** The member that was meant by one that ELK doesn't have at this kind of element. */
 const nearMember = remembered((name, kind) =>
-  MEMBERS[kind].includes(name) ? undefined : MEANT[kind].get(name) ?? nearest(name, MEMBERS[kind]),
+  MEMBERS[kind].includes(name) ? undefined : MEANT.get(kind).get(name) ?? nearest(name, MEMBERS[kind]),
 );
 
 // An edge that tells an end in the one form doesn't need the other.

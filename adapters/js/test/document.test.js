@@ -46,10 +46,11 @@ test('the options are those of the format, with its texts', async () => {
       at,
     })),
   );
+  const sorted = (list) => list.sort((one, other) => (one.id < other.id ? -1 : 1));
   const targets = { levels: ['PARENTS'], nodes: ['NODES', 'PARENTS'], ports: ['PORTS'], edges: ['EDGES'] };
   assert.deepEqual(
-    options.map(({ id, description, targets: at }) => ({ id, description, at })),
-    told.map(({ at, ...rest }) => ({ ...rest, at: targets[at] })),
+    sorted(options.map(({ id, description, targets: at }) => ({ id, description, at }))),
+    sorted(told.map(({ at, ...rest }) => ({ ...rest, at: targets[at] }))),
   );
 });
 

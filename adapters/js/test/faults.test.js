@@ -7,8 +7,8 @@ const path = require('node:path');
 const test = require('node:test');
 const ELK = require('../elk');
 const { faultsOf } = require('../faults');
-const { faultsOfText } = require('../lint');
-const { damagedDocument, damagedText } = require('../testing/damage');
+const { lint } = require('../lint');
+const { damaged, damagedDocument, damagedText, goodTexts } = require('../testing/damage');
 const { PROGRAM, run, TOP, WITH_PROGRAM } = require('../testing/program');
 
 const COUNT = Number(process.env.ELK_DAMAGED ?? 400);
@@ -16,8 +16,8 @@ const COUNT = Number(process.env.ELK_DAMAGED ?? 400);
 const idOf = ({ id }) => (id === undefined ? '-' : typeof id === 'string' ? JSON.stringify(id) : String(id));
 
 /** What the program is to say of a document, by the first fault that is told. */
-function expected(text) {
-  const [first] = faultsOfText(text);
+function expected(text, how) {
+  const [first] = lint(text, how).faults;
   return first ? `refused ${first.rule} ${first.name} ${idOf(first)}` : 'answered';
 }
 
@@ -39,6 +39,45 @@ test('damaged documents have the first fault that the program names, and others 
 
 test('damaged texts too', WITH_PROGRAM, () => {
   assertAgreement(damagedText, ['1', '2', undefined]);
+});
+
+test('damaged drawings are refused by `elk check` as is told before', WITH_PROGRAM, () => {
+  const placed = goodTexts().map((text) => run(['layout'], text).stdout).filter(Boolean);
+  assert.ok(placed.length > 5);
+  const seen = new Set();
+  for (let seed = 0; seed < COUNT / 2; seed += 1) {
+    const text = damaged(placed, seed);
+    const { status, stderr } = run(['check'], text);
+    const reply = status === 2 ? stderr.trimEnd() : 'answered';
+    assert.equal(expected(text, { isPlaced: true }), reply, `the drawing of the seed ${seed}: ${text.slice(0, 2000)}`);
+    seen.add(reply.split(' ')[1]);
+  }
+  assert.ok(seen.has('13') && seen.has(undefined));
+});
+
+test('each member that a drawing lacks is told', () => {
+  const section = { id: 'e_s1', startPoint: { x: 0.5, y: 0 }, bendPoints: [{ x: 1 }], endPoint: 5 };
+  const document = {
+    ...{ id: 'r', x: 1, y: 0, width: 30, layering: { flow: [1, 2], layers: [0, -1], reversed: ['f', 'e'], span: 1 } },
+    children: [{ id: 'a', x: 0, y: 0, ports: [{ id: 'p', x: 0 }] }, { id: 'b', x: 0, children: [{ id: 'c', x: 0, y: 0 }] }],
+    edges: [{ id: 'e', source: 'a', target: 'b', sections: [section] }, { id: 'f', source: 'a', target: 'b' }],
+  };
+  const { faults } = lint(JSON.stringify(document).replace('0.5', '9'), { isPlaced: true });
+  assert.deepEqual(faults.map(({ rule, detail }) => [rule, detail]), [
+    'x is 1, and may be 0, since the root stands there',
+    'height is missing, and may be whole, 0 to 2^53',
+    'layering.layers is [0,-1], and may be an array of 2 whole numbers, one for each child',
+    'layering.reversed is ["f","e"], and may be an array of ids of edges of the level that are no loops, in document order',
+    'edges[0].sections[0].id is "e_s1", and may be "e_s0"',
+    'edges[0].sections[0].endPoint is 5, and may be a point with x and y',
+    'edges[0].sections[0].bendPoints[0].y is missing, and may be whole, -2^53 to 2^53',
+    'edges[1].sections is missing, and may be an array of one section',
+    'children[0].ports[0].y is missing, and may be whole, -2^53 to 2^53',
+    'children[1].y is missing, and may be whole, -2^53 to 2^53',
+    'children[1].width is missing, and may be whole, 0 to 2^53',
+    'children[1].height is missing, and may be whole, 0 to 2^53',
+    'children[1].layering is missing, and may be an object with flow, layers, reversed and span',
+  ].map((detail) => [13, detail]));
 });
 
 /** The cases of tests/runs for `layout` of one file: each document with what is said of it. */
@@ -97,7 +136,7 @@ test('a call refuses what is told of it before, and for the same', WITH_PROGRAM,
   const elk = new ELK({ program: PROGRAM, onWarning: () => {} });
   for (let seed = 0; seed < COUNT / 2; seed += 1) {
     const text = damagedDocument(seed);
-    const [first] = faultsOfText(text, { call: {} });
+    const [first] = lint(text, { call: {} }).faults;
     const said = await elk.layout(JSON.parse(text)).then(
       () => undefined,
       ({ message, path: at, faults }) => ({ message, path: at, count: faults.length > 0 }),

@@ -103,10 +103,10 @@ const EDITS = [
   (random, holder) => (Array.isArray(holder) ? undefined : set(holder, pick(random, NAMES), structuredClone(pick(random, VALUES)))),
 ];
 
-/** A document of a good one with up to three edits, as text of JSON; the seed settles all. */
-function damagedDocument(seed) {
+/** The text of one of some documents with up to three edits; the seed settles all. */
+function damaged(texts, seed) {
   const random = randomOf(seed);
-  const root = JSON.parse(random() < 0.7 ? RICH : pick(random, EXAMPLES));
+  const root = JSON.parse(pick(random, texts));
   for (let count = Math.floor(random() * 3) + 1; count > 0; count -= 1) {
     const holder = pick(random, holdersIn(root).filter((it) => Object.keys(it).length > 0));
     const name = holder && pick(random, Object.keys(holder));
@@ -117,6 +117,11 @@ function damagedDocument(seed) {
   }
   return JSON.stringify(root);
 }
+
+/** Good documents; that which has most to damage stands most often. */
+const goodTexts = () => [...EXAMPLES.map(() => RICH), ...EXAMPLES.map(() => RICH), ...EXAMPLES];
+
+const damagedDocument = (seed) => damaged(goodTexts(), seed);
 
 const SNIPPETS = [...'{}[]",:0123456789.-+eE \t\r\\/unxtrfals\'', '1.0', '-0', '1e2', '\\ud83d', '\\ude00', '//', 'é', '\u0001', '99999999999999999999'];
 
@@ -131,4 +136,4 @@ function damagedText(seed) {
   return text;
 }
 
-module.exports = { damagedDocument, damagedText, randomOf };
+module.exports = { damaged, damagedDocument, damagedText, goodTexts };
