@@ -134,7 +134,7 @@ class Quality(unittest.TestCase):
         )
         for name, was, now, due in cases:
             with self.subTest(f"{name} from {was} to {now}"), contextlib.redirect_stdout(io.StringIO()):
-                line = {"family": "tree", **dict.fromkeys(quality.MEASURES, 0)}
+                line = {"family": "tree", "nodes": 10, "seed": 1, **dict.fromkeys(quality.MEASURES, 0)}
                 self.assertEqual(due, quality.compare({}, [{**line, name: was}], [{**line, name: now}]))
 
 
