@@ -1,6 +1,7 @@
 'use strict';
 // The module in a page: a text of this file.
 
+const { ProgramError } = require('../program-error');
 const packed = require('./packed');
 
 function bytesOf(text) {
@@ -17,7 +18,11 @@ async function unpacked(bytes) {
     return new Response(new Blob([bytes]).stream().pipeThrough(new DecompressionStream('gzip'))).arrayBuffer();
   }
   // What runs tests of pages in Node may have no streams.
-  return process.getBuiltinModule('node:zlib').gunzipSync(bytes);
+  const zlib = globalThis.process?.getBuiltinModule?.('node:zlib');
+  if (!zlib) {
+    throw new ProgramError('the module can\'t be unpacked here, where there is no DecompressionStream');
+  }
+  return zlib.gunzipSync(bytes);
 }
 
 /** The module's bytes, unpacked. */
