@@ -31,7 +31,7 @@ function pointsOf(section) {
 /** The points of an edge's first section, from its start to its end; none where it isn't placed. */
 const routeOf = (edge) => pointsOf(elementsOf(edge.sections)[0]);
 
-/** The ways through sections that follow one another, each from one without a section before it to one without any after it. */
+/** The ways through sections that follow one another, from each without one before it to each without one after it. */
 function chainsOf(sections) {
   const byId = new Map(sections.map((section) => [section.id, section]));
   const chains = [];

@@ -22,7 +22,8 @@ function kindOf(draft, edge, label) {
  * @param {import('./strips').Strips} strips takes what stands beside lines at nodes
  */
 function placeEdgeLabels(draft, strips, sides) {
-  const labelled = [...draft.edges()].map((found) => [found, labelsOf(found.edge)]).filter(([, labels]) => labels.length > 0);
+  const all = [...draft.edges()].map((found) => [found, labelsOf(found.edge)]);
+  const labelled = all.filter(([, labels]) => labels.length > 0);
   const isLoop = ([{ source, target }]) => source.node === target.node;
   for (const [found, labels] of labelled.filter((it) => !isLoop(it))) {
     placeAlong(draft, strips, sides, found, labels);
@@ -73,6 +74,10 @@ function fits(draft, sides, { edge, end, level, labels, node, port }) {
   if (docks.length <= 2 || grows) {
     return true;
   }
+  // How long the side of a level will be is not known yet.
+  if (draft.isLevel(node)) {
+    return false;
+  }
   const spots = spotsAt(draft, node, side, docks);
   const room = Math.min(...spots.slice(1).map((spot, at) => spot - spots[at]));
   const half = Math.max(...docks.map((dock) => (dock.port ? Math.ceil(along(side, dock.port) / 2) : 0)));
@@ -107,7 +112,8 @@ function passThrough(draft, { edge, at, level, direction }, stops) {
 
 /** The leaf that holds a stop's labels below the line, or on it, and how they are placed once it is. */
 function leafOf(draft, edge, level, direction, { labels, end }) {
-  const isInline = labels.every((label) => isTrue(draft.option(label, 'edgeLabels.inline') ?? draft.option(edge, 'edgeLabels.inline')));
+  const inline = (it) => draft.option(it, 'edgeLabels.inline');
+  const isInline = labels.every((label) => isTrue(inline(label) ?? inline(edge)));
   const gap = draft.number(level, 'spacing.labelLabel', 0);
   const beside = isInline ? 0 : draft.number(level, 'spacing.edgeLabel', 2);
   const side = AHEAD[direction];

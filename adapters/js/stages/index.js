@@ -17,6 +17,8 @@ const { sidesOf } = require('./sides');
 const { Strips, growPorts } = require('./strips');
 const { turnBack } = require('./turns');
 
+const asksForSize = (draft, node) => draft.option(node, 'nodeSize.constraints') !== undefined;
+
 const hasLabels = ({ labels }) => Array.isArray(labels) && labels.length > 0;
 
 const levelsOf = (draft) => draft.nodes.filter(({ children }) => elementsOf(children).length > 0);
@@ -63,7 +65,7 @@ function draftOf(graph, { numbers, general, lacks }) {
   moveInsets(draft);
   const levels = levelsOf(draft);
   const merged = new Set(levels.filter((level) => isTrue(draft.option(level, 'layered.mergeEdges'))));
-  const isLabelled = draft.nodes.some(areLabelled);
+  const isLabelled = draft.nodes.some((node) => areLabelled(node) || asksForSize(draft, node));
   if (isLabelled || merged.size > 0) {
     turnBack(draft, isLabelled ? new Set(levels) : merged);
     mergeEnds(draft, merged);

@@ -36,7 +36,8 @@ function moveInsets(draft) {
       const side = sideOfInner(draft, port, depths);
       if (side && depths[side] < outward(side, box) * TOO_DEEP) {
         const { back } = axesOf(side);
-        Object.assign(port, whole, { [back]: placeAt(side, whole, { from: 0, away: -outward(side, whole), node: box })[back] });
+        const atBorder = placeAt(side, whole, { from: 0, away: -outward(side, whole), node: box });
+        Object.assign(port, whole, { [back]: atBorder[back] });
         moved.set(port, { node, side, depth: depths[side], back, place: whole[back] });
       }
     }

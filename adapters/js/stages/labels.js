@@ -6,8 +6,10 @@ const { widthOf } = require('../letters');
 const { text: TEXT } = require('../data/look.json');
 
 /** The names in the value of an option, such as those of '[H_CENTER, V_TOP]'. */
-const namesIn = (value) =>
-  new Set((Array.isArray(value) ? value.map(String) : String(value ?? '').match(/\w+/g) ?? []).map((it) => it.toUpperCase()));
+function namesIn(value) {
+  const names = Array.isArray(value) ? value.map(String) : String(value ?? '').match(/\w+/g) ?? [];
+  return new Set(names.map((name) => name.toUpperCase()));
+}
 
 const isTrue = (value) => String(value).toLowerCase() === 'true';
 

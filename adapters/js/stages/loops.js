@@ -1,11 +1,14 @@
 'use strict';
-// Labels of self-loops. A loop from a side to the same side is drawn close to the node afterwards, with its label beyond
-// it, for which the node keeps room. The label of any other loop stands at one of its ports.
+// Labels of self-loops. A loop from a side to the same side is drawn close to the node afterwards, with its label
+// beyond it, for which the node keeps room. The label of any other loop stands at one of its ports.
 
 const { numberOr0 } = require('../levels');
 const { placeStack, stackOf } = require('./labels');
 const { pointsOf, route } = require('./sections');
-const { BORDERS, along, axesOf, boxAt, isUpright, linesAt, outward, placeAt, sideOfEnd, sidesOf, spotsAt } = require('./sides');
+const { BORDERS, along, axesOf, isUpright, linesAt, outward, placeAt } = require('./sides');
+const { sideOfEnd, sidesOf, spotsAt } = require('./sides');
+
+const NO_SIZE = { width: 0, height: 0 };
 
 /**
  * @param {import('./draft').Draft} draft
@@ -67,7 +70,7 @@ function overhangs(draft, node, side, { docks, length, beside, isAlone }) {
 function close(edge, node, side, depth) {
   const { down, back } = axesOf(side);
   const points = pointsOf(edge.sections[0]).map((point) => ({ ...point }));
-  const place = placeAt(side, boxAt(side, 0, 0), { from: 0, away: depth, node })[back] + numberOr0(node[back]);
+  const place = placeAt(side, NO_SIZE, { from: 0, away: depth, node })[back] + numberOr0(node[back]);
   if (points.length === 4) {
     points[1][back] = place;
     points[2][back] = place;
@@ -77,7 +80,7 @@ function close(edge, node, side, depth) {
   return ends.sort((one, other) => one - other);
 }
 
-/** Where along the side a label begins so that no other line meets it: beyond the loop, or else beyond the last line. */
+/** Where along the side a label begins so that no other line meets it: at the loop, or else behind the last line. */
 function fromOf([first, last], foreign, { length, beside }) {
   const lines = [first, ...foreign.filter((line) => first < line && line < last), last];
   const between = lines.slice(1).map((line, at) => [lines[at], line]);

@@ -8,7 +8,7 @@ const { BORDERS, SIDES, along, isUpright, linesAt, outward, placeAt, spotsAt } =
 
 const ALIGNS = ['left', 'center', 'right'];
 
-/** Where a label stands: inside or beyond a side, and in which of three columns and rows; nothing where it isn't placed. */
+/** The side beyond which a label stands, or none inside, and its column and row; nothing where it isn't placed. */
 function spotOf(draft, node, label) {
   const names = namesIn(draft.option(label, 'nodeLabels.placement') ?? draft.option(node, 'nodeLabels.placement'));
   const column = ['H_LEFT', 'H_CENTER', 'H_RIGHT'].findIndex((name) => names.has(name));
@@ -44,6 +44,9 @@ function nodeLabelsOf(draft) {
 
 /** Places the labels inside of a node, within `frame`, the room at its borders that others take. */
 function placeInside(draft, node, groups, frame) {
+  if (groups.length === 0) {
+    return;
+  }
   const pad = sidesIn(draft.option(node, 'nodeLabels.padding'), 5);
   draft.after(() => {
     const [width, height] = [numberOr0(node.width), numberOr0(node.height)];
@@ -67,6 +70,9 @@ function placeInside(draft, node, groups, frame) {
  * @param {import('./strips').Strips} strips
  */
 function placeOutside(draft, strips, sides, node, groups) {
+  if (groups.length === 0) {
+    return;
+  }
   const level = draft.parents.get(node);
   const away = draft.number(level ?? node, 'spacing.labelNode', 5);
   const clear = draft.number(level ?? node, 'spacing.edgeLabel', 2);
@@ -109,7 +115,7 @@ function placeBeyond(draft, strips, { node, side, docks, away, clear }, groups) 
   });
 }
 
-/** Where along a side labels begin: in their cell, or where a line would meet them there, beyond the last or the first. */
+/** Where along a side labels begin: in their cell, or before the first or behind the last line where one meets them. */
 function fromOf(cell, length, room, lines, clear) {
   const from = [0, (room - length) / 2, room - length][cell];
   const isMet = lines.some((line) => from - clear < line && line < from + length + clear);

@@ -7,6 +7,8 @@ const { besidePort } = require('./port-labels');
 const { SIDES, along, isUpright, outward } = require('./sides');
 
 const BETWEEN_CELLS = 2;
+const NOTHING = { width: 0, height: 0 };
+const NO_FRAME = { NORTH: 0, EAST: 0, SOUTH: 0, WEST: 0 };
 
 const sum = (numbers) => numbers.reduce((one, other) => one + other, 0);
 
@@ -18,7 +20,8 @@ const heightsOf = (groups) =>
 function roomOfCells(groups, pad) {
   const widths = [0, 1, 2].map((row) => {
     const cells = groups.filter((group) => group.row === row);
-    const [left, middle, right] = [0, 1, 2].map((column) => cells.find((cell) => cell.column === column)?.size.width ?? 0);
+    const widthAt = (column) => cells.find((cell) => cell.column === column)?.size.width ?? 0;
+    const [left, middle, right] = [0, 1, 2].map(widthAt);
     const aside = Math.max(left, right);
     const between = left && right ? BETWEEN_CELLS : 0;
     return middle > 0 ? middle + (aside > 0 ? 2 * (aside + BETWEEN_CELLS) : 0) : left + between + right;
@@ -50,10 +53,10 @@ function lengthOf(docks, { side, strips, portLabels, withLabels, between }) {
   return docks.length === 0 ? 0 : (docks.length + 1) * (Math.max(...lengths) + (docks.length > 1 ? between : 0));
 }
 
-/** How large a node has to be so that labels of its ports fit inside, and those to the left and right keep clear of all above and below. */
+/** How large a node has to be so that labels of ports inside it keep clear of those at its other sides and its own. */
 function roomAtCorners(docks, { groups, frame, pad, portLabels, isPinned }) {
   const inside = (side) => docks[side].map(({ port }) => portLabels.get(port)).filter((it) => it?.isInside);
-  const lowest = (side) => Math.max(0, ...docks[side].map(({ port }) => (port ? numberOr0(port.y) + numberOr0(port.height) : 0)));
+  const end = ({ port }) => (port ? numberOr0(port.y) + numberOr0(port.height) : 0);
   const longest = (list, side) => Math.max(0, ...list.map(({ size }) => along(side, size)));
   const [top, , low] = heightsOf(groups);
   const above = frame.NORTH + (top > 0 ? top + pad.top : 0);
@@ -62,7 +65,7 @@ function roomAtCorners(docks, { groups, frame, pad, portLabels, isPinned }) {
     const list = inside(side);
     const half = Math.ceil(longest(list, side) / 2) + 1;
     if (list.length > 0 && isPinned) {
-      return lowest(side) + half + below;
+      return Math.max(...docks[side].map(end)) + half + below;
     }
     return list.length > 0 ? (docks[side].length + 1) * (Math.max(above, below) + half) : 0;
   });
@@ -72,6 +75,9 @@ function roomAtCorners(docks, { groups, frame, pad, portLabels, isPinned }) {
 /** The least size that a node asks for. */
 function leastOf(draft, node, { sides, groups, frame, ...rest }) {
   const constraints = namesIn(draft.option(node, 'nodeSize.constraints'));
+  if (constraints.size === 0) {
+    return { ...NOTHING };
+  }
   const pad = sidesIn(draft.option(node, 'nodeLabels.padding'), 5);
   const least = constraints.has('NODE_LABELS') ? roomOfCells(groups, pad) : { width: 0, height: 0 };
   const widen = ({ width, height }) => {
@@ -106,11 +112,10 @@ function growLeaf(draft, node, least, sides) {
   if (grown.width === given.width && grown.height === given.height) {
     return;
   }
-  for (const { port } of draft.isPinned(node) ? [...sides.get(node).EAST, ...sides.get(node).SOUTH] : []) {
-    if (port && sides.get(node).EAST.some((dock) => dock.port === port)) {
-      port.x = numberOr0(port.x) + grown.width - given.width;
-    } else if (port) {
-      port.y = numberOr0(port.y) + grown.height - given.height;
+  const moves = [['EAST', 'x', grown.width - given.width], ['SOUTH', 'y', grown.height - given.height]];
+  for (const [side, axis, distance] of draft.isPinned(node) ? moves : []) {
+    for (const { port } of sides.get(node)[side].filter((dock) => dock.port)) {
+      port[axis] = numberOr0(port[axis]) + distance;
     }
   }
   Object.assign(node, grown);
@@ -137,8 +142,6 @@ function padLevel(draft, node, { groups, frame, lack }) {
   draft.ask(node, { padding: `[${text.join(',')}]` });
 }
 
-const NOTHING = { width: 0, height: 0 };
-
 /**
  * Gives nodes the sizes that they ask for, and tells the room at their borders that others take.
  * @param {import('./draft').Draft} draft
@@ -150,7 +153,7 @@ function sizeNodes(draft, strips, sides, { portLabels, nodeLabels, lacks }) {
   for (const [at, node] of draft.nodes.entries()) {
     const groups = nodeLabels.get(node).filter(({ side }) => !side);
     const outside = nodeLabels.get(node).filter(({ side }) => side);
-    const frame = frameOf(draft, node, sides, portLabels);
+    const frame = portLabels.size > 0 ? frameOf(draft, node, sides, portLabels) : NO_FRAME;
     const least = leastOf(draft, node, { sides, strips, groups, frame, portLabels });
     const lack = lacks.get(at) ?? NOTHING;
     frames.set(node, frame);

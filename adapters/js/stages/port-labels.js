@@ -9,8 +9,8 @@ const { SIDES, along, isUpright } = require('./sides');
 function portLabelsOf(draft) {
   const found = new Map();
   for (const node of draft.nodes) {
-    const names = namesIn(draft.option(node, 'portLabels.placement'));
-    for (const port of names.has('FIXED') ? [] : elementsOf(node.ports)) {
+    const names = namesIn(draft.option(node, 'portLabels.placement') ?? 'OUTSIDE');
+    for (const port of names.has('INSIDE') || names.has('OUTSIDE') ? elementsOf(node.ports) : []) {
       const labels = labelsOf(port);
       if (labels.length > 0) {
         const gap = draft.number(draft.parents.get(node) ?? node, 'spacing.labelLabel', 0);

@@ -9,7 +9,12 @@ const BEHIND = { RIGHT: 'WEST', LEFT: 'EAST', DOWN: 'NORTH', UP: 'SOUTH' };
 const SIDES = ['NORTH', 'EAST', 'SOUTH', 'WEST'];
 
 /** The sides at which what is measured along a side begins and ends. */
-const BORDERS = { NORTH: ['WEST', 'EAST'], EAST: ['NORTH', 'SOUTH'], SOUTH: ['WEST', 'EAST'], WEST: ['NORTH', 'SOUTH'] };
+const BORDERS = {
+  NORTH: ['WEST', 'EAST'],
+  EAST: ['NORTH', 'SOUTH'],
+  SOUTH: ['WEST', 'EAST'],
+  WEST: ['NORTH', 'SOUTH'],
+};
 
 /** Whether what stands at a side has its place along it from top to bottom. */
 const isUpright = (side) => side === 'EAST' || side === 'WEST';

@@ -8,8 +8,6 @@ const { placeStack, stackOf } = require('./labels');
 const { ENDS } = require('./draft');
 const { SIDES, along, axesOf, axisOf, boxAt, drawOn, middle, outward, placeAt, sidesOf } = require('./sides');
 
-const sized = (block) => ({ ...block, size: block.size ?? stackOf(block.labels, block.gap) });
-
 const FULL = 'org.eclipse.elk.';
 
 class Strips {
@@ -19,14 +17,13 @@ class Strips {
   /**
    * Something stands beside the lines of a port.
    * @param {object} port
-   * @param {object} block its `labels`, or the `size` that it takes; `out` is the room before it, as seen from the node,
-   *   `aside` that between it and the line. `owner` is the element to whose content its labels are relative, the node's
-   *   parent or the port.
+   * @param {object} block its `labels`, or the `size` that it takes; `out` is the room before it, as seen from the
+   *   node, `aside` that between it and the line. `owner` is the element to which its labels are relative, the
+   *   node's parent or the port.
    */
   add(port, block) {
-    this.#blocks.set(port, [...this.at(port), sized(block)]);
+    this.#blocks.set(port, [...this.at(port), { ...block, size: block.size ?? stackOf(block.labels, block.gap) }]);
   }
-
 
   /** A node keeps so much room beyond a side. */
   reserve(node, side, depth) {
@@ -81,14 +78,15 @@ function growPorts(draft, strips, before) {
       const docks = sides.get(node)[side];
       const full = docks.filter(({ port }) => port && strips.at(port).length > 0);
       if (full.length > 0) {
-        growSide(draft, { node, side, docks, ends }, full.map(({ port }) => grown(draft, strips, { node, side, port })));
+        const ports = full.map(({ port }) => grown(draft, strips, { node, side, port }));
+        growSide(draft, { node, side, docks, ends }, ports);
       }
     }
   }
 }
 
 /**
- * Keeps the room beyond sides that is asked for: a port of the side is sent so deep, or one is made for it.
+ * Keeps the room beyond sides that is asked for: a port of the side is sent so deep, or one is made for that.
  * @param {import('./draft').Draft} draft
  * @param {Strips} strips
  */
@@ -139,9 +137,10 @@ function endsByPort(draft) {
   const ends = new Map();
   for (const { edge, source, target } of draft.edges()) {
     for (const [end, { port }] of [['source', source], ['target', target]]) {
-      if (port) {
-        ends.set(port, [...(ends.get(port) ?? []), { edge, end }]);
+      if (port && !ends.has(port)) {
+        ends.set(port, []);
       }
+      ends.get(port)?.push({ edge, end });
     }
   }
   return ends;
@@ -163,7 +162,7 @@ function grown(draft, strips, { node, side, port }) {
   }
   draft.change(port, large);
   Object.assign(port, place);
-  return { port, small, large, needs: aside, blocks: strips.at(port), ...(isPinned && { given }) };
+  return { port, small, needs: aside, blocks: strips.at(port), ...(isPinned && { given }) };
 }
 
 function growSide(draft, { node, side, docks, ends }, ports) {
@@ -196,7 +195,7 @@ function awayOf({ port, small }, node, side) {
   return side === 'WEST' || side === 'NORTH' ? -port[back] : port[back] + outward(side, small) - outward(side, node);
 }
 
-/** Whether there is room before a line for what it needs, but not behind it, where docks reach so far along the side. */
+/** Whether what a line needs finds room before it but not behind it, where docks reach so far along the side. */
 function isBefore(spans, axis, needs) {
   const behind = Math.min(...spans.filter((other) => other.axis > axis).map((other) => other.axis - other.half - axis));
   const before = Math.min(...spans.filter((other) => other.axis < axis).map((other) => axis - other.half - other.axis));

@@ -46,6 +46,36 @@ test('what the engine is asked for these documents it answers rightly', WITH_PRO
   }
 });
 
+const SIZES = [
+  ['a minimum of its own', { constraints: 'MINIMUM_SIZE', minimum: '(60, 40)' }, {}, [60, 40]],
+  ['the least by default', { constraints: ['MINIMUM_SIZE'] }, {}, [20, 20]],
+  ['a minimum below the given size', { constraints: '[MINIMUM_SIZE]', minimum: '(5,5)' }, { width: 9, height: 4 }, [9, 5]],
+  ['ports', { constraints: 'PORTS' }, { ports: [1, 2, 3].map((id) => ({ id, width: 8, height: 8 })) }, [0, 72]],
+  ['labels', { constraints: 'NODE_LABELS', placement: 'INSIDE H_LEFT V_TOP' }, { labels: [{ width: 50, height: 10 }] }, [60, 20]],
+  ['labels, without being asked to', { placement: 'INSIDE H_LEFT V_TOP' }, { labels: [{ width: 50, height: 10 }] }, [0, 0]],
+  [
+    'labels of its ports',
+    { constraints: 'PORTS PORT_LABELS', ports: 'INSIDE' },
+    { ports: [{ id: 'p', width: 4, height: 4, labels: [{ width: 30, height: 12 }] }] },
+    [32, 24],
+  ],
+];
+
+test('a node grows for what stands in it, from its given size on', WITH_PROGRAM, async () => {
+  const elk = new ELK({ program: PROGRAM });
+  for (const [name, { constraints, minimum, placement, ports }, node, expected] of SIZES) {
+    const layoutOptions = {
+      ...(constraints && { 'elk.nodeSize.constraints': constraints }),
+      ...(minimum && { 'elk.nodeSize.minimum': minimum }),
+      ...(placement && { 'elk.nodeLabels.placement': placement }),
+      ...(ports && { 'elk.portLabels.placement': ports }),
+    };
+    const { children } = await elk.layout({ id: 'r', children: [{ id: 'a', ...node, layoutOptions }] });
+    assert.deepEqual([children[0].width ?? 0, children[0].height ?? 0], expected, name);
+  }
+  elk.terminateWorker();
+});
+
 const chain = (count, labels) => ({
   id: 'r',
   children: Array.from({ length: count }, (_, id) => ({ id, width: 10, height: 10 })),
@@ -64,4 +94,46 @@ test('labels in mid-edge count towards the limits, and a refusal says so', WITH_
   assert.ok(placed.edges.every((edge) => Number.isFinite(edge.labels[0].x) && edge.sections.length === 1));
   assert.equal((await elk.layout(chain(1200, [{ text: '' }]))).edges.length, 1199);
   elk.terminateWorker();
+});
+
+test('a level without labels in mid-edge keeps its certificate, cycles or not', WITH_PROGRAM, async () => {
+  const elk = new ELK({ program: PROGRAM });
+  const layoutOptions = { 'elk.nodeLabels.placement': 'INSIDE V_CENTER H_CENTER' };
+  const children = ['a', 'b', 'c', 'd'].map((id) => ({ id, width: 60, height: 40, labels: [{ text: id }], layoutOptions }));
+  const ends = [['a', 'b'], ['b', 'c'], ['c', 'a'], ['c', 'd'], ['d', 'b'], ['d', 'd']];
+  const edges = ends.map(([source, target], id) => ({ id, source, target }));
+  const placed = await elk.layout({ id: 'r', children, edges });
+  elk.terminateWorker();
+  assert.ok(placed.layering.reversed.length > 0);
+  const { stdout } = run(['check'], JSON.stringify(placed, (key, value) => (key === 'labels' ? undefined : value)));
+  assert.equal(stdout, 'yes\n');
+  assert.deepEqual(placed.children[0].labels.map(({ text, x, height }) => [text, x > 20, height]), [['a', true, 15]]);
+});
+
+test('call options count for labels, and labels that are not to be placed stay as given', WITH_PROGRAM, async () => {
+  const elk = new ELK({ program: PROGRAM });
+  const labels = [{ text: 'one\nlonger line' }];
+  const graph = {
+    id: 'r',
+    children: [
+      { id: 'a', labels, ports: [{ id: 'p', labels }] },
+      { id: 'b', width: 30, height: 30 },
+    ],
+    edges: [{ id: 'e', sources: ['p'], targets: ['b'], labels }],
+  };
+  const layoutOptions = {
+    'portLabels.placement': 'FIXED',
+    'nodeSize.constraints': '[NODE_LABELS, MINIMUM_SIZE]',
+    'edgeLabels.placement': 'TAIL',
+    'elk.edgeLabels.inline': 'true',
+  };
+  const { children, edges } = await elk.layout(graph, { layoutOptions });
+  elk.terminateWorker();
+  const [a] = children;
+  assert.equal(a.labels, labels);
+  assert.equal(a.ports[0].labels, labels);
+  assert.deepEqual([a.width, a.height], [20, 20]);
+  const [{ x, height }] = edges[0].labels;
+  assert.ok(x > a.x + a.width && x < a.x + a.width + 5);
+  assert.equal(height, 30);
 });

@@ -1,7 +1,7 @@
 'use strict';
 // Numbers drawn by chance from a seed, the same in every run.
 
-/** Draws for a seed: a number below a limit, one from low to high, whether something of a probability is, one of a list. */
+/** Draws for a seed: numbers below a limit or from low to high, whether what has a probability is, one of a list. */
 function chance(seed) {
   let state = seed >>> 0;
   const next = () => {

@@ -113,7 +113,8 @@ class Maker {
   #nodeLabels(isLevel) {
     const { of } = this.#draw;
     const inside = ['V_TOP H_LEFT', 'V_TOP H_CENTER', 'V_BOTTOM H_RIGHT', ...(isLevel ? [] : ['V_CENTER H_CENTER'])];
-    const outside = ['V_TOP H_LEFT', 'V_TOP H_CENTER', 'V_BOTTOM H_CENTER', 'V_BOTTOM H_RIGHT', 'V_CENTER H_LEFT', 'V_CENTER H_RIGHT'];
+    const beside = ['V_CENTER H_LEFT', 'V_CENTER H_RIGHT'];
+    const outside = ['V_TOP H_LEFT', 'V_TOP H_CENTER', 'V_BOTTOM H_CENTER', 'V_BOTTOM H_RIGHT', ...beside];
     const placement = of([...inside.map((it) => `INSIDE ${it}`), ...outside.map((it) => `OUTSIDE ${it}`)]);
     return [this.#label({ layoutOptions: { 'elk.nodeLabels.placement': placement } })];
   }
