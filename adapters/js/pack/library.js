@@ -28,6 +28,9 @@ const api = () => universal('ELK', bundle('elk.js', { places: { 'host.js': 'page
 /** Pictures of placed documents, for <script> tags. */
 const pictures = () => universal('ElkSvg', bundle('svg.js'));
 
+/** Judging of documents, for <script> tags. */
+const judging = () => universal('ElkLint', bundle('lint.js'));
+
 // In a page the file is a script that leaves the class behind; a bundler hands it over.
 const BUNDLED_MODULE = `import * as bundled from './elk.bundled.js';
 
@@ -56,8 +59,9 @@ function library() {
     'elk.bundled.js': bundled(packed),
     'elk.bundled.d.ts': TYPES,
     'elk.bundled.mjs': BUNDLED_MODULE,
+    'elk-lint.js': judging(),
     'elk-svg.js': pictures(),
   };
 }
 
-module.exports = { library };
+module.exports = { judging, library };

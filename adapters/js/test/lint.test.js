@@ -6,7 +6,10 @@ const { mkdtempSync, readFileSync, rmSync, writeFileSync } = require('node:fs');
 const { tmpdir } = require('node:os');
 const path = require('node:path');
 const test = require('node:test');
+const { pathToFileURL } = require('node:url');
 const { lint } = require('../lint');
+const { judging } = require('../pack/library');
+const { Browser, WITH_BROWSER } = require('../testing/browser');
 const { TOP } = require('../testing/program');
 
 const LINT = path.join(TOP, 'adapters', 'js', 'bin', 'elk-lint');
@@ -115,6 +118,24 @@ test('the command tells faults and warnings of files, and ends with its status',
   const told = command(['--json', good, bad]).stdout.trimEnd().split('\n').map((line) => JSON.parse(line));
   assert.deepEqual(told.map((it) => [it.file, it.faults.length, it.warnings.length]), [[good, 0, 0], [bad, 1, 1]]);
   assert.deepEqual([told[1].faults[0].path, told[1].faults[0].line], ['children[0].height', 1]);
+});
+
+test('a page judges documents too', WITH_BROWSER, async (t) => {
+  const folder = mkdtempSync(path.join(tmpdir(), 'elk-lint-'));
+  const browser = new Browser();
+  t.after(async () => {
+    await browser.close();
+    rmSync(folder, { recursive: true });
+  });
+  writeFileSync(path.join(folder, 'elk-lint.js'), judging());
+  const head = '<!doctype html><meta charset="utf-8"><title>A page</title>';
+  writeFileSync(path.join(folder, 'page.html'), `${head}<script src="elk-lint.js"></script>`);
+  const page = await browser.open(pathToFileURL(path.join(folder, 'page.html')).href);
+  const text = '{"id":"r","layoutOptions":{"elk.directon":"UP"},"children":[{"id":"a","width":0.5},{"id":"a"}]}';
+  for (const how of [{}, { call: {} }]) {
+    const judged = await page.evaluate(`ElkLint.lint(${JSON.stringify(text)}, ${JSON.stringify(how)})`);
+    assert.deepEqual(judged, JSON.parse(JSON.stringify(lint(text, how))));
+  }
 });
 
 test('the page shows what the command says', () => {
