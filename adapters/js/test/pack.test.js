@@ -83,12 +83,27 @@ const WAYS = [
   ],
 ];
 
+const HOSTED = `
+const { readFileSync } = require('node:fs');
+const { gunzipSync } = require('node:zlib');
+const { Program, withMemoryLimit } = require('elk-layout/module');
+
+const bytes = gunzipSync(readFileSync(require.resolve('elk-layout/elk.wasm.gz')));
+const program = new Program(new WebAssembly.Module(withMemoryLimit(bytes, 2 ** 26)));
+let words = '';
+const write = (piece) => {
+  words += Buffer.from(piece);
+  return piece.length;
+};
+console.log(program.run(['demo', '1'], { read: () => -1, write }), words.trim());`;
+
 test('the package answers a document where nothing else is', WITH_NPM, async (t) => {
   const tarball = packed();
   const user = installed(tarball);
   for (const [kind, script] of WAYS) {
     assert.equal(run(user, [process.execPath, kind, '--eval', script]), '54 54\n', script);
   }
+  assert.equal(run(user, [process.execPath, '--eval', HOSTED]), '0 nodes 1 edges 0 weight 0 span 0\n');
   const command = (name) => path.join('node_modules', '.bin', name);
   const input = '{"id":"r","children":[{"id":"a","width":30,"height":30}]}';
   const placed = run(user, [command('elk'), 'layout'], { input });
