@@ -62,16 +62,19 @@ class ProgramError(ElkError):
 REFUSED = re.compile(r"refused (\d+) (\w+) (.*)", re.DOTALL)
 
 
-def refusal_of(reply: str, line: bytes, document: Any = None, options: Any = None) -> Optional[Refusal]:
+def refusal_of(
+    reply: str, line: bytes, document: Any = None, options: Any = None, is_placed: bool = False
+) -> Optional[Refusal]:
     """Reads a reply `refused <number> <name> <id or ->`; None where it is no refusal.
 
-    `line` is what was sent for the document, and `options` are those of the call.
+    `line` is what was sent for the document, `options` are those of the call, and `is_placed` says that it was to be
+    judged.
     """
     told = REFUSED.fullmatch(reply)
     if not told:
         return None
     rule, name = int(told[1]), told[2]
     id = None if told[3] == "-" else json.loads(told[3])
-    faults = faults_of(rule, line, document, options)
+    faults = faults_of(rule, line, document, options, is_placed)
     first = [it for it in faults if it.rule == rule and str(it.id) == str(id)][:1]
     return Refusal(rule, name, id, None, first and first + [it for it in faults if it is not first[0]])

@@ -237,22 +237,27 @@ def _value_at(value: Any, steps: Iterable[Step]) -> Any:
     return value
 
 
-def faults_of(rule: int, line: bytes, document: Any = None, options: Any = None) -> List[Fault]:
+def faults_of(rule: int, line: bytes, document: Any = None, options: Any = None, is_placed: bool = False) -> List[Fault]:
     """All faults of a document that the program refused by a rule, in the order of the rules.
 
-    `line` is what was sent for it, and `options` are those of the call.
+    `line` is what was sent for it, `options` are those of the call, and `is_placed` says that it was to be judged.
     """
     if rule == TOO_LONG:
-        bytes_there, most = len(line) - line.endswith(b"\n"), table("limits")["bytes"]
-        texts = {"found": f"{bytes_there:,}", "limit": f"{most:,}"}
-        message = message_of(rule, _RULES[rule]["name"], None, filled(_FAULTS["cases"]["tooLong"]["detail"], texts))
-        return [Fault(rule, _RULES[rule]["name"], message, path_of([]), found=bytes_there, allowed=texts["limit"])]
+        return [_too_long(len(line) - line.endswith(b"\n"), is_placed)]
     value = json.loads(line)
     if rule == NOT_JSON:
         return [_not_json(steps, reason) for steps, reason in _unwritable(value, ())][:1]
     context = Context(value)
     teller = _Teller(context, document, options)
     return [teller.fault_of(rule, find) for rule, find in finds_in(context)]
+
+
+def _too_long(found: int, is_placed: bool) -> Fault:
+    limits, case, name = table("limits"), _FAULTS["cases"]["tooLong"], _RULES[TOO_LONG]["name"]
+    allowed = f"{limits['checkBytes' if is_placed else 'bytes']:,}"
+    detail = filled(case["detail"], {"found": f"{found:,}", "allowed": allowed})
+    message = message_of(TOO_LONG, name, None, detail, case.get("words") if is_placed else None)
+    return Fault(TOO_LONG, name, message, path_of([]), found=found, allowed=allowed)
 
 
 def _unwritable(value: Any, steps: Tuple[Step, ...]) -> Iterator[Tuple[Tuple[Step, ...], str]]:

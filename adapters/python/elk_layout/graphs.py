@@ -172,7 +172,7 @@ def to_networkx(placed: Element) -> Any:
     the `parent` in which it stands where that isn't the root. Each edge has its id as its key, and the `points` of its
     route.
     """
-    import networkx  # type: ignore[import]
+    import networkx
 
     levels = Levels(placed)
     height = number_or_0(placed.get("height"))

@@ -49,7 +49,7 @@ def shown(results: Iterator[Any], progress: Progress, total: Optional[int]) -> I
     if not progress:
         return results
     try:
-        from tqdm import tqdm  # type: ignore[import]
+        from tqdm import tqdm
     except ImportError:
         return _told(results, _Line(), total)
     return iter(tqdm(results, total=total, unit=" documents"))

@@ -56,7 +56,7 @@ def judge(program: str, line: bytes) -> Verdict:
         return Verdict(True)
     if ended.returncode == 1:
         return _failure(words)
-    refusal = refusal_of(notes, line)
+    refusal = refusal_of(notes, line, is_placed=True)
     if ended.returncode == 2 and refusal:
         raise refusal
     raise ProgramError(f"the program {program} ended with the status {ended.returncode}: {notes}", ended.returncode)
