@@ -2,9 +2,9 @@
 
 from __future__ import annotations
 
-from typing import Any, Dict, List, Optional, Set, Tuple
+from typing import Any, Dict, Iterator, List, NamedTuple, Optional, Set, Tuple
 
-from .levels import Element, Levels, elements_of, number_or_0
+from .levels import Element, Levels, Place, elements_of, number_or_0
 
 Point = Tuple[Any, Any]
 Route = List[Point]
@@ -17,14 +17,60 @@ def point_of(value: Any) -> Point:
     return number_or_0(value.get("x")), number_or_0(value.get("y"))
 
 
-def route_of(edge: Element) -> Route:
-    """The points of an edge's route, from its start to its end; none where it isn't placed."""
-    section: Element = next(iter(elements_of(edge.get("sections"))), {})
+def points_of(section: Any) -> Route:
+    """The points of a section, from its start to its end; none where it isn't placed."""
     start, end = section.get("startPoint"), section.get("endPoint")
     if not isinstance(start, dict) or not isinstance(end, dict):
         return []
-    points = [point_of(it) for it in (start, *elements_of(section.get("bendPoints")), end)]
+    return _without_repeats([point_of(it) for it in (start, *elements_of(section.get("bendPoints")), end)])
+
+
+def _without_repeats(points: Route) -> Route:
     return [point for at, point in enumerate(points) if at == 0 or point != points[at - 1]]
+
+
+def route_of(edge: Element) -> Route:
+    """The points of an edge's first section, from its start to its end; none where it isn't placed."""
+    return next((points_of(it) for it in elements_of(edge.get("sections"))), [])
+
+
+def _chains_of(sections: List[Element]) -> Iterator[List[Element]]:
+    """The ways through sections that follow one another, from each without one before it to each without one after."""
+    by_id = {it.get("id"): it for it in sections if isinstance(it.get("id"), (str, int, float))}
+
+    def follow(chain: List[Element]) -> Iterator[List[Element]]:
+        ids = chain[-1].get("outgoingSections")
+        known = [by_id[it] for it in ids if it in by_id] if isinstance(ids, list) else []
+        following = [it for it in known if not any(it is other for other in chain)]
+        if not following:
+            yield chain
+        for section in following:
+            yield from follow([*chain, section])
+
+    for section in sections:
+        if not section.get("incomingSections"):
+            yield from follow([section])
+
+
+class Path(NamedTuple):
+    """A way of an edge from a node to a node; the edge is known by its place among all."""
+
+    edge: int
+    points: Route
+    nodes: Tuple[Optional[Place], Optional[Place]]
+
+
+def _paths_of(edge: int, levels: Levels) -> Iterator[Path]:
+    declared = levels.declared[edge].edge
+    sections = elements_of(declared.get("sections"))
+    for chain in _chains_of(sections):
+        points = _without_repeats([point for section in chain for point in points_of(section)])
+        if len(sections) == 1:
+            yield Path(edge, points, (levels.node_at(declared, "source"), levels.node_at(declared, "target")))
+        else:
+            # A section of several tells its ends by itself.
+            shapes = chain[0].get("incomingShape"), chain[-1].get("outgoingShape")
+            yield Path(edge, points, (levels.node_of(shapes[0]), levels.node_of(shapes[1])))
 
 
 def _way_to(start: Point, end: Point) -> int:
@@ -51,56 +97,55 @@ def _passes_of(route: Route, point: Point) -> List[int]:
     return passes
 
 
-# The edges of a dock with their routes, each known by the place of its edge in the document.
-Routes = Dict[int, Route]
-
-# The edges that are at each horizontal or vertical line on which a piece of a route lies.
+# The paths that are at each horizontal or vertical line on which a piece of one lies, by their places in a list.
 Lines = Dict[Tuple[str, Any], Set[int]]
 
 
-def _lines_of(routes: Routes) -> Lines:
+def _lines_of(paths: List[Path]) -> Lines:
     lines: Lines = {}
-    for edge, route in routes.items():
-        for (left, top), (right, bottom) in zip(route, route[1:]):
-            lines.setdefault(("y", bottom) if top == bottom else ("x", right), set()).add(edge)
+    for at, path in enumerate(paths):
+        for (_, top), (right, bottom) in zip(path.points, path.points[1:]):
+            lines.setdefault(("y", bottom) if top == bottom else ("x", right), set()).add(at)
     return lines
 
 
-def _first_parting(point: Point, routes: Routes, lines: Lines) -> Optional[int]:
-    """The first edge of those with a common dock whose route parts from another's at a point, or joins it there."""
+def _first_parting(point: Point, paths: List[Path], lines: Lines) -> Optional[int]:
+    """The edge of the first of the paths with a common dock that parts from another at a point, or joins it there."""
     near = lines.get(("y", point[1]), set()) | lines.get(("x", point[0]), set())
-    passing = {edge: _passes_of(routes[edge], point) for edge in near}
+    passing = {at: _passes_of(paths[at].points, point) for at in near}
     ways = {way for passes in passing.values() for way in passes}
     # Two routes that pass a point part there where they have one way in common: with two they run along together, with
     # none they cross.
-    parting = {
-        edge
-        for edge, passes in passing.items()
+    parting = [
+        at
+        for at, passes in passing.items()
         if any(one & other in (LEFT, RIGHT, UP, DOWN) for one in passes for other in ways)
-    }
-    return next((edge for edge in routes if edge in parting), None)
+    ]
+    return paths[min(parting)].edge if parting else None
 
 
-def _routes_by_dock(levels: Levels) -> List[Routes]:
-    """The routes of the edges at each dock: at one node and one anchor, in document order."""
-    nodes: Dict[int, Dict[Point, Routes]] = {}
-    for edge, declared in enumerate(levels.declared):
-        route = route_of(declared.edge)
-        for end, anchor in (("source", route[:1]), ("target", route[-1:])):
-            node = levels.node_at(declared.edge, end)
-            if anchor and node:
-                nodes.setdefault(id(node), {}).setdefault(anchor[0], {})[edge] = route
-    return [routes for docks in nodes.values() for routes in docks.values() if len(routes) > 1]
+def _paths_by_dock(levels: Levels) -> List[List[Path]]:
+    """The paths of the edges at each dock: at one node and one anchor, in document order."""
+    nodes: Dict[int, Dict[Point, List[Path]]] = {}
+    for edge in range(len(levels.declared)):
+        for path in _paths_of(edge, levels):
+            for node, anchor in zip(path.nodes, (path.points[:1], path.points[-1:])):
+                if anchor and node:
+                    at_dock = nodes.setdefault(id(node), {}).setdefault(anchor[0], [])
+                    # A loop begins and ends at its dock.
+                    if not any(it is path for it in at_dock[-1:]):
+                        at_dock.append(path)
+    return [paths for docks in nodes.values() for paths in docks.values() if len(paths) > 1]
 
 
 def junctions_of(levels: Levels) -> Dict[int, List[Point]]:
     """The junction points of edges, by their place among all edges, without those that have none."""
     found: Dict[int, List[Point]] = {}
-    for routes in _routes_by_dock(levels):
-        lines = _lines_of(routes)
-        bends = {point: None for route in routes.values() for point in route[1:-1]}
+    for paths in _paths_by_dock(levels):
+        lines = _lines_of(paths)
+        bends = {point: None for path in paths for point in path.points[1:-1]}
         for point in bends:
-            edge = _first_parting(point, routes, lines)
+            edge = _first_parting(point, paths, lines)
             if edge is not None and point not in found.setdefault(edge, []):
                 found[edge].append(point)
     return found

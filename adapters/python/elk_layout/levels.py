@@ -18,9 +18,13 @@ def number_or_0(value: Any) -> Any:
     return value if is_measure(value) else 0
 
 
+def _is_extended(edge: Element) -> bool:
+    return "sources" in edge or "targets" in edge
+
+
 def end_ids(edge: Element, end: str) -> List[Any]:
     """The ids at one end of an edge, in the extended or in the primitive form."""
-    if "sources" in edge or "targets" in edge:
+    if _is_extended(edge):
         ids = edge.get(f"{end}s")
         return list(ids) if isinstance(ids, (list, tuple)) else []
     ids = [edge.get(f"{end}Port"), edge.get(end)]
@@ -52,7 +56,7 @@ class Levels:
         #: All edges in document order.
         self.declared: List[Declared] = []
         self._nodes_by_id: Dict[Any, Place] = {}
-        self._nodes_by_end: Dict[Any, Place] = {}
+        self._nodes_by_port: Dict[Any, Place] = {}
         self._enter(Place(root, None, 0, 0))
 
     def _enter(self, place: Place) -> None:
@@ -68,14 +72,21 @@ class Levels:
         # Only what has an id is named by it: the root needs none, and an end may be missing.
         if _is_id(place.node.get("id")):
             self._nodes_by_id[place.node["id"]] = place
-        for element in (place.node, *elements_of(place.node.get("ports"))):
-            if _is_id(element.get("id")):
-                self._nodes_by_end[element["id"]] = place
+        for port in elements_of(place.node.get("ports")):
+            if _is_id(port.get("id")):
+                self._nodes_by_port[port["id"]] = place
 
     def node_at(self, edge: Element, end: str) -> Optional[Place]:
         """The node at the source or the target of an edge, which may be named by one of its ports."""
-        ids = end_ids(edge, end)
-        return self._nodes_by_end.get(ids[0]) if ids and _is_id(ids[0]) else None
+        id = next(iter(end_ids(edge, end)), None)
+        # A port may be called like a node.
+        if not _is_extended(edge) and edge.get(f"{end}Port") is not None:
+            return self._nodes_by_port.get(id) if _is_id(id) else None
+        return self.node_of(id)
+
+    def node_of(self, id: Any) -> Optional[Place]:
+        """The node of an id, or that of the port of an id."""
+        return self._nodes_by_id.get(id) or self._nodes_by_port.get(id) if _is_id(id) else None
 
     def level_of(self, declared: Declared) -> Place:
         """The node to whose content the points of an edge are relative."""

@@ -6,9 +6,9 @@ import json
 import math
 import re
 from decimal import ROUND_HALF_UP, Decimal
-from typing import Any, Dict, Iterable, List, NamedTuple, Set, Tuple
+from typing import Any, Dict, Iterable, Iterator, List, NamedTuple, Set, Tuple
 
-from .junctions import Point, junctions_of, point_of, route_of
+from .junctions import Point, junctions_of, point_of, points_of
 from .letters import begin, width_of
 from .levels import Declared, Element, Levels, Place, elements_of, end_ids, number_or_0
 from .plain import plain
@@ -99,11 +99,11 @@ def _is_placed_label(label: Element) -> bool:
     return is_measure(label.get("x")) and is_measure(label.get("y"))
 
 
-def _placed_label(label: Element, place: Place) -> str:
-    """A label where the document places it, the point being that of its node."""
+def _placed_label(label: Element, corner: Point) -> str:
+    """A label where the document places it, relative to a corner."""
     width, height = _size_of(label)
     fit = _fitted(label["text"], width or math.inf)
-    return _text_at(fit, place.left + label["x"] + width / 2, place.top + label["y"] + height / 2)
+    return _text_at(fit, corner[0] + label["x"] + width / 2, corner[1] + label["y"] + height / 2)
 
 
 def _free_labels(labels: List[Element], place: Place) -> str:
@@ -132,7 +132,7 @@ def _node_texts(place: Place) -> str:
     # A level without a label of its own has no room for its id above its content.
     node = place.node
     labels = _labels_of(node, place.parent is not None and (not _is_compound(node) or _has_room_above(node)))
-    texts = [_placed_label(label, place) for label in labels if _is_placed_label(label)]
+    texts = [_placed_label(label, (place.left, place.top)) for label in labels if _is_placed_label(label)]
     return "".join((*texts, _free_labels([it for it in labels if not _is_placed_label(it)], place)))
 
 
@@ -156,8 +156,12 @@ def _side_of(port: Element, node: Element) -> str:
 
 
 def _port_text(port: Element, place: Place) -> str:
-    """The label of a port stands within its node, beside the port."""
+    """The labels of a port where the document places them; else the first stands within the node, beside the port."""
     labels = _labels_of(port, False)
+    if any(map(_is_placed_label, labels)):
+        x, y = point_of(port)
+        corner = place.left + x, place.top + y
+        return "".join(_placed_label(label, corner) for label in labels if _is_placed_label(label))
     if not labels:
         return ""
     (width, height), room, (left, top) = _size_of(port), _size_of(place.node), point_of(port)
@@ -249,17 +253,24 @@ def _joints_of(levels: Levels) -> List[List[Point]]:
     return joints
 
 
+def _lines_of(edge: Element, place: Place, sharp: Set[Point], arrows: bool) -> Iterator[str]:
+    """The lines of an edge's sections; a section that others follow has no arrow head."""
+    for section in elements_of(edge.get("sections")):
+        points = _moved(points_of(section), place)
+        has_arrow = arrows and len(points) > 1 and not section.get("outgoingSections")
+        if points:
+            yield _route_with_arrow(points, sharp) if has_arrow else f'<path d="{_path_of(points, sharp)}"/>'
+
+
 def _edge_of(declared: Declared, levels: Levels, joints: List[Point], sharp: Set[Point], arrows: bool) -> str:
     edge = declared.edge
-    points = _moved(route_of(edge), levels.level_of(declared))
-    if not points:
+    lines = "".join(_lines_of(edge, levels.level_of(declared), sharp, arrows))
+    if not lines:
         return ""
-    ends = " → ".join(_words(id) for end in ("source", "target") for id in end_ids(edge, end)[:1] or [""])
-    has_arrow = arrows and len(points) > 1
-    route = _route_with_arrow(points, sharp) if has_arrow else f'<path d="{_path_of(points, sharp)}"/>'
+    ends = " → ".join(", ".join(map(_words, end_ids(edge, end))) for end in ("source", "target"))
     dots = "".join(map(_dot_at, joints))
     title = _title_of(f"{_id_of(edge)}: {ends}")
-    return f'<g class="edge" data-id="{_escaped(_id_of(edge))}">{title}{route}{dots}</g>'
+    return f'<g class="edge" data-id="{_escaped(_id_of(edge))}">{title}{lines}{dots}</g>'
 
 
 def _frame_of(levels: Levels) -> Tuple[Any, Any, Any, Any]:
@@ -284,6 +295,16 @@ def _drawn_edges(levels: Levels, arrows: bool) -> List[str]:
     return [it for it in drawn if it]
 
 
+def _drawn_edge_labels(levels: Levels) -> List[str]:
+    """The labels of edges that the document places."""
+    drawn = []
+    for declared in levels.declared:
+        level = levels.level_of(declared)
+        labels = [it for it in _labels_of(declared.edge, False) if _is_placed_label(it)]
+        drawn += [_placed_label(label, (level.left, level.top)) for label in labels]
+    return drawn
+
+
 def _drawn_ports(levels: Levels) -> List[str]:
     return [
         _port_box(port, place) + _port_text(port, place)
@@ -304,14 +325,14 @@ def to_svg(placed: Element, *, arrows: bool = True) -> str:
     view = [_num(it) for it in (*paper[:2], *paper[2])]
     size = f'width="{view[2]}" height="{view[3]}" viewBox="{" ".join(view)}"'
     line = f'fill="none" stroke="{INK}" stroke-width="{LOOK["line"]}" stroke-linejoin="round"'
-    texts = (_node_texts(place) for place in levels.places)
+    texts = [it for it in map(_node_texts, levels.places) if it]
     parts = [
         f'<svg xmlns="http://www.w3.org/2000/svg" {size} font-family="{LOOK["font"]}">',
         _box(*paper, f'fill="{PAPER}"/>'),
         _group('class="nodes"', map(_node_box, levels.places)),
         _group(f'class="edges" {line}', _drawn_edges(levels, arrows)),
         _group('class="ports"', _drawn_ports(levels)),
-        _group('class="labels"', (it for it in texts if it)),
+        _group('class="labels"', [*texts, *_drawn_edge_labels(levels)]),
         "</svg>\n",
     ]
     return "\n".join(parts)

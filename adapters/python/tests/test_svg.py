@@ -15,6 +15,28 @@ const documents = JSON.parse(require('node:fs').readFileSync(0, 'utf8'));
 console.log(JSON.stringify(documents.map(([placed, look]) => toSvg(placed, look))));
 """
 
+# Documents that the adapter for JavaScript places, with labels and with edges of several ends.
+PLACED = """
+const top = `${process.argv[1]}/adapters/js`;
+const ELK = require(`${top}/elk.js`);
+const { labelled } = require(`${top}/testing/labelled.js`);
+const elk = new ELK({ program: process.argv[2] });
+const nodes = 'abcdefgh'.split('').map((id) => ({ id, width: 30, height: 30, ports: [{ id: `${id}p`, width: 4, height: 4 }] }));
+const hyper = [['a', 'b', 'c', 'dp'], ['e', 'f'], ['f', 'g', 'h', 'ap'], ['bp', 'c', 'g']];
+const edges = hyper.flatMap(([one, ...others], at) => [
+  { id: `s${at}`, sources: [one], targets: others },
+  { id: `t${at}`, sources: others, targets: [one] },
+]);
+const graphs = Array.from({ length: Number(process.argv[3]) }, (_, seed) => labelled(seed));
+for (const direction of ['RIGHT', 'DOWN', 'LEFT', 'UP']) {
+  graphs.push({ id: 'r', children: nodes, edges, layoutOptions: { 'elk.direction': direction } });
+}
+Promise.all(graphs.map((graph) => elk.layout(graph))).then((placed) => {
+  process.stdout.write(JSON.stringify(placed));
+  elk.terminateWorker();
+});
+"""
+
 HOSTILE = (
     *("<script>alert(1)</script>", '"/><svg onload=alert(1)>', "'&amp;&#0;]]>", "<![CDATA[", "tab\t line\n\r feed"),
     *("\0\7\x1b\ufffe\uffff", "😀 é ‮ text", " ", "", 0, -1, 1.5, 2.0, True, {"a": [1.0, "é"]}, "x" * 500),
@@ -91,6 +113,24 @@ class Pictures(unittest.TestCase):
         documents = [{"id": f"r{at}", **level(of, "", 2)} for at in range(150)]
         placed = list(layout_many(documents, program=PROGRAM))
         self.compare([(it, {"arrows": at % 2 == 0}) for at, it in enumerate(placed)])
+
+    @with_node
+    @with_program
+    def test_labels_and_edges_of_several_ends_look_the_same(self):
+        words = ["node", "-e", PLACED, str(TOP), PROGRAM, "60"]
+        placed = json.loads(subprocess.run(words, stdout=subprocess.PIPE, check=True).stdout)
+        sections = [edge["sections"] for document in placed for edge in document["edges"]]
+        self.assertGreater(max(map(len, sections)), 2)
+        self.compare([(it, {}) for it in placed])
+        for document in placed:
+            self.forget_junctions(document)
+        self.compare([(it, {}) for it in placed])
+
+    def forget_junctions(self, node):
+        for edge in node.get("edges", ()):
+            edge.pop("junctionPoints", None)
+        for child in node.get("children", ()):
+            self.forget_junctions(child)
 
     @with_node
     @with_program
