@@ -64,4 +64,4 @@ function elementsIn(root) {
   return found;
 }
 
-module.exports = { elementsIn };
+module.exports = { Element, elementsIn };

@@ -1,12 +1,10 @@
 'use strict';
 // Whether a placed document has the members of a drawing, each in its form, as `elk check` reads them.
 
-const limits = require('./data/limits.json');
-const { isObject } = require('./levels');
-
-const has = (value, name) => isObject(value) && Object.hasOwn(value, name);
-
-const isNumber = (value) => typeof value === 'number' || typeof value === 'bigint';
+const limits = require('../data/limits.json');
+const { isObject } = require('../levels');
+const { nodesOf } = require('./ends');
+const { has, isNumber } = require('./members');
 
 const within = (low, high) => (value) => isNumber(value) && low <= value && value <= high;
 
@@ -118,8 +116,8 @@ function* edge({ value, steps }) {
 
 /**
  * What a placed document lacks, element by element.
- * @param {import('./elements').Element} element
- * @param {(level: import('./elements').Element) => { all: object[], count: number, turnable: Set<object> }} edgesOf all
+ * @param {import('../elements').Element} element
+ * @param {(level: import('../elements').Element) => { all: object[], count: number, turnable: Set<object> }} edgesOf all
  *   edges of the document, how many of them a level has, and those of these that may be reversed
  */
 function* lacking(element, edgesOf) {
@@ -133,4 +131,25 @@ function* lacking(element, edgesOf) {
   }
 }
 
-module.exports = { lacking };
+/** Rule 13. */
+function* notPlaced({ elements, joins, isPlaced }) {
+  if (!isPlaced) {
+    return;
+  }
+  const all = elements.filter(({ kind }) => kind === 'edge');
+  const [edges, turnable] = [new Map(), new Map()];
+  for (const join of joins) {
+    const [source, target] = nodesOf(join) ?? [];
+    const level = source?.holder;
+    edges.set(level, (edges.get(level) ?? 0) + 1);
+    if (source !== target) {
+      turnable.set(level, (turnable.get(level) ?? new Set()).add(join.edge));
+    }
+  }
+  const edgesOf = (level) => ({ all, count: edges.get(level) ?? 0, turnable: turnable.get(level) ?? new Set() });
+  for (const element of elements.filter(({ value }) => isObject(value))) {
+    yield* [...lacking(element, edgesOf)].map((it) => ({ ...it, element }));
+  }
+}
+
+module.exports = { notPlaced };
