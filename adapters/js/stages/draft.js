@@ -177,12 +177,13 @@ class Draft {
 
   /** Adds an element to a list of a node until the answer is there. */
   add(node, list, element) {
-    if (!this.#lists.has(node[list])) {
-      const before = node[list];
+    const before = node[list];
+    if (!this.#lists.has(before) && (before === undefined || Array.isArray(before))) {
       node[list] = before ? before.slice() : [];
       this.#lists.set(node[list], { node, list, before });
     }
-    node[list].push(element);
+    // What is no list is for the engine to refuse.
+    this.#lists.get(node[list])?.node[list].push(element);
     if (list === 'ports') {
       this.#portsById.set(element.id, { node, port: element, id: element.id });
     }

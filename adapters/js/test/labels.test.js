@@ -5,6 +5,7 @@ const test = require('node:test');
 const { copyOf, documentOf } = require('../document');
 const ELK = require('../elk');
 const { draftOf } = require('../stages');
+const { chance } = require('../testing/chance');
 const { labelFaults, labelled } = require('../testing/labelled');
 const { PROGRAM, run, WITH_PROGRAM } = require('../testing/program');
 
@@ -44,6 +45,29 @@ test('what the engine is asked for these documents it answers rightly', WITH_PRO
     assert.equal(stderr, '', `document ${seed}`);
     assert.equal(run(['check'], stdout).stdout, 'yes\n', `document ${seed}`);
   }
+});
+
+/** All ways to the members of a value. */
+const waysOf = (value) =>
+  typeof value === 'object' && value !== null
+    ? Object.keys(value).flatMap((key) => [[key], ...waysOf(value[key]).map((way) => [key, ...way])])
+    : [];
+
+/** Writes something else in the place of a member that is drawn by chance. */
+function damage(graph, draw) {
+  const way = draw.of(waysOf(graph));
+  const holder = way.slice(0, -1).reduce((value, key) => value[key], graph);
+  holder[way.at(-1)] = draw.of([undefined, null, 'x', -3, 1.5, 1e9, [], {}, true]);
+  return graph;
+}
+
+test('a damaged document is drawn or refused', WITH_PROGRAM, async () => {
+  const elk = new ELK({ program: PROGRAM, onWarning: () => {} });
+  for (const seed of seeds(SEEDS)) {
+    const graph = damage(damage(labelled(seed), chance(seed)), chance(-seed));
+    await elk.layout(graph).catch((error) => assert.ok(error instanceof ELK.Refusal, `document ${seed}: ${error.stack}`));
+  }
+  elk.terminateWorker();
 });
 
 const SIZES = [
