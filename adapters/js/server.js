@@ -4,47 +4,18 @@
 const { moduleBytes } = require('./module-file');
 const { Program } = require('./module');
 const { ProgramError } = require('./program-error');
-
-const encoder = new TextEncoder();
+const { runText } = require('./run-text');
 
 const OUT_OF_MEMORY = 6;
 
-/** The text as a stream of input. */
-function reader(text) {
-  const bytes = encoder.encode(text);
-  let at = 0;
-  return (room) => {
-    const piece = bytes.subarray(at, at + room.length);
-    room.set(piece);
-    at += piece.length;
-    return piece.length;
-  };
-}
-
-/** What is written, as a text for each stream. */
-class Written {
-  #decoders = [undefined, new TextDecoder(), new TextDecoder()];
-  #texts = ['', '', ''];
-
-  take(bytes, stream) {
-    this.#texts[stream] += this.#decoders[stream].decode(bytes, { stream: true });
-    return bytes.length;
-  }
-
-  text(stream) {
-    return this.#texts[stream];
-  }
-}
-
 /** The program's reply to one document, as a line of `elk batch`, without its line feed. */
 function replyTo(program, text) {
-  const written = new Written();
-  const status = program.run(['batch'], { read: reader(text), write: (bytes, stream) => written.take(bytes, stream) });
+  const { status, output, errors } = runText(program, ['batch'], text);
   if (status !== 0) {
-    const ended = `ended with the status ${status}: ${written.text(2).trim()}`;
+    const ended = `ended with the status ${status}: ${errors.trim()}`;
     throw new ProgramError(`the program ${status === OUT_OF_MEMORY ? 'ran out of memory' : ended}`, { status });
   }
-  return written.text(1).replace(/\n$/, '');
+  return output.replace(/\n$/, '');
 }
 
 // Engines compile what a module runs when it first runs it. This document runs most of it before anyone waits.
@@ -89,4 +60,4 @@ class Server {
   }
 }
 
-module.exports = { Server };
+module.exports = { Server, replyTo };

@@ -1,0 +1,413 @@
+'use strict';
+// The playground: a text on one side, its drawing on the other.
+
+const packed = require('../page/packed');
+const { Desk, Stopped } = require('./desk');
+const { Editor } = require('./editor');
+const EXAMPLES = require('./texts');
+const { largeText } = require('./large');
+const { documentIn, hashOf } = require('./link');
+const { pngOf, save } = require('./save');
+const script = require('./script');
+const { View } = require('./view');
+
+// So long the keys must rest, in milliseconds, before a text is drawn: a large one longer.
+const REST = 200;
+const LONG_REST = 500;
+const LONG_TEXT = 100_000;
+
+// A layout that takes longer, in milliseconds, has a bar.
+const BAR_AFTER = 300;
+
+const LARGE = [['large', 'A graph of 2,000 nodes', 2000]];
+
+const find = (id) => document.getElementById(id);
+
+const [status, told, verdict, hint] = ['status', 'told', 'verdict', 'hint'].map(find);
+
+const isDark = matchMedia('(prefers-color-scheme: dark)');
+
+let url;
+
+function workerOfPage() {
+  // One for all workers of the page.
+  url ??= URL.createObjectURL(new Blob(script(packed), { type: 'text/javascript' }));
+  return new Worker(url);
+}
+
+const desk = new Desk(workerOfPage);
+
+const lookOfPage = () => ({ arrows: find('arrows').checked, theme: isDark.matches ? 'dark' : 'light' });
+
+// What is known of the text: the last answer that has a drawing, and whether it is that of the text as it stands.
+let shown;
+let isCurrent = false;
+let pause;
+let summary = '';
+
+const say = (words) => {
+  status.textContent = words;
+};
+
+const many = (count, thing) => `${count.toLocaleString('en')} ${thing}${count === 1 ? '' : 's'}`;
+
+const placeWords = ({ line, column }) => (line === undefined ? '' : `line ${line}, column ${column}: `);
+
+const view = new View(find('stage'), find('picture'), (words) => {
+  find('edge').textContent = words;
+});
+
+const editor = new Editor({ area: find('text'), lines: find('lines'), marks: find('marks') }, () => {
+  isCurrent = false;
+  enable();
+  clearTimeout(pause);
+  pause = setTimeout(draw, editor.text.length > LONG_TEXT ? LONG_REST : REST);
+});
+
+function enable() {
+  ['svg', 'png', 'json'].forEach((id) => {
+    find(id).disabled = !isCurrent || shown === undefined;
+  });
+  ['in', 'out', 'fit'].forEach((id) => {
+    find(id).disabled = view.isEmpty;
+  });
+  document.body.classList.toggle('outdated', !isCurrent && !view.isEmpty);
+}
+
+/** A line of the list of faults and warnings; where it has a place, it leads there. */
+function lineOf({ message, line, column, kind }) {
+  const item = document.createElement('li');
+  item.className = kind;
+  const words = document.createElement(line === undefined ? 'span' : 'button');
+  if (line !== undefined) {
+    words.type = 'button';
+    words.addEventListener('click', () => editor.goTo({ line, column }));
+  }
+  const place = document.createElement('b');
+  place.textContent = `${kind === 'warning' ? 'Warning, ' : ''}${placeWords({ line, column })}`;
+  words.append(place, message);
+  item.append(words);
+  return item;
+}
+
+const restOf = (told, all, thing) => (all > told ? [{ message: `and ${many(all - told, thing)} more`, kind: 'rest' }] : []);
+
+function tellFaults({ faults, warnings, counts }) {
+  const lines = [
+    ...faults.map((it) => ({ ...it, kind: 'fault' })),
+    ...restOf(faults.length, counts.faults, 'fault'),
+    ...warnings.map((it) => ({ ...it, kind: 'warning' })),
+    ...restOf(warnings.length, counts.warnings, 'warning'),
+  ];
+  told.replaceChildren(...lines.map(lineOf));
+  told.hidden = lines.length === 0;
+  editor.tell(lines.filter(({ line }) => line !== undefined));
+}
+
+function tellVerdict(judged) {
+  verdict.hidden = judged === undefined;
+  verdict.className = judged?.isGood ? 'good' : 'bad';
+  verdict.textContent = judged ? `check: ${judged.isGood ? 'yes' : 'no'}, ${judged.words}` : '';
+}
+
+function summaryOf({ measures, seconds, faults, counts, verdict: judged }) {
+  const warned = counts.warnings > 0 ? `; ${many(counts.warnings, 'warning')}` : '';
+  if (faults.length > 0) {
+    const [{ message, line, column }] = faults;
+    return `${many(counts.faults, 'fault')}: ${placeWords({ line, column })}${message}`;
+  }
+  const { nodes, edges, width, height } = measures;
+  const time = seconds === undefined ? '' : `, engine ${Math.max(1, Math.round(seconds * 1000)).toLocaleString('en')} ms`;
+  const said = judged && !judged.isGood ? `check: no, ${judged.words}. ` : '';
+  return `${said}${many(nodes, 'node')}, ${many(edges, 'edge')}, ${width} by ${height}${time}${warned}`;
+}
+
+function take(answer) {
+  tellFaults(answer);
+  tellVerdict(answer.verdict);
+  if (answer.svg !== undefined) {
+    shown = answer;
+    isCurrent = true;
+    hint.hidden = true;
+    view.show(answer.svg);
+  } else {
+    hint.hidden = !view.isEmpty;
+    hint.textContent = 'There is no drawing of a document with faults.';
+  }
+  summary = answer.faults.length > 0 || answer.measures ? summaryOf(answer) : 'This document has no size to draw: choose "Lay out".';
+  say(summary);
+  enable();
+}
+
+/** A bar for what takes long, until `end` is called. */
+function watch() {
+  const since = performance.now();
+  let phase = 'reading';
+  const seconds = () => Math.floor((performance.now() - since) / 1000);
+  const show = () => {
+    find('busy').hidden = false;
+    find('phase').textContent = `${phase} … ${seconds()} s`;
+  };
+  const first = setTimeout(() => {
+    say('Working; Stop ends it.');
+    show();
+  }, BAR_AFTER);
+  const ticks = setInterval(() => performance.now() - since > BAR_AFTER && show(), 250);
+  return {
+    onPhase: (next) => {
+      phase = next;
+    },
+    end: () => {
+      clearTimeout(first);
+      clearInterval(ticks);
+    },
+  };
+}
+
+let bar;
+
+function endBar() {
+  bar?.end();
+  bar = undefined;
+  find('busy').hidden = true;
+}
+
+/** Draws the text as it stands. */
+async function draw() {
+  clearTimeout(pause);
+  bar?.end();
+  const mine = watch();
+  bar = mine;
+  const text = editor.text;
+  const asked = { kind: 'answer', text, isPlaced: find('way').value === 'placed', look: lookOfPage() };
+  try {
+    const answer = await desk.ask(asked, mine.onPhase);
+    if (text === editor.text) {
+      take(answer);
+    }
+  } catch (error) {
+    if (!(error instanceof Stopped)) {
+      say(`This failed: ${error.message}`);
+    }
+  } finally {
+    mine.end();
+    if (bar === mine) {
+      endBar();
+    }
+  }
+}
+
+function stop() {
+  desk.stop();
+  endBar();
+  say('Stopped. What is drawn is the last drawing; a change of the text draws anew.');
+  find('text').focus();
+}
+
+/** Draws the last drawing in another look, without laying it out again. */
+async function redraw() {
+  if (!isCurrent || desk.isBusy) {
+    await draw();
+    return;
+  }
+  const { svg } = await desk.ask({ kind: 'picture', look: lookOfPage() });
+  if (svg === undefined) {
+    await draw();
+  } else {
+    shown = { ...shown, svg };
+    view.show(svg);
+  }
+}
+
+/** Puts another document in the place of the text. */
+function open({ text, isPlaced = false }) {
+  find('way').value = isPlaced ? 'placed' : 'layout';
+  view.fit();
+  view.clear();
+  editor.replace(text);
+  draw();
+}
+
+function format() {
+  try {
+    editor.replace(`${JSON.stringify(JSON.parse(editor.text), null, 2)}\n`);
+    draw();
+  } catch {
+    say('Only a document of JSON is formatted: mend its faults first.');
+  }
+}
+
+async function openFile(file) {
+  if (file) {
+    open({ text: await file.text() });
+    find('examples').value = '';
+  }
+}
+
+const nameOfFile = () => {
+  try {
+    return String(JSON.parse(shown.placed).id ?? 'drawing').replace(/[^\w-]+/g, '-').slice(0, 60) || 'drawing';
+  } catch {
+    return 'drawing';
+  }
+};
+
+const SAVED = {
+  svg: async () => new Blob([shown.svg], { type: 'image/svg+xml' }),
+  png: () => pngOf(shown.svg),
+  json: async () => new Blob([`${JSON.stringify(JSON.parse(shown.placed), null, 2)}\n`], { type: 'application/json' }),
+};
+
+async function saveAs(kind) {
+  try {
+    const name = `${nameOfFile()}.${kind}`;
+    save(name, await SAVED[kind]());
+    say(`Saved as ${name}.`);
+  } catch ({ message }) {
+    say(`This can't be saved: ${message}.`);
+  }
+}
+
+/** Whether a text could be handed to the clipboard. */
+async function copied(text) {
+  try {
+    await navigator.clipboard.writeText(text);
+    return true;
+  } catch {
+    const area = document.createElement('textarea');
+    area.value = text;
+    document.body.append(area);
+    area.select();
+    const isDone = document.execCommand('copy');
+    area.remove();
+    return isDone;
+  }
+}
+
+let ownHash;
+
+async function copyLink() {
+  ownHash = await hashOf({ text: editor.text, isPlaced: find('way').value === 'placed' });
+  location.replace(ownHash);
+  const isDone = await copied(location.href);
+  find('link').focus();
+  say(isDone ? `The link is copied: ${many(location.href.length, 'letter')}.` : 'The link stands in the address bar.');
+}
+
+async function readHash() {
+  if (location.hash === ownHash) {
+    return true;
+  }
+  try {
+    const given = await documentIn(location.hash);
+    if (given) {
+      open(given);
+    }
+    return given !== undefined;
+  } catch ({ message }) {
+    say(`The link carries no document that can be read: ${message}.`);
+    return false;
+  }
+}
+
+function offerExamples() {
+  const options = [...EXAMPLES.map(({ id, title }) => [id, title]), ...LARGE];
+  find('examples').append(...options.map(([id, title]) => new Option(title, id)));
+}
+
+function openExample(id) {
+  const [, , nodes] = LARGE.find(([it]) => it === id) ?? [];
+  const example = EXAMPLES.find((it) => it.id === id);
+  if (nodes ?? example) {
+    open(example ?? { text: largeText(nodes) });
+  }
+}
+
+function hearControls() {
+  find('examples').addEventListener('change', ({ target }) => openExample(target.value));
+  find('way').addEventListener('change', draw);
+  find('file').addEventListener('change', ({ target }) => {
+    openFile(target.files[0]);
+    target.value = '';
+  });
+  Object.entries({
+    ...{ format, stop, link: copyLink, fit: () => view.fit(), in: () => view.zoom(1.25), out: () => view.zoom(0.8) },
+    ...{ svg: () => saveAs('svg'), png: () => saveAs('png'), json: () => saveAs('json') },
+  }).forEach(([id, act]) => find(id).addEventListener('click', act));
+  find('arrows').addEventListener('change', redraw);
+  isDark.addEventListener('change', redraw);
+  window.addEventListener('hashchange', readHash);
+}
+
+function hearDrops() {
+  const over = (isOver) => document.body.classList.toggle('over', isOver);
+  document.addEventListener('dragover', (event) => {
+    event.preventDefault();
+    over(true);
+  });
+  document.addEventListener('dragleave', ({ relatedTarget }) => relatedTarget || over(false));
+  document.addEventListener('drop', (event) => {
+    event.preventDefault();
+    over(false);
+    const [file] = event.dataTransfer.files;
+    const text = event.dataTransfer.getData('text/plain');
+    if (file) {
+      openFile(file);
+    } else if (text) {
+      open({ text });
+    }
+  });
+  // A paste beside the text is a whole document.
+  document.addEventListener('paste', (event) => {
+    if (event.target !== find('text')) {
+      const [file] = event.clipboardData.files;
+      event.preventDefault();
+      if (file) {
+        openFile(file);
+      } else {
+        open({ text: event.clipboardData.getData('text/plain') });
+      }
+    }
+  });
+}
+
+/** The border between the two sides is moved by the pointer or the arrows. */
+function hearBorder() {
+  const border = find('border');
+  const panes = find('panes');
+  const isStacked = () => getComputedStyle(panes).flexDirection === 'column';
+  const put = (share) => {
+    const part = Math.round(Math.min(Math.max(share, 10), 90));
+    panes.style.setProperty('--share', `${part}%`);
+    border.setAttribute('aria-valuenow', part);
+  };
+  border.addEventListener('pointerdown', ({ pointerId }) => border.setPointerCapture(pointerId));
+  border.addEventListener('pointermove', ({ pointerId, clientX, clientY }) => {
+    if (border.hasPointerCapture(pointerId)) {
+      const { left, top, width, height } = panes.getBoundingClientRect();
+      put(isStacked() ? ((clientY - top) / height) * 100 : ((clientX - left) / width) * 100);
+    }
+  });
+  border.addEventListener('keydown', (event) => {
+    const by = { ArrowLeft: -4, ArrowUp: -4, ArrowRight: 4, ArrowDown: 4 }[event.key];
+    if (by) {
+      event.preventDefault();
+      put(Number(border.getAttribute('aria-valuenow')) + by);
+    }
+  });
+}
+
+async function start() {
+  desk.prepare();
+  offerExamples();
+  hearControls();
+  hearDrops();
+  hearBorder();
+  enable();
+  if (!(await readHash())) {
+    find('examples').value = EXAMPLES[0].id;
+    openExample(EXAMPLES[0].id);
+  }
+}
+
+start();
