@@ -67,7 +67,9 @@ function nearValue(option, value) {
     return undefined;
   }
   if (option.values) {
-    return nearest(value.trim(), option.values);
+    const [prefix] = option.type === 'STRING' ? /^((org\.eclipse\.)?elk\.)?/.exec(value.trim()) : [''];
+    const near = nearest(value.trim().slice(prefix.length), option.values);
+    return near === undefined ? undefined : prefix + near;
   }
   if (option.type === 'INT' && WHOLE_TEXT.test(value.trim()) && isWithin(option, Number(value))) {
     return value.trim();

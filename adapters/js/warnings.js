@@ -178,8 +178,8 @@ const OTHER_FORM = { sources: 'source', source: 'sources', targets: 'target', ta
 
 function* membersOf(element) {
   const { kind, value } = element;
-  for (const name of Object.keys(value)) {
-    const near = nearMember(name, kind);
+  for (const [name, own] of Object.entries(value)) {
+    const near = own === null || own === undefined ? undefined : nearMember(name, kind);
     // Where the member itself is there, the other is an editor's own.
     if (near !== undefined && !(near in value) && !(OTHER_FORM[near] in value)) {
       yield toldOf('unknownMember', { steps: [...element.steps, name], id: value.id, near });

@@ -5,6 +5,7 @@ const assert = require('node:assert/strict');
 const test = require('node:test');
 const limits = require('../data/limits.json');
 const { OPTIONS } = require('../options');
+const { isTaken, nearValue } = require('../values');
 const { run, WITH_PROGRAM } = require('../testing/program');
 
 const PREFIXES = ['org.eclipse.elk.', 'elk.', ''];
@@ -69,6 +70,35 @@ test('every other value of an option is refused', WITH_PROGRAM, () => {
     const said = saysOf(option, REFUSED[option.type](option), 'elk.');
     const isRight = ([, , , reply]) => /^refused (11 OptionValue|2 NotWhole)/.test(reply);
     assert.deepEqual(said.filter((row) => !isRight(row)), []);
+  }
+});
+
+test('which values are taken is known before', () => {
+  for (const option of OPTIONS) {
+    assert.deepEqual(TAKEN[option.type](option).filter((value) => !isTaken(option, value)), [], option.name);
+    assert.deepEqual(REFUSED[option.type](option).filter((value) => isTaken(option, value)), [], option.name);
+  }
+});
+
+test('what was meant by another value is a value', () => {
+  for (const [name, value, meant] of [
+    ['direction', 'Rigth', 'RIGHT'],
+    ['direction', ' down ', 'DOWN'],
+    ['direction', 'sideways', undefined],
+    ['direction', 5, undefined],
+    ['algorithm', 'Layered', 'layered'],
+    ['algorithm', 'elk.laered', 'elk.layered'],
+    ['algorithm', 'eclipse.layered', undefined],
+    ['spacing.nodeNode', ' 20 ', '20'],
+    ['spacing.nodeNode', '20px', undefined],
+    ['padding', '12', '[top=12,left=12,bottom=12,right=12]'],
+    ['padding', '12px', '[top=12,left=12,bottom=12,right=12]'],
+    ['padding', '[12, 3]', undefined],
+    ['separateConnectedComponents', 'ture', 'true'],
+  ]) {
+    const option = OPTIONS.find((it) => it.name === name);
+    assert.equal(nearValue(option, value), meant, `${name}: ${value}`);
+    assert.ok(meant === undefined || isTaken(option, meant));
   }
 });
 

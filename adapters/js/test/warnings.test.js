@@ -78,7 +78,7 @@ test('the program finds options by their whole names alone', () => {
 
 test('members that are written nearly as others are told, and an editor\'s own are not', () => {
   const node = { id: 'a', widht: 30, Height: 20, data: {}, type: 'x', position: {}, style: {}, selected: true, label: 'a' };
-  const flow = { id: 'e', from: 'a', animated: true, markerEnd: {}, source: 'a', target: 'a', sourceHandle: null };
+  const flow = { id: 'e', from: 'a', animated: true, markerEnd: {}, source: 'a', target: 'a', sourceHandle: 'h', targetHandle: null };
   const edges = [flow, { id: 'f', from: 'a', to: 'a' }];
   assert.deepEqual(messages({ id: 'r', childs: [], children: [node], edges, zoom: 1 }), [
     'edges[0].sourceHandle is not read; did you mean "sourcePort"?',
