@@ -3,9 +3,11 @@
 The program is the one that ELK_PROGRAM names, or else the one that was built. No test builds it.
 """
 
+import atexit
 import os
 import shutil
 import sys
+import tempfile
 import unittest
 from pathlib import Path
 
@@ -14,7 +16,19 @@ TOP = PACKAGE.parent.parent
 sys.path.insert(0, str(PACKAGE))
 
 PROGRAM = os.environ.get("ELK_PROGRAM") or str(TOP / "crates" / "elk" / "out" / "elk")
-PUPPET = str(PACKAGE / "tests" / "puppet")
+
+
+def _puppet():
+    """A program of tests/puppet.py that starts by this Python, as fast as it can."""
+    folder = tempfile.mkdtemp()
+    atexit.register(shutil.rmtree, folder, True)
+    program = Path(folder) / "puppet"
+    program.write_text(f"#!{sys.executable} -IS\n" + (PACKAGE / "tests" / "puppet.py").read_text())
+    program.chmod(0o755)
+    return str(program)
+
+
+PUPPET = _puppet()
 
 with_program = unittest.skipUnless(
     os.access(PROGRAM, os.X_OK), "no program stands: ELK_PROGRAM names one, or the gate builds it"

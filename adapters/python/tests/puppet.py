@@ -1,4 +1,3 @@
-#!/usr/bin/env python3
 """A program whose replies the tests choose: the id of a document says what to do, and is else replied to by itself."""
 import json
 import os
