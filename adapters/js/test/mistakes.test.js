@@ -23,6 +23,7 @@ const pinned = (port) => graph({ children: [box('a', { layoutOptions: { 'elk.por
 
 // Each mistake with a document that has it; a text is one that isn't even JSON.
 const MISTAKES = [
+  ['a comma too much', '{"id": "root", "children": [{"id": "a"},]}'],
   ['an end is misspelt', edge({ sources: ['a'], targets: ['B'] })],
   ['an end is a number where the id is a text', graph({ children: [box('a'), box('1')], edges: [{ id: 'e', sources: ['a'], targets: [1] }] })],
   ['an edge has no target', edge({ sources: ['a'] })],
@@ -46,7 +47,6 @@ const MISTAKES = [
   ['an option lacks a part of its name', options({ 'elk.spacing.nodeNodeBetweenLayers': '40' })],
   ['an option stands at the wrong element', options({ 'elk.port.side': 'EAST' })],
   ['a member is misspelt', graph({ children: [box('a'), { id: 'b', widht: 30, height: 20 }] })],
-  ['a comma too much', '{"id": "root", "children": [{"id": "a"},]}'],
 ];
 
 const told = (document) => {
