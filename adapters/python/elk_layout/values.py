@@ -12,6 +12,7 @@ Option = Dict[str, Any]
 
 WHOLE_TEXT = re.compile(r"(-?[0-9]+)(?:\.0+)?")
 UNSIGNED_TEXT = re.compile(r"([0-9]+)(?:\.0+)?")
+PREFIX = re.compile(r"(?:org\.eclipse\.)?elk\.")
 SIDES = ("top", "left", "bottom", "right")
 
 # The program ignores the case of these letters alone.
@@ -75,7 +76,9 @@ def near_value(option: Option, value: Any) -> Optional[str]:
         return None
     bare = value.strip()
     if option.get("values"):
-        return nearest(bare, option["values"])
+        lead = (PREFIX.match(bare) or [""])[0] if option["type"] == "STRING" else ""
+        near = nearest(bare[len(lead) :], option["values"])
+        return None if near is None else lead + near
     if option["type"] == "INT":
         return bare if _is_whole_in(option, bare) else None
     # One number for all sides, as style sheets have it.

@@ -10,6 +10,7 @@ from .program import PROGRAM, TOP, chain, with_node, with_program
 from elk_layout import layout, options
 from elk_layout.document import Sender
 from elk_layout.shared import table
+from elk_layout.values import is_taken, near_value
 
 KEYS = [
     *("elk.direction", "org.eclipse.elk.direction", "direction", "eclipse.elk.direction", "side", "placement", "strategy"),
@@ -27,12 +28,23 @@ ASKED = [
     {"layered.considerModelOrder.strategy": "NODES_AND_EDGES"},
     {"layered.considerModelOrder.strategy": "NONE", "layered.crossingMinimization.strategy": "NONE"},
 ]
+VALUES = [
+    *(None, True, False, 0, 1, -1, 20, 0.5, 2**20, 2**20 + 1, -(2**31), 2**31, 2**53, [], {}, "", " ", "0", "-3", "12", "12.0"),
+    *("12.", "012", "+5", " 20 ", "20px", "1e3", "1048577", "true", "TRUE", "ture", "right", "Rigth", " down ", "sideways"),
+    *("layered", "elk.layered", "org.eclipse.elk.box", "Layered", "elk.laered", "eclipse.layered", "[top=1,left=2]", "[]"),
+    *("[ top = 1 ]", "[top=1,top=2]", "[top=-1]", "[top=1.0]", "[top=1;left=2]", "12px", "[12]", "[12, 3]", "fixed_pos"),
+    *("FIXEDPOS", "NETWORK_SIMPLEX", "network simplex", "ORTHOGONAL", "POLYLINE", "leftup", "é", "İ", "none\n", "12\n"),
+]
 SCRIPT = """
-const [top, keys, asked] = process.argv.slice(1);
+const [top, keys, asked, values] = process.argv.slice(1);
+const { options } = require(`${top}/adapters/js/data/options.json`);
+const { isTaken, nearValue } = require(`${top}/adapters/js/values.js`);
+const judged = (option) => JSON.parse(values).map((it) => [isTaken(option, it), nearValue(option, it) ?? null]);
 const { meanings } = require(`${top}/adapters/js/endings.js`);
 const { standIns } = require(`${top}/adapters/js/stand-ins.js`);
 console.log(JSON.stringify({
   meanings: JSON.parse(keys).map((key) => (meanings(key).length === 1 ? meanings(key)[0] : null)),
+  values: options.map(judged),
   standIns: JSON.parse(asked).map((it) => Object.fromEntries(standIns((name) => it[name], () => true))),
 }));
 """
@@ -54,10 +66,14 @@ def all_read():
 
 class Options(unittest.TestCase):
     @with_node
-    def test_keys_mean_what_they_mean_to_javascript_and_the_same_stand_for_others(self):
-        words = ["node", "-e", SCRIPT, str(TOP), json.dumps(KEYS), json.dumps(ASKED)]
+    def test_keys_and_values_are_what_they_are_to_javascript_and_the_same_stand_for_others(self):
+        words = ["node", "-e", SCRIPT, str(TOP), *map(json.dumps, (KEYS, ASKED, VALUES))]
         theirs = json.loads(subprocess.run(words, stdout=subprocess.PIPE, check=True).stdout)
         self.assertEqual([options.option_name(key) for key in KEYS], theirs["meanings"])
+        for option, judged in zip(table("options")["options"], theirs["values"]):
+            for value, expected in zip(VALUES, judged):
+                with self.subTest(option=option["name"], value=value):
+                    self.assertEqual([is_taken(option, value), near_value(option, value)], expected)
         with all_read():
             self.assertEqual([options.stand_ins(options.carried_by(it)) for it in ASKED], theirs["standIns"])
 
