@@ -59,10 +59,15 @@ class Draft {
 
   /** What an element asks for by an option, or else what the call asks of all; nothing where neither does. */
   option(element, name) {
+    const isBare = element.layoutOptions === undefined && element.properties === undefined;
+    return ((isBare ? undefined : this.#carriedBy(element).get(name)) ?? this.#general.get(name))?.value;
+  }
+
+  #carriedBy(element) {
     if (!this.#carried.has(element)) {
       this.#carried.set(element, carriedBy(element));
     }
-    return (this.#carried.get(element).get(name) ?? this.#general.get(name))?.value;
+    return this.#carried.get(element);
   }
 
   /** The number that an element asks for, or else ELK's default. */
