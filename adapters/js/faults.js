@@ -41,6 +41,13 @@ function pathOf(steps) {
   return parts.join('').replace(/^\./, '') || FAULTS.theDocument;
 }
 
+// So much of either end of a long path is told in a sentence.
+const MOST_OF_PATH = 60;
+
+/** A path as it stands in a sentence: the middle of a long one is left out. */
+const shortPath = (path) =>
+  path.length > 3 * MOST_OF_PATH ? `${path.slice(0, MOST_OF_PATH)}…${path.slice(-MOST_OF_PATH)}` : path;
+
 const idText = (id) => (id === undefined ? FAULTS.withoutId : textOf(id));
 
 /**
@@ -138,7 +145,7 @@ function toldOf(find, context, near) {
   const allowed = more.allowed ?? FAULTS.allowed[told.allowed];
   const { words, detail: template } = FAULTS.cases[key];
   const detail = filled(template, {
-    path,
+    path: shortPath(path),
     found: textOf(told.found),
     allowed,
     end: told.end,
@@ -208,7 +215,7 @@ function notWritable(text) {
     return undefined;
   } catch ({ reason, steps = [] }) {
     const { rule, name } = RULES.get(1);
-    const detail = filled(FAULTS.json.in, { path: pathOf(steps), reason: FAULTS.json[reason] });
+    const detail = filled(FAULTS.json.in, { path: shortPath(pathOf(steps)), reason: FAULTS.json[reason] });
     const fault = { rule, name, id: undefined, steps, path: pathOf(steps) };
     return { ...fault, detail, message: messageOf(fault, detail, reason === 'deep' ? undefined : FAULTS.json.words) };
   }

@@ -3,6 +3,9 @@
 
 const { nesting: MOST_NESTED } = require('./data/limits.json');
 
+// JavaScript's own reading has no bound, but a reader that calls itself needs one.
+const MOST_READ = 1000;
+
 const BLANK = /[ \t\n\r]*/y;
 const NUMBER = /-?(?:0|[1-9][0-9]*)(\.[0-9]+)?([eE][-+]?[0-9]+)?/y;
 const PLAIN = /[^"\\\u0000-\u001f]*/y;
@@ -134,7 +137,7 @@ class Reader {
 
   #nested(read, steps) {
     this.#depth += 1;
-    if (this.#isStrict && this.#depth > MOST_NESTED) {
+    if (this.#depth > (this.#isStrict ? MOST_NESTED : MOST_READ)) {
       this.#fail('deep');
     }
     const value = read.call(this, steps);
@@ -307,8 +310,8 @@ const isWhole64 = (value) => value >= -(2n ** 63n) && value < 2n ** 64n;
 /**
  * Reads a text of JSON. Whole numbers that a number of JavaScript can't hold are given as BigInt.
  * @param {string} text
- * @param {{ isStrict?: boolean }} [how] where it isn't strict, the text is read as JavaScript reads it, which has no
- *   bounds and takes all numbers alike
+ * @param {{ isStrict?: boolean }} [how] where it isn't strict, the text is read as JavaScript reads it, which has
+ *   wider bounds and takes all numbers alike
  * @returns {{
  *   value: unknown,
  *   fractions: { steps: (string | number)[], text: string }[],

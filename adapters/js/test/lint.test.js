@@ -63,6 +63,14 @@ test('a text that is no JSON is told with its place and its reason', () => {
   }
 });
 
+test('no text is too deep to be judged', () => {
+  for (const text of ['['.repeat(100_000), '{"a":'.repeat(100_000), '{"children":['.repeat(50_000)]) {
+    for (const how of [{}, { call: {} }, { isPlaced: true }]) {
+      assert.deepEqual(lint(text, how).faults.map(({ rule, name }) => [rule, name]), [[1, 'NotJson']]);
+    }
+  }
+});
+
 test('places are those of values for faults, and those of names for warnings', () => {
   const text = '{\r\n  "id": "r", "é😀": 1,\n  "children": [ { "id": "a", "width": 0.5 } ],\n  "layoutOptions": { "elk.directon": "UP" }\n}';
   const { faults, warnings } = lint(text);
