@@ -275,6 +275,11 @@ class Batch:
             else:
                 self.put(ticket)
 
+    def close(self) -> None:
+        """Ends the processes, once a thread that asks is answered."""
+        with self._lock:
+            self.stop()
+
     def stop(self) -> None:
         """Ends the processes. What waits is never replied to; a later line starts them again."""
         for run in (*self._runs, *self._retired):

@@ -68,9 +68,9 @@ def layout(
 
 
 def close() -> None:
-    """Ends the kept processes. A later call starts them again."""
+    """Ends the kept processes, once they have answered. A later call starts them again."""
     while _kept:
-        _kept.popitem()[1].stop()
+        _kept.popitem()[1].close()
 
 
 def check(placed: Element, *, numbers: str = "ceil", program: Program = None) -> Verdict:

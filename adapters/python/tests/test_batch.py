@@ -106,6 +106,15 @@ class Kept(unittest.TestCase):
             thread.join()
         self.assertEqual(wrong, [])
 
+    def test_a_call_that_waits_is_answered_before_the_process_is_closed(self):
+        found = []
+        thread = threading.Thread(target=lambda: found.append(ask("slow 0.3")["id"]))
+        thread.start()
+        time.sleep(0.15)
+        close()
+        thread.join()
+        self.assertEqual((found, ask("on")["id"]), (["slow 0.3"], "on"))
+
     def test_a_copy_of_this_process_has_a_process_of_its_own(self):
         before = pid()
         child = os.fork()
