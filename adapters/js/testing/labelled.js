@@ -35,13 +35,17 @@ class Maker {
   #level(depth) {
     const { below, from, is, of } = this.#draw;
     const children = Array.from({ length: from(2, 7) }, () => this.#node(depth));
-    const edges = Array.from({ length: below(children.length * 2) }, () => this.#edge(children));
+    const isOfBoxes = is(0.08);
+    const edges = Array.from({ length: isOfBoxes ? 0 : below(children.length * 2) }, () => this.#edge(children));
     const direction = of(['RIGHT', 'DOWN', 'LEFT', 'UP']);
     return {
       children,
       edges,
       layoutOptions: {
         'elk.direction': direction,
+        ...(isOfBoxes && { 'elk.algorithm': 'box' }),
+        ...(is(0.2) && { 'elk.layered.nodePlacement.strategy': 'NETWORK_SIMPLEX' }),
+        ...(is(0.1) && { 'elk.spacing.nodeNode': 1, 'elk.spacing.edgeNode': 2, 'elk.spacing.edgeEdge': 3 }),
         ...(is(0.2) && { 'elk.separateConnectedComponents': true }),
         ...(is(0.1) && { 'elk.layered.mergeEdges': true }),
         ...(is(0.2) && { 'elk.spacing.labelLabel': 3, 'elk.spacing.edgeLabel': 5 }),
