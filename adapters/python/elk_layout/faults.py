@@ -20,6 +20,8 @@ TOO_LONG, NOT_JSON = 0, 1
 # Looking through all ids for the nearest one takes time, and whoever reads so many faults has found the reason.
 MOST_NEAR = 20
 MOST_LETTERS = 60
+# So much of either end of a long path is told in a sentence.
+MOST_OF_PATH = 60
 
 HALF_OF_A_PAIR = re.compile("[\ud800-\udbff](?![\udc00-\udfff])|(?<![\ud800-\udbff])[\udc00-\udfff]")
 
@@ -91,6 +93,11 @@ def path_of(steps: Iterable[Step]) -> str:
     return re.sub(r"^\.", "", "".join(parts)) or str(_FAULTS["theDocument"])
 
 
+def _short(path: str) -> str:
+    """A path as it stands in a sentence: the middle of a long one is left out."""
+    return f"{path[:MOST_OF_PATH]}…{path[-MOST_OF_PATH:]}" if len(path) > 3 * MOST_OF_PATH else path
+
+
 def message_of(rule: int, name: str, id: Any = None, detail: Optional[str] = None, words: Optional[str] = None) -> str:
     """The whole sentence on what a rule found: what is wrong, closer than by the rule where it is known, and what is
     known besides.
@@ -145,7 +152,7 @@ class _Teller:
         told = {**find.told, "found": self._found(find, steps)} if "found" in find.told else find.told
         allowed = more.get("allowed", _FAULTS["allowed"].get(told.get("allowed")))
         near = more.pop("near", None)
-        fills = {"path": path, "found": text_of(told.get("found")), "allowed": allowed, **texts}
+        fills = {"path": _short(path), "found": text_of(told.get("found")), "allowed": allowed, **texts}
         fills["near"] = "" if near is None else filled(_FAULTS["near"], {"near": text_of(near)})
         case = _FAULTS["cases"][key]
         message = message_of(rule, name, id, filled(case["detail"], fills), case.get("words"))
@@ -277,7 +284,7 @@ def _unwritable(value: Any, steps: Tuple[Step, ...]) -> Iterator[Tuple[Tuple[Ste
 
 def _not_json(steps: Tuple[Step, ...], reason: str) -> Fault:
     texts = _FAULTS["json"]
-    detail = filled(texts["in"], {"path": path_of(steps), "reason": texts[reason]})
+    detail = filled(texts["in"], {"path": _short(path_of(steps)), "reason": texts[reason]})
     return _no_json(detail, None if reason == "deep" else texts["words"], steps)
 
 
