@@ -78,30 +78,33 @@ class Studio {
     return verdictOf(output || errors);
   }
 
-  async #layOut(text, look, onPhase) {
+  async #layOut(text, look, tell) {
     const said = told(lint(text, { call: HOW }));
     if (said.faults.length > 0) {
       return said;
     }
-    onPhase('laying out');
+    tell({ phase: 'laying out' });
     const engine = new Engine(this.#program);
     const { placed, seconds } = await laidOut(JSON.parse(text), HOW, engine);
     this.#placed = placed;
-    onPhase('checking');
-    const verdict = this.#judged(engine.reply);
-    onPhase('drawing');
-    return { ...said, verdict, seconds, ...drawn(placed, look), placed: JSON.stringify(placed) };
+    tell({ phase: 'drawing' });
+    tell({ drawing: { ...said, seconds, ...drawn(placed, look), placed: JSON.stringify(placed) } });
+    tell({ phase: 'checking' });
+    // The engine has drawn what the adapter made of the document, and that is judged.
+    return { ...said, verdict: this.#judged(engine.reply) };
   }
 
   // What can't be judged may be drawn all the same, such as an answer of ELK.
-  #judge(text, look, onPhase) {
+  #judge(text, look, tell) {
     const said = told(lint(text, { isPlaced: true }));
     const value = readOrNothing(text);
-    this.#placed = isDrawable(value) ? value : undefined;
-    onPhase('checking');
-    const verdict = said.faults.length === 0 ? this.#judged(text) : undefined;
-    onPhase('drawing');
-    return { ...said, verdict, ...(this.#placed && { ...drawn(value, look), placed: text }) };
+    if (isDrawable(value)) {
+      this.#placed = value;
+      tell({ phase: 'drawing' });
+      tell({ drawing: { ...said, ...drawn(value, look), placed: text } });
+    }
+    tell({ phase: 'checking' });
+    return { ...said, verdict: said.faults.length === 0 ? this.#judged(text) : undefined };
   }
 
   /**
@@ -109,16 +112,16 @@ class Studio {
    * @param {string} asked.text a document, as a call of the adapter takes it
    * @param {boolean} [asked.isPlaced] whether it is to be judged as it is placed, and not laid out
    * @param {object} asked.look the options of the picture
-   * @param {(phase: string) => void} onPhase is told what is done next
+   * @param {(news: { phase: string } | { drawing: object }) => void} [tell] is told what is done next, and what is drawn
+   * @returns {Promise<object>} the faults, the warnings, and the verdict on a drawing without a fault
    */
-  async answer({ text, isPlaced = false, look }, onPhase = () => {}) {
+  async answer({ text, isPlaced = false, look }, tell = () => {}) {
     this.#placed = undefined;
     try {
-      return isPlaced ? this.#judge(text, look, onPhase) : await this.#layOut(text, look, onPhase);
+      return isPlaced ? this.#judge(text, look, tell) : await this.#layOut(text, look, tell);
     } catch (error) {
-      const kind = error instanceof Refusal ? 'refused' : 'failed';
-      const faults = [{ message: `${kind === 'refused' ? '' : 'This could not be drawn: '}${error.message}` }];
-      return { faults, warnings: [], counts: { faults: 1, warnings: 0 } };
+      const message = error instanceof Refusal ? error.message : `This could not be done: ${error.message}`;
+      return { faults: [{ message }], warnings: [], counts: { faults: 1, warnings: 0 } };
     }
   }
 

@@ -31,12 +31,12 @@ class Desk {
 
   /**
    * @param {object} message what the worker is asked
-   * @param {(phase: string) => void} [onPhase]
+   * @param {(news: object) => void} [onNews] is told what the worker tells before its answer
    * @returns {Promise<object>} its answer; a Stopped where it was stopped, or a newer one came before it was answered
    */
-  ask(message, onPhase = () => {}) {
+  ask(message, onNews = () => {}) {
     return new Promise((resolve, reject) => {
-      const request = { message, onPhase, resolve, reject };
+      const request = { message, onNews, resolve, reject };
       if (!this.#current) {
         this.#send(request);
         return;
@@ -100,12 +100,12 @@ class Desk {
     requests.forEach(({ reject }) => reject(new Error(`the worker ended: ${why}`)));
   }
 
-  #hear({ id, phase, answer, error }) {
+  #hear({ id, news, answer, error }) {
     if (id !== this.#current?.id) {
       return;
     }
-    if (phase !== undefined) {
-      this.#current.onPhase(phase);
+    if (news) {
+      this.#current.onNews(news);
       return;
     }
     const { resolve, reject } = this.#current;

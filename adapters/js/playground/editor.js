@@ -77,7 +77,11 @@ class Editor {
     this.#area.focus({ preventScroll: true });
     this.#area.select();
     const isDone = document.execCommand('insertText', false, text) && this.text === text;
-    before?.focus({ preventScroll: true });
+    if (before === document.body) {
+      this.#area.blur();
+    } else {
+      before?.focus({ preventScroll: true });
+    }
     return isDone;
   }
 

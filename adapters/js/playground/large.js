@@ -13,13 +13,13 @@ function chanceFrom(seed) {
 }
 
 // So far back an edge comes at most, in nodes.
-const REACH = 60;
+const REACH = 30;
 
 /** A document of that many nodes, each with an edge from one not far before it. */
 function largeDocument(nodes) {
   const chance = chanceFrom(SEED);
   const idOf = (at) => `n${at}`;
-  const sourceOf = (at) => Math.max(0, at - 1 - Math.floor(chance() * REACH));
+  const sourceOf = (at) => at - 1 - Math.floor(chance() * Math.min(at, REACH));
   const edgeTo = (at) => ({ id: `e${at}`, sources: [idOf(sourceOf(at))], targets: [idOf(at)] });
   const all = Array.from({ length: nodes }, (_, at) => at);
   return {

@@ -43,7 +43,6 @@ const lookOfPage = () => ({ arrows: find('arrows').checked, theme: isDark.matche
 let shown;
 let isCurrent = false;
 let pause;
-let summary = '';
 
 const say = (words) => {
   status.textContent = words;
@@ -110,32 +109,39 @@ function tellVerdict(judged) {
   verdict.textContent = judged ? `check: ${judged.isGood ? 'yes' : 'no'}, ${judged.words}` : '';
 }
 
-function summaryOf({ measures, seconds, faults, counts, verdict: judged }) {
-  const warned = counts.warnings > 0 ? `; ${many(counts.warnings, 'warning')}` : '';
+/** What is said of an answer, and of the drawing that came before it. */
+function summaryOf({ faults, warnings, counts }, drawing) {
   if (faults.length > 0) {
     const [{ message, line, column }] = faults;
     return `${many(counts.faults, 'fault')}: ${placeWords({ line, column })}${message}`;
   }
-  const { nodes, edges, width, height } = measures;
+  if (!drawing) {
+    return 'This document has no size to draw: choose "Lay out".';
+  }
+  const { seconds, measures: { nodes, edges, width, height } } = drawing;
   const time = seconds === undefined ? '' : `, engine ${Math.max(1, Math.round(seconds * 1000)).toLocaleString('en')} ms`;
-  const said = judged && !judged.isGood ? `check: no, ${judged.words}. ` : '';
-  return `${said}${many(nodes, 'node')}, ${many(edges, 'edge')}, ${width} by ${height}${time}${warned}`;
+  const warned = warnings.length > 0 ? `; ${many(counts.warnings, 'warning')}` : '';
+  return `${many(nodes, 'node')}, ${many(edges, 'edge')}, ${width} by ${height}${time}${warned}`;
 }
 
-function take(answer) {
-  tellFaults(answer);
-  tellVerdict(answer.verdict);
-  if (answer.svg !== undefined) {
-    shown = answer;
-    isCurrent = true;
-    hint.hidden = true;
-    view.show(answer.svg);
-  } else {
+function takeDrawing(drawing) {
+  shown = drawing;
+  isCurrent = true;
+  hint.hidden = true;
+  tellFaults(drawing);
+  tellVerdict(undefined);
+  view.show(drawing.svg);
+  enable();
+}
+
+function takeAnswer(answer, drawing) {
+  if (!drawing) {
+    tellFaults(answer);
     hint.hidden = !view.isEmpty;
     hint.textContent = 'There is no drawing of a document with faults.';
   }
-  summary = answer.faults.length > 0 || answer.measures ? summaryOf(answer) : 'This document has no size to draw: choose "Lay out".';
-  say(summary);
+  tellVerdict(answer.verdict);
+  say(summaryOf(answer, drawing));
   enable();
 }
 
@@ -154,7 +160,7 @@ function watch() {
   }, BAR_AFTER);
   const ticks = setInterval(() => performance.now() - since > BAR_AFTER && show(), 250);
   return {
-    onPhase: (next) => {
+    tell: (next) => {
       phase = next;
     },
     end: () => {
@@ -180,10 +186,20 @@ async function draw() {
   bar = mine;
   const text = editor.text;
   const asked = { kind: 'answer', text, isPlaced: find('way').value === 'placed', look: lookOfPage() };
+  let drawing;
+  const isAsked = () => text === editor.text && bar === mine;
+  const onNews = (news) => {
+    if (news.phase) {
+      mine.tell(news.phase);
+    } else if (isAsked()) {
+      drawing = news.drawing;
+      takeDrawing(drawing);
+    }
+  };
   try {
-    const answer = await desk.ask(asked, mine.onPhase);
-    if (text === editor.text) {
-      take(answer);
+    const answer = await desk.ask(asked, onNews);
+    if (isAsked()) {
+      takeAnswer(answer, drawing);
     }
   } catch (error) {
     if (!(error instanceof Stopped)) {
@@ -200,7 +216,7 @@ async function draw() {
 function stop() {
   desk.stop();
   endBar();
-  say('Stopped. What is drawn is the last drawing; a change of the text draws anew.');
+  say('Stopped. A change of the text draws anew.');
   find('text').focus();
 }
 
@@ -222,8 +238,9 @@ async function redraw() {
 /** Puts another document in the place of the text. */
 function open({ text, isPlaced = false }) {
   find('way').value = isPlaced ? 'placed' : 'layout';
-  view.fit();
   view.clear();
+  tellVerdict(undefined);
+  shown = undefined;
   editor.replace(text);
   draw();
 }

@@ -14,8 +14,8 @@ studio.catch(() => {});
 async function answerTo({ id, kind, ...asked }) {
   try {
     const made = await studio;
-    const onPhase = (phase) => self.postMessage({ id, phase });
-    const answer = kind === 'picture' ? { svg: made.picture(asked.look) } : await made.answer(asked, onPhase);
+    const tell = (news) => self.postMessage({ id, news });
+    const answer = kind === 'picture' ? { svg: made.picture(asked.look) } : await made.answer(asked, tell);
     self.postMessage({ id, answer });
   } catch ({ message }) {
     self.postMessage({ id, error: message });

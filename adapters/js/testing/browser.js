@@ -30,12 +30,14 @@ function isThere(file) {
   }
 }
 
-/** The browser that the tests start: the one that ELK_BROWSER names, or a Chromium of the path. */
-function browserFile() {
+/** The file of the first of these programs that the path has. */
+function programOf(names) {
   const folders = (process.env.PATH ?? '').split(path.delimiter);
-  const found = NAMES.flatMap((name) => folders.map((folder) => path.join(folder, name)));
-  return process.env.ELK_BROWSER ?? found.find(isThere);
+  return names.flatMap((name) => folders.map((folder) => path.join(folder, name))).find(isThere);
 }
+
+/** The browser that the tests start: the one that ELK_BROWSER names, or a Chromium of the path. */
+const browserFile = () => process.env.ELK_BROWSER ?? programOf(NAMES);
 
 /** What a test that asks a browser is given: whether it is left out, and why. */
 const WITH_BROWSER = { skip: browserFile() ? false : 'no browser stands: ELK_BROWSER names a Chromium, or the path has one' };
@@ -180,4 +182,4 @@ class Browser {
   }
 }
 
-module.exports = { Browser, WITH_BROWSER, browserFile };
+module.exports = { Browser, WITH_BROWSER, browserFile, programOf };

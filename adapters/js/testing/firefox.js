@@ -1,0 +1,180 @@
+'use strict';
+// A Firefox without a window, asked by the messages of its Marionette.
+
+const { spawn } = require('node:child_process');
+const { mkdtempSync, readFileSync, rmSync, writeFileSync } = require('node:fs');
+const { connect } = require('node:net');
+const { tmpdir } = require('node:os');
+const path = require('node:path');
+const { setTimeout: rest } = require('node:timers/promises');
+const { programOf } = require('./browser');
+
+const NAMES = ['firefox', 'firefox-esr'];
+
+/** The Firefox that the tests start: the one that ELK_FIREFOX names, or one of the path. */
+const firefoxFile = () => process.env.ELK_FIREFOX ?? programOf(NAMES);
+
+/** What a test that asks a Firefox is given: whether it is left out, and why. */
+const WITH_FIREFOX = { skip: firefoxFile() ? false : 'no Firefox stands: ELK_FIREFOX names one, or the path has one' };
+
+const SECONDS = 120;
+
+const PREFERENCES = {
+  'marionette.port': 0,
+  'browser.shell.checkDefaultBrowser': false,
+  'browser.startup.page': 0,
+  'browser.aboutwelcome.enabled': false,
+  'datareporting.policy.dataSubmissionEnabled': false,
+  'toolkit.telemetry.enabled': false,
+  'app.update.enabled': false,
+  'network.captive-portal-service.enabled': false,
+  'network.connectivity-service.enabled': false,
+  'browser.download.folderList': 2,
+  'browser.download.useDownloadDir': true,
+  'browser.download.alwaysOpenPanel': false,
+};
+
+const preferencesOf = (given) =>
+  Object.entries({ ...PREFERENCES, ...given })
+    .map(([name, value]) => `user_pref(${JSON.stringify(name)}, ${JSON.stringify(value)});\n`)
+    .join('');
+
+// What is written into the page, so that it may wait for a promise.
+const AWAITED = `const [expression, done] = arguments;
+(async () => (0, eval)(expression))().then((value) => done({ value }), (error) => done({ error: String(error?.stack ?? error) }));`;
+
+/** The one page of a running Firefox. `Firefox.started` starts it, `close` ends it. */
+class Firefox {
+  #child;
+  #home;
+  #socket;
+  #calls = new Map();
+  #next = 1;
+  #rest = Buffer.alloc(0);
+  #watch;
+
+  /** @param {{ downloads?: string, preferences?: object }} [given] the folder of downloads, and settings */
+  static async started({ downloads, preferences = {} } = {}) {
+    const firefox = new Firefox();
+    await firefox.#start({ ...preferences, ...(downloads && { 'browser.download.dir': downloads }) });
+    return firefox;
+  }
+
+  async #start(preferences) {
+    this.#home = mkdtempSync(path.join(tmpdir(), 'elk-firefox-'));
+    writeFileSync(path.join(this.#home, 'user.js'), preferencesOf(preferences));
+    const words = ['--headless', '--no-remote', '--marionette', '--profile', this.#home];
+    this.#child = spawn(firefoxFile(), words, { stdio: 'ignore', env: { ...process.env, HOME: this.#home } });
+    this.#child.on('exit', () => this.#fail(new Error('the browser has ended')));
+    this.#watch = setTimeout(() => this.#child.kill('SIGKILL'), SECONDS * 1000);
+    await this.#connect(await this.#port());
+    await this.send('WebDriver:NewSession', {});
+    await this.send('WebDriver:SetTimeouts', { script: 60_000, pageLoad: 60_000 });
+  }
+
+  // It writes the port that it has taken into its profile.
+  async #port() {
+    for (;;) {
+      try {
+        const port = Number(readFileSync(path.join(this.#home, 'MarionetteActivePort'), 'utf8'));
+        if (port > 0) {
+          return port;
+        }
+      } catch {
+        // It hasn't yet.
+      }
+      if (this.#child.exitCode !== null || this.#child.signalCode !== null) {
+        throw new Error('the browser has ended before it could be asked');
+      }
+      await rest(50);
+    }
+  }
+
+  async #connect(port) {
+    this.#socket = connect(port, '127.0.0.1');
+    const hello = new Promise((resolve, reject) => {
+      this.#calls.set('hello', { resolve, reject });
+    });
+    this.#socket.on('data', (piece) => this.#take(piece));
+    this.#socket.on('error', (error) => this.#fail(error));
+    await hello;
+  }
+
+  // Each message follows its length in bytes and a colon.
+  #take(piece) {
+    this.#rest = Buffer.concat([this.#rest, piece]);
+    for (;;) {
+      const colon = this.#rest.indexOf(':');
+      const length = Number(this.#rest.subarray(0, Math.max(colon, 0)));
+      if (colon < 0 || this.#rest.length < colon + 1 + length) {
+        return;
+      }
+      const message = JSON.parse(this.#rest.subarray(colon + 1, colon + 1 + length));
+      this.#rest = this.#rest.subarray(colon + 1 + length);
+      this.#hear(message);
+    }
+  }
+
+  #hear(message) {
+    const [, id, error, result] = Array.isArray(message) ? message : [1, 'hello', null, message];
+    const { resolve, reject } = this.#calls.get(id);
+    this.#calls.delete(id);
+    if (error) {
+      reject(new Error(error.message));
+    } else {
+      resolve(result);
+    }
+  }
+
+  #fail(error) {
+    this.#calls.forEach(({ reject }) => reject(error));
+    this.#calls.clear();
+  }
+
+  send(name, parameters = {}) {
+    return new Promise((resolve, reject) => {
+      const id = this.#next;
+      this.#next += 1;
+      this.#calls.set(id, { resolve, reject });
+      const text = JSON.stringify([0, id, name, parameters]);
+      this.#socket.write(`${Buffer.byteLength(text)}:${text}`);
+    });
+  }
+
+  /** Shows an address, such as `file:///..`, in a window whose page has this size. */
+  async open(url, { width = 1000, height = 700 } = {}) {
+    await this.send('WebDriver:Navigate', { url });
+    const [beside, above] = await this.evaluate('[outerWidth - innerWidth, outerHeight - innerHeight]');
+    await this.send('WebDriver:SetWindowRect', { width: width + beside, height: height + above });
+    return this;
+  }
+
+  /** The value of an expression in the page, or that to which its promise resolves. It must be JSON. */
+  async evaluate(expression) {
+    const asked = { script: AWAITED, args: [expression], newSandbox: false, sandbox: null };
+    const { value: told } = await this.send('WebDriver:ExecuteAsyncScript', asked);
+    if (told.error) {
+      throw new Error(told.error);
+    }
+    return told.value;
+  }
+
+  /** Writes what the page shows as PNG. */
+  async screenshot(file) {
+    const { value } = await this.send('WebDriver:TakeScreenshot', { full: false });
+    writeFileSync(file, Buffer.from(value, 'base64'));
+  }
+
+  async close() {
+    const ended = new Promise((resolve) => {
+      this.#child.once('exit', resolve);
+    });
+    this.send('Marionette:Quit', { flags: ['eForceQuit'] }).catch(() => {});
+    await (this.#child.exitCode === null && this.#child.signalCode === null ? ended : undefined);
+    clearTimeout(this.#watch);
+    this.#socket.destroy();
+    rmSync(this.#home, { recursive: true, force: true, maxRetries: 5 });
+  }
+}
+
+module.exports = { Firefox, WITH_FIREFOX, firefoxFile };
