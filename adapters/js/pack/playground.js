@@ -53,4 +53,4 @@ function playground() {
   return read(SOURCES, 'page.html').replace('@STYLE@', () => style).replace('@SCRIPT@', () => script);
 }
 
-module.exports = { playground };
+module.exports = { examples, playground };

@@ -95,6 +95,18 @@ class Page {
     return result.value;
   }
 
+  /** Puts a text in where the focus is, as if it were typed. */
+  async type(text) {
+    await this.send('Input.insertText', { text });
+  }
+
+  /** Presses a key where the focus is. */
+  async press(key) {
+    const text = key.length === 1 ? { text: key } : {};
+    await this.send('Input.dispatchKeyEvent', { type: 'keyDown', key, ...text });
+    await this.send('Input.dispatchKeyEvent', { type: 'keyUp', key });
+  }
+
   /** Writes what the page shows as PNG. */
   async screenshot(file) {
     const { data } = await this.send('Page.captureScreenshot', { format: 'png' });
@@ -169,6 +181,11 @@ class Browser {
     await page.send('Emulation.setDeviceMetricsOverride', { width, height, deviceScaleFactor: 1, mobile: false });
     await page.open(url);
     return page;
+  }
+
+  /** Lets pages save files in a folder. */
+  async saveIn(downloadPath) {
+    await this.send('Browser.setDownloadBehavior', { behavior: 'allow', downloadPath });
   }
 
   async close() {

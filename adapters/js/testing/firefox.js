@@ -34,6 +34,9 @@ const PREFERENCES = {
   'browser.download.alwaysOpenPanel': false,
 };
 
+// Keys without a letter have numbers of their own here.
+const KEYS = { Escape: '\ue00c', ArrowLeft: '\ue012', ArrowRight: '\ue014' };
+
 const preferencesOf = (given) =>
   Object.entries({ ...PREFERENCES, ...given })
     .map(([name, value]) => `user_pref(${JSON.stringify(name)}, ${JSON.stringify(value)});\n`)
@@ -157,6 +160,19 @@ class Firefox {
       throw new Error(told.error);
     }
     return told.value;
+  }
+
+  /** Puts a text in where the focus is, as if it were typed. */
+  async type(text) {
+    const { value } = await this.send('WebDriver:GetActiveElement');
+    await this.send('WebDriver:ElementSendKeys', { id: Object.values(value)[0], text });
+  }
+
+  /** Presses a key where the focus is. */
+  async press(key) {
+    const value = KEYS[key] ?? key;
+    const steps = ['keyDown', 'keyUp'].map((type) => ({ type, value }));
+    await this.send('WebDriver:PerformActions', { actions: [{ type: 'key', id: 'keys', actions: steps }] });
   }
 
   /** Writes what the page shows as PNG. */
