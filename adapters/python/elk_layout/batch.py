@@ -231,15 +231,24 @@ class Batch:
         loads = [run.waiting_bytes if run else 0 for run in self._runs]
         place = loads.index(min(loads))
         run = self._runs[place]
-        if run and run.sent_bytes + len(ticket.line) > self._most_bytes:
-            self._retired.append(run)
-            run = None
-        if run and not run.is_left and not run.waiting and run.has_come():
-            run.kill()
-        if run is None or run.is_left:
+        if run is None or not self._can_take(run, ticket):
             run = self._runs[place] = Run(self._program)
         run.put(ticket)
         return ticket
+
+    def _can_take(self, run: Run, ticket: Ticket) -> bool:
+        """Whether a run takes one more line; one that doesn't is let go."""
+        if run.is_left:
+            return False
+        if run.sent_bytes + len(ticket.line) > self._most_bytes:
+            if run.waiting:
+                self._retired.append(run)
+            else:
+                run.retire()
+            return False
+        if not run.waiting and run.has_come():
+            run.kill()
+        return not run.is_left
 
     def turn(self) -> None:
         """Writes and reads, once something can be read or written."""

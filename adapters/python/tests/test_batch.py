@@ -232,6 +232,14 @@ class Streams(unittest.TestCase):
         self.assertEqual([f'"pid {at}"' in it.reply for at, it in enumerate(tickets)], [True] * 200)
         self.assertGreater(len(set(pids)), 3)
 
+    def test_a_run_that_has_read_its_most_and_waits_for_nothing_ends(self):
+        batch = Batch(PUPPET, 1, most_bytes=100)
+        before = len(_running)
+        pids = {asked(batch, '{"id": "pid %d"}' % at) for at in range(12)}
+        self.assertEqual((len(_running) - before, batch._retired), (1, []))
+        self.assertEqual(len(pids), 12)
+        batch.stop()
+
     def test_no_document_makes_no_result(self):
         self.assertEqual(list(self.many([])), [])
 
