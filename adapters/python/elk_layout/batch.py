@@ -23,7 +23,7 @@ from .shared import table
 # What a pipe is asked to hold, so that a process seldom waits; the least that one write hands on at once.
 PIPE_BYTES = 2**20
 WRITE_BYTES = 2**13
-READ_BYTES = 2**18
+READ_BYTES = 2**17
 
 # How much is kept of what the program says besides its replies.
 MOST_NOTES = 4096
