@@ -3,103 +3,160 @@
 
 const LOOK = require('./data/look.json');
 const { junctionPoints, pointsOf } = require('./junctions');
-const { begin, widthOf } = require('./letters');
 const { elementsOf, endIds, Levels, numberOr0 } = require('./levels');
+const { inkOn, paintsOf, styleOf, wishesOf } = require('./picture/looks');
+const { escaped, group, idOf, num, rectangle, sizeOf, titleOf, wordsOf } = require('./picture/marks');
+const { dotAt, keyOf, lineOf, passes } = require('./picture/routes');
+const { metAt, roomIn, shapeOf } = require('./picture/shapes');
+const { fitted, heightOf, textAt } = require('./picture/texts');
 
-const { ink: INK, paleInk: PALE_INK, paper: PAPER, tint, tintOpacity } = LOOK.light;
-// Each level is a shade darker than the one around it, since its tint lies above those of all levels around.
-const TINT = `fill="${tint}" fill-opacity="${tintOpacity}"`;
+const { corner: CORNER, margin: MARGIN, text: TEXT, title: TITLE } = LOOK;
 
-const { arrow: ARROW, bend: BEND, corner: CORNER, dot: DOT, margin: MARGIN, text: TEXT } = LOOK;
-
-// Text of XML takes no other control characters, and no half of a pair.
-const UNFIT = /[\u0000-\u0008\u000b\u000c\u000e-\u001f\ufffe\uffff\ud800-\udfff]/gu;
-const ENTITIES = { '&': '&amp;', '<': '&lt;', '>': '&gt;', '"': '&quot;', "'": '&apos;' };
-
-const escaped = (text) => text.replace(UNFIT, '\ufffd').replace(/[&<>"']/g, (letter) => ENTITIES[letter]);
-
-// An id or a label is a text or a number, but a document may hold anything.
-const wordsOf = (value) => (typeof value === 'string' ? value : JSON.stringify(value) ?? '');
-
-// Places are whole or halves; bends may need a little more.
-const num = (value) => String(Number(numberOr0(value).toFixed(2)));
-
-const sizeOf = ({ width, height }) => ({ width: numberOr0(width), height: numberOr0(height) });
+// The corners of a round group.
+const ROUND = 3 * CORNER;
 
 const isCompound = (node) => elementsOf(node.children).length > 0;
 
-const titleOf = (words) => `<title>${escaped(words)}</title>`;
-
-const idOf = (element) => wordsOf(element.id);
-
-/** The text of an element's labels, or else its id where one stands for it. */
-function labelsOf(element, orId) {
-  const labels = elementsOf(element.labels)
-    .map((label) => ({ ...label, text: wordsOf(label.text) }))
-    .filter(({ text }) => text !== '');
-  return labels.length > 0 || !orId || idOf(element) === '' ? labels : [{ text: idOf(element) }];
-}
-
-/** A text in the largest letters with which it fits a width, cut off where the smallest don't suffice. */
-function fitted(text, width) {
-  const size = Math.min(TEXT.largest, width / Math.max(widthOf(text, 1), 0.1));
-  if (size >= TEXT.smallest) {
-    return { text, size };
-  }
-  return { text: `${begin(text, width - widthOf('…', TEXT.smallest), TEXT.smallest).trimEnd()}…`, size: TEXT.smallest };
-}
-
-// Letters stand in the middle where their line is a third of their size below it.
-function textAt({ text, size }, { x, y, anchor = 'middle', ink = INK }) {
-  const place = `x="${num(x)}" y="${num(y + size * TEXT.drop)}"`;
-  const look = `font-size="${num(size)}" text-anchor="${anchor}" fill="${ink}"`;
-  return `<text ${place} ${look}>${escaped(text)}</text>`;
-}
-
 const isPlacedLabel = ({ x, y }) => Number.isFinite(x) && Number.isFinite(y);
 
-/** A label where the document places it, the point being that of its node. */
-function placedLabel(label, { left, top }) {
-  const { width, height } = sizeOf(label);
-  const fit = fitted(label.text, width || Infinity);
-  return textAt(fit, { x: left + label.x + width / 2, y: top + label.y + height / 2 });
+/** The labels of an element that have a text. */
+const labelsOf = (element) =>
+  elementsOf(element.labels)
+    .map((label) => ({ ...label, text: wordsOf(label.text) }))
+    .filter(({ text }) => text !== '');
+
+/** A box and its place in the whole drawing, from the corner to which it is relative. */
+const boxAt = (element, { left, top }) => ({
+  left: left + numberOr0(element.x),
+  top: top + numberOr0(element.y),
+  ...sizeOf(element),
+});
+
+const boxOf = (node, { left, top }) => ({ left, top, ...sizeOf(node) });
+
+const middleOf = ({ left, top, width, height }) => ({ x: left + width / 2, y: top + height / 2 });
+
+const isWithin = ({ x, y }, { left, top, width, height }) =>
+  left <= x && x <= left + width && top <= y && y <= top + height;
+
+/** The classes of an element of the picture, with those for which the document asks. */
+const classOf = (name, { classes }) => `class="${[name, ...classes].join(' ')}"`;
+
+/** One picture: a document's levels, and how it is drawn. */
+class Picture {
+  constructor(placed, { arrows, theme }) {
+    const levels = new Levels(placed);
+    this.levels = levels;
+    /** For each edge the node to whose content its points are relative. */
+    this.homes = new Map(levels.declared.map((declared) => [declared, levels.levelOf(declared)]));
+    this.arrows = arrows;
+    this.paints = paintsOf(theme);
+    this.joints = this.#jointsOf(placed);
+    this.sharp = new Set([...this.joints.values()].flat().map(keyOf));
+  }
+
+  get nodes() {
+    return [...this.levels.places];
+  }
+
+  /** The place of the level to which an edge's points are relative. */
+  levelAt(declared) {
+    return this.levels.places.get(this.homes.get(declared));
+  }
+
+  /** The junction points of all edges in the whole drawing: those that the document tells, or else its own. */
+  #jointsOf(placed) {
+    const found = junctionPoints(placed);
+    const joints = this.levels.declared.map((declared) => {
+      const points = declared.edge.junctionPoints ?? found.get(declared.edge);
+      return [declared.edge, moved(elementsOf(points), this.levelAt(declared))];
+    });
+    return new Map(joints);
+  }
 }
 
-/** A node's labels that the document doesn't place: in the middle of a leaf, along the top of any other node. */
-function freeLabels(labels, node, { left, top }) {
-  const { width, height } = sizeOf(node);
-  const fits = labels.map(({ text }) => fitted(text, Math.max(width - 8, 1)));
-  const lines = fits.map(({ size }) => size * TEXT.line);
-  const all = lines.reduce((sum, line) => sum + line, 0);
-  let y = isCompound(node) ? top + 7 : top + (height - all) / 2;
-  const place = isCompound(node) ? { x: left + 9, anchor: 'start', ink: PALE_INK } : { x: left + width / 2 };
-  return fits.map((fit, at) => {
-    y += lines[at];
-    return textAt(fit, { ...place, y: y - lines[at] / 2 });
+/** A route moved to where its level stands in the whole drawing. */
+const moved = (points, { left, top }) => points.map(({ x, y }) => ({ x: numberOr0(x) + left, y: numberOr0(y) + top }));
+
+/** A label where the document places it, the corner being that to which it is relative. */
+function placedLabel(label, corner, ink) {
+  const box = boxAt(label, corner);
+  const fit = fitted(label.text, { width: box.width || Infinity, height: box.height || Infinity });
+  return textAt(fit, { ...middleOf(box), ink });
+}
+
+/** The labels of a leaf that the document doesn't place: in its middle. */
+function leafTexts(labels, box, { shape, ink }) {
+  const height = Math.max(box.height - 4, 1) / labels.length;
+  const width = Math.max(roomIn(shape, box, TEXT.largest * TEXT.line * labels.length) - 8, 1);
+  const fits = labels.map(({ text }) => fitted(text, { width, height }));
+  const { x, y: middle } = middleOf(box);
+  let y = middle - fits.reduce((sum, fit) => sum + heightOf(fit), 0) / 2;
+  return fits.map((fit) => {
+    y += heightOf(fit);
+    return textAt(fit, { x, y: y - heightOf(fit) / 2, ink });
   });
 }
 
-// A level without a label of its own has no room for its id above its content.
-function nodeTexts(node, place) {
-  const labels = labelsOf(node, place.parent !== undefined && (!isCompound(node) || hasRoomAbove(node)));
-  const free = labels.filter((label) => !isPlacedLabel(label));
-  return [
-    ...labels.filter(isPlacedLabel).map((label) => placedLabel(label, place)),
-    ...freeLabels(free, node, place),
-  ].join('');
+/** How far below the top of each level its content begins. */
+function roomsAbove({ levels, homes }) {
+  const rooms = new Map();
+  const narrow = (level, y) => rooms.set(level, Math.min(rooms.get(level) ?? Infinity, numberOr0(y)));
+  for (const [node, { parent }] of levels.places) {
+    const tops = [node, ...labelsOf(node).filter(isPlacedLabel), ...elementsOf(node.ports)];
+    tops.forEach((it) => parent && narrow(parent, it === node ? node.y : numberOr0(node.y) + numberOr0(it.y)));
+  }
+  for (const declared of levels.declared) {
+    const level = homes.get(declared);
+    const points = elementsOf(declared.edge.sections).flatMap(pointsOf);
+    [...points, ...labelsOf(declared.edge).filter(isPlacedLabel)].forEach(({ y }) => narrow(level, y));
+  }
+  return rooms;
 }
 
-const hasRoomAbove = (node) => elementsOf(node.children).every(({ y }) => numberOr0(y) >= TEXT.largest + 10);
-
-function box({ left, top, width, height }, look) {
-  return `<rect x="${num(left)}" y="${num(top)}" width="${num(width)}" height="${num(height)}" ${look}`;
+/** The titles of a group, which the document doesn't place: along its top, in the room above its content. */
+function groupTexts(labels, box, { shape, room, ink }) {
+  const left = shape === 'round' ? ROUND : TITLE.left;
+  const height = Math.max(room - 2, 0) / TEXT.line / labels.length;
+  const fits = labels.map(({ text }) => fitted(text, { width: Math.max(box.width - 2 * left, 1), height }));
+  const all = fits.reduce((sum, fit) => sum + heightOf(fit), 0);
+  let y = box.top + Math.max(1, Math.min(TITLE.top, (room - all) / 2));
+  return fits.map((fit) => {
+    y += heightOf(fit);
+    return textAt(fit, { x: box.left + left, y: y - heightOf(fit) / 2, anchor: 'start', ink });
+  });
 }
 
-function nodeBox(node, { parent, left, top }) {
-  const fill = isCompound(node) || parent === undefined ? TINT : `fill="${PAPER}"`;
-  const stroke = parent === undefined ? 'none' : isCompound(node) ? PALE_INK : INK;
-  const look = `rx="${CORNER}" ${fill} stroke="${stroke}"`;
-  return `${box({ left, top, ...sizeOf(node) }, look)}>${titleOf(idOf(node))}</rect>`;
+/** The labels of a node; without any, its id where there is room for it. */
+function nodeTexts([node, place], { paints }, rooms) {
+  const { shape, fill, color } = wishesOf(node);
+  const labels = labelsOf(node);
+  const room = isCompound(node) ? rooms.get(node) : Infinity;
+  const showsId = labels.length === 0 && idOf(node) !== '' && place.parent && room >= TITLE.least;
+  const free = showsId ? [{ text: idOf(node) }] : labels.filter((label) => !isPlacedLabel(label));
+  const ink = color ?? inkOn(fill);
+  const box = boxOf(node, place);
+  const texts = isCompound(node)
+    ? groupTexts(free, box, { shape, room, ink: ink ?? paints.paleInk })
+    : leafTexts(free, box, { shape, ink });
+  const placed = labels.filter(isPlacedLabel);
+  // A label beside its node stands on paper, whatever the node's fill is.
+  const inkAt = (label) => (isWithin(middleOf(boxAt(label, place)), box) ? ink : color);
+  return [...placed.map((label) => placedLabel(label, place, inkAt(label))), ...texts].join('');
+}
+
+function nodeShape([node, place], { paints }) {
+  const wishes = wishesOf(node);
+  const isRoot = place.parent === undefined;
+  const isLevel = isRoot || isCompound(node);
+  // Each level is a shade darker than the one around it, since its tint lies above those of all levels around.
+  const tint = `${paints.tint}" fill-opacity="${paints.tintOpacity}`;
+  const fill = wishes.fill ?? (isLevel ? tint : paints.paper);
+  const stroke = wishes.stroke ?? (isRoot ? 'none' : isLevel ? paints.paleInk : paints.ink);
+  const look = `${classOf('node', wishes)} data-id="${escaped(idOf(node))}" fill="${fill}" stroke="${stroke}"`;
+  const corner = isLevel && wishes.shape === 'round' ? ROUND : CORNER;
+  const [name, text] = shapeOf(isLevel ? 'box' : wishes.shape, boxOf(node, place), { look, corner });
+  return `${text}>${titleOf(idOf(node))}</${name}>`;
 }
 
 /** The side at which a port stands, by how far it reaches beyond each. */
@@ -111,132 +168,138 @@ function sideOf(port, node) {
 }
 
 /** The labels of a port where the document places them; else the first stands within the node, beside the port. */
-function portText(port, node, { left, top }) {
-  const labels = labelsOf(port, false);
+function portTexts(port, [node, place], { paints }) {
+  const labels = labelsOf(port);
   if (labels.some(isPlacedLabel)) {
-    const place = { left: left + numberOr0(port.x), top: top + numberOr0(port.y) };
-    return labels.filter(isPlacedLabel).map((label) => placedLabel(label, place)).join('');
+    const corner = boxAt(port, place);
+    return labels.filter(isPlacedLabel).map((label) => placedLabel(label, corner)).join('');
   }
   const [label] = labels;
   if (!label) {
     return '';
   }
-  const [{ width, height }, room] = [sizeOf(port), sizeOf(node)];
-  const [x, y] = [left + numberOr0(port.x) + width / 2, top + numberOr0(port.y) + height / 2];
+  const [box, room, side] = [boxAt(port, place), boxOf(node, place), sideOf(port, node)];
+  const { x, y } = middleOf(box);
   const places = {
-    left: { x: Math.max(left, x + width / 2) + 3, y, anchor: 'start' },
-    right: { x: Math.min(left + room.width, x - width / 2) - 3, y, anchor: 'end' },
-    up: { x, y: Math.max(top, y + height / 2) + 6 },
-    down: { x, y: Math.min(top + room.height, y - height / 2) - 6 },
+    left: { x: Math.max(room.left, box.left + box.width) + 3, y, anchor: 'start' },
+    right: { x: Math.min(room.left + room.width, box.left) - 3, y, anchor: 'end' },
+    up: { x, y: Math.max(room.top, box.top + box.height) + 6 },
+    down: { x, y: Math.min(room.top + room.height, box.top) - 6 },
   };
-  return textAt({ text: label.text, size: TEXT.smallest + 1 }, { ...places[sideOf(port, node)], ink: PALE_INK });
+  // Ports that face one another share the width of their node.
+  const width = Math.max(room.width / (side === 'left' || side === 'right' ? 2 : 1) - 4, 1);
+  const fit = fitted(label.text, { width, largest: TEXT.smallest + 1 });
+  return textAt(fit, { ...places[side], ink: inkOn(wishesOf(node).fill) ?? paints.paleInk });
 }
 
-function portBox(port, { left, top }) {
-  const place = { left: left + numberOr0(port.x), top: top + numberOr0(port.y), ...sizeOf(port) };
-  return `${box(place, `rx="1" fill="${INK}"`)}>${titleOf(idOf(port))}</rect>`;
-}
-
-/** The point at a distance from one point towards another. */
-function towards(from, to, distance) {
-  const length = Math.hypot(to.x - from.x, to.y - from.y) || 1;
-  return { x: from.x + ((to.x - from.x) * distance) / length, y: from.y + ((to.y - from.y) * distance) / length };
-}
-
-const lengthOf = (from, to) => Math.hypot(to.x - from.x, to.y - from.y);
-
-const at = ({ x, y }) => `${num(x)} ${num(y)}`;
-
-const keyOf = ({ x, y }) => `${x} ${y}`;
-
-/** A route with rounded bends, as the steps of a path; those at `joints` stay sharp. */
-function pathOf(points, joints) {
-  const last = points.length - 1;
-  // Two bends share what lies between them.
-  const share = (k) => lengthOf(points[k - 1], points[k]) / (k === 1 || k === last ? 1 : 2);
-  const steps = [`M${at(points[0])}`];
-  for (let k = 1; k < last; k += 1) {
-    const [before, bend, after] = points.slice(k - 1, k + 2);
-    const radius = joints.has(keyOf(bend)) ? 0 : Math.min(BEND, share(k), share(k + 1));
-    steps.push(
-      radius === 0
-        ? `L${at(bend)}`
-        : `L${at(towards(bend, before, radius))}Q${at(bend)} ${at(towards(bend, after, radius))}`,
-    );
+/** From a port to the outline of its node, where that lies within the node's box. */
+function stemOf(port, [node, place], { paints }) {
+  const { shape } = wishesOf(node);
+  if (shape === 'box' || isCompound(node)) {
+    return '';
   }
-  return [...steps, `L${at(points[last])}`].join('');
+  const [box, room, side] = [boxAt(port, place), boxOf(node, place), sideOf(port, node)];
+  const { x, y } = middleOf(box);
+  const [from, at] = {
+    left: [{ x: room.left - 1, y }, { x: room.left, y }],
+    right: [{ x: room.left + room.width + 1, y }, { x: room.left + room.width, y }],
+    up: [{ x, y: room.top - 1 }, { x, y: room.top }],
+    down: [{ x, y: room.top + room.height + 1 }, { x, y: room.top + room.height }],
+  }[side];
+  const met = metAt(at, from, { shape, ...room });
+  const look = `stroke="${paints.ink}" stroke-width="${LOOK.line}"`;
+  return `<path d="M${num(at.x)} ${num(at.y)}L${num(met.x)} ${num(met.y)}" ${look}/>`;
 }
 
-function arrowHead(from, tip) {
-  const back = towards(tip, from, ARROW.length);
-  const half = ARROW.width / ARROW.length / 2;
-  const across = { x: (tip.y - back.y) * half, y: (back.x - tip.x) * half };
-  const corners = [
-    tip,
-    { x: back.x + across.x, y: back.y + across.y },
-    { x: back.x - across.x, y: back.y - across.y },
-  ];
-  return `<path d="M${corners.map(at).join('L')}Z" fill="${INK}" stroke="none"/>`;
+function portBox(port, place, { paints }) {
+  return `${rectangle(boxAt(port, place), `rx="1" fill="${paints.ink}"`)}>${titleOf(idOf(port))}</rect>`;
 }
 
-// The line ends within its arrow head, so that neither its end nor a bend shows at the tip.
-function routeWithArrow(points, joints) {
-  const [from, tip] = points.slice(-2);
-  const end = towards(tip, from, Math.min(ARROW.length - 1, lengthOf(from, tip)));
-  return `<path d="${pathOf([...points.slice(0, -1), end], joints)}"/>${arrowHead(from, tip)}`;
+const drawnPorts = (picture) =>
+  picture.nodes.flatMap((at) =>
+    elementsOf(at[0].ports).map((port) => stemOf(port, at, picture) + portBox(port, at[1], picture)),
+  );
+
+const drawnPortTexts = (picture) =>
+  picture.nodes.flatMap((at) => elementsOf(at[0].ports).map((port) => portTexts(port, at, picture)));
+
+/** The points of a section, drawn on to the shapes of the nodes at its ends. */
+function routeOf(section, declared, { picture, isOnly }) {
+  const { levels } = picture;
+  const points = moved(pointsOf(section), picture.levelAt(declared));
+  const met = (point, from, node) => {
+    const { shape } = node && !isCompound(node) ? wishesOf(node) : { shape: 'box' };
+    return shape === 'box' ? point : metAt(point, from, { shape, ...boxOf(node, levels.places.get(node)) });
+  };
+  if (points.length > 1) {
+    // A section of several tells its ends by itself.
+    const nodeAt = (end, id) => (isOnly ? levels.nodeAt(declared.edge, end) : levels.nodeOf(id));
+    const [start, second] = points;
+    const [beforeLast, last] = points.slice(-2);
+    points[0] = met(start, second, nodeAt('source', section.incomingShape));
+    points[points.length - 1] = met(last, beforeLast, nodeAt('target', section.outgoingShape));
+  }
+  return points;
 }
 
-const dotAt = ({ x, y }) => `<circle cx="${num(x)}" cy="${num(y)}" r="${DOT}" fill="${INK}" stroke="none"/>`;
-
-/** A route moved to where its level stands in the whole drawing. */
-const moved = (points, { left, top }) => points.map(({ x, y }) => ({ x: numberOr0(x) + left, y: numberOr0(y) + top }));
-
-/** The junction points of all edges, moved to the whole drawing: those that the document tells, or else its own. */
-function jointsOf(levels, placed) {
-  const found = junctionPoints(placed);
-  const joints = levels.declared.map((declared) => {
-    const points = declared.edge.junctionPoints ?? found.get(declared.edge);
-    return [declared.edge, moved(elementsOf(points), levels.places.get(levels.levelOf(declared)))];
-  });
-  return new Map(joints);
-}
-
-/** The lines of an edge's sections; a section that others follow has no arrow head. */
-function linesOf(edge, place, { sharp, arrows }) {
-  return elementsOf(edge.sections).map((section) => {
-    const points = moved(pointsOf(section), place);
-    const hasArrow = arrows && points.length > 1 && !(section.outgoingSections?.length > 0);
-    if (points.length === 0) {
-      return '';
-    }
-    return hasArrow ? routeWithArrow(points, sharp) : `<path d="${pathOf(points, sharp)}"/>`;
-  });
-}
-
-function edgeOf(declared, { levels, joints, ...look }) {
+/** The lines of an edge's sections; a section that others follow has no head, and no edge without a direction has one. */
+function linesOf(declared, picture, ink) {
   const { edge } = declared;
-  const lines = linesOf(edge, levels.places.get(levels.levelOf(declared)), look).join('');
+  const sections = elementsOf(edge.sections);
+  return sections.map((section) => {
+    const points = routeOf(section, declared, { picture, isOnly: sections.length === 1 });
+    const isLast = !(section.outgoingSections?.length > 0);
+    const hasHead = picture.arrows && edge.directed !== false && isLast;
+    return points.length === 0 ? '' : lineOf(points, { joints: picture.sharp, hasHead, ink });
+  });
+}
+
+function edgeOf(declared, picture) {
+  const { edge } = declared;
+  const wishes = wishesOf(edge);
+  const ink = wishes.stroke ?? picture.paints.ink;
+  const lines = linesOf(declared, picture, ink).join('');
   if (lines === '') {
     return '';
   }
-  const ends = ['source', 'target'].map((end) => endIds(edge, end).map(wordsOf).join(', ')).join(' → ');
-  const dots = joints.get(edge).map(dotAt).join('');
-  return `<g class="edge" data-id="${escaped(idOf(edge))}">${titleOf(`${idOf(edge)}: ${ends}`)}${lines}${dots}</g>`;
+  const stroke = wishes.stroke ? ` stroke="${ink}"` : '';
+  const between = edge.directed === false ? ' — ' : ' → ';
+  const ends = ['source', 'target'].map((end) => endIds(edge, end).map(wordsOf).join(', ')).join(between);
+  const dots = picture.joints.get(edge).map((point) => dotAt(point, ink)).join('');
+  const title = titleOf(`${idOf(edge)}: ${ends}`);
+  return `<g ${classOf('edge', wishes)} data-id="${escaped(idOf(edge))}"${stroke}>${title}${lines}${dots}</g>`;
 }
 
+/** The labels of edges that the document places; where a line of its own passes through one, it stands out. */
+const drawnEdgeTexts = (picture) =>
+  picture.levels.declared.flatMap((declared) => {
+    const [labels, corner] = [labelsOf(declared.edge).filter(isPlacedLabel), picture.levelAt(declared)];
+    const routes = labels.length === 0 ? [] : elementsOf(declared.edge.sections).map(pointsOf);
+    const isCrossed = (label) => routes.some((points) => passes(points, boxAt(label, { left: 0, top: 0 })));
+    const texts = labels.map((label) => [label, placedLabel(label, corner, wishesOf(declared.edge).color)]);
+    const halo = `stroke="${picture.paints.paper}" stroke-width="5" stroke-linejoin="round" paint-order="stroke"`;
+    return texts.map(([label, text]) => (isCrossed(label) ? `<g ${halo}>${text}</g>` : text));
+  });
+
 /** All that is drawn: the drawing's frame with what reaches beyond it. */
-function frameOf(levels) {
+function frameOf(picture) {
   const frame = { left: 0, top: 0, right: 0, bottom: 0 };
-  const widen = (element, left, top) => {
-    const { width, height } = sizeOf(element);
+  const widen = ({ left, top, width, height }) => {
     frame.left = Math.min(frame.left, left);
     frame.top = Math.min(frame.top, top);
     frame.right = Math.max(frame.right, left + width);
     frame.bottom = Math.max(frame.bottom, top + height);
   };
-  for (const [node, { left, top }] of levels.places) {
-    widen(node, left, top);
-    elementsOf(node.ports).forEach((port) => widen(port, left + numberOr0(port.x), top + numberOr0(port.y)));
+  const widenBy = (elements, corner) => elements.forEach((it) => widen(boxAt(it, corner)));
+  const placedLabels = (element) => labelsOf(element).filter(isPlacedLabel);
+  for (const [node, place] of picture.nodes) {
+    widen(boxOf(node, place));
+    widenBy([...elementsOf(node.ports), ...placedLabels(node)], place);
+    elementsOf(node.ports).forEach((port) => widenBy(placedLabels(port), boxAt(port, place)));
+  }
+  for (const declared of picture.levels.declared) {
+    const points = elementsOf(declared.edge.sections).flatMap(pointsOf);
+    widenBy([...points, ...placedLabels(declared.edge)], picture.levelAt(declared));
   }
   return frame;
 }
@@ -248,52 +311,35 @@ const sheet = ({ left, top, right, bottom }) => ({
   height: bottom - top + 2 * MARGIN,
 });
 
-function drawnEdges(levels, placed, arrows) {
-  const joints = jointsOf(levels, placed);
-  const sharp = new Set([...joints.values()].flat().map(keyOf));
-  return levels.declared.map((declared) => edgeOf(declared, { levels, joints, sharp, arrows })).filter(Boolean);
+function drawnTexts(picture) {
+  const rooms = roomsAbove(picture);
+  const ofNodes = picture.nodes.map((at) => nodeTexts(at, picture, rooms));
+  return [...ofNodes, ...drawnPortTexts(picture), ...drawnEdgeTexts(picture)].filter(Boolean);
 }
-
-/** The labels of edges that the document places. */
-function drawnEdgeLabels(levels) {
-  return levels.declared.flatMap((declared) =>
-    labelsOf(declared.edge, false)
-      .filter(isPlacedLabel)
-      .map((label) => placedLabel(label, levels.places.get(levels.levelOf(declared)))),
-  );
-}
-
-function drawnPorts(nodes) {
-  return nodes.flatMap(([node, place]) =>
-    elementsOf(node.ports).map((port) => portBox(port, place) + portText(port, node, place)),
-  );
-}
-
-const group = (attributes, lines) => `<g ${attributes}>\n${lines.map((line) => `${line}\n`).join('')}</g>`;
 
 /**
  * Draws a placed document.
  * @param {object} placed a placed document, as `elk layout` writes it or `ELK.layout` resolves to
- * @param {{ arrows?: boolean }} [look] whether edges have arrow heads at their targets
+ * @param {{ arrows?: boolean, theme?: 'auto' | 'light' | 'dark' }} [look] whether edges have heads at their targets,
+ *   and its colours, which the reader's setting decides where nothing is said
  * @returns {string} a document of SVG
  */
-function toSvg(placed, { arrows = true } = {}) {
-  const levels = new Levels(placed);
-  const nodes = [...levels.places];
-  const paper = sheet(frameOf(levels));
-  const view = [paper.left, paper.top, paper.width, paper.height].map(num);
+function toSvg(placed, { arrows = true, theme = 'auto' } = {}) {
+  const picture = new Picture(placed, { arrows, theme });
+  const { paper, ink } = picture.paints;
+  const page = sheet(frameOf(picture));
+  const view = [page.left, page.top, page.width, page.height].map(num);
   const size = `width="${view[2]}" height="${view[3]}" viewBox="${view.join(' ')}"`;
-  const line = `fill="none" stroke="${INK}" stroke-width="${LOOK.line}" stroke-linejoin="round"`;
+  const line = `fill="none" stroke="${ink}" stroke-width="${LOOK.line}" stroke-linejoin="round"`;
   return [
-    `<svg xmlns="http://www.w3.org/2000/svg" ${size} font-family="${LOOK.font}">`,
-    box(paper, `fill="${PAPER}"/>`),
-    group('class="nodes"', nodes.map(([node, place]) => nodeBox(node, place))),
-    group(`class="edges" ${line}`, drawnEdges(levels, placed, arrows)),
-    group('class="ports"', drawnPorts(nodes)),
-    group('class="labels"', [
-      ...nodes.map(([node, place]) => nodeTexts(node, place)).filter(Boolean),
-      ...drawnEdgeLabels(levels),
-    ]),
+    `<svg xmlns="http://www.w3.org/2000/svg" class="elk-picture" ${size} font-family="${LOOK.font}">`,
+    ...styleOf(theme),
+    rectangle(page, `fill="${paper}"/>`),
+    group('class="nodes"', picture.nodes.map((at) => nodeShape(at, picture))),
+    group(`class="edges" ${line}`, picture.levels.declared.map((it) => edgeOf(it, picture)).filter(Boolean)),
+    group('class="ports"', drawnPorts(picture)),
+    // The pointer passes through texts to what they name.
+    group(`class="labels" fill="${ink}" text-anchor="middle" pointer-events="none"`, drawnTexts(picture)),
     '</svg>\n',
   ].join('\n');
 }

@@ -32,11 +32,12 @@ const names = (svg) => elementsOfXml(svg).map(({ name }) => name);
 
 const texts = (svg) => elementsOfXml(svg).filter(({ name }) => name === 'text').map(({ content }) => content);
 
-/** A placed document all of whose ids and texts are one. */
+/** A placed document all of whose ids, texts and wishes are one. */
 function documentWith(id) {
+  const style = { shape: id, fill: id, stroke: id, color: id, class: id };
   const point = { x: 30, y: 10 };
   const route = { startPoint: point, bendPoints: [{ x: 30, y: 40 }], endPoint: { x: 60, y: 40 } };
-  const box = { id, x: 10, y: 10, width: 40, height: 20, labels: [{ text: id }, { text: id, x: 1, y: 1 }] };
+  const box = { id, style, x: 10, y: 10, width: 40, height: 20, labels: [{ text: id }, { text: id, x: 1, y: 1 }] };
   return {
     id,
     width: 120,
@@ -46,18 +47,22 @@ function documentWith(id) {
       { ...box, ports: [{ id, x: 40, y: 5, width: 5, height: 5, labels: [{ text: id }] }] },
       { ...box, x: 70, children: [{ ...box, width: 10 }] },
     ],
-    edges: [{ id, sources: [id], targets: [id], sections: [route], junctionPoints: [point] }],
+    edges: [{ id, style, sources: [id], targets: [id], sections: [route], junctionPoints: [point] }],
   };
 }
 
 test('pictures with hostile ids and texts are well-formed and of known elements', () => {
-  const known = new Set(['svg', 'rect', 'g', 'title', 'path', 'circle', 'text']);
+  const known = new Set(['svg', 'rect', 'g', 'title', 'path', 'circle', 'text', 'style']);
   for (const id of HOSTILE) {
     const svg = toSvg(documentWith(id));
     const found = names(svg);
     assert.deepEqual(found.filter((name) => !known.has(name)), [], JSON.stringify(id));
+    // A text of several lines has an element for each.
+    const once = (all) => all.filter((name, at) => name !== 'text' || all[at - 1] !== 'text');
     const all = names(toSvg(documentWith('plain')));
-    assert.deepEqual(found, id === '' ? all.filter((name) => name !== 'text') : all);
+    assert.deepEqual(once(found), id === '' ? all.filter((name) => name !== 'text') : once(all));
+    const attributes = elementsOfXml(svg).map(({ attributes: it }) => it.replace(/ data-id="[^"]*"/, '')).join('\n');
+    assert.doesNotMatch(attributes, /script|onload|alert|proto|CDATA/);
   }
 });
 
@@ -127,6 +132,118 @@ test('labels stand for ids, are fitted to their node, and keep a place that is g
   assert.match(svg, /<text x="225" y="14.2" [^>]*>here</);
 });
 
+/** The texts of a picture of one node, and the size of their letters. */
+function textsIn(node) {
+  const drawn = elementsOfXml(toSvg({ width: 300, height: 200, children: [node] })).filter(({ name }) => name === 'text');
+  return drawn.map(({ attributes, content }) => [content, Number(/font-size="([^"]+)"/.exec(attributes)[1])]);
+}
+
+test('texts fit their room in width and height, several lines and wide letters too', () => {
+  const label = (text, size) => ({ labels: [{ text, x: 0, y: 0, ...size }] });
+  for (const [what, node, expected] of [
+    ['lines', { id: 'n', width: 90, height: 40, labels: [{ text: 'one\ntwo\r\nthree' }] }, [['one', 10.29], ['two', 10.29], ['three', 10.29]]],
+    ['an empty line', { id: 'n', width: 90, height: 60, labels: [{ text: 'one\n\nthree' }] }, [['one', 12], ['three', 12]]],
+    ['more lines than fit', { id: 'n', width: 90, height: 20, labels: [{ text: 'one\ntwo\nthree' }] }, [['one', 7], ['two…', 7]]],
+    ['wide letters', { id: 'n', width: 68, height: 20, labels: [{ text: '漢字漢字漢字' }] }, [['漢字漢字漢字', 10]]],
+    ['wide letters cut', { id: 'n', width: 36, height: 20, labels: [{ text: '漢字漢字漢字' }] }, [['漢字漢…', 7]]],
+    ['a low label', { id: 'n', width: 90, height: 40, ...label('low', { width: 60, height: 8 }) }, [['low', 8]]],
+    ['a label without a size', { id: 'n', width: 90, height: 40, ...label('any length that it likes to have', {}) }, [['any length that it likes to have', 12]]],
+    ['a diamond', { id: 'n', width: 50, height: 30, style: { shape: 'diamond' }, labels: [{ text: 'within' }] }, [['wi…', 7]]],
+  ]) {
+    assert.deepEqual(textsIn(node), expected, what);
+  }
+});
+
+test('the title of a group stands in the room above its content', () => {
+  const child = (y) => ({ id: 'c', x: 12, y, width: 30, height: 20, labels: [{ text: 'c', x: 0, y: 5 }] });
+  for (const [y, more, expected] of [
+    [40, {}, [['group', 12]]],
+    [20, {}, [['group', 12]]],
+    [12, {}, [['group', 8]]],
+    [11, {}, []],
+    [11, { labels: [{ text: 'told' }] }, [['told', 7.2]]],
+    // A route above the children narrows the room.
+    [40, { edges: [{ id: 'e', sources: ['c'], targets: ['c'], sections: [{ startPoint: { x: 12, y: 50 }, bendPoints: [{ x: 4, y: 50 }, { x: 4, y: 12 }, { x: 20, y: 12 }], endPoint: { x: 20, y: 40 } }] }] }, [['group', 8]]],
+  ]) {
+    const group = { id: 'group', x: 12, y: 12, width: 100, height: 80, children: [child(y)], ...more };
+    const found = textsIn(group).filter(([text]) => text !== 'c');
+    assert.deepEqual(found, expected, `${y} ${JSON.stringify(more)}`);
+  }
+});
+
+/** The picture of one edge from a node at the left to one at the right. */
+function joined({ from = {}, to = {}, edge = {}, look }) {
+  const section = { startPoint: { x: 40, y: 20 }, endPoint: { x: 100, y: 20 } };
+  const placed = {
+    width: 140,
+    height: 40,
+    children: [{ id: 'a', width: 40, height: 40, ...from }, { id: 'b', x: 100, width: 40, height: 40, ...to }],
+    edges: [{ id: 'e', sources: ['a'], targets: ['b'], sections: [section], ...edge }],
+  };
+  return toSvg(placed, look);
+}
+
+test('edges without a direction have no heads', () => {
+  assert.match(joined({}), /Z" fill="#33475b" stroke="none"/);
+  const plain = joined({ edge: { directed: false } });
+  assert.doesNotMatch(plain, /Z"/);
+  assert.match(plain, /<title>e: a — b<\/title><path d="M40 20L100 20"\/>/);
+});
+
+test('a head is no longer than the last piece after a bend', () => {
+  for (const [last, length] of [[20, 8], [6, 6], [4, 4], [1, 4]]) {
+    const section = { startPoint: { x: 0, y: 0 }, bendPoints: [{ x: 20, y: 0 }], endPoint: { x: 20, y: last } };
+    const svg = joined({ edge: { sections: [section] } });
+    assert.match(svg, new RegExp(`<path d="M20 ${last}L[\\d.]+ ${last - length}L[\\d.]+ ${last - length}Z"`), `${last}`);
+  }
+});
+
+test('lines are drawn on to the shapes of their nodes', () => {
+  const section = { startPoint: { x: 40, y: 30 }, endPoint: { x: 100, y: 30 } };
+  for (const [shape, drawn, start, tip] of [
+    ['box', '<rect x="0"', 40, 100],
+    ['round', '<rect x="0"', 37.32, 102.68],
+    ['ellipse', '<ellipse cx="20" cy="20" rx="20" ry="20"', 37.32, 102.68],
+    ['circle', '<ellipse cx="20"', 37.32, 102.68],
+    ['diamond', '<path d="M20 0L40 20L20 40L0 20Z"', 30, 110],
+    ['__proto__', '<rect x="0"', 40, 100],
+  ]) {
+    const style = { style: { shape } };
+    const svg = joined({ from: style, to: style, edge: { sections: [section] } });
+    assert.ok(svg.includes(drawn), shape);
+    assert.ok(svg.includes(`<path d="M${start} 30L${Number((tip - 7).toFixed(2))} 30"/><path d="M${tip} 30L`), `${shape}: ${svg}`);
+  }
+});
+
+test('a document asks for colours and classes, and for nothing else', () => {
+  const ink = (fill) => /fill="(#\w+)">a</.exec(joined({ from: { style: { fill } } }))?.[1];
+  assert.deepEqual(['#fff', '#ffe066', 'navy', '#000000', 'yellow', 'none', undefined].map(ink),
+    ['#33475B', '#33475B', '#D5DEE8', '#D5DEE8', '#33475B', undefined, undefined]);
+  const svg = joined({
+    from: { style: { fill: '#abc', stroke: 'crimson', color: 'rgb(1, 2, 3)', class: 'alarm  hot-1 2nd x"y elk:z' } },
+    edge: { style: { stroke: 'hsl(120 50% 40% / 0.5)', class: 'slow' }, labels: [{ text: 'over', x: 60, y: 15, width: 20, height: 10 }] },
+  });
+  assert.match(svg, /class="node alarm hot-1" data-id="a" fill="#ABC" stroke="crimson"/);
+  assert.match(svg, /fill="rgb\(1, 2, 3\)">a</);
+  assert.match(svg, /<g class="edge slow" data-id="e" stroke="hsl\(120 50% 40% \/ 0.5\)"/);
+  // The line passes through the label, which stands out by the colour of the paper.
+  assert.match(svg, /paint-order="stroke"><text [^>]*>over</);
+  for (const fill of ['url(#a)', 'red;x', '"', 'var(--x)', '#12', '#12345', 'rgb(1,2,3', 7, null, {}]) {
+    assert.doesNotMatch(joined({ from: { style: { fill, stroke: fill } } }), /url|;x|var|#12"|12345|rgb/, String(fill));
+  }
+});
+
+test('colours are those of light or dark pages, or follow the setting of the reader', () => {
+  const [auto, light, dark] = ['auto', 'light', 'dark'].map((theme) => joined({ look: { theme } }));
+  assert.equal(auto.replace(/<style>.*<\/style>\n/, ''), light);
+  assert.equal(joined({}), auto);
+  assert.match(auto, /<style>@media \(prefers-color-scheme:dark\)\{:where\(.elk-picture /);
+  const colours = (svg) => new Set(svg.match(/#[0-9a-f]{6}/g));
+  assert.ok([...colours(light)].every((it) => !colours(dark).has(it)));
+  assert.deepEqual(colours(auto), new Set([...colours(light), ...colours(dark), '#7b8ea3', '#8b9bad']));
+  assert.throws(() => joined({ look: { theme: 'blue' } }), /the theme of a picture is "blue", and may be auto, light or dark/);
+});
+
 const command = (words, input) =>
   spawnSync(path.join(TOP, 'adapters', 'js', 'bin', 'elk-svg'), words, { input, encoding: 'utf8' });
 
@@ -134,8 +251,10 @@ test('elk-svg draws a placed document and tells what it does not take', () => {
   const placed = { id: 'r', width: 10, height: 10 };
   const drawn = command([], JSON.stringify(placed));
   assert.deepEqual([drawn.status, drawn.stdout, drawn.stderr], [0, toSvg(placed), '']);
+  assert.equal(command(['--dark'], JSON.stringify(placed)).stdout, toSvg(placed, { theme: 'dark' }));
   for (const [words, input, status, note] of [
     [['--help'], '', 5, /^usage: elk-svg/],
+    [['--light', '--dark'], '{}', 5, /^usage: elk-svg/],
     [[], '', 2, /no document/],
     [[], '{', 2, /no JSON/],
     [[], '{"id":1}', 2, /not placed/],

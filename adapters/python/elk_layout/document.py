@@ -177,11 +177,11 @@ class Sender:
 class Placed(Element):
     """A placed document. A notebook shows it as its picture."""
 
-    def to_svg(self, *, arrows: bool = True) -> str:
+    def to_svg(self, *, arrows: bool = True, theme: str = "auto") -> str:
         """The picture as a document of SVG."""
         from .svg import to_svg
 
-        return to_svg(self, arrows=arrows)
+        return to_svg(self, arrows=arrows, theme=theme)
 
     def _repr_svg_(self) -> str:
         return self.to_svg()

@@ -2,239 +2,44 @@
 
 from __future__ import annotations
 
-import json
 import math
-import re
-from decimal import ROUND_HALF_UP, Decimal
-from typing import Any, Dict, Iterable, Iterator, List, NamedTuple, Set, Tuple
+from typing import Any, Dict, Iterable, Iterator, List, Optional, Tuple
 
 from .junctions import Point, junctions_of, point_of, points_of
-from .letters import begin, width_of
 from .levels import Declared, Element, Levels, Place, elements_of, end_ids, number_or_0
-from .plain import plain
-from .shared import table
+from .picture.looks import LOOK, class_of, ink_on, paints_of, style_of, wishes_of
+from .picture.marks import Box, box_at, escaped, group, id_of, num, rectangle, size_of, title_of, words_of
+from .picture.routes import dot_at, line_of, passes
+from .picture.shapes import met_at, room_in, shape_of
+from .picture.texts import TEXT, fitted, text_at
 from .whole import is_measure
 
-LOOK = table("look")
-INK, PALE_INK, PAPER = (LOOK["light"][it] for it in ("ink", "paleInk", "paper"))
-# Each level is a shade darker than the one around it, since its tint lies above those of all levels around.
-TINT = f'fill="{LOOK["light"]["tint"]}" fill-opacity="{LOOK["light"]["tintOpacity"]}"'
+CORNER, MARGIN, TITLE = LOOK["corner"], LOOK["margin"], LOOK["title"]
 
-ARROW, BEND, CORNER, DOT, MARGIN, TEXT = (LOOK[it] for it in ("arrow", "bend", "corner", "dot", "margin", "text"))
-
-# Text of XML takes no other control characters, and no half of a pair.
-UNFIT = re.compile("[\u0000-\u0008\u000b\u000c\u000e-\u001f\ufffe\uffff\ud800-\udfff]")
-ENTITIES = {"&": "&amp;", "<": "&lt;", ">": "&gt;", '"': "&quot;", "'": "&apos;"}
-
-HUNDREDTH = Decimal("0.01")
-
-
-def _escaped(text: str) -> str:
-    return re.sub("[&<>\"']", lambda found: ENTITIES[found[0]], UNFIT.sub("\ufffd", text))
-
-
-def _words(value: Any) -> str:
-    # An id or a label is a text or a number, but a document may hold anything.
-    if isinstance(value, str):
-        return value
-    return json.dumps(plain(value), ensure_ascii=False, separators=(",", ":"), default=str)
-
-
-def _num(value: Any) -> str:
-    # Places are whole or halves; bends may need a little more.
-    number = number_or_0(value)
-    if number == int(number):
-        return str(int(number))
-    text = str(Decimal(float(number)).quantize(HUNDREDTH, ROUND_HALF_UP)).rstrip("0").rstrip(".")
-    return "0" if text == "-0" else text
-
-
-def _size_of(element: Element) -> Tuple[Any, Any]:
-    return number_or_0(element.get("width")), number_or_0(element.get("height"))
+# The corners of a round group.
+ROUND = 3 * CORNER
 
 
 def _is_compound(node: Element) -> bool:
     return bool(elements_of(node.get("children")))
 
 
-def _title_of(words: str) -> str:
-    return f"<title>{_escaped(words)}</title>"
-
-
-def _id_of(element: Element) -> str:
-    return _words(element.get("id", ""))
-
-
-def _labels_of(element: Element, or_id: bool) -> List[Element]:
-    """The text of an element's labels, or else its id where one stands for it."""
-    labels = [{**label, "text": _words(label.get("text", ""))} for label in elements_of(element.get("labels"))]
-    told = [label for label in labels if label["text"]]
-    return told if told or not or_id or not _id_of(element) else [{"text": _id_of(element)}]
-
-
-class Fit(NamedTuple):
-    """A text and the size of its letters."""
-
-    text: str
-    size: float
-
-
-def _fitted(text: str, width: float) -> Fit:
-    """A text in the largest letters with which it fits a width, cut off where the smallest don't suffice."""
-    smallest = TEXT["smallest"]
-    size = min(TEXT["largest"], width / max(width_of(text, 1), 0.1))
-    if size >= smallest:
-        return Fit(text, size)
-    return Fit(f"{begin(text, width - width_of('…', smallest), smallest).rstrip()}…", smallest)
-
-
-def _text_at(fit: Fit, x: float, y: float, anchor: str = "middle", ink: str = INK) -> str:
-    # Letters stand in the middle where their line is a third of their size below it.
-    place = f'x="{_num(x)}" y="{_num(y + fit.size * TEXT["drop"])}"'
-    look = f'font-size="{_num(fit.size)}" text-anchor="{anchor}" fill="{ink}"'
-    return f"<text {place} {look}>{_escaped(fit.text)}</text>"
-
-
 def _is_placed_label(label: Element) -> bool:
     return is_measure(label.get("x")) and is_measure(label.get("y"))
 
 
-def _placed_label(label: Element, corner: Point) -> str:
-    """A label where the document places it, relative to a corner."""
-    width, height = _size_of(label)
-    fit = _fitted(label["text"], width or math.inf)
-    return _text_at(fit, corner[0] + label["x"] + width / 2, corner[1] + label["y"] + height / 2)
+def _labels_of(element: Element) -> List[Element]:
+    """The labels of an element that have a text."""
+    labels = [{**label, "text": words_of(label.get("text", ""))} for label in elements_of(element.get("labels"))]
+    return [label for label in labels if label["text"]]
 
 
-def _free_labels(labels: List[Element], place: Place) -> str:
-    """A node's labels that the document doesn't place: in the middle of a leaf, along the top of any other node."""
-    width, height = _size_of(place.node)
-    fits = [_fitted(it["text"], max(width - 8, 1)) for it in labels]
-    lines = [fit.size * TEXT["line"] for fit in fits]
-    total = 0.0
-    for line in lines:
-        total += line
-    is_compound = _is_compound(place.node)
-    y = place.top + 7 if is_compound else place.top + (height - total) / 2
-    look = (place.left + 9, "start", PALE_INK) if is_compound else (place.left + width / 2, "middle", INK)
-    texts = []
-    for fit, line in zip(fits, lines):
-        y += line
-        texts.append(_text_at(fit, look[0], y - line / 2, *look[1:]))
-    return "".join(texts)
+def _placed_labels(element: Element) -> List[Element]:
+    return [label for label in _labels_of(element) if _is_placed_label(label)]
 
 
-def _has_room_above(node: Element) -> bool:
-    return all(number_or_0(it.get("y")) >= TEXT["largest"] + 10 for it in elements_of(node.get("children")))
-
-
-def _node_texts(place: Place) -> str:
-    # A level without a label of its own has no room for its id above its content.
-    node = place.node
-    labels = _labels_of(node, place.parent is not None and (not _is_compound(node) or _has_room_above(node)))
-    texts = [_placed_label(label, (place.left, place.top)) for label in labels if _is_placed_label(label)]
-    return "".join((*texts, _free_labels([it for it in labels if not _is_placed_label(it)], place)))
-
-
-def _box(left: Any, top: Any, size: Tuple[Any, Any], look: str) -> str:
-    return f'<rect x="{_num(left)}" y="{_num(top)}" width="{_num(size[0])}" height="{_num(size[1])}" {look}'
-
-
-def _node_box(place: Place) -> str:
-    node, is_root = place.node, place.parent is None
-    fill = TINT if _is_compound(node) or is_root else f'fill="{PAPER}"'
-    stroke = "none" if is_root else PALE_INK if _is_compound(node) else INK
-    look = f'rx="{CORNER}" {fill} stroke="{stroke}"'
-    return f"{_box(place.left, place.top, _size_of(node), look)}>{_title_of(_id_of(node))}</rect>"
-
-
-def _side_of(port: Element, node: Element) -> str:
-    """The side at which a port stands, by how far it reaches beyond each."""
-    (width, height), (x, y), room = _size_of(port), point_of(port), _size_of(node)
-    beyond = {"left": -x, "right": x + width - room[0], "up": -y, "down": y + height - room[1]}
-    return max(beyond, key=beyond.__getitem__)
-
-
-def _port_text(port: Element, place: Place) -> str:
-    """The labels of a port where the document places them; else the first stands within the node, beside the port."""
-    labels = _labels_of(port, False)
-    if any(map(_is_placed_label, labels)):
-        x, y = point_of(port)
-        corner = place.left + x, place.top + y
-        return "".join(_placed_label(label, corner) for label in labels if _is_placed_label(label))
-    if not labels:
-        return ""
-    (width, height), room, (left, top) = _size_of(port), _size_of(place.node), point_of(port)
-    x, y = place.left + left + width / 2, place.top + top + height / 2
-    places: Dict[str, Tuple[float, float, str]] = {
-        "left": (max(place.left, x + width / 2) + 3, y, "start"),
-        "right": (min(place.left + room[0], x - width / 2) - 3, y, "end"),
-        "up": (x, max(place.top, y + height / 2) + 6, "middle"),
-        "down": (x, min(place.top + room[1], y - height / 2) - 6, "middle"),
-    }
-    fit = Fit(labels[0]["text"], TEXT["smallest"] + 1)
-    return _text_at(fit, *places[_side_of(port, place.node)], ink=PALE_INK)
-
-
-def _port_box(port: Element, place: Place) -> str:
-    x, y = point_of(port)
-    box = _box(place.left + x, place.top + y, _size_of(port), f'rx="1" fill="{INK}"')
-    return f"{box}>{_title_of(_id_of(port))}</rect>"
-
-
-def _length_of(start: Point, end: Point) -> float:
-    return math.hypot(end[0] - start[0], end[1] - start[1])
-
-
-def _towards(start: Point, end: Point, distance: float) -> Point:
-    """The point at a distance from one point towards another."""
-    length = _length_of(start, end) or 1
-    return (
-        start[0] + ((end[0] - start[0]) * distance) / length,
-        start[1] + ((end[1] - start[1]) * distance) / length,
-    )
-
-
-def _at(point: Point) -> str:
-    return f"{_num(point[0])} {_num(point[1])}"
-
-
-def _path_of(points: List[Point], joints: Set[Point]) -> str:
-    """A route with rounded bends, as the steps of a path; those at `joints` stay sharp."""
-    last = len(points) - 1
-
-    def share(k: int) -> float:
-        # Two bends share what lies between them.
-        return _length_of(points[k - 1], points[k]) / (1 if k in (1, last) else 2)
-
-    steps = [f"M{_at(points[0])}"]
-    for k in range(1, last):
-        before, bend, after = points[k - 1 : k + 2]
-        radius = 0 if bend in joints else min(BEND, share(k), share(k + 1))
-        if radius == 0:
-            steps.append(f"L{_at(bend)}")
-        else:
-            steps.append(f"L{_at(_towards(bend, before, radius))}Q{_at(bend)} {_at(_towards(bend, after, radius))}")
-    return "".join((*steps, f"L{_at(points[last])}"))
-
-
-def _arrow_head(start: Point, tip: Point) -> str:
-    back = _towards(tip, start, ARROW["length"])
-    half = ARROW["width"] / ARROW["length"] / 2
-    x, y = (tip[1] - back[1]) * half, (back[0] - tip[0]) * half
-    corners = [tip, (back[0] + x, back[1] + y), (back[0] - x, back[1] - y)]
-    return f'<path d="M{"L".join(map(_at, corners))}Z" fill="{INK}" stroke="none"/>'
-
-
-def _route_with_arrow(points: List[Point], joints: Set[Point]) -> str:
-    # The line ends within its arrow head, so that neither its end nor a bend shows at the tip.
-    start, tip = points[-2:]
-    end = _towards(tip, start, min(ARROW["length"] - 1, _length_of(start, tip)))
-    return f'<path d="{_path_of([*points[:-1], end], joints)}"/>{_arrow_head(start, tip)}'
-
-
-def _dot_at(point: Point) -> str:
-    return f'<circle cx="{_num(point[0])}" cy="{_num(point[1])}" r="{DOT}" fill="{INK}" stroke="none"/>'
+def _box_of(place: Place) -> Box:
+    return Box(place.left, place.top, *size_of(place.node))
 
 
 def _moved(points: Iterable[Point], place: Place) -> List[Point]:
@@ -242,97 +47,300 @@ def _moved(points: Iterable[Point], place: Place) -> List[Point]:
     return [(x + place.left, y + place.top) for x, y in points]
 
 
-def _joints_of(levels: Levels) -> List[List[Point]]:
-    """The junction points of all edges, moved to the whole drawing: those that the document tells, or else its own."""
-    found = junctions_of(levels)
-    joints = []
-    for at, declared in enumerate(levels.declared):
-        told = declared.edge.get("junctionPoints")
-        points = found.get(at, []) if told is None else [point_of(it) for it in elements_of(told)]
-        joints.append(_moved(points, levels.level_of(declared)))
-    return joints
+def _points_in(edge: Element) -> List[Point]:
+    return [point for section in elements_of(edge.get("sections")) for point in points_of(section)]
 
 
-def _lines_of(edge: Element, place: Place, sharp: Set[Point], arrows: bool) -> Iterator[str]:
-    """The lines of an edge's sections; a section that others follow has no arrow head."""
-    for section in elements_of(edge.get("sections")):
-        points = _moved(points_of(section), place)
-        has_arrow = arrows and len(points) > 1 and not section.get("outgoingSections")
+class Picture:
+    """One picture: a document's levels, and how it is drawn."""
+
+    def __init__(self, placed: Element, arrows: bool, theme: str) -> None:
+        self.levels = Levels(placed)
+        #: For each edge the node to whose content its points are relative.
+        self.homes = [self.levels.level_of(declared) for declared in self.levels.declared]
+        self.arrows = arrows
+        self.paints = paints_of(theme)
+        self.joints = self._joints_of()
+        self.sharp = {point for points in self.joints for point in points}
+
+    def _joints_of(self) -> List[List[Point]]:
+        """The junction points of all edges in the whole drawing: those that the document tells, or else its own."""
+        found = junctions_of(self.levels)
+        joints = []
+        for at, (declared, home) in enumerate(zip(self.levels.declared, self.homes)):
+            told = declared.edge.get("junctionPoints")
+            points = found.get(at, []) if told is None else [point_of(it) for it in elements_of(told)]
+            joints.append(_moved(points, home))
+        return joints
+
+
+def _placed_label(label: Element, left: Any, top: Any, ink: Optional[str] = None) -> str:
+    """A label where the document places it, the corner being that to which it is relative."""
+    box = box_at(label, left, top)
+    return text_at(fitted(label["text"], box.width or math.inf, box.height or math.inf), box.middle, ink)
+
+
+def _leaf_texts(texts: List[str], box: Box, shape: str, ink: Optional[str]) -> Iterator[str]:
+    """The labels of a leaf that the document doesn't place: in its middle."""
+    width = max(room_in(shape, box, TEXT["largest"] * TEXT["line"] * len(texts)) - 8, 1)
+    fits = [fitted(it, width, max(box.height - 4, 1) / len(texts)) for it in texts]
+    x, middle = box.middle
+    y = middle - _sum(fit.height for fit in fits) / 2
+    for fit in fits:
+        y += fit.height
+        yield text_at(fit, (x, y - fit.height / 2), ink)
+
+
+def _sum(values: Iterable[float]) -> float:
+    # Python's own sum rounds otherwise than JavaScript adds.
+    total = 0.0
+    for value in values:
+        total += value
+    return total
+
+
+def _rooms_above(picture: Picture) -> Dict[int, Any]:
+    """How far below the top of each level its content begins, by the identity of its place."""
+    rooms: Dict[int, Any] = {}
+
+    def narrow(level: Place, y: Any) -> None:
+        rooms[id(level)] = min(rooms.get(id(level), math.inf), number_or_0(y))
+
+    for place in picture.levels.places:
+        if place.parent:
+            top = number_or_0(place.node.get("y"))
+            narrow(place.parent, top)
+            for it in (*_placed_labels(place.node), *elements_of(place.node.get("ports"))):
+                narrow(place.parent, top + number_or_0(it.get("y")))
+    for declared, home in zip(picture.levels.declared, picture.homes):
+        for y in (*(y for _, y in _points_in(declared.edge)), *(it["y"] for it in _placed_labels(declared.edge))):
+            narrow(home, y)
+    return rooms
+
+
+def _group_texts(texts: List[str], box: Box, room: Any, left: float, ink: str) -> Iterator[str]:
+    """The titles of a group, which the document doesn't place: along its top, in the room above its content."""
+    height = max(room - 2, 0) / TEXT["line"] / len(texts)
+    fits = [fitted(it, max(box.width - 2 * left, 1), height) for it in texts]
+    y = box.top + max(1, min(TITLE["top"], (room - _sum(fit.height for fit in fits)) / 2))
+    for fit in fits:
+        y += fit.height
+        yield text_at(fit, (box.left + left, y - fit.height / 2), ink, "start")
+
+
+def _node_texts(place: Place, picture: Picture, rooms: Dict[int, Any]) -> str:
+    """The labels of a node; without any, its id where there is room for it."""
+    node, box = place.node, _box_of(place)
+    wishes = wishes_of(node)
+    labels = _labels_of(node)
+    room = rooms[id(place)] if _is_compound(node) else math.inf
+    shows_id = not labels and id_of(node) and place.parent and room >= TITLE["least"]
+    free = [id_of(node)] if shows_id else [it["text"] for it in labels if not _is_placed_label(it)]
+    ink = wishes.color or ink_on(wishes.fill)
+    texts = []
+    for label in filter(_is_placed_label, labels):
+        # A label beside its node stands on paper, whatever the node's fill is.
+        is_within = box.holds(*box_at(label, place.left, place.top).middle)
+        texts.append(_placed_label(label, place.left, place.top, ink if is_within else wishes.color))
+    if free and _is_compound(node):
+        left = ROUND if wishes.shape == "round" else TITLE["left"]
+        texts += _group_texts(free, box, room, left, ink or picture.paints["paleInk"])
+    elif free:
+        texts += _leaf_texts(free, box, wishes.shape, ink)
+    return "".join(texts)
+
+
+def _node_shape(place: Place, picture: Picture) -> str:
+    node, paints = place.node, picture.paints
+    wishes = wishes_of(node)
+    is_root = place.parent is None
+    is_level = is_root or _is_compound(node)
+    # Each level is a shade darker than the one around it, since its tint lies above those of all levels around.
+    tint = f'{paints["tint"]}" fill-opacity="{paints["tintOpacity"]}'
+    fill = wishes.fill or (tint if is_level else paints["paper"])
+    stroke = wishes.stroke or ("none" if is_root else paints["paleInk"] if is_level else paints["ink"])
+    look = f'{class_of("node", wishes)} data-id="{escaped(id_of(node))}" fill="{fill}" stroke="{stroke}"'
+    corner = ROUND if is_level and wishes.shape == "round" else CORNER
+    name, text = shape_of("box" if is_level else wishes.shape, _box_of(place), look, corner)
+    return f"{text}>{title_of(id_of(node))}</{name}>"
+
+
+def _side_of(port: Element, node: Element) -> str:
+    """The side at which a port stands, by how far it reaches beyond each."""
+    (width, height), (x, y), room = size_of(port), point_of(port), size_of(node)
+    beyond = {"left": -x, "right": x + width - room[0], "up": -y, "down": y + height - room[1]}
+    return max(beyond, key=beyond.__getitem__)
+
+
+def _port_texts(port: Element, place: Place, picture: Picture) -> str:
+    """The labels of a port where the document places them; else the first stands within the node, beside the port."""
+    labels, box = _labels_of(port), box_at(port, place.left, place.top)
+    if any(map(_is_placed_label, labels)):
+        return "".join(_placed_label(label, box.left, box.top) for label in labels if _is_placed_label(label))
+    if not labels:
+        return ""
+    room, side, (x, y) = _box_of(place), _side_of(port, place.node), box.middle
+    places: Dict[str, Tuple[Any, Any, str]] = {
+        "left": (max(room.left, box.left + box.width) + 3, y, "start"),
+        "right": (min(room.left + room.width, box.left) - 3, y, "end"),
+        "up": (x, max(room.top, box.top + box.height) + 6, "middle"),
+        "down": (x, min(room.top + room.height, box.top) - 6, "middle"),
+    }
+    # Ports that face one another share the width of their node.
+    width = max(room.width / (2 if side in ("left", "right") else 1) - 4, 1)
+    fit = fitted(labels[0]["text"], width, math.inf, TEXT["smallest"] + 1)
+    at = places[side]
+    return text_at(fit, at[:2], ink_on(wishes_of(place.node).fill) or picture.paints["paleInk"], at[2])
+
+
+def _stem_of(port: Element, place: Place, picture: Picture) -> str:
+    """From a port to the outline of its node, where that lies within the node's box."""
+    shape = wishes_of(place.node).shape
+    if shape == "box" or _is_compound(place.node):
+        return ""
+    room, (x, y) = _box_of(place), box_at(port, place.left, place.top).middle
+    right, bottom = room.left + room.width, room.top + room.height
+    start, at = {
+        "left": ((room.left - 1, y), (room.left, y)),
+        "right": ((right + 1, y), (right, y)),
+        "up": ((x, room.top - 1), (x, room.top)),
+        "down": ((x, bottom + 1), (x, bottom)),
+    }[_side_of(port, place.node)]
+    met = met_at(at, start, shape, room)
+    look = f'stroke="{picture.paints["ink"]}" stroke-width="{LOOK["line"]}"'
+    return f'<path d="M{num(at[0])} {num(at[1])}L{num(met[0])} {num(met[1])}" {look}/>'
+
+
+def _port_box(port: Element, place: Place, picture: Picture) -> str:
+    box = rectangle(box_at(port, place.left, place.top), f'rx="1" fill="{picture.paints["ink"]}"')
+    return f"{box}>{title_of(id_of(port))}</rect>"
+
+
+def _ports_in(picture: Picture) -> Iterator[Tuple[Element, Place]]:
+    for place in picture.levels.places:
+        for port in elements_of(place.node.get("ports")):
+            yield port, place
+
+
+def _route_of(section: Element, declared: Declared, home: Place, levels: Levels, is_only: bool) -> List[Point]:
+    """The points of a section, drawn on to the shapes of the nodes at its ends."""
+    points = _moved(points_of(section), home)
+
+    def met(point: Point, start: Point, place: Optional[Place]) -> Point:
+        shape = wishes_of(place.node).shape if place and not _is_compound(place.node) else "box"
+        return met_at(point, start, shape, _box_of(place)) if place and shape != "box" else point
+
+    if len(points) > 1:
+        # A section of several tells its ends by itself.
+        shapes = {"source": section.get("incomingShape"), "target": section.get("outgoingShape")}
+        source, target = (
+            levels.node_at(declared.edge, end) if is_only else levels.node_of(shapes[end]) for end in shapes
+        )
+        (start, second), (before_last, last) = points[:2], points[-2:]
+        points[0], points[-1] = met(start, second, source), met(last, before_last, target)
+    return points
+
+
+def _has_more(section: Element) -> bool:
+    following = section.get("outgoingSections")
+    return isinstance(following, (list, tuple, str)) and len(following) > 0
+
+
+def _lines_of(at: int, picture: Picture, ink: str) -> Iterator[str]:
+    """The lines of an edge's sections; a section that others follow has no head, and no edge without a direction has one."""
+    declared = picture.levels.declared[at]
+    sections = elements_of(declared.edge.get("sections"))
+    has_arrows = picture.arrows and declared.edge.get("directed") is not False
+    for section in sections:
+        points = _route_of(section, declared, picture.homes[at], picture.levels, len(sections) == 1)
         if points:
-            yield _route_with_arrow(points, sharp) if has_arrow else f'<path d="{_path_of(points, sharp)}"/>'
+            yield line_of(points, picture.sharp, has_arrows and not _has_more(section), ink)
 
 
-def _edge_of(declared: Declared, levels: Levels, joints: List[Point], sharp: Set[Point], arrows: bool) -> str:
-    edge = declared.edge
-    lines = "".join(_lines_of(edge, levels.level_of(declared), sharp, arrows))
+def _edge_of(at: int, picture: Picture) -> str:
+    edge = picture.levels.declared[at].edge
+    wishes = wishes_of(edge)
+    ink = wishes.stroke or picture.paints["ink"]
+    lines = "".join(_lines_of(at, picture, ink))
     if not lines:
         return ""
-    ends = " → ".join(", ".join(map(_words, end_ids(edge, end))) for end in ("source", "target"))
-    dots = "".join(map(_dot_at, joints))
-    title = _title_of(f"{_id_of(edge)}: {ends}")
-    return f'<g class="edge" data-id="{_escaped(_id_of(edge))}">{title}{lines}{dots}</g>'
+    stroke = f' stroke="{ink}"' if wishes.stroke else ""
+    between = " — " if edge.get("directed") is False else " → "
+    ends = between.join(", ".join(map(words_of, end_ids(edge, end))) for end in ("source", "target"))
+    dots = "".join(dot_at(point, ink) for point in picture.joints[at])
+    title = title_of(f"{id_of(edge)}: {ends}")
+    return f'<g {class_of("edge", wishes)} data-id="{escaped(id_of(edge))}"{stroke}>{title}{lines}{dots}</g>'
 
 
-def _frame_of(levels: Levels) -> Tuple[Any, Any, Any, Any]:
-    """All that is drawn: the drawing's frame with what reaches beyond it."""
+def _edge_texts(picture: Picture) -> Iterator[str]:
+    """The labels of edges that the document places; where a line of its own passes through one, it stands out."""
+    halo = f'stroke="{picture.paints["paper"]}" stroke-width="5" stroke-linejoin="round" paint-order="stroke"'
+    for declared, home in zip(picture.levels.declared, picture.homes):
+        for label in _placed_labels(declared.edge):
+            text = _placed_label(label, home.left, home.top, wishes_of(declared.edge).color)
+            routes = map(points_of, elements_of(declared.edge.get("sections")))
+            is_crossed = any(passes(points, box_at(label, 0, 0)) for points in routes)
+            yield f"<g {halo}>{text}</g>" if is_crossed else text
+
+
+def _drawn_texts(picture: Picture) -> List[str]:
+    rooms = _rooms_above(picture)
+    of_nodes = [_node_texts(place, picture, rooms) for place in picture.levels.places]
+    of_ports = [_port_texts(port, place, picture) for port, place in _ports_in(picture)]
+    return [it for it in (*of_nodes, *of_ports, *_edge_texts(picture)) if it]
+
+
+def _boxes_in(picture: Picture) -> Iterator[Box]:
+    """The boxes of all that is drawn."""
+    for place in picture.levels.places:
+        yield _box_of(place)
+        ports = elements_of(place.node.get("ports"))
+        for it in (*ports, *_placed_labels(place.node)):
+            yield box_at(it, place.left, place.top)
+        for port in ports:
+            box = box_at(port, place.left, place.top)
+            for label in _placed_labels(port):
+                yield box_at(label, box.left, box.top)
+    for declared, home in zip(picture.levels.declared, picture.homes):
+        for x, y in _moved(_points_in(declared.edge), home):
+            yield Box(x, y, 0, 0)
+        for label in _placed_labels(declared.edge):
+            yield box_at(label, home.left, home.top)
+
+
+def _sheet_of(picture: Picture) -> Box:
+    """All that is drawn, with a margin: the drawing's frame with what reaches beyond it."""
     left: Any = 0
     top: Any = 0
     right: Any = 0
     bottom: Any = 0
-    for place in levels.places:
-        ports = [(it, *point_of(it)) for it in elements_of(place.node.get("ports"))]
-        for element, x, y in [(place.node, 0, 0), *ports]:
-            width, height = _size_of(element)
-            left, top = min(left, place.left + x), min(top, place.top + y)
-            right, bottom = max(right, place.left + x + width), max(bottom, place.top + y + height)
-    return left, top, right, bottom
+    for box in _boxes_in(picture):
+        left, top = min(left, box.left), min(top, box.top)
+        right, bottom = max(right, box.left + box.width), max(bottom, box.top + box.height)
+    return Box(left - MARGIN, top - MARGIN, right - left + 2 * MARGIN, bottom - top + 2 * MARGIN)
 
 
-def _drawn_edges(levels: Levels, arrows: bool) -> List[str]:
-    joints = _joints_of(levels)
-    sharp = {point for points in joints for point in points}
-    drawn = [_edge_of(it, levels, points, sharp, arrows) for it, points in zip(levels.declared, joints)]
-    return [it for it in drawn if it]
+def to_svg(placed: Element, *, arrows: bool = True, theme: str = "auto") -> str:
+    """Draws a placed document as a document of SVG.
 
-
-def _drawn_edge_labels(levels: Levels) -> List[str]:
-    """The labels of edges that the document places."""
-    drawn = []
-    for declared in levels.declared:
-        level = levels.level_of(declared)
-        labels = [it for it in _labels_of(declared.edge, False) if _is_placed_label(it)]
-        drawn += [_placed_label(label, (level.left, level.top)) for label in labels]
-    return drawn
-
-
-def _drawn_ports(levels: Levels) -> List[str]:
-    return [
-        _port_box(port, place) + _port_text(port, place)
-        for place in levels.places
-        for port in elements_of(place.node.get("ports"))
-    ]
-
-
-def _group(attributes: str, lines: Iterable[str]) -> str:
-    return "\n".join((f"<g {attributes}>", *lines, "</g>"))
-
-
-def to_svg(placed: Element, *, arrows: bool = True) -> str:
-    """Draws a placed document as a document of SVG, with arrow heads at the targets of edges or without."""
-    levels = Levels(placed)
-    left, top, right, bottom = _frame_of(levels)
-    paper = (left - MARGIN, top - MARGIN, (right - left + 2 * MARGIN, bottom - top + 2 * MARGIN))
-    view = [_num(it) for it in (*paper[:2], *paper[2])]
+    Edges have heads at their targets, or none. The theme is light or dark; with "auto" the reader's setting decides.
+    """
+    picture = Picture(placed, arrows, theme)
+    sheet, paper, ink = _sheet_of(picture), picture.paints["paper"], picture.paints["ink"]
+    view = [num(it) for it in sheet]
     size = f'width="{view[2]}" height="{view[3]}" viewBox="{" ".join(view)}"'
-    line = f'fill="none" stroke="{INK}" stroke-width="{LOOK["line"]}" stroke-linejoin="round"'
-    texts = [it for it in map(_node_texts, levels.places) if it]
+    line = f'fill="none" stroke="{ink}" stroke-width="{LOOK["line"]}" stroke-linejoin="round"'
+    edges = [it for it in (_edge_of(at, picture) for at in range(len(picture.homes))) if it]
+    ports = [_stem_of(*it, picture) + _port_box(*it, picture) for it in _ports_in(picture)]
     parts = [
-        f'<svg xmlns="http://www.w3.org/2000/svg" {size} font-family="{LOOK["font"]}">',
-        _box(*paper, f'fill="{PAPER}"/>'),
-        _group('class="nodes"', map(_node_box, levels.places)),
-        _group(f'class="edges" {line}', _drawn_edges(levels, arrows)),
-        _group('class="ports"', _drawn_ports(levels)),
-        _group('class="labels"', [*texts, *_drawn_edge_labels(levels)]),
+        f'<svg xmlns="http://www.w3.org/2000/svg" class="elk-picture" {size} font-family="{LOOK["font"]}">',
+        *style_of(theme),
+        rectangle(sheet, f'fill="{paper}"/>'),
+        group('class="nodes"', [_node_shape(place, picture) for place in picture.levels.places]),
+        group(f'class="edges" {line}', edges),
+        group('class="ports"', ports),
+        # The pointer passes through texts to what they name.
+        group(f'class="labels" fill="{ink}" text-anchor="middle" pointer-events="none"', _drawn_texts(picture)),
         "</svg>\n",
     ]
     return "\n".join(parts)

@@ -1,0 +1,8 @@
+'use strict';
+// What the page asks of the package.
+
+const { routeOf } = require('../junctions');
+const { Levels, endIds } = require('../levels');
+const { toSvg } = require('../svg');
+
+module.exports = { Levels, endIds, routeOf, toSvg };

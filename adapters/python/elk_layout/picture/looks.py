@@ -1,0 +1,102 @@
+"""Colours: those of light and of dark pages, and those that a document asks for."""
+
+from __future__ import annotations
+
+import re
+from typing import Any, Dict, List, NamedTuple, Optional, Tuple
+
+from ..levels import Element
+from ..shared import table
+
+LOOK = table("look")
+
+# What each colour paints.
+PAINTED = {"paper": ("fill", "stroke"), "ink": ("fill", "stroke"), "paleInk": ("fill", "stroke"), "tint": ("fill",)}
+
+THEMES = ("auto", "light", "dark")
+
+
+def paints_of(theme: str) -> Dict[str, Any]:
+    """The colours with which a theme is drawn. Where the reader's setting decides, a style replaces them on dark pages."""
+    if theme not in THEMES:
+        raise ValueError(f"the theme of a picture is {theme!r}, and may be auto, light or dark")
+    paints: Dict[str, Any] = LOOK["dark" if theme == "dark" else "light"]
+    return paints
+
+
+def style_of(theme: str) -> List[str]:
+    """The style of a picture, which the reader's setting turns dark; it yields to every style of a page."""
+    if theme != "auto":
+        return []
+    light, dark = LOOK["light"], LOOK["dark"]
+    rules = [
+        f':where(.elk-picture [{name}="{light[paint]}"]){{{name}:{dark[paint]}}}'
+        for paint, names in PAINTED.items()
+        for name in names
+    ]
+    opacity = f":where(.elk-picture [fill-opacity]){{fill-opacity:{dark['tintOpacity']}}}"
+    return [f"<style>@media (prefers-color-scheme:dark){{{''.join((*rules, opacity))}}}</style>"]
+
+
+# What a document may ask for can hold no markup, and name nothing outside of the picture.
+COLOUR = re.compile(
+    r"(#[0-9a-f]{3,4}|#[0-9a-f]{6}|#[0-9a-f]{8}|[a-z]{3,24}|(rgb|hsl)a?\([0-9.,%/ -]{1,48}\))", re.IGNORECASE | re.ASCII
+)
+CLASS = re.compile("[A-Za-z][A-Za-z0-9_-]{0,63}")
+
+
+def _kept(colour: str) -> str:
+    # The style replaces colours as they are written, so those of a document are told from ours by their capitals.
+    return colour.upper() if colour.startswith("#") else colour
+
+
+def _colour_in(value: Any) -> Optional[str]:
+    return _kept(value) if isinstance(value, str) and COLOUR.fullmatch(value) else None
+
+
+SHAPES = {"box": "box", "round": "round", "ellipse": "ellipse", "circle": "ellipse", "diamond": "diamond"}
+
+
+class Wishes(NamedTuple):
+    """What the member `style` of a node or an edge asks for; what isn't taken is passed over."""
+
+    shape: str
+    fill: Optional[str]
+    stroke: Optional[str]
+    color: Optional[str]
+    classes: Tuple[str, ...]
+
+
+def wishes_of(element: Element) -> Wishes:
+    style = element.get("style")
+    style = style if isinstance(style, dict) else {}
+    shape, names = style.get("shape"), style.get("class")
+    return Wishes(
+        SHAPES.get(shape, "box") if isinstance(shape, str) else "box",
+        _colour_in(style.get("fill")),
+        _colour_in(style.get("stroke")),
+        _colour_in(style.get("color")),
+        tuple(filter(CLASS.fullmatch, names.split(" "))) if isinstance(names, str) else (),
+    )
+
+
+def _channels_of(colour: str) -> Tuple[int, ...]:
+    """The red, green and blue of a colour from 0 to 255. One that isn't told by digits or a plain name is held light."""
+    code: str = LOOK["names"].get(colour.lower(), colour)
+    if not code.startswith("#"):
+        return 255, 255, 255
+    digits = "".join(digit * 2 for digit in code[1:]) if len(code) < 6 else code[1:]
+    return tuple(int(digits[start : start + 2], 16) for start in (0, 2, 4))
+
+
+def ink_on(fill: Optional[str]) -> Optional[str]:
+    """The colour of texts on a fill of the document; none where the paper shows through."""
+    if fill is None or fill.lower() in ("none", "transparent"):
+        return None
+    red, green, blue = _channels_of(fill)
+    return _kept(LOOK["light" if red * 299 + green * 587 + blue * 114 >= 140_000 else "dark"]["ink"])
+
+
+def class_of(name: str, wishes: Wishes) -> str:
+    """The classes of an element of the picture, with those for which the document asks."""
+    return f'class="{" ".join((name, *wishes.classes))}"'
