@@ -12,14 +12,14 @@ function workerScript() {
   return universal('ElkWorker', bundle('page/elk-worker.js', { texts }));
 }
 
-/** The call with its worker and its module, in one file. */
-function bundled(packed) {
+/** The call with its worker and its module in one file, or what stands on the call. */
+function bundled(packed, name = 'ELK', entry = 'elk.js') {
   const [before, after] = workerScript().split(HOLE).map((part) => JSON.stringify(part));
   const texts = {
     'page/packed.js': `module.exports = '${packed}';`,
     'page/script.js': `module.exports = (packed) => [${before}, packed, ${after}];`,
   };
-  return universal('ELK', bundle('elk.js', { texts }));
+  return universal(name, bundle(entry, { texts }));
 }
 
 /** The call alone, for pages that serve the worker as a file of its own. */
@@ -59,6 +59,8 @@ function library() {
     'elk.bundled.js': bundled(packed),
     'elk.bundled.d.ts': TYPES,
     'elk.bundled.mjs': BUNDLED_MODULE,
+    'elk-diagram.js': bundled(packed, 'ElkDiagram', 'elk-diagram.js'),
+    'elk-diagram.d.ts': TYPES.replaceAll('ELK', 'ElkDiagram').replace('../elk', '../elk-diagram'),
     'elk-lint.js': judging(),
     'elk-svg.js': pictures(),
   };

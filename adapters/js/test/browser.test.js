@@ -50,6 +50,7 @@ const HEADS = {
 <script>window.elk = new ELK({ workerFactory: (url) => new Worker(url), workerUrl: 'elk-worker.js' });</script>`,
   'strict.html': `<meta http-equiv="Content-Security-Policy" content="${STRICT}">
 ${SCRIPT}<script>window.elk = new ELK({ workerUrl: 'elk-worker.js' });</script>`,
+  'diagram.html': `<script src="elk-diagram.js"></script>`,
   'none.html': `${SCRIPT}<script>window.elk = new ELK({ workerUrl: 'none.js' });</script>`,
 };
 
@@ -163,4 +164,94 @@ test('a page tells why it has no worker', WITH_BOTH, async () => {
   const page = await pageOfServer('none.html');
   const said = await page.evaluate(`elk.layout(pair()).catch(({ name, message }) => [name, message])`);
   assert.deepEqual(said, ['ProgramError', 'the worker ended: its script can not be loaded']);
+});
+
+/** A page with the element, and a promise of its next event. */
+async function pageOfDiagram() {
+  const page = await browser.open(pathToFileURL(path.join(room, 'diagram.html')).href);
+  await page.evaluate(`
+    window.told = (element, name) => new Promise((resolve) =>
+      element.addEventListener(name, ({ detail }) => resolve(detail), { once: true }));
+    window.words = (element) => [...element.querySelectorAll('text')].map(({ textContent }) => textContent).sort();
+    window.added = (html) => {
+      document.body.innerHTML = html;
+      return document.body.firstElementChild;
+    };
+    0`);
+  return page;
+}
+
+test('an element draws the graph of its attribute, and again what is set', WITH_BOTH, async () => {
+  const page = await pageOfDiagram();
+  const said = await page.evaluate(`(async () => {
+    const it = added(\`<elk-diagram graph='{ "id": "r", "children": [{ "id": "a", "width": 30, "height": 30 }] }'></elk-diagram>\`);
+    const first = await told(it, 'elk-placed');
+    const seen = [first.width, it.placed === first, words(it)];
+    it.graph = pair();
+    it.layoutOptions = { 'elk.direction': 'DOWN' };
+    it.arrows = false;
+    await told(it, 'elk-placed');
+    const heads = it.querySelectorAll('.edge path[stroke=none]').length;
+    seen.push(it.placed.height > it.placed.width, words(it), heads, it.children.length);
+    it.graph = undefined;
+    it.removeAttribute('graph');
+    await new Promise((resolve) => setTimeout(resolve, 50));
+    return [...seen, it.children.length, it.placed === undefined];
+  })()`);
+  assert.deepEqual(said, [54, true, ['a'], true, ['a', 'b'], 0, 1, 0, true]);
+  assert.deepEqual(page.faults, []);
+});
+
+test('an element draws the last of many graphs, and one that was set before it stood in the page', WITH_BOTH, async () => {
+  const page = await pageOfDiagram();
+  const said = await page.evaluate(`(async () => {
+    const it = document.createElement('elk-diagram');
+    it.graph = { id: 'before', children: [{ id: 'early', width: 60, height: 30 }] };
+    document.body.append(it);
+    await told(it, 'elk-placed');
+    const seen = [words(it)];
+    let count = 0;
+    it.addEventListener('elk-placed', () => { count += 1; });
+    it.graph = level(300);
+    await Promise.resolve();
+    it.graph = { id: 'r', children: [{ id: 'middle', width: 60, height: 30 }] };
+    it.graph = { id: 'r', children: [{ id: 'late', width: 60, height: 30 }] };
+    await told(it, 'elk-placed');
+    await ElkDiagram.elk.layout(pair());
+    return [...seen, words(it), count];
+  })()`);
+  assert.deepEqual(said, [['early'], ['late'], 1]);
+});
+
+test('an element says why it draws nothing, and hostile texts stay texts', WITH_BOTH, async () => {
+  const page = await pageOfDiagram();
+  const said = await page.evaluate(`(async () => {
+    const it = added('<elk-diagram graph="{"></elk-diagram>');
+    const seen = [(await told(it, 'elk-error')).name, it.querySelector('[role=alert]').textContent.slice(0, 46)];
+    it.graph = { id: 'r', children: [{ id: '<img src=x onerror=alert(1)>', width: -1 }] };
+    seen.push((await told(it, 'elk-error')).rule, it.querySelectorAll('img').length);
+    const id = '"><script>window.hit = 1</script><img src=x onerror="window.hit = 1">';
+    it.graph = { id: 'r', children: [{ id, width: 400, height: 30, style: { fill: id, class: id } }] };
+    await told(it, 'elk-placed');
+    return [...seen, words(it)[0] === id, it.querySelectorAll('img, script').length, window.hit === undefined];
+  })()`);
+  assert.deepEqual(said, ['SyntaxError', 'the attribute graph of elk-diagram is no JSON:', 4, 0, true, 0, true]);
+});
+
+test('a picture follows the setting of the reader, and the style of a page goes before it', WITH_BOTH, async () => {
+  const page = await pageOfDiagram();
+  const colours = `(async () => {
+    const style = { class: 'alarm' };
+    const it = added('<style>.alarm { fill: rgb(1, 2, 3); }</style><div></div>').nextElementSibling;
+    const made = document.createElement('elk-diagram');
+    made.graph = { id: 'r', children: ['a', 'b', 'c'].map((id, at) => ({ id, width: 30, height: 30, style: [{}, { fill: '#ffffff' }, style][at] })) };
+    it.append(made);
+    await told(made, 'elk-placed');
+    const fill = (name) => getComputedStyle(made.querySelector(name)).fill;
+    return ['a', 'b', 'c'].map((id) => fill('[data-id=' + id + ']'));
+  })()`;
+  const own = ['rgb(255, 255, 255)', 'rgb(1, 2, 3)'];
+  assert.deepEqual(await page.evaluate(colours), ['rgb(255, 255, 255)', ...own]);
+  await page.prefer('dark');
+  assert.deepEqual(await page.evaluate(colours), ['rgb(22, 32, 43)', ...own]);
 });

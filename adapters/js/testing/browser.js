@@ -107,6 +107,11 @@ class Page {
     await this.send('Input.dispatchKeyEvent', { type: 'keyUp', key });
   }
 
+  /** Shows the page as to a reader who has set light or dark. */
+  async prefer(value) {
+    await this.send('Emulation.setEmulatedMedia', { features: [{ name: 'prefers-color-scheme', value }] });
+  }
+
   /** Writes what the page shows as PNG. */
   async screenshot(file) {
     const { data } = await this.send('Page.captureScreenshot', { format: 'png' });

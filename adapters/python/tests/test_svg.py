@@ -50,11 +50,26 @@ def drawn_by_javascript(documents):
     return json.loads(ended.stdout)
 
 
+COLOURS = ["#fff", "#ABCDEF", "#12345678", "navy", "Yellow", "tomato", "none", "rgb(1, 2, 3)", "hsl(1 2% 3% / .5)", "#12", "url(#a)", 7]
+
+
+def style(of):
+    """What a node or an edge asks for; some of it isn't taken."""
+    asked = {
+        "shape": of.choice(["box", "round", "ellipse", "circle", "diamond", "star", None]),
+        "fill": of.choice(COLOURS),
+        "stroke": of.choice(COLOURS),
+        "color": of.choice(COLOURS),
+        "class": of.choice(["a", "a b-c", "2nd x", "é", "_", 5]),
+    }
+    return {name: value for name, value in asked.items() if of.random() < 0.3}
+
+
 def box(of, id, depth):
     """A node of a random document: a leaf with ports and labels, or a level."""
-    node = {"id": id, "width": of.randrange(0, 90), "height": of.randrange(0, 60)}
+    node = {"id": id, "width": of.randrange(0, 90), "height": of.randrange(0, 60), "style": style(of)}
     if of.random() < 0.5:
-        texts = [of.choice(["", "a label", "a much longer label — of WIDE letters", "é😀", 7]) for _ in range(of.randrange(3))]
+        texts = [of.choice(["", "a label", "a much longer label — of WIDE letters", "é😀", "two\nlines\r\nor three", "漢字の\nラベル", 7]) for _ in range(of.randrange(3))]
         node["labels"] = [{"text": it} for it in texts]
     if depth and of.random() < 0.3:
         return {**node, **level(of, f"{id}.", depth - 1)}
@@ -71,7 +86,13 @@ def level(of, prefix, depth):
     nodes = [box(of, f"{prefix}{at}", depth) for at in range(of.randrange(1, 7))]
     ends = [it for node in nodes for it in (node["id"], *(port["id"] for port in node.get("ports", ())))]
     edges = [
-        {"id": f"{prefix}e{at}", "sources": [of.choice(ends)], "targets": [of.choice(ends)]}
+        {
+            "id": f"{prefix}e{at}",
+            "sources": [of.choice(ends)],
+            "targets": [of.choice(ends)],
+            "directed": of.choice([True, False, None]),
+            "style": style(of),
+        }
         for at in range(of.randrange(2 * len(nodes)))
     ]
     options = {"direction": of.choice(["RIGHT", "DOWN", "LEFT", "UP"])}
@@ -112,7 +133,8 @@ class Pictures(unittest.TestCase):
         of = random.Random(5)
         documents = [{"id": f"r{at}", **level(of, "", 2)} for at in range(150)]
         placed = list(layout_many(documents, program=PROGRAM))
-        self.compare([(it, {"arrows": at % 2 == 0}) for at, it in enumerate(placed)])
+        themes = ["auto", "light", "dark"]
+        self.compare([(it, {"arrows": at % 2 == 0, "theme": themes[at % 3]}) for at, it in enumerate(placed)])
 
     @with_node
     @with_program
@@ -144,6 +166,10 @@ class Pictures(unittest.TestCase):
     @with_node
     def test_hostile_and_odd_values_look_the_same(self):
         self.compare([(it, {}) for it in (*map(hostile, HOSTILE), *ODD)])
+
+    def test_a_theme_that_is_not_known_is_refused(self):
+        with self.assertRaisesRegex(ValueError, "the theme of a picture is 'blue', and may be auto, light or dark"):
+            to_svg({}, theme="blue")
 
     def test_half_of_a_pair_is_replaced(self):
         xml.fromstring(to_svg(hostile("\ud800 alone \udc00")))
