@@ -7,6 +7,7 @@ const { columnsOf } = require('./columns');
 const { isTrue, labelsOf, namesIn, placeStack, stackOf } = require('./labels');
 const { placeLoops } = require('./loops');
 const { pointsOf, route } = require('./sections');
+const { slideLabels } = require('./slides');
 const { AHEAD, BEHIND, along, boxAt, isUpright, sideOfEnd, spotsAt } = require('./sides');
 
 const FULL = 'org.eclipse.elk.';
@@ -22,11 +23,13 @@ function kindOf(draft, edge, label) {
  * @param {import('./strips').Strips} strips takes what stands beside lines at nodes
  */
 function placeEdgeLabels(draft, strips, sides) {
+  const slides = [];
+  draft.after(() => slideLabels(draft, slides));
   const all = [...draft.edges()].map((found) => [found, labelsOf(found.edge)]);
   const labelled = all.filter(([, labels]) => labels.length > 0);
   const isLoop = ([{ source, target }]) => source.node === target.node;
   for (const [found, labels] of labelled.filter((it) => !isLoop(it))) {
-    placeAlong(draft, strips, sides, found, labels);
+    placeAlong(draft, strips, sides, found, labels, slides);
   }
   // They stand beyond what the others put at their ports.
   const loops = labelled.filter(isLoop);
@@ -35,7 +38,7 @@ function placeEdgeLabels(draft, strips, sides) {
   }
 }
 
-function placeAlong(draft, strips, sides, found, labels) {
+function placeAlong(draft, strips, sides, found, labels, slides) {
   const { edge, level } = found;
   const byKind = { TAIL: [], CENTER: [], HEAD: [] };
   labels.forEach((label) => byKind[kindOf(draft, edge, label)].push(label));
@@ -58,7 +61,7 @@ function placeAlong(draft, strips, sides, found, labels) {
   }
   draft.change(edge, { sources: [ends.source.id], targets: [ends.target.id] });
   if (stops.length > 0) {
-    passThrough(draft, { ...found, direction }, stops);
+    passThrough(draft, { ...found, direction, slides }, stops);
   }
 }
 
@@ -85,9 +88,9 @@ function fits(draft, sides, { edge, end, level, labels, node, port }) {
 }
 
 /** Leads an edge through a leaf for each stop. */
-function passThrough(draft, { edge, at, level, direction }, stops) {
+function passThrough(draft, { edge, at, level, direction, slides }, stops) {
   const { layoutOptions, properties } = edge;
-  const leaves = stops.map((stop) => leafOf(draft, edge, level, direction, stop));
+  const leaves = stops.map((stop) => leafOf(draft, { edge, level, direction, slides }, stop));
   const [target] = edge.targets;
   draft.altered.add(level);
   const pieces = leaves.map(({ leaf }, k) => ({
@@ -111,7 +114,7 @@ function passThrough(draft, { edge, at, level, direction }, stops) {
 }
 
 /** The leaf that holds a stop's labels below the line, or on it, and how they are placed once it is. */
-function leafOf(draft, edge, level, direction, { labels, end }) {
+function leafOf(draft, { edge, level, direction, slides }, { labels, end }) {
   const inline = (it) => draft.option(it, 'edgeLabels.inline');
   const isInline = labels.every((label) => isTrue(inline(label) ?? inline(edge)));
   const gap = draft.number(level, 'spacing.labelLabel', 0);
@@ -139,12 +142,17 @@ function leafOf(draft, edge, level, direction, { labels, end }) {
     const free = columnsOf(draft, level).get(leaf);
     const shift = { source: free.behind, target: free.ahead }[end] ?? Math.round((free.behind + free.ahead) / 2);
     const [x, y] = [numberOr0(leaf.x), numberOr0(leaf.y)];
-    placeStack(labels, {
+    const at = {
       ...(isUpright(side) ? { x: x + shift, y: y + beside } : { x: x + beside, y: y + shift }),
       width: stack.width,
       gap,
       align: isInline || isUpright(side) ? 'center' : 'left',
-    });
+    };
+    placeStack(labels, at);
+    if (!end) {
+      const [axis, across] = isUpright(side) ? ['x', y] : ['y', x];
+      slides.push({ edge, level, labels, place: at, axis, line: across + line, room: beside });
+    }
   };
   return { leaf, place };
 }

@@ -100,6 +100,21 @@ test('a node grows for what stands in it, from its given size on', WITH_PROGRAM,
   elk.terminateWorker();
 });
 
+test('a label on a long line stands in its middle', WITH_PROGRAM, async () => {
+  const elk = new ELK({ program: PROGRAM });
+  const ids = ['a', 'b', 'c', 'd', 'e'];
+  const children = ids.map((id) => ({ id, width: 60, height: 40 }));
+  const steps = ids.slice(1).map((id, at) => ({ id, source: ids[at], target: id }));
+  for (const [direction, axis, size] of [['RIGHT', 'x', 'width'], ['UP', 'y', 'height']]) {
+    const long = { id: 'long', source: 'a', target: 'e', labels: [{ text: 'from end to end' }] };
+    const placed = await elk.layout({ id: 'r', layoutOptions: { direction }, children, edges: [...steps, long] });
+    const { labels: [label], sections: [{ bendPoints: [, first, last] }] } = placed.edges.at(-1);
+    const middle = label[axis] + label[size] / 2;
+    assert.ok(Math.abs(middle - (first[axis] + last[axis]) / 2) <= 1, direction);
+  }
+  elk.terminateWorker();
+});
+
 const chain = (count, labels) => ({
   id: 'r',
   children: Array.from({ length: count }, (_, id) => ({ id, width: 10, height: 10 })),
