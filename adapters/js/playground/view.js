@@ -10,11 +10,15 @@ const FARTHEST = 0.005;
 // A step of the keys, as a part of the stage.
 const STEP = 0.12;
 
+// A picture of more edges is drawn anew only when it has come to rest, so long after it was moved, in milliseconds.
+const MANY_EDGES = 500;
+const REST = 150;
+
 const STYLE = `
   :host { display: block; }
-  svg { position: absolute; inset: 0; width: 100%; height: 100%; }
+  svg { position: absolute; inset: 0; width: 100%; height: 100%; transform-origin: 0 0; }
+  svg.moving { will-change: transform; overflow: visible; }
   .target { stroke: transparent !important; stroke-width: 10 !important; fill: none !important; pointer-events: stroke; }
-  .edge { cursor: pointer; }
   .edge.lit path:not(.target) { stroke: var(--accent) !important; stroke-width: 2.6 !important; }
   .edge.lit path[stroke="none"]:not(.target), .edge.lit circle { fill: var(--accent) !important; stroke: none !important; }
   .lighting .edge:not(.lit) { opacity: .25; }
@@ -30,9 +34,12 @@ class View {
   #picture;
   #edges = [];
   #whole;
+  // The part of it that the stage shows, and the one for which it was drawn.
   #part;
+  #drawnPart;
   #isFitted = true;
   #isDue = false;
+  #rest;
   #pointers = new Map();
   #lit;
   #onEdge;
@@ -69,7 +76,9 @@ class View {
     picture.setAttribute('aria-label', 'the drawing');
     this.#whole = { x, y, width, height };
     this.#edges = [...picture.querySelectorAll('.edge')];
-    this.#edges.forEach(widened);
+    if (!this.#isLarge) {
+      this.#edges.forEach(widened);
+    }
     this.#light(undefined);
     if (this.#picture) {
       this.#picture.replaceWith(picture);
@@ -77,6 +86,7 @@ class View {
       this.#root.append(picture);
     }
     this.#picture = picture;
+    this.#drawnPart = undefined;
     if (this.#isFitted || !this.#part) {
       this.fit();
     } else {
@@ -153,6 +163,10 @@ class View {
     this.#onEdge(edge ? edge.querySelector('title')?.textContent ?? '' : '');
   }
 
+  get #isLarge() {
+    return this.#edges.length > MANY_EDGES;
+  }
+
   // However often it is moved, it is drawn once a frame.
   #draw() {
     if (this.#isDue) {
@@ -161,9 +175,35 @@ class View {
     this.#isDue = true;
     requestAnimationFrame(() => {
       this.#isDue = false;
-      const { x, y, width, height } = this.#part;
-      this.#picture?.setAttribute('viewBox', `${x} ${y} ${width} ${height}`);
+      if (this.isEmpty) {
+        return;
+      }
+      if (this.#isLarge && this.#drawnPart && !this.#isFitted) {
+        this.#shift();
+      } else {
+        this.#drawPart();
+      }
     });
+  }
+
+  #drawPart() {
+    clearTimeout(this.#rest);
+    const { x, y, width, height } = this.#part;
+    this.#picture?.setAttribute('viewBox', `${x} ${y} ${width} ${height}`);
+    this.#picture?.classList.remove('moving');
+    this.#picture?.style.removeProperty('transform');
+    this.#drawnPart = this.#part;
+  }
+
+  /** Shows the part by moving what was drawn, which is blurred and may lack something at first. */
+  #shift() {
+    const [from, to] = [this.#drawnPart, this.#part];
+    const scale = this.#stage.clientWidth / to.width;
+    const [left, top] = [(from.x - to.x) * scale, (from.y - to.y) * scale];
+    this.#picture.classList.add('moving');
+    this.#picture.style.transform = `translate(${left}px, ${top}px) scale(${from.width / to.width})`;
+    clearTimeout(this.#rest);
+    this.#rest = setTimeout(() => this.#drawPart(), REST);
   }
 
   #resized() {
@@ -175,7 +215,9 @@ class View {
     } else {
       const scale = this.#part.height / this.#part.width;
       const { clientWidth, clientHeight } = this.#stage;
-      this.#part.height = (this.#part.width * clientHeight) / clientWidth || this.#part.width * scale;
+      const { width } = this.#part;
+      this.#part = { ...this.#part, height: (width * clientHeight) / clientWidth || width * scale };
+      this.#drawnPart = undefined;
       this.#draw();
     }
   }

@@ -17,7 +17,7 @@ const firefoxFile = () => process.env.ELK_FIREFOX ?? programOf(NAMES);
 /** What a test that asks a Firefox is given: whether it is left out, and why. */
 const WITH_FIREFOX = { skip: firefoxFile() ? false : 'no Firefox stands: ELK_FIREFOX names one, or the path has one' };
 
-const SECONDS = 120;
+const SECONDS = 240;
 
 const PREFERENCES = {
   'marionette.port': 0,
