@@ -64,6 +64,11 @@ class Picture {
     return this.levels.places.get(this.homes.get(declared));
   }
 
+  /** The fill of the level at which an edge is drawn, where the document asks for one. */
+  groundAt(declared) {
+    return wishesOf(this.homes.get(declared)).fill;
+  }
+
   /** The junction points of all edges in the whole drawing: those that the document tells, or else its own. */
   #jointsOf(placed) {
     const found = junctionPoints(placed);
@@ -257,12 +262,12 @@ function linesOf(declared, picture, ink) {
 function edgeOf(declared, picture) {
   const { edge } = declared;
   const wishes = wishesOf(edge);
-  const ink = wishes.stroke ?? picture.paints.ink;
+  const ink = wishes.stroke ?? inkOn(picture.groundAt(declared)) ?? picture.paints.ink;
   const lines = linesOf(declared, picture, ink).join('');
   if (lines === '') {
     return '';
   }
-  const stroke = wishes.stroke ? ` stroke="${ink}"` : '';
+  const stroke = ink === picture.paints.ink ? '' : ` stroke="${ink}"`;
   const between = edge.directed === false ? ' — ' : ' → ';
   const ends = ['source', 'target'].map((end) => endIds(edge, end).map(wordsOf).join(', ')).join(between);
   const dots = picture.joints.get(edge).map((point) => dotAt(point, ink)).join('');
@@ -276,8 +281,10 @@ const drawnEdgeTexts = (picture) =>
     const [labels, corner] = [labelsOf(declared.edge).filter(isPlacedLabel), picture.levelAt(declared)];
     const routes = labels.length === 0 ? [] : elementsOf(declared.edge.sections).map(pointsOf);
     const isCrossed = (label) => routes.some((points) => passes(points, boxAt(label, { left: 0, top: 0 })));
-    const texts = labels.map((label) => [label, placedLabel(label, corner, wishesOf(declared.edge).color)]);
-    const halo = `stroke="${picture.paints.paper}" stroke-width="5" stroke-linejoin="round" paint-order="stroke"`;
+    const ground = picture.groundAt(declared);
+    const ink = wishesOf(declared.edge).color ?? inkOn(ground);
+    const texts = labels.map((label) => [label, placedLabel(label, corner, ink)]);
+    const halo = `stroke="${ground ?? picture.paints.paper}" stroke-width="5" stroke-linejoin="round" paint-order="stroke"`;
     return texts.map(([label, text]) => (isCrossed(label) ? `<g ${halo}>${text}</g>` : text));
   });
 

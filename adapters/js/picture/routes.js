@@ -51,8 +51,8 @@ function lineOf(points, { joints, hasHead, ink }) {
   }
   const [from, tip] = points.slice(-2);
   const piece = lengthOf(from, tip);
-  // Where a bend comes before it, a head is no longer than the piece that it ends, as far as it can still be seen.
-  const length = points.length === 2 ? ARROW.length : Math.min(ARROW.length, Math.max(piece, ARROW.shortest));
+  // A head is no longer than the piece that it ends, as far as it can still be seen.
+  const length = Math.min(ARROW.length, Math.max(piece, ARROW.shortest));
   // The line ends within its head, so that neither its end nor a bend shows at the tip.
   const end = towards(tip, from, Math.min(length - 1, piece));
   return `<path d="${pathOf([...points.slice(0, -1), end], joints)}"/>${headOf(from, tip, length, ink)}`;

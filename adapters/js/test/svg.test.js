@@ -190,12 +190,14 @@ test('edges without a direction have no heads', () => {
   assert.match(plain, /<title>e: a — b<\/title><path d="M40 20L100 20"\/>/);
 });
 
-test('a head is no longer than the last piece after a bend', () => {
+test('a head is no longer than the last piece of its line', () => {
   for (const [last, length] of [[20, 8], [6, 6], [4, 4], [1, 4]]) {
     const section = { startPoint: { x: 0, y: 0 }, bendPoints: [{ x: 20, y: 0 }], endPoint: { x: 20, y: last } };
     const svg = joined({ edge: { sections: [section] } });
     assert.match(svg, new RegExp(`<path d="M20 ${last}L[\\d.]+ ${last - length}L[\\d.]+ ${last - length}Z"`), `${last}`);
   }
+  const short = { startPoint: { x: 40, y: 20 }, endPoint: { x: 45, y: 20 } };
+  assert.match(joined({ edge: { sections: [short] } }), /<path d="M45 20L40 17.81L40 22.19Z"/);
 });
 
 test('lines are drawn on to the shapes of their nodes', () => {
@@ -228,6 +230,9 @@ test('a document asks for colours and classes, and for nothing else', () => {
   assert.match(svg, /<g class="edge slow" data-id="e" stroke="hsl\(120 50% 40% \/ 0.5\)"/);
   // The line passes through the label, which stands out by the colour of the paper.
   assert.match(svg, /paint-order="stroke"><text [^>]*>over</);
+  const inGroup = { id: 'g', width: 140, height: 40, style: { fill: '#102030' }, children: [{ id: 'a' }, { id: 'b', x: 90 }] };
+  inGroup.edges = [{ id: 'e', sources: ['a'], targets: ['b'], sections: [{ startPoint: { x: 0, y: 9 }, endPoint: { x: 90, y: 9 } }] }];
+  assert.match(toSvg({ children: [inGroup] }), /<g class="edge" data-id="e" stroke="#D5DEE8">.*fill="#D5DEE8" stroke="none"/);
   for (const fill of ['url(#a)', 'red;x', '"', 'var(--x)', '#12', '#12345', 'rgb(1,2,3', 7, null, {}]) {
     assert.doesNotMatch(joined({ from: { style: { fill, stroke: fill } } }), /url|;x|var|#12"|12345|rgb/, String(fill));
   }

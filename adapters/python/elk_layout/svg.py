@@ -257,14 +257,19 @@ def _lines_of(at: int, picture: Picture, ink: str) -> Iterator[str]:
             yield line_of(points, picture.sharp, has_arrows and not _has_more(section), ink)
 
 
+def _ground_of(home: Place) -> Optional[str]:
+    """The fill of the level at which an edge is drawn, where the document asks for one."""
+    return wishes_of(home.node).fill
+
+
 def _edge_of(at: int, picture: Picture) -> str:
     edge = picture.levels.declared[at].edge
     wishes = wishes_of(edge)
-    ink = wishes.stroke or picture.paints["ink"]
+    ink = wishes.stroke or ink_on(_ground_of(picture.homes[at])) or picture.paints["ink"]
     lines = "".join(_lines_of(at, picture, ink))
     if not lines:
         return ""
-    stroke = f' stroke="{ink}"' if wishes.stroke else ""
+    stroke = "" if ink == picture.paints["ink"] else f' stroke="{ink}"'
     between = " — " if edge.get("directed") is False else " → "
     ends = between.join(", ".join(map(words_of, end_ids(edge, end))) for end in ("source", "target"))
     dots = "".join(dot_at(point, ink) for point in picture.joints[at])
@@ -274,10 +279,13 @@ def _edge_of(at: int, picture: Picture) -> str:
 
 def _edge_texts(picture: Picture) -> Iterator[str]:
     """The labels of edges that the document places; where a line of its own passes through one, it stands out."""
-    halo = f'stroke="{picture.paints["paper"]}" stroke-width="5" stroke-linejoin="round" paint-order="stroke"'
     for declared, home in zip(picture.levels.declared, picture.homes):
+        ground = _ground_of(home)
+        ink = wishes_of(declared.edge).color or ink_on(ground)
+        paper = ground or picture.paints["paper"]
+        halo = f'stroke="{paper}" stroke-width="5" stroke-linejoin="round" paint-order="stroke"'
         for label in _placed_labels(declared.edge):
-            text = _placed_label(label, home.left, home.top, wishes_of(declared.edge).color)
+            text = _placed_label(label, home.left, home.top, ink)
             routes = map(points_of, elements_of(declared.edge.get("sections")))
             is_crossed = any(passes(points, box_at(label, 0, 0)) for points in routes)
             yield f"<g {halo}>{text}</g>" if is_crossed else text

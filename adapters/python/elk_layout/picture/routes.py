@@ -58,8 +58,8 @@ def line_of(points: List[Point], joints: Set[Point], has_head: bool, ink: str) -
         return f'<path d="{_path_of(points, joints)}"/>'
     start, tip = points[-2:]
     piece = _length_of(start, tip)
-    # Where a bend comes before it, a head is no longer than the piece that it ends, as far as it can still be seen.
-    length = ARROW["length"] if len(points) == 2 else min(ARROW["length"], max(piece, ARROW["shortest"]))
+    # A head is no longer than the piece that it ends, as far as it can still be seen.
+    length = min(ARROW["length"], max(piece, ARROW["shortest"]))
     # The line ends within its head, so that neither its end nor a bend shows at the tip.
     end = _towards(tip, start, min(length - 1, piece))
     return f'<path d="{_path_of([*points[:-1], end], joints)}"/>{_head_of(start, tip, length, ink)}'
