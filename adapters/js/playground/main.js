@@ -9,6 +9,7 @@ const { largeText } = require('./large');
 const { documentIn, hashOf } = require('./link');
 const { pngOf, save } = require('./save');
 const script = require('./script');
+const { placeOf } = require('./source');
 const { View } = require('./view');
 
 // So long the keys must rest, in milliseconds, before a text is drawn: a large one longer.
@@ -52,8 +53,19 @@ const many = (count, thing) => `${count.toLocaleString('en')} ${thing}${count ==
 
 const placeWords = ({ line, column }) => (line === undefined ? '' : `line ${line}, column ${column}: `);
 
-const view = new View(find('stage'), find('picture'), (words) => {
-  find('edge').textContent = words;
+/** Leads to the text of an element of the drawing. */
+function seek(chosen) {
+  const place = isCurrent && placeOf(editor.text, chosen);
+  if (place) {
+    editor.goTo(place);
+  }
+}
+
+const view = new View(find('stage'), find('picture'), {
+  onEdge: (words) => {
+    find('edge').textContent = words;
+  },
+  onChoice: seek,
 });
 
 const editor = new Editor({ area: find('text'), lines: find('lines'), marks: find('marks') }, () => {
@@ -269,8 +281,14 @@ const nameOfFile = () => {
   }
 };
 
+/** The picture as a file, which follows its reader's setting where the worker is free to draw it so. */
+async function svgOfFile() {
+  const { svg } = desk.isBusy ? {} : await desk.ask({ kind: 'picture', look: { ...lookOfPage(), theme: 'auto' } });
+  return new Blob([svg ?? shown.svg], { type: 'image/svg+xml' });
+}
+
 const SAVED = {
-  svg: async () => new Blob([shown.svg], { type: 'image/svg+xml' }),
+  svg: svgOfFile,
   png: () => pngOf(shown.svg),
   json: async () => new Blob([`${JSON.stringify(JSON.parse(shown.placed), null, 2)}\n`], { type: 'application/json' }),
 };

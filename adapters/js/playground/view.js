@@ -7,6 +7,9 @@ const MOST_FIT = 2;
 const CLOSEST = 40;
 const FARTHEST = 0.005;
 
+// A pointer that moves less, in pixels, has clicked.
+const CLICK = 4;
+
 // A step of the keys, as a part of the stage.
 const STEP = 0.12;
 
@@ -41,17 +44,22 @@ class View {
   #isDue = false;
   #rest;
   #pointers = new Map();
+  #pressed;
   #lit;
   #onEdge;
+  #onChoice;
 
   /**
    * @param {HTMLElement} stage
    * @param {HTMLElement} host what holds the picture, apart from the page's own style
-   * @param {(words: string) => void} onEdge is told which edge lights up, and nothing where none does
+   * @param {object} listener
+   * @param {(words: string) => void} listener.onEdge is told which edge lights up, and nothing where none does
+   * @param {(chosen: { kind: 'node' | 'edge', id: string }) => void} listener.onChoice is told which element is clicked
    */
-  constructor(stage, host, onEdge) {
+  constructor(stage, host, { onEdge, onChoice }) {
     this.#stage = stage;
     this.#onEdge = onEdge;
+    this.#onChoice = onChoice;
     this.#root = host.attachShadow({ mode: 'open' });
     const style = document.createElement('style');
     style.textContent = STYLE;
@@ -237,12 +245,14 @@ class View {
     }, { passive: false });
     stage.addEventListener('pointerdown', (event) => {
       if (event.button === 0 && !this.isEmpty) {
+        this.#pressed = { place: this.#placeOf(event), target: event.composedPath()[0] };
         this.#pointers.set(event.pointerId, this.#placeOf(event));
         stage.setPointerCapture(event.pointerId);
         stage.classList.add('dragging');
       }
     });
     stage.addEventListener('pointermove', (event) => this.#dragged(event));
+    stage.addEventListener('pointerup', (event) => this.#released(event));
     for (const kind of ['pointerup', 'pointercancel']) {
       stage.addEventListener(kind, ({ pointerId }) => {
         this.#pointers.delete(pointerId);
@@ -255,6 +265,15 @@ class View {
       }
     });
     stage.addEventListener('pointerleave', () => this.#light(undefined));
+  }
+
+  #released(event) {
+    const { place, target } = this.#pressed ?? {};
+    const drawn = target?.closest?.('.edge, .node');
+    if (drawn && this.#pointers.size === 1 && distanceOf([place, this.#placeOf(event)]) < CLICK) {
+      this.#onChoice({ kind: drawn.matches('.edge') ? 'edge' : 'node', id: drawn.dataset.id });
+    }
+    this.#pressed = undefined;
   }
 
   // One pointer moves the picture, and two zoom it too.
@@ -285,6 +304,7 @@ class View {
       0: () => this.fit(),
       e: () => this.lightNext(1),
       E: () => this.lightNext(-1),
+      Enter: () => this.#lit && this.#onChoice({ kind: 'edge', id: this.#lit.dataset.id }),
       Escape: () => this.#light(undefined),
     };
     if (keys[event.key] && !event.ctrlKey && !event.metaKey && !event.altKey) {

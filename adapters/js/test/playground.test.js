@@ -13,6 +13,7 @@ const { moduleBytes } = require('../module-file');
 const { examples, playground } = require('../pack/playground');
 const { Studio } = require('../playground/answer');
 const { documentIn, hashOf } = require('../playground/link');
+const { placeOf } = require('../playground/source');
 const { verdictOf } = require('../playground/verdict');
 const { Browser, WITH_BROWSER } = require('../testing/browser');
 const { Firefox, WITH_FIREFOX } = require('../testing/firefox');
@@ -99,6 +100,22 @@ test('verdicts are told in words', () => {
   }
 });
 
+test('an element of the drawing is found in the text', () => {
+  const text = '{ "id": "r", "edges": [{ "id": 1 }],\n "children": [{ "id": "1", "children": [{ "id": "é" }] }, { "id": 2 }] }';
+  const cases = [
+    ['node', 'r', 1, '"r"'],
+    ['edge', '1', 1, '1 }'],
+    ['node', '1', 2, '"1"'],
+    ['node', 'é', 2, '"é"'],
+    ['node', '2', 2, '2 }'],
+  ];
+  for (const [kind, id, line, words] of cases) {
+    const column = text.split('\n')[line - 1].indexOf(words) + 1;
+    assert.deepEqual(placeOf(text, { kind, id }), { line, column }, `${kind} ${id}`);
+  }
+  assert.equal(placeOf(text, { kind: 'edge', id: 'none' }), undefined);
+});
+
 test('a link carries any document, compressed or not', async () => {
   const texts = ['', '{}', '{"id":"é 😀 \\u2028"}', 'x'.repeat(100_000)];
   const { CompressionStream } = globalThis;
@@ -167,6 +184,11 @@ const verdict = `document.getElementById('verdict').innerText`;
 
 const isDrawn = (id) => `(${texts}).includes('${id}') && !document.body.classList.contains('outdated') && ${verdict} !== ''`;
 
+const selected = `(() => {
+  const { value, selectionStart, selectionEnd } = document.getElementById('text');
+  return value.slice(selectionStart, selectionEnd);
+})()`;
+
 /** Types a whole document in place of the one that is there. */
 async function typeAll(page, text) {
   await page.evaluate(`document.getElementById('text').focus(), document.getElementById('text').select()`);
@@ -212,8 +234,6 @@ const CASES = {
     assert.match(words, /^line 1, column 47: an option of "pair" has a value that is not taken/);
     assert.equal(await page.evaluate(`document.querySelectorAll('#marks .fault').length`), 1);
     assert.equal(await page.evaluate(`document.getElementById('text').getAttribute('aria-invalid')`), 'true');
-    const selected = `(() => { const { value, selectionStart, selectionEnd } = document.getElementById('text');
-      return value.slice(selectionStart, selectionEnd); })()`;
     await page.evaluate(`document.querySelector('#told button').click()`);
     assert.equal(await page.evaluate(selected), '"ASIDE"');
     await page.type('"DOWN"');
@@ -259,8 +279,27 @@ const CASES = {
     await until(page, `${viewBox} === '${fitted}'`);
     await page.press('e');
     assert.match(await until(page, `document.getElementById('edge').textContent`), /^line: a → newer$/);
+    await page.press('Enter');
+    assert.equal(await page.evaluate(selected), '"line"');
+    await page.evaluate(`document.getElementById('stage').focus()`);
     await page.press('Escape');
     await until(page, `document.getElementById('edge').textContent === ''`);
+  },
+
+  'a click on a node leads to its text': async (page) => {
+    const [x, y] = await page.evaluate(`(() => {
+      const { left, top, width, height } = document.getElementById('picture').shadowRoot.querySelector('[data-id=newer]').getBoundingClientRect();
+      return [left + width / 2, top + height / 2];
+    })()`);
+    await page.click(x, y);
+    assert.equal(await until(page, selected), '"newer"');
+  },
+
+  'every control has a name': async (page) => {
+    const nameless = await page.evaluate(`[...document.querySelectorAll('button, input, select, textarea, [tabindex], progress')]
+      .filter((it) => !(it.ariaLabel || it.innerText || it.labels?.[0]?.innerText)).map(({ id, outerHTML }) => id || outerHTML)`);
+    assert.deepEqual(nameless, []);
+    assert.equal(await page.evaluate(`document.querySelector('footer').getAttribute('role')`), 'status');
   },
 
   'the drawing is saved as SVG, as PNG and as a placed document': async (page, folder) => {

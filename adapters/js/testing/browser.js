@@ -112,6 +112,13 @@ class Page {
     await this.send('Emulation.setEmulatedMedia', { features: [{ name: 'prefers-color-scheme', value }] });
   }
 
+  /** Clicks at a point of the page. */
+  async click(x, y) {
+    for (const type of ['mouseMoved', 'mousePressed', 'mouseReleased']) {
+      await this.send('Input.dispatchMouseEvent', { type, x, y, button: 'left', clickCount: 1 });
+    }
+  }
+
   /** Writes what the page shows as PNG. */
   async screenshot(file) {
     const { data } = await this.send('Page.captureScreenshot', { format: 'png' });

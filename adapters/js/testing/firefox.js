@@ -35,7 +35,7 @@ const PREFERENCES = {
 };
 
 // Keys without a letter have numbers of their own here.
-const KEYS = { Escape: '\ue00c', ArrowLeft: '\ue012', ArrowRight: '\ue014' };
+const KEYS = { Enter: '\ue007', Escape: '\ue00c', ArrowLeft: '\ue012', ArrowRight: '\ue014' };
 
 const preferencesOf = (given) =>
   Object.entries({ ...PREFERENCES, ...given })
@@ -173,6 +173,13 @@ class Firefox {
     const value = KEYS[key] ?? key;
     const steps = ['keyDown', 'keyUp'].map((type) => ({ type, value }));
     await this.send('WebDriver:PerformActions', { actions: [{ type: 'key', id: 'keys', actions: steps }] });
+  }
+
+  /** Clicks at a point of the page. */
+  async click(x, y) {
+    const to = { type: 'pointerMove', x: Math.round(x), y: Math.round(y), origin: 'viewport', duration: 0 };
+    const steps = [to, { type: 'pointerDown', button: 0 }, { type: 'pointerUp', button: 0 }];
+    await this.send('WebDriver:PerformActions', { actions: [{ type: 'pointer', id: 'mouse', actions: steps }] });
   }
 
   /** Writes what the page shows as PNG. */

@@ -1,0 +1,45 @@
+'use strict';
+// Where in a text the element stands that a drawing shows.
+
+const { readJson, linesOf } = require('../jsontext');
+const { elementsOf } = require('../levels');
+
+const LISTS = { node: 'children', edge: 'edges' };
+
+/** The steps to all elements of a kind, each with its element; the root is a node. */
+function* elementsIn(node, kind, steps = []) {
+  if (kind === 'node') {
+    yield { element: node, steps };
+  }
+  for (const name of new Set([LISTS[kind], 'children'])) {
+    const list = elementsOf(node[name]);
+    for (const element of list) {
+      const inner = [...steps, name, node[name].indexOf(element)];
+      if (name === 'edges') {
+        yield { element, steps: inner };
+      } else {
+        yield* elementsIn(element, kind, inner);
+      }
+    }
+  }
+}
+
+const wordsOf = (id) => (typeof id === 'string' ? id : JSON.stringify(id) ?? '');
+
+/**
+ * @param {string} text a document
+ * @param {{ kind: 'node' | 'edge', id: string }} chosen the id as a drawing tells it
+ * @returns {{ line: number, column: number } | undefined} where the id stands, or nothing where no element has it
+ */
+function placeOf(text, { kind, id }) {
+  const { value, placeOf: at } = readJson(text, { isStrict: false });
+  for (const { element, steps } of elementsIn(value, kind)) {
+    if (wordsOf(element.id) === id) {
+      const { line, column } = linesOf(text)(at([...steps, 'id']));
+      return { line, column };
+    }
+  }
+  return undefined;
+}
+
+module.exports = { placeOf };
