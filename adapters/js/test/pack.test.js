@@ -104,6 +104,8 @@ test('the package answers a document where nothing else is', WITH_NPM, async (t)
     assert.equal(run(user, [process.execPath, kind, '--eval', script]), '54 54\n', script);
   }
   assert.equal(run(user, [process.execPath, '--eval', HOSTED]), '0 nodes 1 edges 0 weight 0 span 0\n');
+  const element = `console.log(require('elk-layout/elk-diagram').name)`;
+  assert.equal(run(user, [process.execPath, '--eval', element]), 'ElkDiagram\n');
   const command = (name) => path.join('node_modules', '.bin', name);
   const input = '{"id":"r","children":[{"id":"a","width":30,"height":30}]}';
   const placed = run(user, [command('elk'), 'layout'], { input });
