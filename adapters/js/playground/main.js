@@ -70,6 +70,7 @@ const view = new View(find('stage'), find('picture'), {
 
 const editor = new Editor({ area: find('text'), lines: find('lines'), marks: find('marks') }, () => {
   isCurrent = false;
+  find('examples').value = '';
   enable();
   clearTimeout(pause);
   pause = setTimeout(draw, editor.text.length > LONG_TEXT ? LONG_REST : REST);
@@ -232,28 +233,38 @@ function stop() {
   find('text').focus();
 }
 
-/** Draws the last drawing in another look, without laying it out again. */
-async function redraw() {
+/** The last drawing in a look, where the worker is free and still has it. */
+async function pictureIn(look) {
   if (!isCurrent || desk.isBusy) {
-    await draw();
-    return;
+    return undefined;
   }
-  const { svg } = await desk.ask({ kind: 'picture', look: lookOfPage() });
-  if (svg === undefined) {
-    await draw();
-  } else {
-    shown = { ...shown, svg };
-    view.show(svg);
+  try {
+    return (await desk.ask({ kind: 'picture', look })).svg;
+  } catch {
+    // It was stopped, or a newer text came.
+    return undefined;
   }
 }
 
-/** Puts another document in the place of the text. */
-function open({ text, isPlaced = false }) {
+/** Draws the last drawing in another look, without laying it out again where that can be. */
+async function redraw() {
+  const svg = await pictureIn(lookOfPage());
+  if (svg !== undefined && isCurrent) {
+    shown = { ...shown, svg };
+    view.show(svg);
+  } else {
+    await draw();
+  }
+}
+
+/** Puts another document in the place of the text, which may be one of the examples. */
+function open({ text, isPlaced = false, id = '' }) {
   find('way').value = isPlaced ? 'placed' : 'layout';
   view.clear();
   tellVerdict(undefined);
   shown = undefined;
   editor.replace(text);
+  find('examples').value = id;
   draw();
 }
 
@@ -269,7 +280,6 @@ function format() {
 async function openFile(file) {
   if (file) {
     open({ text: await file.text() });
-    find('examples').value = '';
   }
 }
 
@@ -281,9 +291,9 @@ const nameOfFile = () => {
   }
 };
 
-/** The picture as a file, which follows its reader's setting where the worker is free to draw it so. */
+/** The picture as a file, which follows its reader's setting where it can be drawn so. */
 async function svgOfFile() {
-  const { svg } = desk.isBusy ? {} : await desk.ask({ kind: 'picture', look: { ...lookOfPage(), theme: 'auto' } });
+  const svg = await pictureIn({ ...lookOfPage(), theme: 'auto' });
   return new Blob([svg ?? shown.svg], { type: 'image/svg+xml' });
 }
 
@@ -354,7 +364,7 @@ function openExample(id) {
   const [, , nodes] = LARGE.find(([it]) => it === id) ?? [];
   const example = EXAMPLES.find((it) => it.id === id);
   if (nodes ?? example) {
-    open(example ?? { text: largeText(nodes) });
+    open(example ?? { id, text: largeText(nodes) });
   }
 }
 
@@ -440,7 +450,6 @@ async function start() {
   hearBorder();
   enable();
   if (!(await readHash())) {
-    find('examples').value = EXAMPLES[0].id;
     openExample(EXAMPLES[0].id);
   }
 }

@@ -222,10 +222,21 @@ const PNG = Buffer.from('89504e470d0a1a0a', 'hex');
 const CASES = {
   'a text is drawn and judged as it is typed': async (page) => {
     await until(page, isDrawn('source'));
+    assert.equal(await page.evaluate(`document.getElementById('examples').value`), 'diagram');
     await typeAll(page, pair());
     await until(page, isDrawn('a'));
     assert.equal(await page.evaluate(verdict), 'check: yes, the drawing keeps all rules');
     assert.deepEqual(await page.evaluate(texts), ['a', 'b']);
+    assert.equal(await page.evaluate(`document.getElementById('examples').value`), '');
+  },
+
+  'the drawing has arrow heads where that is asked for': async (page) => {
+    const heads = `document.getElementById('picture').shadowRoot.querySelectorAll('.edge path[stroke="none"]').length`;
+    assert.equal(await page.evaluate(heads), 1);
+    for (const count of [0, 1]) {
+      await page.evaluate(click('arrows'));
+      await until(page, `${heads} === ${count}`);
+    }
   },
 
   'a fault is told with its place, and leads there': async (page) => {
