@@ -122,7 +122,8 @@ class Editor {
   /** Where a letter stands in the text's own room. */
   #pointAt(line, at) {
     const style = getComputedStyle(this.#area);
-    this.#font ??= style.font;
+    // The whole of it as one text is empty where a part of it is set by itself.
+    this.#font ??= `${style.fontWeight} ${style.fontSize} ${style.fontFamily}`;
     this.#measure.font = this.#font;
     const before = untabbed(this.text.slice(this.#starts[line - 1], at));
     const [left, top] = [style.paddingLeft, style.paddingTop].map(Number.parseFloat);

@@ -70,7 +70,8 @@ test('each example is drawn and judged as it is meant', WITH_MODULE, async () =>
 });
 
 test('faults come in the order of the text, each with its place', WITH_MODULE, async () => {
-  const text = '{ "id": "r",\n "children": [{ "id": "a", "width": -1 }],\n "edges": [{ "id": "e", "sources": ["a"], "targets": ["b"] }] }';
+  const edge = '{ "id": "e", "sources": ["a"], "targets": ["b"] }';
+  const text = `{ "id": "r",\n "children": [{ "id": "a", "width": -1 }],\n "edges": [${edge}] }`;
   const { faults, drawing } = await toldOf({ text });
   assert.deepEqual(faults.map(({ line, column }) => [line, column]), [[2, 37], [3, 55]]);
   assert.equal(drawing, undefined);
@@ -243,7 +244,18 @@ const CASES = {
     await typeAll(page, pair({ 'elk.direction': 'ASIDE' }));
     const words = await until(page, `document.querySelector('#told button')?.textContent`);
     assert.match(words, /^line 1, column 47: an option of "pair" has a value that is not taken/);
-    assert.equal(await page.evaluate(`document.querySelectorAll('#marks .fault').length`), 1);
+    const [marks, off] = await page.evaluate(`(() => {
+      const letters = document.createElement('span');
+      letters.textContent = 'x'.repeat(100);
+      document.getElementById('room').append(letters);
+      const letter = letters.getBoundingClientRect().width / 100;
+      letters.remove();
+      const marks = [...document.querySelectorAll('#marks .fault')];
+      const { left, width } = marks[0].style;
+      return [marks.length, Math.max(Math.abs(parseFloat(left) - 8 - 46 * letter), Math.abs(parseFloat(width) - 7 * letter))];
+    })()`);
+    assert.equal(marks, 1);
+    assert.ok(off < 1, `the mark is ${off} pixels off`);
     assert.equal(await page.evaluate(`document.getElementById('text').getAttribute('aria-invalid')`), 'true');
     await page.evaluate(`document.querySelector('#told button').click()`);
     assert.equal(await page.evaluate(selected), '"ASIDE"');
@@ -299,7 +311,8 @@ const CASES = {
 
   'a click on a node leads to its text': async (page) => {
     const [x, y] = await page.evaluate(`(() => {
-      const { left, top, width, height } = document.getElementById('picture').shadowRoot.querySelector('[data-id=newer]').getBoundingClientRect();
+      const node = document.getElementById('picture').shadowRoot.querySelector('[data-id=newer]');
+      const { left, top, width, height } = node.getBoundingClientRect();
       return [left + width / 2, top + height / 2];
     })()`);
     await page.click(x, y);

@@ -44,7 +44,8 @@ const preferencesOf = (given) =>
 
 // What is written into the page, so that it may wait for a promise.
 const AWAITED = `const [expression, done] = arguments;
-(async () => (0, eval)(expression))().then((value) => done({ value }), (error) => done({ error: String(error?.stack ?? error) }));`;
+const fail = (error) => done({ error: String(error?.stack ?? error) });
+(async () => (0, eval)(expression))().then((value) => done({ value }), fail);`;
 
 /** The one page of a running Firefox. `Firefox.started` starts it, `close` ends it. */
 class Firefox {
