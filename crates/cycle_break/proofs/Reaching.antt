@@ -1,16 +1,16 @@
 -- A search backwards keeps its ways, and misses no edge.
-use Rattle.std.proofs.Common.{◌≡◌, ◌≢◌, ◌⊎◌, ◌↔◌, ℕ, zero, suc, ◌+◌, ◌<◌, ◌≤◌, List, [], ◌∷◌, ◌++◌, length, set, Option, Some, None, IsSome, is_some, arith, refl, sym, ap, ◌∙◌, subst, inl, inr, ⊎_elim}
+use Rattle.std.proofs.Common.{◌≡◌, ◌≢◌, ◌⊎◌, ◌↔◌, ℕ, zero, suc, ◌+◌, ◌<◌, ◌≤◌, List, [], ◌∷◌, ◌++◌, length, set, map, unwrap_or, Option, Some, None, IsSome, is_some, arith, refl, sym, ap, ◌∙◌, subst, inl, inr, ⊎_elim}
 use Rattle.std.proofs.lemmas.Bool.{cases_eq, cases_lt}
-use Rattle.std.proofs.lemmas.List.{get_or-set_same, get_or-set_other, length-append, length-set}
-use Rattle.graph_arena.specs.Graph.{Graph, Ends, ends_at, in_list, front, IsNode, IsEdge, IsIncidence}
+use Rattle.std.proofs.lemmas.List.{get_or-set_same, get_or-set_other, length-append, length-set, map-append}
+use Rattle.graph_arena.specs.Graph.{Graph, Ends, ends_at, in_list, front, head_in, occurs, IsNode, IsEdge, IsIncidence}
 use Rattle.graph_arena.specs.Changes.{RemovesEdge, IsSame, without}
 use Rattle.graph_arena.specs.Paths.{Reaches}
 use Rattle.graph_arena.specs.Paths.Reaches.{stay, go}
 use Rattle.cycle_break.specs.declared.searching.Reached.{Reached}
 use Rattle.cycle_break.specs.declared.searching.Via.{Via}
-use Rattle.cycle_break.specs.Ways.{Step, Leads}
-use Rattle.cycle_break.specs.Search.{Searched, IsReady, WayOn, IsLinked, place_of, reached_at}
-use Rattle.cycle_break.proofs.Lists.{first_in_ends, front_occurs, none_in}
+use Rattle.cycle_break.specs.Ways.{Step, Leads, IsPath, nodes_on}
+use Rattle.cycle_break.specs.Search.{Searched, IsReady, WayOn, IsLinked, IsIndexed, IsFrom, place_of, reached_at}
+use Rattle.cycle_break.proofs.Lists.{first_in_ends, front_occurs, none_in, occurs-append, occurs_one, occurs_none}
 use Rattle.graph_arena.proofs.Unlinking.{length-without}
 
 -- ---- one more entry
@@ -71,10 +71,20 @@ some_key a b h = cc
 pub record Indexed (g : Graph) (to : ℕ) (rs : List Reached) (index : List (Option ℕ)) : Type 0 where
   pub ways : (k : ℕ) → k < length rs → WayOn g to rs k (reached_at rs k).node.at (reached_at rs k).via
   pub indexed : (v k : ℕ) → place_of index v ≡ Some k → (k < length rs) × ((reached_at rs k).node.at ≡ v)
+  pub back : IsIndexed rs index
 
-pub indexed_more : (g : Graph) (to : ℕ) (rs : List Reached) (index : List (Option ℕ)) (r : Reached) → Indexed g to rs index → r.node.at < length index → WayOn g to (rs ++ r ∷ []) (length rs) r.node.at r.via → Indexed g to (rs ++ r ∷ []) (set index r.node.at (Some (length rs)))
-indexed_more g to rs index r s fits way =
+pub indexed_more : (g : Graph) (to : ℕ) (rs : List Reached) (index : List (Option ℕ)) (r : Reached) → Indexed g to rs index → r.node.at < length index → place_of index r.node.at ≡ None → WayOn g to (rs ++ r ∷ []) (length rs) r.node.at r.via → Indexed g to (rs ++ r ∷ []) (set index r.node.at (Some (length rs)))
+indexed_more g to rs index r s fits free way =
     record {
+      back = λ j l. elim (less_or_last j (length rs) (omega (arith, l, longer rs r))) [
+        | inl b ↦
+            let here = s.back j b in
+            let other : (reached_at rs j).node.at ≢ r.node.at = λ e. let bad : None ≡ Some j = sym free ∙ (ap (λ (v : ℕ). place_of index v) (sym e) ∙ here) in cc in
+            rw (old_entry rs r j b) (index_other index r.node.at (reached_at rs j).node.at (length rs) other ∙ here)
+        | inr e ↦
+            subst (λ (i : ℕ). place_of (set index r.node.at (Some (length rs))) (reached_at (rs ++ r ∷ []) i).node.at ≡ Some i) (sym e)
+            (rw (new_entry rs r) (index_same index r.node.at (length rs) fits))
+      ];
       ways = λ j l. elim (less_or_last j (length rs) (omega (arith, l, longer rs r))) [
         | inl b ↦ rw (old_entry rs r j b) (way_kept g to rs r j (reached_at rs j).node.at (reached_at rs j).via b (s.ways j b))
         | inr e ↦ subst (λ (i : ℕ). WayOn g to (rs ++ r ∷ []) i (reached_at (rs ++ r ∷ []) i).node.at (reached_at (rs ++ r ∷ []) i).via) (sym e) (rw (new_entry rs r) way)
@@ -116,6 +126,7 @@ module _ (g work w1 : Graph) (to next e : ℕ) (x : Ends) (rs rs1 : List Reached
         ways = i.ways;
         indexed = i.indexed;
         root = kept to s.root;
+        back = i.back;
       }
 
 -- no edge is left that enters the entry
@@ -131,6 +142,7 @@ searched_next g work to next rs index s i none =
       ways = s.ways;
       indexed = s.indexed;
       root = s.root;
+      back = s.back;
     }
 
 -- ---- the whole search
@@ -154,9 +166,71 @@ reached_back g index a c closed (go _ b _ s r) h = closed a b s (reached_back g 
 
 -- ---- ways forward
 
+nodes_more : (g : Graph) (a : ℕ) (es : List ℕ) (e b : ℕ) → head_in (ends_at g e) ≡ Some b → nodes_on g a (es ++ e ∷ []) ≡ nodes_on g a es ++ b ∷ []
+nodes_more g a es e b is =
+    ap (λ (ns : List ℕ). a ∷ ns)
+    (map-append (λ (e : ℕ). unwrap_or (head_in (ends_at g e)) 0) es (e ∷ []) ∙ ap (λ (o : Option ℕ). map (λ (e : ℕ). unwrap_or (head_in (ends_at g e)) 0) es ++ unwrap_or o 0 ∷ []) is)
+
 pub leads_more : (g : Graph) (a : ℕ) (es : List ℕ) (m e b : ℕ) → Leads g a es m → ends_at g e ≡ Some (record { tail = m; head = b }) → Leads g a (es ++ e ∷ []) b
 leads_more g a [] m e b h is = (b, subst (λ (i : ℕ). ends_at g e ≡ Some (record { tail = i; head = b })) (sym h) is, refl)
 leads_more g a (x ∷ es) m e b h is = (h.0, h.1, leads_more g h.0 es m e b h.2 is)
+
+-- one more edge, to a node to which the way did not come
+pub path_more : (g : Graph) (a : ℕ) (es : List ℕ) (m e b : ℕ) → IsPath g a es m → ends_at g e ≡ Some (record { tail = m; head = b }) → occurs b (nodes_on g a es) ≡ 0 → IsPath g a (es ++ e ∷ []) b
+path_more g a es m e b p is new =
+    record {
+      leads = leads_more g a es m e b p.leads is;
+      once = λ v. subst (λ (ns : List ℕ). occurs v ns ≤ 1) (sym (nodes_more g a es e b (ap head_in is)))
+          (let sum = occurs-append v (nodes_on g a es) (b ∷ []) in
+          elim (cases_eq b v) [
+            | inl same ↦ (let none : occurs v (nodes_on g a es) ≡ 0 = subst (λ (x : ℕ). occurs x (nodes_on g a es) ≡ 0) same new in let one : occurs v (b ∷ []) ≡ 1 = subst (λ (x : ℕ). occurs v (x ∷ []) ≡ 1) (sym same) (occurs_one v) in omega (arith, sum, none, one))
+            | inr other ↦ (let none = occurs_none v b other in let before = p.once v in omega (arith, sum, none, before))
+          ]);
+    }
+
+-- a node of a path and of one entry more is that of the entry or was there before
+pub from_more : (g : Graph) (a : ℕ) (es : List ℕ) (e b : ℕ) (rs : List Reached) (at next : ℕ) → ends_at g e ≡ Some (record { tail = (reached_at rs at).node.at; head = b }) → next < at → next < length rs → (reached_at rs next).node.at ≡ b
+    → ((v : ℕ) → 0 < occurs v (nodes_on g a es) → IsFrom rs at v) → (v : ℕ) → 0 < occurs v (nodes_on g a (es ++ e ∷ [])) → IsFrom rs next v
+from_more g a es e b rs at next is less within entry before v h =
+    let k : 0 < occurs v (nodes_on g a es ++ b ∷ []) = subst (λ (ns : List ℕ). 0 < occurs v ns) (nodes_more g a es e b (ap head_in is)) h in
+    let sum = occurs-append v (nodes_on g a es) (b ∷ []) in
+    elim (cases_eq b v) [
+      | inl same ↦ record { entry = next; from = omega arith; within = within; is = entry ∙ same }
+      | inr other ↦
+          let none = occurs_none v b other in
+          let f = before v (omega (arith, k, sum, none)) in
+          let from = f.from in
+          record { entry = f.entry; from = omega (arith, from, less); within = f.within; is = f.is }
+    ]
+
+-- the nodes from an entry on have not that of an earlier one
+pub not_from : (rs : List Reached) (index : List (Option ℕ)) (at next : ℕ) (xs : List ℕ) → IsIndexed rs index → next < at → next < length rs → ((v : ℕ) → 0 < occurs v xs → IsFrom rs at v) → occurs (reached_at rs next).node.at xs ≡ 0
+not_from rs index at next xs back less within from =
+    elim (cases_lt 0 (occurs (reached_at rs next).node.at xs)) [
+      | inl some ↦
+          let f = from (reached_at rs next).node.at some in
+          let there : Some f.entry ≡ Some next = sym (back f.entry f.within) ∙ (ap (λ (v : ℕ). place_of index v) f.is ∙ back next within) in
+          let same = some_key f.entry next there in
+          let late = f.from in
+          absurd (omega (arith, same, late, less))
+      | inr none ↦ omega (arith, none)
+    ]
+
+pub path_at : (g : Graph) (rs : List Reached) (from : ℕ) → from < length rs → IsPath g (reached_at rs from).node.at [] (reached_at rs from).node.at × ((v : ℕ) → 0 < occurs v (nodes_on g (reached_at rs from).node.at []) → IsFrom rs from v)
+path_at g rs from within =
+    let a = (reached_at rs from).node.at in (
+      record {
+        leads = refl;
+        once = λ v. elim (cases_eq a v) [
+          | inl same ↦ subst (λ (x : ℕ). occurs x (a ∷ []) ≤ 1) same (let one = occurs_one a in omega (arith, one))
+          | inr other ↦ (let none = occurs_none v a other in omega (arith, none))
+        ];
+      },
+      λ v h. elim (cases_eq a v) [
+        | inl same ↦ record { entry = from; from = omega arith; within = within; is = same }
+        | inr other ↦ absurd (let none = occurs_none v a other in omega (arith, h, none))
+      ],
+    )
 
 pub leads_reach : (g : Graph) (a : ℕ) (es : List ℕ) (b : ℕ) → Leads g a es b → Reaches (Step g) a b
 leads_reach g a [] b h = subst (λ (i : ℕ). Reaches (Step g) a i) h (stay a)
@@ -185,13 +259,13 @@ ready_still work w1 rs index s same = record { live = λ k l. (same (reached_at 
 pub search_keeps : (g work w1 : Graph) (to next node e t : ℕ) (rs : List Reached) (index : List (Option ℕ)) → Searched g work to next rs index → IsIncidence work → front (in_list work node) ≡ Some e → ((x : Ends) → ends_at work e ≡ Some x → RemovesEdge work w1 e x.tail x.head) → ((x : Ends) → ends_at work e ≡ Some x → t ≡ x.tail) → IsSome (place_of index t) → Searched g w1 to next rs index
 search_keeps g work w1 to next node e t rs index s i is removes tail there =
     let x = first_in_ends work node e i is in
-    searched_more g work w1 to next e x.0 rs rs index index s x.1 (removes x.0 x.1) (record { ways = s.ways; indexed = s.indexed }) (λ v h. h) (subst (λ (j : ℕ). IsSome (place_of index j)) (tail x.0 x.1) there) (λ v k h. inl h)
+    searched_more g work w1 to next e x.0 rs rs index index s x.1 (removes x.0 x.1) (record { ways = s.ways; indexed = s.indexed; back = s.back }) (λ v h. h) (subst (λ (j : ℕ). IsSome (place_of index j)) (tail x.0 x.1) there) (λ v k h. inl h)
 
 ends_by : (x : Ends) (a b : ℕ) → a ≡ x.tail → b ≡ x.head → Some x ≡ Some (record { tail = a; head = b })
 ends_by x a b p q = rw (p, q) refl
 
-pub search_reaches : (g work w1 : Graph) (to next node e t : ℕ) (rs : List Reached) (index : List (Option ℕ)) (r : Reached) (via : Via) → Searched g work to next rs index → IsIncidence work → front (in_list work node) ≡ Some e → ((x : Ends) → ends_at work e ≡ Some x → RemovesEdge work w1 e x.tail x.head) → ((x : Ends) → ends_at work e ≡ Some x → t ≡ x.tail) → next < length rs → (reached_at rs next).node.at ≡ node → t < length index → r.node.at ≡ t → r.via ≡ Some via → via.edge.at ≡ e → via.next ≡ next → Searched g w1 to next (rs ++ r ∷ []) (set index r.node.at (Some (length rs)))
-search_reaches g work w1 to next node e t rs index r via s i is removes tail l entry fits r_node r_via v_edge v_next =
+pub search_reaches : (g work w1 : Graph) (to next node e t : ℕ) (rs : List Reached) (index : List (Option ℕ)) (r : Reached) (via : Via) → Searched g work to next rs index → IsIncidence work → front (in_list work node) ≡ Some e → ((x : Ends) → ends_at work e ≡ Some x → RemovesEdge work w1 e x.tail x.head) → ((x : Ends) → ends_at work e ≡ Some x → t ≡ x.tail) → next < length rs → (reached_at rs next).node.at ≡ node → t < length index → place_of index t ≡ None → r.node.at ≡ t → r.via ≡ Some via → via.edge.at ≡ e → via.next ≡ next → Searched g w1 to next (rs ++ r ∷ []) (set index r.node.at (Some (length rs)))
+search_reaches g work w1 to next node e t rs index r via s i is removes tail l entry fits free r_node r_via v_edge v_next =
     let x = first_in_ends work node e i is in
     let fits2 : r.node.at < length index = omega (arith, fits, r_node) in
     let tail2 : r.node.at ≡ x.0.tail = r_node ∙ tail x.0 x.1 in
@@ -200,7 +274,7 @@ search_reaches g work w1 to next node e t rs index r via s i is removes tail l e
     let way : WayOn g to (rs ++ r ∷ []) (length rs) r.node.at (Some via) =
     (omega (arith, v_next, l), rw (old_entry rs r via.next (omega (arith, v_next, l))) ends) in
     searched_more g work w1 to next e x.0 rs (rs ++ r ∷ []) index (set index r.node.at (Some (length rs))) s x.1 (removes x.0 x.1)
-    (indexed_more g to rs index r (record { ways = s.ways; indexed = s.indexed }) fits2 (subst (λ (o : Option Via). WayOn g to (rs ++ r ∷ []) (length rs) r.node.at o) (sym r_via) way))
+    (indexed_more g to rs index r (record { ways = s.ways; indexed = s.indexed; back = s.back }) fits2 (ap (λ (v : ℕ). place_of index v) r_node ∙ free) (subst (λ (o : Option Via). WayOn g to (rs ++ r ∷ []) (length rs) r.node.at o) (sym r_via) way))
     (λ v h. still_some index r.node.at v (length rs) fits2 h)
     (subst (λ (j : ℕ). IsSome (place_of (set index r.node.at (Some (length rs))) j)) tail2 (ap is_some (index_same index r.node.at (length rs) fits2)))
     (λ v k h. elim (cases_eq v r.node.at) [
@@ -214,7 +288,7 @@ search_reaches g work w1 to next node e t rs index r via s i is removes tail l e
 -- the search as it begins
 pub search_starts : (g work : Graph) (r : Reached) (index : List (Option ℕ)) → IsSame g work → ((v : ℕ) → place_of index v ≡ None) → r.node.at < length index → r.via ≡ None → Searched g work r.node.at 0 (r ∷ []) (set index r.node.at (Some 0))
 search_starts g work r index same free fits none =
-    let i = indexed_more g r.node.at [] index r (record { ways = λ k l. absurd (omega (arith, l)); indexed = λ v k h. let bad : None ≡ Some k = sym (free v) ∙ h in absurd cc }) fits (rw none refl) in
+    let i = indexed_more g r.node.at [] index r (record { ways = λ k l. absurd (omega (arith, l)); indexed = λ v k h. let bad : None ≡ Some k = sym (free v) ∙ h in absurd cc; back = λ k l. absurd (omega (arith, l)) }) fits (free r.node.at) (rw none refl) in
     record {
       sub = λ e x h. sym (same.same_edges e) ∙ h;
       seen = λ e x h. inl (same.same_edges e ∙ h);
@@ -222,6 +296,7 @@ search_starts g work r index same free fits none =
       ways = i.ways;
       indexed = i.indexed;
       root = ap is_some (index_same index r.node.at 0 fits);
+      back = i.back;
     }
 
 pub search_started : (g work : Graph) (r : Reached) (rs0 rs : List Reached) (index index1 : List (Option ℕ)) → rs0 ≡ [] → rs ≡ rs0 ++ r ∷ [] → index1 ≡ set index r.node.at (Some (length rs0)) → IsSame g work → ((v : ℕ) → place_of index v ≡ None) → ((v : ℕ) → IsNode g v → v < length index) → IsNode g r.node.at → r.via ≡ None → IsReady work rs index1 × Searched g work r.node.at 0 rs index1

@@ -44,6 +44,17 @@ IsLinked k (Some via) = via.next < k
 abbrev pub place_of : List (Option ℕ) → ℕ → Option ℕ
 place_of index v = slice_index_or index v None
 
+-- each entry stands in the index, so no two have one node
+abbrev pub IsIndexed : List Reached → List (Option ℕ) → Type 0
+IsIndexed rs index = (k : ℕ) → k < length rs → place_of index (reached_at rs k).node.at ≡ Some k
+
+-- the node is that of an entry from this one on
+pub record IsFrom (rs : List Reached) (at v : ℕ) : Type 0 where
+  pub entry : ℕ
+  pub from : at ≤ entry
+  pub within : entry < length rs
+  pub is : (reached_at rs entry).node.at ≡ v
+
 -- the nodes that were reached, and that all edges that were taken out were looked at
 pub record Searched (g work : Graph) (to : ℕ) (next : ℕ) (rs : List Reached) (index : List (Option ℕ)) : Type 0 where
   pub sub : (e : ℕ) (x : Ends) → ends_at work e ≡ Some x → ends_at g e ≡ Some x
@@ -52,6 +63,7 @@ pub record Searched (g work : Graph) (to : ℕ) (next : ℕ) (rs : List Reached)
   pub ways : (k : ℕ) → k < length rs → WayOn g to rs k (reached_at rs k).node.at (reached_at rs k).via
   pub indexed : (v k : ℕ) → place_of index v ≡ Some k → (k < length rs) × ((reached_at rs k).node.at ≡ v)
   pub root : IsSome (place_of index to)
+  pub back : IsIndexed rs index
 
 -- what the search needs to go on
 pub record IsReady (work : Graph) (rs : List Reached) (index : List (Option ℕ)) : Type 0 where

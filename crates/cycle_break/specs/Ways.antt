@@ -1,6 +1,6 @@
 -- Ways along the edges of a graph.
-use Rattle.std.specs.Prelude.{◌≡◌, ℕ, List, [], ◌∷◌, map, Some}
-use Rattle.graph_arena.specs.Graph.{Graph, ends_at}
+use Rattle.std.specs.Prelude.{◌≡◌, ◌≤◌, ℕ, List, [], ◌∷◌, map, Some, unwrap_or}
+use Rattle.graph_arena.specs.Graph.{Graph, ends_at, head_in, occurs}
 use Rattle.graph_arena.specs.Paths.{Reaches}
 use Rattle.graph_arena.specs.declared.keys.NodeKey.{NodeKey}
 use Rattle.graph_arena.specs.declared.keys.EdgeKey.{EdgeKey}
@@ -14,6 +14,15 @@ pub record Step (g : Graph) (a b : ℕ) : Type 0 where
 abbrev pub Leads : Graph → ℕ → List ℕ → ℕ → Type 0
 Leads g a [] b = a ≡ b
 Leads g a (e ∷ es) b = (m : ℕ) × (ends_at g e ≡ Some (record { tail = a; head = m })) × Leads g m es b
+
+-- the nodes to which a way from a along these edges comes, in order
+abbrev pub nodes_on : Graph → ℕ → List ℕ → List ℕ
+nodes_on g a es = a ∷ map (λ e. unwrap_or (head_in (ends_at g e)) 0) es
+
+-- these edges, one after the other, lead from a to b, and come to no node twice
+pub record IsPath (g : Graph) (a : ℕ) (es : List ℕ) (b : ℕ) : Type 0 where
+  pub leads : Leads g a es b
+  pub once : (v : ℕ) → occurs v (nodes_on g a es) ≤ 1
 
 -- some edge, a self-loop included, lies on a cycle
 pub record HasCycle (g : Graph) : Type 0 where

@@ -1,11 +1,11 @@
 //! Ways from one node to another, found by a search backwards from the goal.
 
-ghost use Rattle.std.specs.Prelude.{◌≡◌, ◌↔◌, ◌+◌, ◌<◌, ◌++◌, ℕ, [], ◌∷◌, None, Some, IfOk, IfSome, IsSome, OnOk, MatchOption, length, replicate, slice_set, is_none, count_by};
+ghost use Rattle.std.specs.Prelude.{◌≡◌, ◌↔◌, ◌+◌, ◌<◌, ◌++◌, ℕ, List, Option, [], ◌∷◌, None, Some, IfOk, IfSome, IsSome, OnOk, MatchOption, length, replicate, slice_set, is_none, count_by};
 ghost use Rattle.graph_arena.specs.Graph.{Graph, Ends, ends_at, IsNode, IsEdge};
 ghost use Rattle.graph_arena.specs.Changes.{RemovesEdge};
 ghost use Rattle.graph_arena.specs.Paths.{Reaches};
-ghost use Rattle.cycle_break.specs.Ways.{Step, Leads, edge_keys};
-ghost use Rattle.cycle_break.specs.Search.{IsReady, Searched, WayOn, IsLinked, place_of, reached_at};
+ghost use Rattle.cycle_break.specs.Ways.{Step, IsPath, edge_keys};
+ghost use Rattle.cycle_break.specs.Search.{IsReady, Searched, WayOn, IsLinked, IsIndexed, place_of, reached_at};
 
 use graph_arena::{Arena, EdgeKey, NodeKey};
 use std::alloc::{AllocError, Global};
@@ -112,6 +112,7 @@ fn search(
     ensures ways { IfOk result (λ r. (k : ℕ) → k < length r.items → WayOn arena.now to.at r.items k (reached_at r.items k).node.at (reached_at r.items k).via) }
     ensures indexed { IfOk result (λ r. (v k : ℕ) → place_of index.new v ≡ Some k → (k < length r.items) × ((reached_at r.items k).node.at ≡ v)) }
     ensures root { OnOk result (IsSome (place_of index.new to.at)) }
+    ensures back { IfOk result (λ r. IsIndexed r.items index.new) }
     ensures closed { OnOk result ((a b : ℕ) → Step arena.now a b → IsSome (place_of index.new b) → IsSome (place_of index.new a)) }
 {
     let mut work = arena.copy()?;
@@ -129,7 +130,8 @@ fn search(
 fn edges_from(alloc: Global, reached: &[Reached], from: usize) -> Result<Vec<EdgeKey>, AllocError>
     requires from { from < length reached.now }
     requires links { (k : ℕ) → k < length reached.now → IsLinked k (reached_at reached.now k).via }
-    ensures leads { IfOk result (λ p. (g : Graph) (to : ℕ) → ((k : ℕ) → k < length reached.now → WayOn g to reached.now k (reached_at reached.now k).node.at (reached_at reached.now k).via) → Leads g (reached_at reached.now from).node.at (edge_keys p.items) to) }
+    ensures path { IfOk result (λ p. (g : Graph) (to : ℕ) (index : List (Option ℕ)) → ((k : ℕ) → k < length reached.now → WayOn g to reached.now k (reached_at reached.now k).node.at (reached_at reached.now k).via) → IsIndexed reached.now index
+        → IsPath g (reached_at reached.now from).node.at (edge_keys p.items) to) }
 {
     let mut edges = Vec::new(alloc);
     let mut at = from;
@@ -151,7 +153,7 @@ fn path_by(
     requires to { IsNode arena.now to.at }
     requires fits { (v : ℕ) → IsNode arena.now v → v < length index.old }
     requires free { (v : ℕ) → place_of index.old v ≡ None }
-    ensures { IfOk result (λ r. MatchOption r (Reaches (Step arena.now) from.at to.at → ⊥) (λ p. Leads arena.now from.at (edge_keys p.items) to.at)) }
+    ensures { IfOk result (λ r. MatchOption r (Reaches (Step arena.now) from.at to.at → ⊥) (λ p. IsPath arena.now from.at (edge_keys p.items) to.at)) }
 {
     let reached = search(alloc, arena, index, to)?;
     match index[from.at] {
@@ -160,8 +162,8 @@ fn path_by(
     }
 }
 
-/// The edges of a path from one node to another, in order; none where they are the same node. There is no answer
-/// exactly where there is no path.
+/// The edges of a path from one node to another, in order; none where they are the same node. It comes to no node
+/// twice. There is no answer exactly where there is no path.
 pub fn path(
     alloc: Global,
     arena: &Arena,
@@ -170,7 +172,7 @@ pub fn path(
 ) -> Result<Option<Vec<EdgeKey>>, AllocError>
     requires from { IsNode arena.now from.at }
     requires to { IsNode arena.now to.at }
-    ensures answer { IfOk result (λ r. MatchOption r (Reaches (Step arena.now) from.at to.at → ⊥) (λ p. Leads arena.now from.at (edge_keys p.items) to.at)) }
+    ensures answer { IfOk result (λ r. MatchOption r (Reaches (Step arena.now) from.at to.at → ⊥) (λ p. IsPath arena.now from.at (edge_keys p.items) to.at)) }
     ensures empty { IfOk result (λ r. IfSome r (λ p. from.at ≡ to.at → edge_keys p.items ≡ [])) }
 {
     if from.at == to.at {

@@ -71,7 +71,7 @@ edges-preserved-in-Continue-1 c =
       count = omega (arith, c.edges.invariant.count, len, free);
       searched = λ g to start.
           let s : Searched g c.take_edge-tail.new.work to c.args.next (c.edges.reached.items ++ r ∷ []) (set c.edges.index r.node.at (Some (length c.edges.reached.items))) =
-          search_reaches g c.edges.work c.take_edge-tail.new.work to c.args.next _ c.in-Some.edge.at c.take_edge-tail.result.at c.edges.reached.items c.edges.index r (record { edge = c.in-Some.edge; next = c.args.next }) (c.edges.invariant.searched g to start) c.incidence.ensures (key_some _ c.in-Some.edge c.in-Some.ensures) c.take_edge-tail.ensures.removed c.take_edge-tail.ensures.tail c.edges.invariant.next (ap (λ k. k.at) c.edges.invariant.entry) fits refl refl refl refl in
+          search_reaches g c.edges.work c.take_edge-tail.new.work to c.args.next _ c.in-Some.edge.at c.take_edge-tail.result.at c.edges.reached.items c.edges.index r (record { edge = c.in-Some.edge; next = c.args.next }) (c.edges.invariant.searched g to start) c.incidence.ensures (key_some _ c.in-Some.edge c.in-Some.ensures) c.take_edge-tail.ensures.removed c.take_edge-tail.ensures.tail c.edges.invariant.next (ap (λ k. k.at) c.edges.invariant.entry) fits (none_of _ (sym c.is_free.ensures ∙ c.if-is_free.true)) refl refl refl refl in
           subst (λ (l : List Reached). Searched g c.take_edge-tail.new.work to c.args.next l c.reach.new.index) (sym c.in_ok-reach.ensures.reached)
           (subst (λ (i : List (Option ℕ)). Searched g c.take_edge-tail.new.work to c.args.next (c.edges.reached.items ++ r ∷ []) i) (sym c.in_ok-reach.ensures.index) s);
     }

@@ -1,6 +1,6 @@
 use Rattle.std.proofs.Common.{◌≡◌, ◌<◌, ℕ, List, length, arith, Some, None, IsSome, rules, sym, ap, ◌∙◌, subst}
-use Rattle.cycle_break.specs.Ways.{Leads, edge_keys}
-use Rattle.cycle_break.specs.Search.{place_of, reached_at, WayOn}
+use Rattle.cycle_break.specs.Ways.{IsPath, edge_keys}
+use Rattle.cycle_break.specs.Search.{place_of, reached_at, WayOn, IsIndexed}
 use Rattle.cycle_break.specs.declared.searching.Reached.{Reached}
 use Rattle.cycle_break.proofs.Reaching.{reached_back}
 use Rattle.cycle_break.proofs.searching.path_by.Goals as goal
@@ -26,6 +26,7 @@ returns c =
     let g = c.args.arena.now in
     let to = c.args.to.at in
     let v : c.as_slice.result.now ≡ c.in_ok-reached.reached.items = c.as_slice.ensures.value in
+    let back = subst (λ (rs : List Reached). IsIndexed rs c.search.new.index) (sym v) c.in_ok-reached.ensures.back in
     let ways = subst (λ (rs : List Reached). (k : ℕ) → k < length rs → WayOn g to rs k (reached_at rs k).node.at (reached_at rs k).via) (sym v) c.in_ok-reached.ensures.ways in
     let at = ap (λ (rs : List Reached). (reached_at rs c.in-Some.at).node.at) v ∙ (c.in_ok-reached.ensures.indexed c.args.from.at c.in-Some.at n).1 in
-    subst (λ (j : ℕ). Leads g j (edge_keys c.in_ok-edges_from-in-Some.field-0.items) to) at (c.in_ok-edges_from-in-Some.ensures.leads g to ways)
+    subst (λ (j : ℕ). IsPath g j (edge_keys c.in_ok-edges_from-in-Some.field-0.items) to) at (c.in_ok-edges_from-in-Some.ensures.path g to c.search.new.index ways back)

@@ -26,3 +26,6 @@ pub returns-clause-closed : goal.returns-clause-closed
 returns-clause-closed c =
     let end : length c.entries.reached.items ≤ c.entries.next = search rules in
     all_seen c.args.arena.now c.entries.work c.args.to.at c.entries.next c.entries.reached.items c.entries.index c.entries.invariant.searched end
+
+pub returns-clause-back : goal.returns-clause-back
+returns-clause-back c = c.entries.invariant.searched.back
