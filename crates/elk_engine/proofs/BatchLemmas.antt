@@ -22,21 +22,23 @@ use Rattle.elk_engine.specs.Notes.{refused_note, too_long_note}
 use Rattle.elk_engine.specs.Batch.{longest, IsReply, IsShortReply, AreReplies, AreAllReplies, fed, with_last}
 use Rattle.elk_engine.specs.Outcome.{Outcome}
 use Rattle.elk_engine.specs.Lines.{AreAnswered, IsDone, IsHalted, IsPut, IsPieceReply, IsReplyPut, AfterLine, halt_of, note_of, status_of}
+use Rattle.elk_write.proofs.OneLine.{text_is_line}
+use Rattle.elk_engine.proofs.OneLine.{long_is_line, note_is_line}
 use Rattle.elk_engine.proofs.Outcomes.{Noted, read_failed, memory_failed, refused, write_failed}
 
 -- ---- the reply to a line
 
 pub long_reply : (line reply : List ℕ) → longest < length line → reply ≡ too_long_note → IsReply line reply
 unfolding IsReply
-long_reply line reply long is = inl (long, is)
+long_reply line reply long is = (long_is_line reply is, inl (long, is))
 
 pub answered_reply : (line reply : List ℕ) → length line ≤ longest → answer.IsAccepted line → answer.IsAnswer line reply → IsReply line reply
 unfolding IsReply IsShortReply
-answered_reply line reply fits accepted answered = inr (fits, inl (accepted, answered))
+answered_reply line reply fits accepted answered = (text_is_line answered.good.answer reply answered.good.written, inr (fits, inl (accepted, answered)))
 
 pub refused_reply : (line reply : List ℕ) (r : Refusal) → length line ≤ longest → answer.Refuses line r → reply ≡ refused_note r → IsReply line reply
 unfolding IsReply IsShortReply
-refused_reply line reply r fits refuses is = inr (fits, inr (r, refuses, is))
+refused_reply line reply r fits refuses is = (note_is_line r reply is, inr (fits, inr (r, refuses, is)))
 
 -- ---- lines one after the other
 
@@ -266,11 +268,6 @@ less_after piece (Err halt) held more held' told left out out' taken taken' ende
 less_after Line (Ok last) held more held' told left out out' taken taken' ended answer put on count within = less_left held more answer.0 held' left taken taken' ended answer.1 (let e = put.2.0 in cc) count within
 less_after Long (Ok last) held more held' told left out out' taken taken' ended answer put on count within = less_left held more answer.0 held' left taken taken' ended answer.1 (let e = put.2.0 in cc) count within
 less_after End (Ok last) held more held' told left out out' taken taken' ended answer put on count within = (let e = put.2.0 in let yes_ended = answer.3 in cc)
-
--- where the lines go on, the reader hasn't come to the end
-pub goes_on_after : (piece : Piece) (r : Result Bool Halt) (told out out' : Option (List ℕ)) (ended : Bool) → IsPut piece told ended out out' r → r ≡ Ok false → ended ≡ false
-goes_on_after piece (Err halt) told out out' ended put on = cc
-goes_on_after piece (Ok last) told out out' ended put on = (let e = put.2.0 in cc)
 
 -- a reply to what the reader gave out was written, or not
 pub reply_put : (piece : Piece) (told : Option (List ℕ)) (ended : Bool) (out out' : Option (List ℕ)) (reply : List ℕ) (r : Result Bool Halt) → piece ≢ End → IsPieceReply piece told reply → IsReplyPut reply ended out out' r → IsPut piece told ended out out' r

@@ -4,3 +4,4 @@ mod Outcomes
 mod AgainLaw
 mod Clap
 mod Numbers
+mod OneLine

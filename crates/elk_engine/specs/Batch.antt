@@ -1,7 +1,9 @@
 -- What `batch` writes: one reply a line.
-use Rattle.std.specs.Prelude.{◌≡◌, ◌⊎◌, ℕ, ◌^◌, ◌<◌, ◌≤◌, List, [], ◌∷◌, ◌++◌, length, All}
+use Rattle.std.specs.Prelude.{◌≡◌, ◌⊎◌, ℕ, ◌^◌, ◌<◌, ◌≤◌, List, [], ◌∷◌, ◌++◌, length, All, Option}
+use Rattle.std.specs.Io.KnownBytes.{Appends, Consumes}
 use Rattle.elk_json.specs.declared.fault.Refusal.{Refusal}
 use Rattle.elk_lines.specs.Reader.{HasNoFeed}
+use Rattle.elk_write.specs.Text.{IsOneLine, line_feeds}
 use Rattle.elk_answer.specs.Answer as answer
 use Rattle.elk_engine.specs.Notes.{refused_note, too_long_note}
 
@@ -14,9 +16,9 @@ unfoldable pub IsShortReply : List ℕ → List ℕ → Type 0
 IsShortReply line reply =
     (answer.IsAccepted line × answer.IsAnswer line reply) ⊎ ((r : Refusal) × answer.Refuses line r × (reply ≡ refused_note r))
 
--- the reply to a line
+-- the reply to a line, which is one line too
 unfoldable pub IsReply : List ℕ → List ℕ → Type 0
-IsReply line reply = ((longest < length line) × (reply ≡ too_long_note)) ⊎ ((length line ≤ longest) × IsShortReply line reply)
+IsReply line reply = IsOneLine reply × (((longest < length line) × (reply ≡ too_long_note)) ⊎ ((length line ≤ longest) × IsShortReply line reply))
 
 -- the text is the replies to the lines, in order
 abbrev pub AreReplies : List (List ℕ) → List ℕ → Type 0
@@ -50,3 +52,15 @@ AreAllReplies bytes text = (lines : List (List ℕ)) × (last : List ℕ) × Are
 -- the text is the replies to those lines of the bytes that end with a line feed
 abbrev pub AreFedReplies : List ℕ → List ℕ → Type 0
 AreFedReplies bytes text = (lines : List (List ℕ)) × (last : List ℕ) × AreParted bytes lines last × AreReplies lines text
+
+-- These bytes were taken, and the replies to all their lines were written: as many line feeds as there are lines.
+pub record GainsLines (before left out new_out : Option (List ℕ)) : Type 0 where
+  pub bytes : List ℕ
+  pub text : List ℕ
+  pub lines : List (List ℕ)
+  pub last : List ℕ
+  pub consumed : Consumes before left bytes
+  pub parted : AreParted bytes lines last
+  pub replies : AreReplies (with_last lines last) text
+  pub gained : Appends out new_out text
+  pub as_many : line_feeds text ≡ length (with_last lines last)

@@ -106,11 +106,9 @@ fn reply_next<S: Source, K: Sink>(
     requires spent { reader.old.spent ≡ false }
     requires longest { reader.old.longest ≡ longest }
     requires limit { reader.old.limit ≡ 2 ^ 32 }
-    requires on { reader.old.ended ≡ false }
     ensures bytes { (left out0 : Option (List ℕ)) → AreAnswered left (S.left source.old) out0 (K.taken out.old) reader.old.held reader.old.taken
         → AfterLine left (S.left source.new) out0 (K.taken out.new) reader.new.held reader.new.taken result }
     ensures progress { result ≡ Ok false → (2 ^ 32 + 1 - reader.new.taken) + length reader.new.held < (2 ^ 32 + 1 - reader.old.taken) + length reader.old.held }
-    ensures on { result ≡ Ok false → reader.new.ended ≡ false }
     ensures spent { IfOk result (λ _. reader.new.spent ≡ false) }
     ensures bounds { (reader.new.longest ≡ reader.old.longest) × (reader.new.limit ≡ reader.old.limit) }
     ensures later { (S.faults source.old ≤ S.faults source.new) × (K.faults out.old ≤ K.faults out.new) }

@@ -2,7 +2,7 @@
 use Rattle.std.specs.Prelude.{◌≡◌, ◌≢◌, ℕ, Bool, true, false, ◌<◌, ◌≤◌, List, [], ◌∷◌, ◌++◌, length, Option, Some, Result, Ok, Err, IsErrOf}
 use Rattle.std.specs.Io.KnownBytes.{IsAtEnd}
 use Rattle.elk_outer.specs.Causes.{Rose}
-use Rattle.elk_lines.specs.Reader.{Reader, HasNoFeed}
+use Rattle.elk_lines.specs.Reader.{HasNoFeed}
 use Rattle.elk_lines.specs.declared.answer.Piece.{Piece}
 use Rattle.elk_lines.specs.declared.answer.Piece.TheVariants.{Line, Long, End}
 use Rattle.elk_lines.specs.declared.answer.LineFault.{LineFault}
@@ -36,13 +36,6 @@ IsAnswer longest bytes rest told left ended (Ok End) = (bytes ≡ []) × (rest �
 IsAnswer longest bytes rest told left ended (Err Fault) = HasNoFeed bytes
 IsAnswer longest bytes rest told left ended (Err TooLong) = IsOnePast bytes
 IsAnswer longest bytes rest told left ended (Err Memory) = Unit {0}
-
--- A reader whose source has ended takes nothing, holds nothing and still knows of the end.
-pub record IsUnmoved (old new : Reader) : Type 0 where
-  pub before : old.held ≡ []
-  pub held : new.held ≡ []
-  pub taken : new.taken ≡ old.taken
-  pub ended : new.ended ≡ true
 
 -- the count of faults never falls, and `Fault` comes only where it rose
 pub record HasLineCause {T : Type 0} (before now : ℕ) (result : Result T LineFault) : Type 0 where

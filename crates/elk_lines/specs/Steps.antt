@@ -12,10 +12,11 @@ use Rattle.elk_lines.specs.declared.draft.Draft.{Draft}
 abbrev pub held : Store → List ℕ
 held s = slice_range s.bytes.items s.start s.end
 
--- what is held lies in the store
+-- what is held lies in the store, which has the size of one piece at most
 pub record IsStore (s : Store) : Type 0 where
   pub ordered : s.start ≤ s.end
   pub inside : s.end ≤ vec_len s.bytes
+  pub small : vec_len s.bytes ≤ 2 ^ 14
 
 -- the draft has these bytes, or they are too many
 pub record IsDraft (longest : ℕ) (bytes : List ℕ) (d : Draft) : Type 0 where
@@ -61,6 +62,7 @@ reader_of store draft has_line spent longest limit =
       limit = limit;
       spent = spent;
       ended = draft.ended;
+      kept = vec_len draft.bytes + vec_len store.bytes;
     }
 
 -- what a reader keeps
@@ -69,4 +71,3 @@ pub record IsReader (s : Store) (d : Draft) (spent : Bool) (longest limit : ℕ)
   pub within : vec_len d.bytes ≤ longest
   pub small : limit ≤ 2 ^ 32
   pub taken : spent ≡ false → s.taken ≤ limit
-  pub none_after : spent ≡ false → d.ended ≡ true → held s ≡ []

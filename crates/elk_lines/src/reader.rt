@@ -1,7 +1,7 @@
 //! The reader of lines.
 ghost use Rattle.std.specs.Prelude.{◌≡◌, ◌≤◌, ◌+◌, ◌^◌, ◌++◌, ◌↔◌, ℕ, List, [], None, Some, false, Err, IsErr, IsSome, IsTrue, true, length};
 ghost use Rattle.std.specs.Io.KnownBytes.{Consumes};
-ghost use Rattle.elk_lines.specs.Answers.{HasLineCause, IsAnswer, IsUnmoved};
+ghost use Rattle.elk_lines.specs.Answers.{HasLineCause, IsAnswer};
 
 use crate::answer::{LineFault, Piece};
 use crate::draft::Draft;
@@ -13,8 +13,8 @@ use std::marker::Model;
 
 /// Gives out the lines of a source, one after the other. What is due is what was taken from the source and not given
 /// out, followed by what the source has left. A line ends with a byte 10, which isn't part of it; what follows the
-/// last of them is a line where it isn't empty. Where a read gives no bytes the source has ended, and none is made
-/// after it, since a terminal may give more then.
+/// last of them is a line where it isn't empty. Where a read gives no bytes the source has ended. Another call asks it
+/// again, and a terminal may give more then: a caller that wants no such read stops where `has_ended` says so.
 #[derive(Drop)]
 pub struct LineReader {
     store: Store,
@@ -58,6 +58,7 @@ impl LineReader {
         ensures no_line { result.line ≡ None }
         ensures not_spent { result.spent ≡ false }
         ensures not_ended { result.ended ≡ false }
+        ensures nothing_kept { result.kept ≡ 0 }
         ensures bounds { (result.longest ≡ longest) × (result.limit ≡ limit) }
     {
         LineReader {
@@ -80,26 +81,24 @@ impl LineReader {
     }
 
     /// Gives out the next line and its line feed. `Line`: `line` has its bytes. `Long`: it has more than `longest`
-    /// bytes, and none of them are kept. `End`: nothing is due. `Fault`: the source failed, and what was taken and not
-    /// given out has no line feed. `TooLong`: one byte more than the limit was taken, and no line feed before it is
-    /// still due. After an error the reader is spent. Once the source has ended, the answer is `End` and nothing is read.
+    /// bytes, and `line` tells none of them. `End`: nothing is due. `Fault`: the source failed, and what was taken and
+    /// not given out has no line feed. `TooLong`: one byte more than the limit was taken, and no line feed before it is
+    /// still due. After an error the reader is spent. Of a line that is too long at most `longest` bytes are kept.
     pub fn next_line<S: Source>(&mut self, src: &mut S) -> Result<Piece, LineFault>
         requires { self.old.spent ≡ false }
 
-        ensures answer { self.old.ended ≡ false → (taken : List ℕ) × Consumes (S.left src.old) (S.left src.new) taken × (self.new.taken ≡ self.old.taken + length taken)
+        ensures answer { (taken : List ℕ) × Consumes (S.left src.old) (S.left src.new) taken × (self.new.taken ≡ self.old.taken + length taken)
             × IsAnswer self.old.longest (self.old.held ++ taken) self.new.held self.new.line (S.left src.new) self.new.ended result }
-        ensures after_end { self.old.ended ≡ true → (src.new ≡ src.old) × (result ≡ Ok Piece.End) × IsUnmoved self.old self.new }
         ensures too_long { (result ≡ Err LineFault.TooLong) ↔ (self.new.taken ≡ self.old.limit + 1) }
         ensures within { self.new.taken ≤ self.old.limit + 1 }
         ensures cause { HasLineCause (S.faults src.old) (S.faults src.new) result }
         ensures line { IsSome self.new.line ↔ (result ≡ Ok Piece.Line) }
         ensures spent { IsTrue self.new.spent ↔ IsErr result }
         ensures bounds { (self.new.longest ≡ self.old.longest) × (self.new.limit ≡ self.old.limit) }
+        ensures kept { self.new.kept ≤ self.old.longest + 2 ^ 14 }
     {
         self.has_line = false;
-        if self.draft.ended {
-            return Ok(Piece::End);
-        }
+        self.draft.ended = false;
         let longest = self.longest;
         let limit = self.limit;
         match advance(src, &mut self.store, &mut self.draft, longest, limit) {
@@ -122,8 +121,8 @@ impl LineReader {
         self.draft.bytes.as_slice()
     }
 
-    /// Whether the source has ended, so that nothing is due and nothing more is read. It is so after `End`, and after a
-    /// last line without a line feed.
+    /// Whether the source had ended at the last answer, so that nothing was due after it. It is so after `End`, and
+    /// after a last line without a line feed.
     pub fn has_ended(&self) -> bool
         ensures { result ≡ self.now.ended }
     {

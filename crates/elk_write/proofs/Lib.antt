@@ -39,3 +39,5 @@ pub mod PortsStand
 pub mod NotRefused
 pub mod Nesting
 pub mod LineFeed
+pub mod OneLine
+pub mod Ascending

@@ -107,7 +107,7 @@ tokens_before ts h =
 
 -- ---- what the text is read as
 
-same_tokens : (text : List ℕ) (d : Data) → IsInOrder text d → text ≡ print (tokens text) → tokens (text ++ 10 ∷ []) ≡ tokens text
+pub same_tokens : (text : List ℕ) (d : Data) → IsInOrder text d → text ≡ print (tokens text) → tokens (text ++ 10 ∷ []) ≡ tokens text
 same_tokens text d order compact =
     ap (λ l. tokens (l ++ 10 ∷ [])) compact ∙ tokens_before (tokens text) (printable text order.0 order.1) ∙ ap tokens (sym compact)
 

@@ -1,6 +1,6 @@
 use Rattle.std.proofs.Common.{◌≢◌, ◌≤◌, ◌+◌, ◌^◌, ◌++◌, ℕ, arith, Ok, Err, sym, ap, ◌∙◌, subst}
 use Rattle.elk_lines.specs.Answers.{IsAnswer}
-use Rattle.elk_engine.proofs.BatchLemmas.{after_piece, after_fault, goes_on_after, less_after}
+use Rattle.elk_engine.proofs.BatchLemmas.{after_piece, after_fault, less_after}
 use Rattle.elk_engine.proofs.batch.reply_next.Given.{Over}
 use Rattle.elk_engine.proofs.batch.reply_next.Goals as goal
 
@@ -14,7 +14,7 @@ module _ (g : Over) (c : goal.After-reply_to_piece g) where
 
 pub returns-in-Ok-clause-bytes : goal.returns-in-Ok-clause-bytes
 returns-in-Ok-clause-bytes g c =
-    let (more, took, count, answer) = c.in-Ok.ensures.answer c.requires.on in
+    let (more, took, count, answer) = c.in-Ok.ensures.answer in
     let held = c.args.reader.now.held in
     let new = c.next_line.new.self in
     let left = g.S.Source.left c.args.source.now in
@@ -27,7 +27,7 @@ returns-in-Ok-clause-bytes g c =
 
 pub returns-in-Ok-clause-progress : goal.returns-in-Ok-clause-progress
 returns-in-Ok-clause-progress g c =
-    let (more, took, count, answer) = c.in-Ok.ensures.answer c.requires.on in
+    let (more, took, count, answer) = c.in-Ok.ensures.answer in
     let held = c.args.reader.now.held in
     let new = c.next_line.new.self in
     let left' = g.S.Source.left c.next_line.new.src in
@@ -35,14 +35,9 @@ returns-in-Ok-clause-progress g c =
     less_after c.in-Ok.piece c.reply_to_piece.result held more new.held new.line left' (g.K.Sink.taken c.args.out.now) (g.K.Sink.taken c.reply_to_piece.new.out) c.args.reader.now.taken new.taken new.ended
     (subst (λ (n : ℕ). IsAnswer n (held ++ more) new.held new.line left' new.ended (Ok c.in-Ok.piece)) c.requires.longest answer) c.reply_to_piece.ensures.put on count (within g c)
 
-pub returns-in-Ok-clause-on : goal.returns-in-Ok-clause-on
-returns-in-Ok-clause-on g c =
-    let new = c.next_line.new.self in
-    goes_on_after c.in-Ok.piece c.reply_to_piece.result new.line (g.K.Sink.taken c.args.out.now) (g.K.Sink.taken c.reply_to_piece.new.out) new.ended c.reply_to_piece.ensures.put
-
 pub returns-in-Err-clause-bytes : goal.returns-in-Err-clause-bytes
 returns-in-Err-clause-bytes g c =
-    let (more, took, count, answer) = c.in-Err.ensures.answer c.requires.on in
+    let (more, took, count, answer) = c.in-Err.ensures.answer in
     let held = c.args.reader.now.held in
     let new = c.next_line.new.self in
     let left = g.S.Source.left c.args.source.now in

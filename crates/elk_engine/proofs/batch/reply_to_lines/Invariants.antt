@@ -9,7 +9,6 @@ invariant-lines g l =
       spent : l.reader.spent ≡ false;
       longest : l.reader.longest ≡ longest;
       limit : l.reader.limit ≡ 2 ^ 32;
-      on : l.reader.ended ≡ false;
       answered : AreAnswered (g.S.Source.left l.fn.source) (g.S.Source.left l.source) (g.K.Sink.taken l.fn.out) (g.K.Sink.taken l.out) l.reader.held l.reader.taken;
       source_later : g.S.Source.faults l.fn.source ≤ g.S.Source.faults l.source;
       out_later : g.K.Sink.faults l.fn.out ≤ g.K.Sink.faults l.out;

@@ -1,4 +1,4 @@
-use Rattle.std.proofs.Common.{◌≡◌, false, ◌+◌, ◌++◌, ℕ, List, length, cond, None, Ok, subst}
+use Rattle.std.proofs.Common.{◌≡◌, ◌+◌, ◌++◌, ℕ, List, length, cond, None, Ok, subst}
 use Rattle.std.specs.Io.KnownBytes.{Consumes}
 use Rattle.elk_lines.specs.Reader.{Reader}
 use Rattle.elk_lines.specs.Answers.{IsAnswer}
@@ -14,5 +14,5 @@ returns-in-Ok-clause-answer g c =
     let told = cond c.is_line-self-inside.result (told_by d) None in
     let left = g.S.Source.left c.args.src.now in
     let left' = g.S.Source.left c.advance.new.src in
-    subst (λ (r : Reader). r.ended ≡ false → (x : List ℕ) × Consumes left left' x × (s.taken ≡ r.taken + length x) × IsAnswer r.longest (r.held ++ x) (held s) told left' d.ended (Ok c.in-Ok.piece)) c.self.view_is
-    (λ on. (t.0, t.1, t.2, told_answer _ _ _ d _ _ c.in-Ok.piece _ c.is_line-self-inside.ensures.yes t.3))
+    subst (λ (r : Reader). (x : List ℕ) × Consumes left left' x × (s.taken ≡ r.taken + length x) × IsAnswer r.longest (r.held ++ x) (held s) told left' d.ended (Ok c.in-Ok.piece)) c.self.view_is
+    (t.0, t.1, t.2, told_answer _ _ _ d _ _ c.in-Ok.piece _ c.is_line-self-inside.ensures.yes t.3)
