@@ -149,12 +149,12 @@ impl Source for Terminal {
 }
 
 #[test]
-fn nothing_is_read_after_the_end(rt: HostRuntime) -> Result<(), Fail> {
+fn the_next_call_asks_an_ended_source_again(rt: HostRuntime) -> Result<(), Fail> {
     let alloc = rt.alloc();
     let mut src = Terminal { reads: 0 };
     let mut reader = LineReader::new(alloc, 4, 100);
     let mut told = String::new(alloc);
-    let ends = [false, true, true, true];
+    let ends = [false, true, false, true];
     for has_ended in &ends {
         if reader.is_spent() {
             break;
@@ -162,7 +162,7 @@ fn nothing_is_read_after_the_end(rt: HostRuntime) -> Result<(), Fail> {
         tell(&mut reader, &mut src, &mut told)?;
         assert_eq!(rt; reader.has_ended(), *has_ended);
     }
-    assert_eq!(rt; told.as_str(), "=ab=cd..");
-    assert_eq!(rt; src.reads, 2);
+    assert_eq!(rt; told.as_str(), "=ab=cd=ab=cd");
+    assert_eq!(rt; src.reads, 4);
     Ok(())
 }

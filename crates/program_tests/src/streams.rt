@@ -1,4 +1,6 @@
 //! Sources and sinks: each public function once, and a fault in the middle of a stream.
+ghost use Rattle.std.specs.Prelude.{◌≡◌, IfOk};
+
 use elk_outer::{
     Failed, MemSink, MemSource, ReadFault, Sink, Source, StdSink, StdSource, SureSource,
     read_whole, write_whole,
@@ -99,5 +101,60 @@ fn inner_errors(rt: HostRuntime) -> Result<(), Fail> {
         assert_eq!(rt; write_whole(&mut sink, b"abc"), Err(Failed));
         assert_eq!(rt; sink.write(b"c"), Err(Failed));
     }
+    Ok(())
+}
+
+// A reader at its end, and a writer that takes all. It counts its calls, and the one with this number, from 1, fails.
+#[derive(Drop)]
+struct Counting {
+    calls: u64,
+    fails: u64,
+}
+
+impl Counting {
+    fn call(&mut self, count: usize) -> io::Result<usize>
+        ensures { IfOk result (λ n. n ≡ count) }
+    {
+        self.calls = self.calls.saturating_add(1);
+        if self.calls == self.fails {
+            return Err(ErrorKind::Other.into());
+        }
+        Ok(count)
+    }
+}
+
+impl Read for Counting {
+    fn read(&mut self, _buf: &mut [u8]) -> io::Result<usize> {
+        self.call(0)
+    }
+}
+
+impl Write for Counting {
+    fn write(&mut self, buf: &[u8]) -> io::Result<usize> {
+        self.call(buf.len())
+    }
+
+    fn flush(&mut self) -> io::Result<()> {
+        Ok(())
+    }
+}
+
+#[test]
+fn the_end_and_an_empty_piece_are_no_faults(rt: HostRuntime) -> Result<(), Fail> {
+    let mut reader = Counting { calls: 0, fails: 2 };
+    let mut room = [0u8; 4];
+    let mut source = StdSource::new(&mut reader);
+    let reads = [
+        source.read(&mut room),
+        source.read(&mut room),
+        source.read(&mut room),
+    ];
+    assert_eq!(rt; reads, [Ok(0), Err(Failed), Ok(0)]);
+    assert_eq!(rt; reader.calls, 3);
+    let mut writer = Counting { calls: 0, fails: 2 };
+    let mut sink = StdSink::new(&mut writer);
+    let writes = [sink.write(b""), sink.write(b"ab"), sink.write(b"ab")];
+    assert_eq!(rt; writes, [Ok(0), Err(Failed), Ok(2)]);
+    assert_eq!(rt; writer.calls, 3);
     Ok(())
 }
