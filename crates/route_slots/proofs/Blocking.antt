@@ -11,10 +11,10 @@ use Rattle.route_slots.specs.Pieces.{net_at, route_at}
 use Rattle.route_slots.specs.Standing.{StandsAt}
 use Rattle.route_slots.specs.Exchanges.{Blocks, at_a, at_b, meets, meets_in, blocks, holds_back}
 
-abbrev Meet : Pin → Pin → Type 0
+abbrev pub Meet : Pin → Pin → Type 0
 Meet p q = (p.on_left ≡ true) × (q.on_left ≡ false) × (p.height ≡ q.height)
 
-meet : (p q : Pin) → meets p q ≡ true → Meet p q
+pub meet : (p q : Pin) → meets p q ≡ true → Meet p q
 unfolding meets
 meet p q e = by p.on_left q.on_left refl refl e
   where
@@ -23,7 +23,7 @@ meet p q e = by p.on_left q.on_left refl refl e
     by true false f g h = (f, g, let k : int_eq p.height q.height ≡ true = sym (ap (λ z. if z then (if q.on_left then false else int_eq p.height q.height) else false) f ∙ ap (λ z. if z then false else int_eq p.height q.height) g) ∙ h in (Decides-int_eq p.height q.height).0 k)
     by false b f g h = absurd (let bad : false ≡ true = sym (ap (λ z. if z then (if q.on_left then false else int_eq p.height q.height) else false) f) ∙ h in cc)
 
-meet_back : (p q : Pin) → Meet p q → meets p q ≡ true
+pub meet_back : (p q : Pin) → Meet p q → meets p q ≡ true
 unfolding meets
 meet_back p q m =
     ap (λ z. if z then (if q.on_left then false else int_eq p.height q.height) else false) m.0

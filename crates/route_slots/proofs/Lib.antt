@@ -17,3 +17,13 @@ pub mod Blocking
 pub mod Stepping
 pub mod Fewer
 pub mod Relevelling
+pub mod Turns
+pub mod Asking
+pub mod Straight
+pub mod Ordered
+pub mod Ranking
+pub mod GapMoves
+pub mod CountMoves
+pub mod SlotMoves
+pub mod Least
+pub mod RankLemmas

@@ -18,6 +18,7 @@ use Rattle.route_slots.specs.Density.{Contains, MeetAt, IsDensity}
 use Rattle.route_slots.specs.Marks.{mark_at, LevelAt, AreNetMarks, other_end, piece_a, piece_b, height_of, ArePieces, route_by, HaveSlots, AreFlat}
 use Rattle.route_slots.specs.declared.middles.Height.{Height}
 use Rattle.route_slots.specs.Middles.{AreMiddles}
+use Rattle.route_slots.specs.Uncrossed.{StandByLevels}
 use Rattle.route_slots.proofs.Free.{AreKept, free}
 use Rattle.route_slots.proofs.Lists.{one_each, few_below}
 
@@ -57,6 +58,11 @@ second_in : (straight split : Bool) (a : ℕ) (h : ℤ) (b : ℕ) → straight �
 second_in true split a h b e f = absurd (cc)
 second_in false true a h b e f = inr refl
 second_in false false a h b e f = absurd (cc)
+
+is_one : (straight split : Bool) (a : ℕ) (h : ℤ) (b s : ℕ) → by straight split a h b ≡ One s → (straight ≡ false) × (a ≡ s)
+is_one true split a h b s e = absurd (let bad : Straight ≡ One s = e in cc)
+is_one false true a h b s e = absurd (let bad : Two a h b ≡ One s = e in cc)
+is_one false false a h b s e = let f : One a ≡ One s = e in (refl, cc)
 
 is_straight : (straight split : Bool) (a : ℕ) (h : ℤ) (b : ℕ) → by straight split a h b ≡ Straight → straight ≡ true
 is_straight true split a h b e = refl
@@ -296,6 +302,18 @@ module _ (nets : List Net) (ms : List Mark) (hs : List Height) (ps : List Piece)
   -- a net is split only where its mark says so
   pub split_by_mark : (k s : ℕ) (h : ℤ) (t : ℕ) → k < length nets → route_at routes k ≡ Two s h t → (mark k).split ≡ true
   split_by_mark k s h t l e = (two k s h t l e).1
+
+  -- pieces of nets that are not split stand in order of their levels
+  pub by_levels : StandByLevels nets ms routes
+  by_levels j k s t jl kl e f lower =
+      let u = is_one (mark j).straight (mark j).split (first j) (height j) (second j) s (sym (placed.routes_are j jl) ∙ e) in
+      let v = is_one (mark k).straight (mark k).split (first k) (height k) (second k) t (sym (placed.routes_are k kl) ∙ f) in
+      let level_j = ap (λ z. z.level) (pieces.at_a j jl) in
+      let level_k = ap (λ z. z.level) (pieces.at_a k kl) in
+      let less = slots.order (j + j) (k + k) (real_a j jl u.0) (real_a k kl v.0) (omega arith) in
+      let us = u.1 in
+      let vt = v.1 in
+      omega arith
 
   -- where no net is split and all pieces are at one level
   module _ (flat : AreFlat nets ms) where

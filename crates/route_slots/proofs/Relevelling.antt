@@ -1,11 +1,14 @@
 -- Marks with other levels that keep all conflicts.
-use Rattle.std.proofs.Common.{◌≡◌, ◌∙◌, ⊎_elim, ℕ, ◌<◌, List, length, sym, subst}
+use Rattle.std.proofs.Common.{◌≡◌, ◌∙◌, ⊎_elim, ℕ, ◌<◌, Bool, true, List, ℤ, length, sym, subst}
 use Rattle.route_slots.specs.declared.Pin.{Pin}
 use Rattle.route_slots.specs.declared.Net.{Net}
 use Rattle.route_slots.specs.declared.NetRoute.{NetRoute}
 use Rattle.route_slots.specs.declared.marks.Mark.{Mark}
 use Rattle.route_slots.specs.Pieces.{net_at}
-use Rattle.route_slots.specs.Marks.{mark_at, LevelAt, AreNetMarks}
+use Rattle.route_slots.specs.Conflicts.{LiesOnCycle}
+use Rattle.route_slots.specs.Depths.{is_split}
+use Rattle.route_slots.specs.Exchanges.{AreLaid}
+use Rattle.route_slots.specs.Marks.{mark_at, LevelAt, AreNetMarks, AreMarked}
 use Rattle.route_slots.specs.Choosing.{AreRelevelled, KeepsOrder, KeepOrder, AreInOrder, AreGood}
 
 by_pins : (p q p' q' : Pin) (x y x' y' : ℕ) → p ≡ p' → x ≡ x' → q ≡ q' → y ≡ y' → KeepsOrder p x q y → KeepsOrder p' x' q' y'
@@ -52,3 +55,13 @@ module _ (nets : List Net) (old new : List Mark) (marks : AreNetMarks nets old) 
         apart = good.apart;
         few = good.few;
       }
+
+-- slots by marks are laid, where nets with marks of two pieces lie on cycles
+pub laid : (nets : List Net) (bs : List Bool) (d : ℤ → ℕ) (ms : List Mark) (count : ℕ) (routes : List NetRoute) → AreMarked nets bs d ms (length nets)
+    → ((k : ℕ) → k < length nets → is_split bs k ≡ true → LiesOnCycle nets k) → AreGood nets ms count routes → AreLaid nets count routes
+laid nets bs d ms count routes marked cycles good =
+    record {
+      free = good.free;
+      apart = good.apart;
+      splits = λ k s h t l e. cycles k l (sym (marked.each k l).split ∙ good.splits k s h t l e);
+    }

@@ -37,7 +37,7 @@ swap_first s = swap_by s s true (s == s + 1) (eq-eqb s s refl) refl
 swap_second : (s : ℕ) → swapped s (s + 1) ≡ s
 swap_second s = swap_by s (s + 1) false true (ne_eqb (s + 1) s (omega arith)) (eq-eqb (s + 1) (s + 1) refl)
 
-swap_back : (s t u : ℕ) → swapped s t ≡ u → t ≡ swapped s u
+pub swap_back : (s t u : ℕ) → swapped s t ≡ u → t ≡ swapped s u
 swap_back s t u e = by (place s t)
   where
     by : Place s t → t ≡ swapped s u

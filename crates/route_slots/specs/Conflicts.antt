@@ -36,6 +36,10 @@ pub record LiesOnCycle (nets : List Net) (k : ℕ) : Type 0 where
 abbrev pub HasNoConflict : List Net → Type 0
 HasNoConflict nets = (j k : ℕ) → Conflict nets j k → ⊥
 
+-- at most one net conflicts, with one other
+abbrev pub HasOneConflict : List Net → Type 0
+HasOneConflict nets = (j k m n : ℕ) → Conflict nets j k → Conflict nets m n → (j ≡ m) × (k ≡ n)
+
 -- each net that is split lies on a cycle of conflicts
 abbrev pub SplitsOnCycles : List Net → List NetRoute → Type 0
 SplitsOnCycles nets routes = (k s : ℕ) (h : ℤ) (t : ℕ) → k < length nets → route_at routes k ≡ Two s h t → LiesOnCycle nets k

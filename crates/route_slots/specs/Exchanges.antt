@@ -39,6 +39,11 @@ pub record AreLaid (nets : List Net) (count : ℕ) (routes : List NetRoute) : Ty
   pub apart : AreApart nets routes
   pub splits : SplitsOnCycles nets routes
 
+-- and in a gap of up to 1,024 nets no exchange of two neighbouring slots lessens the crossings
+pub record AreSettled (nets : List Net) (count : ℕ) (routes : List NetRoute) : Type 0 where
+  pub laid : AreLaid nets count routes
+  pub none : length nets ≤ 1024 → NoBetterExchange nets count routes
+
 -- the net has a piece in slot s or the next
 unfoldable pub is_near : ℕ → ℕ → Bool
 is_near s t = if t == s then true else t == s + 1

@@ -11,3 +11,7 @@ pub mod Numbers
 pub mod Depths
 pub mod Middles
 pub mod Marks
+pub mod Uncrossed
+pub mod Moved
+pub mod Promised
+pub mod Ranks

@@ -5,8 +5,11 @@ ghost use Rattle.route_slots.specs.GapFree.{IsNet, AreHeights, GapFree};
 ghost use Rattle.route_slots.specs.Conflicts.{HasNoConflict, SplitsOnCycles};
 ghost use Rattle.route_slots.specs.Density.{IsDensity};
 ghost use Rattle.route_slots.specs.Choosing.{AreGood};
+ghost use Rattle.route_slots.specs.Standing.{AreApart};
+ghost use Rattle.route_slots.specs.Promised.{AreFewest};
 ghost use Rattle.route_slots.specs.Exchanges.{NoBetterExchange};
 ghost use Rattle.route_slots.specs.Middles.{AreMiddles};
+ghost use Rattle.route_slots.specs.Uncrossed.{StandByLevels};
 ghost use Rattle.route_slots.specs.Marks.{AreNetMarks, AreFlat, SplitsByMarks, ArePieces, HaveSlots, piece_a, piece_b, other_end, route_by};
 
 use crate::choosing::choose;
@@ -135,6 +138,7 @@ pub fn place(
     requires middles { AreMiddles nets.now middles.now }
     ensures good { IfOk result (λ slots. AreGood nets.now marks.now slots.count slots.routes.items) }
     ensures density { IfOk result (λ slots. AreFlat nets.now marks.now → IsDensity nets.now slots.count) }
+    ensures order { IfOk result (λ slots. StandByLevels nets.now marks.now slots.routes.items) }
 {
     let pieces = pieces_of(alloc, nets, marks, middles)?;
     let standing = slots_of(alloc, pieces.as_slice())?;
@@ -161,7 +165,9 @@ pub fn assign(alloc: Global, nets: &[Net]) -> Result<Slots, AllocError>
     requires few { length nets.now ≤ 2 ^ 24 }
     requires pins { All IsNet nets.now }
     requires heights { All AreHeights nets.now }
+    ensures all { IfOk result (λ slots. AreFewest nets.now slots.count slots.routes.items) }
     ensures free { IfOk result (λ slots. GapFree nets.now slots.count slots.routes.items) }
+    ensures apart { IfOk result (λ slots. AreApart nets.now slots.routes.items) }
     ensures splits { IfOk result (λ slots. SplitsOnCycles nets.now slots.routes.items) }
     ensures density { IfOk result (λ slots. HasNoConflict nets.now → IsDensity nets.now slots.count) }
     ensures exchanges { IfOk result (λ slots. length nets.now ≤ 1024 → NoBetterExchange nets.now slots.count slots.routes.items) }

@@ -45,9 +45,9 @@ fn relevelled(mark: Mark, at_a: u32, at_b: u32) -> Mark
     }
 }
 
-// All marks with other levels, two for each net.
-fn marks_by(alloc: Global, marks: &[Mark], levels: &[u32]) -> Result<Vec<Mark>, AllocError>
-    requires { length marks.now ≤ 1024 }
+/// All marks with other levels, two for each net.
+pub fn marks_by(alloc: Global, marks: &[Mark], levels: &[u32]) -> Result<Vec<Mark>, AllocError>
+    requires { length marks.now ≤ 2 ^ 24 }
     ensures { IfOk result (λ others. AreRelevelled marks.now others.items) }
 {
     let mut others = Vec::new(alloc);
@@ -111,8 +111,8 @@ fn row_keeps_order(nets: &[Net], marks: &[Mark], j: usize) -> bool
     true
 }
 
-// Whether all pieces are before those before which they have to be.
-fn all_keep_order(nets: &[Net], marks: &[Mark]) -> bool
+/// Whether all pieces are before those before which they have to be.
+pub fn all_keep_order(nets: &[Net], marks: &[Mark]) -> bool
     requires len { length marks.now ≡ length nets.now }
     ensures { result ≡ true → (j k : ℕ) → j < length nets.now → k < length nets.now → AreInOrder (net_at nets.now j) (mark_at marks.now j) (net_at nets.now k) (mark_at marks.now k) }
 {

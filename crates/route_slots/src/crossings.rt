@@ -134,10 +134,10 @@ pub fn cut(net: Net, route: NetRoute, other: Net, other_route: NetRoute) -> u64
 // Crossings with the upright pieces of one net.
 fn row_crossings(nets: &[Net], routes: &[NetRoute], j: usize) -> u64
     requires len { length routes.now ≡ length nets.now }
-    requires few { length nets.now ≤ 1024 }
+    requires few { length nets.now ≤ 8192 }
     requires net { j < length nets.now }
     ensures row { result ≡ sum_to (cut_at nets.now routes.now j) (length nets.now) }
-    ensures few { result ≤ 6144 }
+    ensures few { result ≤ 49152 }
 {
     let mut total = 0;
     'nets: for k in 0..nets.len() {
@@ -149,7 +149,7 @@ fn row_crossings(nets: &[Net], routes: &[NetRoute], j: usize) -> u64
 /// All crossings of the gap.
 pub fn crossings_of(nets: &[Net], routes: &[NetRoute]) -> u64
     requires len { length routes.now ≡ length nets.now }
-    requires few { length nets.now ≤ 1024 }
+    requires few { length nets.now ≤ 8192 }
     ensures { result ≡ crossings nets.now routes.now }
 {
     let mut total = 0;

@@ -222,9 +222,9 @@ fn at_b(route: NetRoute, slot: u32) -> bool
     }
 }
 
-// Whether the first pin is on the left and the second on the right at one height.
+/// Whether the first pin is on the left and the second on the right at one height.
 #[tactic(auto, unfolding(crate::specs::Exchanges::meets))]
-fn meets(pin: Pin, other: Pin) -> bool
+pub fn meets(pin: Pin, other: Pin) -> bool
     ensures { result ≡ swap.meets pin other }
 {
     if pin.on_left {

@@ -4,20 +4,28 @@
 mod assigning;
 mod choosing;
 mod crossings;
+mod demands;
 mod depths;
+mod dropping;
 mod exchanging;
 mod filling;
+mod fitting;
 mod heights;
 pub mod laws;
 mod marks;
 mod middles;
+mod precedence;
+mod ranks;
 mod settling;
 mod sifting;
 mod slotting;
 mod strips;
 mod tracks;
+mod uncrossing;
+mod untangling;
 
 pub use assigning::assign;
+pub use uncrossing::{assign_uncrossed, assign_uncrossed_near};
 
 /// The end of a net at the gap's left or right border, at this height.
 #[derive(Clone, Copy)]

@@ -1,10 +1,17 @@
-use Rattle.std.proofs.Common.{◌∙◌, sym, subst, arith}
+use Rattle.std.proofs.Common.{◌∙◌, ◌≤◌, List, length, Result, Ok, Err, IfOk, sym, subst, arith}
+use Rattle.route_slots.specs.declared.Net.{Net}
 use Rattle.std.proofs.lemmas.Result.{IfOk-weaker}
+use Rattle.std.specs.declared.alloc.AllocError.{AllocError}
+use Rattle.route_slots.specs.declared.Slots.{Slots}
+use Rattle.route_slots.specs.Promised.{AreFewest}
+use Rattle.route_slots.specs.Exchanges.{AreLaid, NoBetterExchange}
 use Rattle.route_slots.specs.Depths.{depth}
 use Rattle.route_slots.specs.Conflicts.{HasNoConflict}
 use Rattle.route_slots.specs.Density.{IsDensity}
-use Rattle.route_slots.specs.Marks.{AreFlat, SplitsByMarks}
+use Rattle.route_slots.specs.Marks.{AreFlat}
+use Rattle.route_slots.specs.Choosing.{AreGood}
 use Rattle.route_slots.proofs.Leveling.{are_flat}
+use Rattle.route_slots.proofs.Relevelling.{laid}
 use Rattle.route_slots.proofs.assigning.assign.Goals as goal
 
 pub settle-requires-clause-slots : goal.settle-requires-clause-slots
@@ -13,21 +20,19 @@ settle-requires-clause-slots c = let few = c.in_ok-chosen.ensures.good.few in le
 pub settle-requires-clause-laid : goal.settle-requires-clause-laid
 settle-requires-clause-laid c =
     let nets = c.args.nets.now in
-    let marked = c.in_ok-marks.ensures.marked in
+    let depths = c.in_ok-depths.depths in
     let slots = c.in_ok-chosen.chosen in
-    record {
-      free = c.in_ok-chosen.ensures.good.free;
-      apart = c.in_ok-chosen.ensures.good.apart;
-      splits = λ k s h t l e.
-          let split = subst (λ ms. SplitsByMarks nets ms slots.routes.items) c.as_slice-4.ensures.value c.in_ok-chosen.ensures.good.splits k s h t l e in
-          c.in_ok-depths.ensures.cycles k l (sym (marked.each k l).split ∙ split);
-    }
+    laid nets depths.splits.items (depth depths) c.in_ok-marks.marks.items slots.count slots.routes.items c.in_ok-marks.ensures.marked c.in_ok-depths.ensures.cycles
+    (subst (λ ms. AreGood c.args.nets.now ms slots.count slots.routes.items) c.as_slice-4.ensures.value c.in_ok-chosen.ensures.good)
 
 pub returns-clause-free : goal.returns-clause-free
 returns-clause-free c = IfOk-weaker c.settle.result _ _ (λ settled laid. laid.free) c.settle.ensures.laid
 
 pub returns-clause-splits : goal.returns-clause-splits
 returns-clause-splits c = IfOk-weaker c.settle.result _ _ (λ settled laid. laid.splits) c.settle.ensures.laid
+
+pub returns-clause-apart : goal.returns-clause-apart
+returns-clause-apart c = IfOk-weaker c.settle.result _ _ (λ settled laid. laid.apart) c.settle.ensures.laid
 
 pub returns-clause-density : goal.returns-clause-density
 returns-clause-density c =
@@ -41,3 +46,12 @@ returns-clause-density c =
     subst (IsDensity nets) (sym (same ∙ c.in_ok-chosen.ensures.count (subst (AreFlat nets) (sym c.as_slice-4.ensures.value) (flat none))))
     (c.in_ok-slots.ensures.density (subst (AreFlat nets) (sym c.as_slice-2.ensures.value) (flat none))))
     c.settle.ensures.count
+
+-- an answer that has all four
+joined : (nets : List Net) (r : Result Slots AllocError) → IfOk r (λ s. AreLaid nets s.count s.routes.items) → IfOk r (λ s. HasNoConflict nets → IsDensity nets s.count)
+    → IfOk r (λ s. length nets ≤ 1024 → NoBetterExchange nets s.count s.routes.items) → IfOk r (λ s. AreFewest nets s.count s.routes.items)
+joined nets (Ok s) is density none = record { free = is.free; apart = is.apart; splits = is.splits; density = density; exchanges = none }
+joined nets (Err e) is density none = is
+
+pub returns-clause-all : goal.returns-clause-all
+returns-clause-all c = joined c.args.nets.now c.settle.result c.settle.ensures.laid (returns-clause-density c) c.settle.ensures.none

@@ -2,7 +2,7 @@ use Rattle.std.proofs.Common.{◌<◌, ◌≤ℤ◌, ◌∙◌, ℕ, List, sym, 
 use Rattle.route_slots.specs.declared.slotting.Piece.{Piece}
 use Rattle.route_slots.specs.Slotting.{piece_at, AreSlots}
 use Rattle.route_slots.specs.Marks.{HaveSlots}
-use Rattle.route_slots.proofs.Placing.{gap_free, all_proper, split_by_mark, apart, is_density}
+use Rattle.route_slots.proofs.Placing.{gap_free, all_proper, split_by_mark, apart, is_density, by_levels}
 use Rattle.route_slots.proofs.Fewer.{few_slots}
 use Rattle.route_slots.proofs.assigning.place.Goals as goal
 
@@ -51,6 +51,20 @@ returns-clause-density c =
     let count = c.in_ok-standing.standing.count in
     let rs = c.in_ok-routes.routes.items in
     is_density nets ms hs ps ss count rs c.requires.marks c.in_ok-pieces.ensures
+    (subst (λ z. AreSlots z ss count) c.as_slice.ensures.value c.in_ok-standing.ensures)
+    c.requires.middles
+    (subst (λ z. HaveSlots nets ms hs z rs) c.as_slice-2.ensures.value c.in_ok-routes.ensures)
+
+pub returns-clause-order : goal.returns-clause-order
+returns-clause-order c =
+    let nets = c.args.nets.now in
+    let ms = c.args.marks.now in
+    let hs = c.args.middles.now in
+    let ps = c.in_ok-pieces.pieces.items in
+    let ss = c.in_ok-standing.standing.slots.items in
+    let count = c.in_ok-standing.standing.count in
+    let rs = c.in_ok-routes.routes.items in
+    by_levels nets ms hs ps ss count rs c.requires.marks c.in_ok-pieces.ensures
     (subst (λ z. AreSlots z ss count) c.as_slice.ensures.value c.in_ok-standing.ensures)
     c.requires.middles
     (subst (λ z. HaveSlots nets ms hs z rs) c.as_slice-2.ensures.value c.in_ok-routes.ensures)

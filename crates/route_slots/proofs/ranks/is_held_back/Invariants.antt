@@ -1,0 +1,7 @@
+use Rattle.std.proofs.Common.{◌≡◌, ℕ, ◌<◌}
+use Rattle.route_slots.specs.Uncrossed.{Precedes, level_of}
+use Rattle.route_slots.specs.Ranks.{no_rank}
+use Rattle.route_slots.proofs.ranks.is_held_back.Given as goal
+
+abbrev pub invariant-nets : goal.invariant-nets
+invariant-nets l = (j : ℕ) → j < l.other → level_of l.levels j ≡ no_rank → Precedes l.nets j l.number → ⊥

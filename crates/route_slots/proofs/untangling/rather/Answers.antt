@@ -1,0 +1,13 @@
+use Rattle.std.proofs.Common.{◌≡◌, ⊎_elim, sym, subst}
+use Rattle.route_slots.specs.declared.Slots.{Slots}
+use Rattle.route_slots.specs.Exchanges.{AreSettled}
+use Rattle.route_slots.proofs.untangling.rather.Goals as goal
+
+pub returns-in_ok-settled-in-Some-clause-settled : goal.returns-in_ok-settled-in-Some-clause-settled
+returns-in_ok-settled-in-Some-clause-settled c =
+    let then = c.in_ok-settled-in-Some.ensures in
+    ⊎_elim
+    (λ (e : c.lighter.result ≡ c.in_ok-settled-in-Some.settled). subst (λ (s : Slots). AreSettled c.args.nets.now s.count s.routes.items) (sym e)
+    (record { laid = then.laid; none = then.none }))
+    (λ (e : c.lighter.result ≡ c.args.slots). subst (λ (s : Slots). AreSettled c.args.nets.now s.count s.routes.items) (sym e) c.requires.settled)
+    c.lighter.ensures.which

@@ -1,0 +1,30 @@
+-- Nets of a gap that are ranked one after another, each once none without a rank precedes it.
+use Rattle.std.specs.Prelude.{◌≡◌, ◌⊎◌, ℕ, ◌+◌, ◌<◌, List, ◌==◌, length}
+use Rattle.route_slots.specs.declared.Net.{Net}
+use Rattle.route_slots.specs.Crossings.{one, sum_to}
+use Rattle.route_slots.specs.Uncrossed.{Precedes, level_of}
+
+-- in place of the level of a net without a rank
+abbrev pub no_rank : ℕ
+no_rank = 4294967295
+
+-- 1 for a net without a rank
+abbrev pub waits : List ℕ → ℕ → ℕ
+waits levels k = one (level_of levels k == no_rank)
+
+-- The nets have ranks below the next one, or none; those that have one rank behind all that precede them.
+pub record AreRanks (nets : List Net) (levels : List ℕ) (next : ℕ) : Type 0 where
+  pub len : length levels ≡ length nets
+  pub below : (k : ℕ) → k < length nets → (level_of levels k ≡ no_rank) ⊎ (level_of levels k < next)
+  pub behind : (j k : ℕ) → Precedes nets j k → level_of levels k < next → level_of levels j < level_of levels k
+  pub left : next + sum_to (waits levels) (length nets) ≡ length nets
+
+-- a net without a rank precedes this one
+pub record IsHeldBack (nets : List Net) (levels : List ℕ) (k : ℕ) : Type 0 where
+  pub by : ℕ
+  pub waits : level_of levels by ≡ no_rank
+  pub ahead : Precedes nets by k
+
+-- all nets without a rank below this number are held back
+abbrev pub AreHeldBack : List Net → List ℕ → ℕ → Type 0
+AreHeldBack nets levels n = (k : ℕ) → k < n → level_of levels k ≡ no_rank → IsHeldBack nets levels k

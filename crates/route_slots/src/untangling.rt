@@ -1,0 +1,109 @@
+//! Slots by the demands of nets where not all can be met.
+ghost use Rattle.std.specs.Prelude.{◌≡◌, ◌⊎◌, ◌≤◌, ◌+◌, length, IfOk, IfSome};
+ghost use Rattle.std.specs.List.{All};
+ghost use Rattle.route_slots.specs.GapFree.{IsNet, AreHeights};
+ghost use Rattle.route_slots.specs.Crossings.{crossings};
+ghost use Rattle.route_slots.specs.Exchanges.{AreLaid, AreSettled};
+
+use crate::assigning::{assign, place};
+use crate::choosing::{all_keep_order, marks_by};
+use crate::crossings::crossings_of;
+use crate::depths::depths_of;
+use crate::fitting::fitted_pieces;
+use crate::marks::marks_of;
+use crate::middles::middles_of;
+use crate::settling::settle;
+use crate::{Net, Slots};
+use std::alloc::{AllocError, Global};
+
+// The slots with fewer crossings, the first where they are as many.
+fn lighter(nets: &[Net], slots: Slots, other: Slots) -> Slots
+    requires few { length nets.now ≤ 8192 }
+    requires len { length slots.routes.items ≡ length nets.now }
+    requires other { length other.routes.items ≡ length nets.now }
+    ensures which { (result ≡ slots) ⊎ (result ≡ other) }
+    ensures most { crossings nets.now result.routes.items ≤ crossings nets.now slots.routes.items }
+    ensures fewer { crossings nets.now result.routes.items ≤ crossings nets.now other.routes.items }
+{
+    let now = crossings_of(nets, slots.routes.as_slice());
+    if crossings_of(nets, other.routes.as_slice()) >= now {
+        return slots;
+    }
+    other
+}
+
+// Slots by demands of which the lightest are dropped, if no two pieces overlap by them.
+fn relaid(alloc: Global, nets: &[Net], near: i64) -> Result<Option<Slots>, AllocError>
+    requires few { length nets.now ≤ 8192 }
+    requires pins { All IsNet nets.now }
+    requires heights { All AreHeights nets.now }
+    ensures laid { IfOk result (λ found. IfSome found (λ slots. AreLaid nets.now slots.count slots.routes.items)) }
+    ensures few { IfOk result (λ found. IfSome found (λ slots. slots.count ≤ length nets.now + length nets.now)) }
+{
+    let depths = depths_of(alloc, nets)?;
+    let marks = marks_of(alloc, nets, &depths)?;
+    let middles = middles_of(alloc, nets, marks.as_slice())?;
+    let levels = fitted_pieces(alloc, nets, marks.as_slice(), middles.as_slice(), near)?;
+    let others = marks_by(alloc, marks.as_slice(), levels.as_slice())?;
+    if !all_keep_order(nets, others.as_slice()) {
+        return Ok(None);
+    }
+    let slots = place(alloc, nets, others.as_slice(), middles.as_slice())?;
+    Ok(Some(slots))
+}
+
+// The second slots after exchanges of neighbours, where there are any and they don't cross more than the first.
+fn rather(
+    alloc: Global,
+    nets: &[Net],
+    slots: Slots,
+    other: Option<Slots>,
+) -> Result<Slots, AllocError>
+    requires few { length nets.now ≤ 8192 }
+    requires settled { AreSettled nets.now slots.count slots.routes.items }
+    requires laid { IfSome other (λ slots. AreLaid nets.now slots.count slots.routes.items) }
+    requires count { IfSome other (λ slots. slots.count ≤ length nets.now + length nets.now) }
+    ensures settled { IfOk result (λ best. AreSettled nets.now best.count best.routes.items) }
+    ensures most { IfOk result (λ best. crossings nets.now best.routes.items ≤ crossings nets.now slots.routes.items) }
+{
+    match other {
+        None => Ok(slots),
+        Some(other) => {
+            let settled = settle(alloc, nets, other)?;
+            Ok(lighter(nets, settled, slots))
+        },
+    }
+}
+
+// The slots by demands, or those of `assign` where these cross no more.
+fn settled(alloc: Global, nets: &[Net]) -> Result<Slots, AllocError>
+    requires few { length nets.now ≤ 8192 }
+    requires pins { All IsNet nets.now }
+    requires heights { All AreHeights nets.now }
+    ensures { IfOk result (λ slots. AreSettled nets.now slots.count slots.routes.items) }
+{
+    let fewest = assign(alloc, nets)?;
+    match relaid(alloc, nets, 1)? {
+        None => Ok(fewest),
+        Some(slots) => {
+            let settled = settle(alloc, nets, slots)?;
+            Ok(lighter(nets, fewest, settled))
+        },
+    }
+}
+
+/// Slots by demands of which the lightest are dropped, or those of `assign` where these cross no more. Of slots by which lines keep
+/// this distance those are taken that cross no more than without.
+pub fn untangle(alloc: Global, nets: &[Net], near: i64) -> Result<Slots, AllocError>
+    requires few { length nets.now ≤ 8192 }
+    requires pins { All IsNet nets.now }
+    requires heights { All AreHeights nets.now }
+    ensures { IfOk result (λ slots. AreSettled nets.now slots.count slots.routes.items) }
+{
+    let slots = settled(alloc, nets)?;
+    if near <= 1 {
+        return Ok(slots);
+    }
+    let other = relaid(alloc, nets, near)?;
+    rather(alloc, nets, slots, other)
+}
