@@ -1,23 +1,85 @@
 -- Exchanges one after the other, and the first order of fewest crossings.
-use Rattle.std.proofs.Common.{◌≡◌, ◌+◌, ◌<◌, ◌≤◌, List, [], ◌∷◌, ℕ, length, refl, inl, inr, ⊎_elim, arith, rules, ap, ◌∙◌, subst}
+use Rattle.std.proofs.Common.{◌≡◌, ◌+◌, ◌-◌, ◌<◌, ◌≤◌, List, [], ◌∷◌, ℕ, zero, suc, length, nat_lt, ltb-true, ltb-false, add-one, sym, refl, inl, inr, arith, rules, ap, ◌∙◌, subst}
+use Rattle.std.proofs.lemmas.Bool.{cases_Bool}
 use Rattle.std.proofs.lemmas.List.Elements.{All-append, All-cons, All-head, All-tail, All-weaker}
 use Rattle.elk_layers.specs.Layered.{Plain, row_at}
-use Rattle.elk_layers.specs.Crossings.{crossings, exchanged}
+use Rattle.elk_layers.specs.Crossings.{crossings, exchanged, NoBetterSwap}
 use Rattle.elk_layers.specs.Sweeps.{forward_sweep, backward_sweep, sweep_orders}
 use Rattle.cross_reduce.specs.Candidates.{IsKeptOrFewer}
-use Rattle.cross_reduce.specs.Reduced.{LowersTo, stay, go, AtMostOf, IsFirstOfFewest, IsExchangedFromFewest}
+use Rattle.cross_reduce.specs.Exchanges.{IsNoBetter, NoneInRow}
+use Rattle.cross_reduce.specs.Reduced.{after_pair, after_pairs, after_row, after_rows, SettlesTo, at_rest, again, AtMostOf, IsFirstOfFewest, IsExchangedFromFewest}
 
-pub lowers_join : (l : Plain) (a b c : List (List ℕ)) → LowersTo l a b → LowersTo l b c → LowersTo l a c
-lowers_join l a b c (stay _) t = t
-lowers_join l a b c (go _ m _ s rest) t = go a m c s (lowers_join l m b c rest t)
+-- ---- what is reached has no more crossings
 
-lowers_at_most : (l : Plain) (a b : List (List ℕ)) → LowersTo l a b → crossings l b ≤ crossings l a
-lowers_at_most l a b (stay _) = omega arith
-lowers_at_most l a b (go _ m _ s rest) = let h = lowers_at_most l m b rest in omega (arith, h, s.fewer)
+pair_at_most : (l : Plain) (rows : List (List ℕ)) (r i : ℕ) → crossings l (after_pair l rows r i) ≤ crossings l rows
+pair_at_most l rows r i = elim (cases_Bool (nat_lt (crossings l (exchanged rows r i)) (crossings l rows))) [
+  | inl t ↦ rw t (let less = ltb-true _ _ t in omega (arith, less))
+  | inr f ↦ rw f (omega arith)
+]
 
-pub lowers_once : (l : Plain) (rows : List (List ℕ)) (r i : ℕ) → r < length rows → i + 1 < length (row_at rows r) → crossings l (exchanged rows r i) < crossings l rows → LowersTo l rows (exchanged rows r i)
-lowers_once l rows r i hr hi fewer =
-    go rows (exchanged rows r i) (exchanged rows r i) (record { r = r; i = i; row = hr; place = hi; swapped = refl; fewer = fewer }) (stay (exchanged rows r i))
+pairs_at_most : (l : Plain) (rows : List (List ℕ)) (r n : ℕ) → crossings l (after_pairs l rows r n) ≤ crossings l rows
+pairs_at_most l rows r zero = omega arith
+pairs_at_most l rows r (suc n) = let here = pair_at_most l (after_pairs l rows r n) r n in let before = pairs_at_most l rows r n in omega (arith, here, before)
+
+rows_at_most : (l : Plain) (rows : List (List ℕ)) (n : ℕ) → crossings l (after_rows l rows n) ≤ crossings l rows
+rows_at_most l rows zero = omega arith
+rows_at_most l rows (suc n) =
+    let here = pairs_at_most l (after_rows l rows n) n (length (row_at (after_rows l rows n) n) - 1) in
+    let before = rows_at_most l rows n in
+    omega (arith, here, before)
+
+settles_at_most : (l : Plain) (a b : List (List ℕ)) → SettlesTo l a b → crossings l b ≤ crossings l a
+settles_at_most l a b (at_rest _ none) = omega arith
+settles_at_most l a b (again _ _ s) = let rest = settles_at_most l (after_rows l a (length a)) b s in let first = rows_at_most l a (length a) in omega (arith, rest, first)
+
+-- ---- where no exchange lowers the crossings, the rows stay
+
+pub pair_lowers : (l : Plain) (rows : List (List ℕ)) (r i : ℕ) → crossings l (exchanged rows r i) < crossings l rows → exchanged rows r i ≡ after_pair l rows r i
+pair_lowers l rows r i fewer = elim (cases_Bool (nat_lt (crossings l (exchanged rows r i)) (crossings l rows))) [
+  | inl t ↦ rw t refl
+  | inr f ↦ absurd (let most = ltb-false _ _ f in omega (arith, most, fewer))
+]
+
+pub pair_stays : (l : Plain) (rows : List (List ℕ)) (r i : ℕ) → IsNoBetter l rows r i → rows ≡ after_pair l rows r i
+pair_stays l rows r i none = elim (cases_Bool (nat_lt (crossings l (exchanged rows r i)) (crossings l rows))) [
+  | inl t ↦ absurd (let less = ltb-true _ _ t in omega (arith, less, none))
+  | inr f ↦ rw f refl
+]
+
+pairs_stay : (l : Plain) (rows : List (List ℕ)) (r n : ℕ) → NoneInRow l rows r → n ≤ length (row_at rows r) - 1 → rows ≡ after_pairs l rows r n
+pairs_stay l rows r zero none h = refl
+pairs_stay l rows r (suc n) none h =
+    pair_stays l rows r n (none n (omega (arith, h))) ∙ ap (λ (x : List (List ℕ)). after_pair l x r n) (pairs_stay l rows r n none (omega (arith, h)))
+
+-- one pair more, and all of them
+pub pairs_more : (l : Plain) (rows now : List (List ℕ)) (r i : ℕ) → 1 ≤ i → now ≡ after_pairs l rows r (i - 1) → after_pair l now r (i - 1) ≡ after_pairs l rows r (i + 1 - 1)
+pairs_more l rows now r i some is =
+    let next : i + 1 - 1 ≡ suc (i - 1) = omega (arith, some) in
+    rw next (ap (λ (x : List (List ℕ)). after_pair l x r (i - 1)) is)
+
+pub pairs_done : (l : Plain) (rows now : List (List ℕ)) (r i : ℕ) → i - 1 ≡ length (row_at rows r) - 1 → now ≡ after_pairs l rows r (i - 1) → now ≡ after_row l rows r
+pairs_done l rows now r i all is = is ∙ ap (λ (n : ℕ). after_pairs l rows r n) all
+
+pub row_stays : (l : Plain) (rows : List (List ℕ)) (r : ℕ) → NoneInRow l rows r → rows ≡ after_row l rows r
+row_stays l rows r none = pairs_stay l rows r (length (row_at rows r) - 1) none (omega arith)
+
+-- one row more, and all of them
+pub rows_more : (l : Plain) (rows now : List (List ℕ)) (r : ℕ) → now ≡ after_rows l rows r → after_row l now r ≡ after_rows l rows (r + 1)
+rows_more l rows now r is = rw add-one (ap (λ (x : List (List ℕ)). after_row l x r) is)
+
+pub rows_done : (l : Plain) (rows now : List (List ℕ)) (r : ℕ) → r ≡ length rows → now ≡ after_rows l rows r → now ≡ after_rows l rows (length rows)
+rows_done l rows now r all is = is ∙ ap (λ (n : ℕ). after_rows l rows n) all
+
+rows_stay : (l : Plain) (rows : List (List ℕ)) (n : ℕ) → NoBetterSwap l rows → n ≤ length rows → rows ≡ after_rows l rows n
+rows_stay l rows zero none h = refl
+rows_stay l rows (suc n) none h =
+    row_stays l rows n (λ i k. none n i (omega (arith, h)) k) ∙ ap (λ (x : List (List ℕ)). after_row l x n) (rows_stay l rows n none (omega (arith, h)))
+
+settles_stays : (l : Plain) (a b : List (List ℕ)) → NoBetterSwap l a → SettlesTo l a b → b ≡ a
+settles_stays l a b none (at_rest _ k) = refl
+settles_stays l a b none (again _ _ s) =
+    let same = rows_stay l a (length a) none (omega arith) in
+    settles_stays l (after_rows l a (length a)) b (subst (λ (x : List (List ℕ)). NoBetterSwap l x) same none) s ∙ sym same
 
 pub first_alone : (l : Plain) (rows : List (List ℕ)) → IsFirstOfFewest l (rows ∷ []) rows
 first_alone l rows = record { before = []; behind = []; splits = refl; fewer = search rules; at_most = search rules }
@@ -33,9 +95,13 @@ first_of_five l start one two three four rows a b c d s =
 pub reduced_at_once : (l : Plain) (start : List (List ℕ)) → crossings l start ≡ 0 → IsExchangedFromFewest l start start
 reduced_at_once l start none =
     record {
-      from = start;
-      reached = stay start;
-      best = inl (record { before = []; behind = sweep_orders l start; splits = refl; fewer = search rules; at_most = none_above (sweep_orders l start) });
+      reached = start;
+      from_fewest = record {
+        from = start;
+        first = record { before = []; behind = sweep_orders l start; splits = refl; fewer = search rules; at_most = none_above (sweep_orders l start) };
+        settles = at_rest start (λ r i hr hi. omega (arith, none));
+      };
+      kept_or_fewer = inl refl;
     }
   where
     none_above : (os : List (List (List ℕ))) → AtMostOf l start os
@@ -55,25 +121,30 @@ first_at_most l orders rows s =
     (All-weaker (λ (o : List (List ℕ)). crossings l rows < crossings l o) (λ (o : List (List ℕ)). crossings l rows ≤ crossings l o) (λ o k. omega (arith, k)) s.before s.fewer)
     (All-cons (λ (o : List (List ℕ)). crossings l rows ≤ crossings l o) rows s.behind (omega arith) s.at_most))
 
--- the exchanges of the first of fewest crossings, a search after them, and the last exchanges
-pub reduced_found : (l : Plain) (start swept settled best rows : List (List ℕ)) → IsFirstOfFewest l (start ∷ sweep_orders l start) swept → LowersTo l swept settled
-    → IsKeptOrFewer l settled best → LowersTo l best rows → IsExchangedFromFewest l start rows
-reduced_found l start swept settled best rows first low (inl e) last =
-    record { from = swept; reached = lowers_join l swept settled rows low (subst (λ (xs : List (List ℕ)). LowersTo l xs rows) e last); best = inl first }
-reduced_found l start swept settled best rows first low (inr h) last =
-    let fewer = lowers_at_most l swept settled low in
+-- a search from a settled order, and the exchanges after it
+pub exchanged_fewer : (l : Plain) (reached best rows : List (List ℕ)) → NoBetterSwap l reached → IsKeptOrFewer l reached best → SettlesTo l best rows → IsKeptOrFewer l reached rows
+exchanged_fewer l reached best rows none (inl e) last = inl (settles_stays l reached rows none (subst (λ (xs : List (List ℕ)). SettlesTo l xs rows) e last))
+exchanged_fewer l reached best rows none (inr h) last = inr (let fewer = settles_at_most l best rows last in omega (arith, h, fewer))
+
+-- the exchanges of the first of fewest crossings, and what a search makes of these
+pub reduced_found : (l : Plain) (start swept reached rows : List (List ℕ)) → IsFirstOfFewest l (start ∷ sweep_orders l start) swept → SettlesTo l swept reached
+    → IsKeptOrFewer l reached rows → IsExchangedFromFewest l start rows
+reduced_found l start swept reached rows first settles kept =
     record {
-      from = best;
-      reached = last;
-      best = inr (All-weaker (λ (o : List (List ℕ)). crossings l swept ≤ crossings l o) (λ (o : List (List ℕ)). crossings l best < crossings l o) (λ o k. omega (arith, k, h, fewer)) (start ∷ sweep_orders l start) (first_at_most l (start ∷ sweep_orders l start) swept first));
+      reached = reached;
+      from_fewest = record { from = swept; first = first; settles = settles };
+      kept_or_fewer = kept;
     }
 
 reduced_at_most : (l : Plain) (start rows : List (List ℕ)) → IsExchangedFromFewest l start rows → AtMostOf l rows (start ∷ sweep_orders l start)
 reduced_at_most l start rows s =
-    let low = lowers_at_most l s.from rows s.reached in
-    All-weaker (λ (o : List (List ℕ)). crossings l s.from ≤ crossings l o) (λ (o : List (List ℕ)). crossings l rows ≤ crossings l o) (λ o k. omega (arith, k, low)) (start ∷ sweep_orders l start)
-    (⊎_elim (first_at_most l (start ∷ sweep_orders l start) s.from)
-    (All-weaker (λ (o : List (List ℕ)). crossings l s.from < crossings l o) (λ (o : List (List ℕ)). crossings l s.from ≤ crossings l o) (λ o k. omega (arith, k)) (start ∷ sweep_orders l start)) s.best)
+    let low = settles_at_most l s.from_fewest.from s.reached s.from_fewest.settles in
+    let here : crossings l rows ≤ crossings l s.reached = elim s.kept_or_fewer [
+      | inl e ↦ (let same = ap (crossings l) e in omega (arith, same))
+      | inr h ↦ omega (arith, h)
+    ] in
+    All-weaker (λ (o : List (List ℕ)). crossings l s.from_fewest.from ≤ crossings l o) (λ (o : List (List ℕ)). crossings l rows ≤ crossings l o) (λ o k. omega (arith, k, low, here)) (start ∷ sweep_orders l start)
+    (first_at_most l (start ∷ sweep_orders l start) s.from_fewest.from s.from_fewest.first)
 
 pub reduced_no_more : (l : Plain) (start rows : List (List ℕ)) → IsExchangedFromFewest l start rows → crossings l rows ≤ crossings l start
 reduced_no_more l start rows s = All-head (λ (o : List (List ℕ)). crossings l rows ≤ crossings l o) start (sweep_orders l start) (reduced_at_most l start rows s)

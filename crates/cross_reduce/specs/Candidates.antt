@@ -1,20 +1,8 @@
--- Orders that are tried: a state, and its order in another order of the same rows.
+-- Orders that a search keeps.
 use Rattle.std.specs.Prelude.{◌≡◌, ◌<◌, ◌⊎◌, ℕ, List}
 use Rattle.elk_layers.specs.Layered.{Plain, rows_of, AreRows}
-use Rattle.elk_layers.specs.Crossings.{HasSameRows, crossings}
-use Rattle.cross_reduce.specs.declared.exchanging.State.{State}
+use Rattle.elk_layers.specs.Crossings.{HasSameRows, NoBetterSwap, crossings}
 use Rattle.cross_reduce.specs.declared.reducing.Counted.{Counted}
-use Rattle.cross_reduce.specs.Fans.{fan_lists}
-use Rattle.cross_reduce.specs.Exchanges.{IsState}
-
-abbrev pub IsCandidate : Plain → State → Type 0
-IsCandidate layered state =
-    IsState layered (rows_of state.order) state.place.items (fan_lists state.left) (fan_lists state.right)
-
--- the second state has the rows of the first, each in some order
-pub record IsReordered (layered : Plain) (old new : State) : Type 0 where
-  pub candidate : IsCandidate layered new
-  pub same : HasSameRows (rows_of old.order) (rows_of new.order)
 
 -- an order of the same rows, with the number of its crossings
 pub record IsBestFrom (layered : Plain) (rows : List (List ℕ)) (kept : Counted) : Type 0 where
@@ -25,3 +13,9 @@ pub record IsBestFrom (layered : Plain) (rows : List (List ℕ)) (kept : Counted
 -- the kept order, or one with fewer crossings
 abbrev pub IsKeptOrFewer : Plain → List (List ℕ) → List (List ℕ) → Type 0
 IsKeptOrFewer layered kept rows = (rows ≡ kept) ⊎ (crossings layered rows < crossings layered kept)
+
+-- a settled order, the kept one or one with fewer crossings, with the number of its crossings
+pub record IsSettledFrom (layered : Plain) (rows : List (List ℕ)) (kept : Counted) : Type 0 where
+  pub best : IsBestFrom layered rows kept
+  pub settled : NoBetterSwap layered (rows_of kept.order)
+  pub fewer : IsKeptOrFewer layered rows (rows_of kept.order)

@@ -1,23 +1,36 @@
 -- From which order the exchanges of neighbours begin, and what they reach.
-use Rattle.std.specs.Prelude.{◌≡◌, ℕ, ◌+◌, ◌<◌, ◌≤◌, ◌++◌, ◌⊎◌, List, ◌∷◌, length}
+use Rattle.std.specs.Prelude.{◌≡◌, ℕ, zero, suc, ◌-◌, ◌<◌, ◌≤◌, ◌++◌, ◌⊎◌, List, ◌∷◌, length, nat_lt, if◌then◌else◌}
 use Rattle.std.specs.List.{All}
 use Rattle.elk_layers.specs.Layered.{Plain, row_at}
-use Rattle.elk_layers.specs.Crossings.{crossings, exchanged}
+use Rattle.elk_layers.specs.Crossings.{crossings, exchanged, NoBetterSwap}
 use Rattle.elk_layers.specs.Sweeps.{sweep_orders}
 
--- two neighbours of a row are exchanged, and the crossings are fewer
-pub record Lowers (layered : Plain) (rows rows' : List (List ℕ)) : Type 0 where
-  pub r : ℕ
-  pub i : ℕ
-  pub row : r < length rows
-  pub place : i + 1 < length (row_at rows r)
-  pub swapped : rows' ≡ exchanged rows r i
-  pub fewer : crossings layered rows' < crossings layered rows
+-- ---- the exchanges, in their order
 
--- any number of such exchanges, one after the other
-pub data LowersTo (layered : Plain) : List (List ℕ) → List (List ℕ) → Type 0 where
-  stay : (a : List (List ℕ)) → LowersTo layered a a
-  go : (a b c : List (List ℕ)) → Lowers layered a b → LowersTo layered b c → LowersTo layered a c
+-- two neighbours of a row are exchanged where that lowers the crossings
+abbrev pub after_pair : Plain → List (List ℕ) → ℕ → ℕ → List (List ℕ)
+after_pair layered rows r i = if nat_lt (crossings layered (exchanged rows r i)) (crossings layered rows) then exchanged rows r i else rows
+
+-- so are the first pairs of neighbours of a row, one after the other from the top
+abbrev pub after_pairs : Plain → List (List ℕ) → ℕ → ℕ → List (List ℕ)
+after_pairs layered rows r zero = rows
+after_pairs layered rows r (suc i) = after_pair layered (after_pairs layered rows r i) r i
+
+-- so are all of a row
+abbrev pub after_row : Plain → List (List ℕ) → ℕ → List (List ℕ)
+after_row layered rows r = after_pairs layered rows r (length (row_at rows r) - 1)
+
+-- so are those of the first rows, one row after the other
+abbrev pub after_rows : Plain → List (List ℕ) → ℕ → List (List ℕ)
+after_rows layered rows zero = rows
+after_rows layered rows (suc r) = after_row layered (after_rows layered rows r) r
+
+-- so are those of all rows, again and again, until no exchange lowers the crossings
+pub data SettlesTo (layered : Plain) : List (List ℕ) → List (List ℕ) → Type 0 where
+  at_rest : (a : List (List ℕ)) → NoBetterSwap layered a → SettlesTo layered a a
+  again : (a b : List (List ℕ)) → SettlesTo layered (after_rows layered a (length a)) b → SettlesTo layered a b
+
+-- ---- where they begin
 
 -- an order has fewer crossings than each of these, and at most as many
 abbrev pub FewerThan : Plain → List (List ℕ) → List (List (List ℕ)) → Type 0
@@ -34,10 +47,14 @@ pub record IsFirstOfFewest (layered : Plain) (orders : List (List (List ℕ))) (
   pub fewer : FewerThan layered rows before
   pub at_most : AtMostOf layered rows behind
 
--- reached by exchanges from the first of fewest crossings among a start and its four sweep orders,
--- or from an order that has fewer crossings than these five
-pub record IsExchangedFromFewest (layered : Plain) (start rows : List (List ℕ)) : Type 0 where
+-- what the exchanges reach from the first of fewest crossings among a start and its four sweep orders
+pub record IsSettledFromFewest (layered : Plain) (start rows : List (List ℕ)) : Type 0 where
   pub from : List (List ℕ)
-  pub reached : LowersTo layered from rows
-  pub best : IsFirstOfFewest layered (start ∷ sweep_orders layered start) from
-      ⊎ FewerThan layered from (start ∷ sweep_orders layered start)
+  pub first : IsFirstOfFewest layered (start ∷ sweep_orders layered start) from
+  pub settles : SettlesTo layered from rows
+
+-- what the exchanges reach from the first of fewest crossings, or an order that has fewer crossings than this
+pub record IsExchangedFromFewest (layered : Plain) (start rows : List (List ℕ)) : Type 0 where
+  pub reached : List (List ℕ)
+  pub from_fewest : IsSettledFromFewest layered start reached
+  pub kept_or_fewer : (rows ≡ reached) ⊎ (crossings layered rows < crossings layered reached)

@@ -44,11 +44,24 @@ pub(crate) fn size_of(layered: &Layered) -> u64 {
     (layered.units.len() as u64).saturating_add(layered.links.len() as u64)
 }
 
-/// The work that a level is worth: 1,000 for each unit and link, at most 2^24, and none past 2^18 of these.
-pub(crate) fn work_for(layered: &Layered) -> u64 {
+/// The effort that is made where none is asked for.
+pub(crate) const USUAL: u32 = 7;
+
+/// The greatest effort; what is asked for beyond it counts as this.
+const GREATEST: u32 = 1000;
+
+/// The work that a level is worth by the usual effort: 1,000 for each unit and link, at most 2^24, and none
+/// past 2^18 of these.
+fn usual_work(layered: &Layered) -> u64 {
     let size = size_of(layered);
     if size > 262144 {
         return 0;
     }
     size.saturating_mul(1000).min(16777216)
+}
+
+/// The work that a level is worth by an effort.
+pub(crate) fn work_for(layered: &Layered, effort: u32) -> u64 {
+    let times = effort.min(GREATEST) as u64;
+    usual_work(layered).saturating_mul(times) / USUAL as u64
 }

@@ -4,7 +4,7 @@ ghost use Rattle.std.specs.List.{swap};
 ghost use Rattle.elk_layers.specs.Layered.{plain, rows_of, row_at, IsSound, AreRows};
 ghost use Rattle.elk_layers.specs.Crossings.{HasSameRows, NoBetterSwap};
 ghost use Rattle.elk_layers.specs.Crossings as crossing;
-ghost use Rattle.cross_reduce.specs.Reduced.{LowersTo};
+ghost use Rattle.cross_reduce.specs.Reduced.{after_pair, after_row, after_rows, SettlesTo};
 ghost use Rattle.cross_reduce.specs.Fans.{far_keys, fan_lists, fan_at, AreFans};
 ghost use Rattle.cross_reduce.specs.declared.fans.Towards.TheVariants.{Left, Right};
 ghost use Rattle.cross_reduce.specs.Fans as fan;
@@ -44,7 +44,7 @@ fn descents(upper: &[u32], lower: &[u32]) -> u64
 }
 
 /// The key of a far end.
-pub(crate) fn key_of(place: &[u32], far: Far) -> u32
+fn key_of(place: &[u32], far: Far) -> u32
     requires { FitsKey place.now far }
     ensures { result ≡ fan.far_key place.now far }
 {
@@ -115,11 +115,11 @@ fn both_ways(
 
 /// An order with what is kept along with it: the places, and the far ends of the links to both sides.
 #[derive(Drop)]
-pub(crate) struct State {
-    pub(crate) order: Order,
-    pub(crate) place: Vec<u32>,
-    pub(crate) left: Fans,
-    pub(crate) right: Fans,
+struct State {
+    order: Order,
+    place: Vec<u32>,
+    left: Fans,
+    right: Fans,
 }
 
 /// Whether two neighbours have fewer crossings exchanged than as they stand.
@@ -147,7 +147,7 @@ fn is_better(
 }
 
 /// Two neighbours of a row, from the top.
-pub(crate) fn neighbours(order: &Order, r: usize, i: usize) -> (u32, u32)
+fn neighbours(order: &Order, r: usize, i: usize) -> (u32, u32)
     requires row { r < length (rows_of order.now) }
     requires place { i + 1 < length (row_at (rows_of order.now) r) }
     ensures upper { result.0 ≡ slice_index (row_at (rows_of order.now) r) i }
@@ -175,7 +175,7 @@ fn swap_neighbours(row: &mut Vec<u32>, i: usize)
 }
 
 /// Exchanges two neighbours.
-pub(crate) fn exchange(layered: &Layered, state: &mut State, r: usize, i: usize)
+fn exchange(layered: &Layered, state: &mut State, r: usize, i: usize)
     requires state { IsState (plain layered.now) (rows_of state.old.order) state.old.place.items (fan_lists state.old.left) (fan_lists state.old.right) }
     requires row { r < length (rows_of state.old.order) }
     requires place { i + 1 < length (row_at (rows_of state.old.order) r) }
@@ -201,7 +201,7 @@ fn try_exchange(
     requires place { i + 1 < length (row_at (rows_of state.old.order) r) }
     ensures state { OnOk result (IsState (plain layered.now) (rows_of state.new.order) state.new.place.items (fan_lists state.new.left) (fan_lists state.new.right)) }
     ensures same { OnOk result (HasSameRows (rows_of state.old.order) (rows_of state.new.order)) }
-    ensures lowered { OnOk result (LowersTo (plain layered.now) (rows_of state.old.order) (rows_of state.new.order)) }
+    ensures after { OnOk result (rows_of state.new.order ≡ after_pair (plain layered.now) (rows_of state.old.order) r i) }
     ensures tried { IfOk result (λ changed. IsTried (plain layered.now) (rows_of state.old.order) (rows_of state.new.order) changed (IsNoBetter (plain layered.now) (rows_of state.old.order) r i)) }
     ensures others { OnOk result (KeepsOthers (rows_of state.old.order) (rows_of state.new.order) r) }
 {
@@ -225,7 +225,7 @@ fn try_row(
     requires row { r < length (rows_of state.old.order) }
     ensures state { OnOk result (IsState (plain layered.now) (rows_of state.new.order) state.new.place.items (fan_lists state.new.left) (fan_lists state.new.right)) }
     ensures same { OnOk result (HasSameRows (rows_of state.old.order) (rows_of state.new.order)) }
-    ensures lowered { OnOk result (LowersTo (plain layered.now) (rows_of state.old.order) (rows_of state.new.order)) }
+    ensures after { OnOk result (rows_of state.new.order ≡ after_row (plain layered.now) (rows_of state.old.order) r) }
     ensures tried { IfOk result (λ changed. IsTried (plain layered.now) (rows_of state.old.order) (rows_of state.new.order) changed (NoneInRow (plain layered.now) (rows_of state.old.order) r)) }
     ensures others { OnOk result (KeepsOthers (rows_of state.old.order) (rows_of state.new.order) r) }
 {
@@ -239,14 +239,14 @@ fn try_row(
 }
 
 /// Whether one of two is true.
-pub(crate) fn either(one: bool, other: bool) -> bool
+fn either(one: bool, other: bool) -> bool
     ensures { result ≡ (one || other) }
 {
     one || other
 }
 
 /// The number of units in a row.
-pub(crate) fn row_len(order: &Order, r: usize) -> usize
+fn row_len(order: &Order, r: usize) -> usize
     requires { r < length (rows_of order.now) }
     ensures { result ≡ length (row_at (rows_of order.now) r) }
 {
@@ -267,7 +267,7 @@ fn try_unsettled(
     ensures state { OnOk result (IsState (plain layered.now) (rows_of state.new.order) state.new.place.items (fan_lists state.new.left) (fan_lists state.new.right)) }
     ensures settled { OnOk result (AreSettled (plain layered.now) (rows_of state.new.order) settled.new.items) }
     ensures same { OnOk result (HasSameRows (rows_of state.old.order) (rows_of state.new.order)) }
-    ensures lowered { OnOk result (LowersTo (plain layered.now) (rows_of state.old.order) (rows_of state.new.order)) }
+    ensures after { OnOk result (rows_of state.new.order ≡ after_row (plain layered.now) (rows_of state.old.order) r) }
     ensures tried { IfOk result (λ changed. IsTried (plain layered.now) (rows_of state.old.order) (rows_of state.new.order) changed (NoneInRow (plain layered.now) (rows_of state.old.order) r)) }
 {
     if settled[r] {
@@ -290,7 +290,7 @@ fn try_rows(
     ensures state { OnOk result (IsState (plain layered.now) (rows_of state.new.order) state.new.place.items (fan_lists state.new.left) (fan_lists state.new.right)) }
     ensures settled { OnOk result (AreSettled (plain layered.now) (rows_of state.new.order) settled.new.items) }
     ensures same { OnOk result (HasSameRows (rows_of state.old.order) (rows_of state.new.order)) }
-    ensures lowered { OnOk result (LowersTo (plain layered.now) (rows_of state.old.order) (rows_of state.new.order)) }
+    ensures after { OnOk result (rows_of state.new.order ≡ after_rows (plain layered.now) (rows_of state.old.order) (length (rows_of state.old.order))) }
     ensures tried { IfOk result (λ changed. IsTried (plain layered.now) (rows_of state.old.order) (rows_of state.new.order) changed (NoBetterSwap (plain layered.now) (rows_of state.old.order))) }
 {
     let mut changed = false;
@@ -325,18 +325,6 @@ fn state_with(
     })
 }
 
-/// The order with its places and far ends.
-pub(crate) fn state_of(alloc: Global, layered: &Layered, order: Order) -> Result<State, AllocError>
-    requires sound { IsSound (plain layered.now) }
-    requires rows { AreRows (plain layered.now) (rows_of order) }
-    ensures order { IfOk result (λ state. rows_of state.order ≡ rows_of order) }
-    ensures state { IfOk result (λ state. IsState (plain layered.now) (rows_of state.order) state.place.items (fan_lists state.left) (fan_lists state.right)) }
-{
-    let left = fans_for(alloc, layered, Towards::Left)?;
-    let right = fans_for(alloc, layered, Towards::Right)?;
-    state_with(alloc, layered, order, left, right)
-}
-
 /// Exchanges neighbours until no exchange lowers the crossings, by the far ends of the links to both sides.
 ///
 /// A row in which no exchange did is tried again only once it or a row beside it has changed.
@@ -353,7 +341,7 @@ pub(crate) fn exchanged_by(
     requires right { AreFans Right (plain layered.now).links (length (plain layered.now).units) (fan_lists right) }
     ensures same { IfOk result (λ o. HasSameRows (rows_of order) (rows_of o)) }
     ensures settled { IfOk result (λ o. NoBetterSwap (plain layered.now) (rows_of o)) }
-    ensures lowered { IfOk result (λ o. LowersTo (plain layered.now) (rows_of order) (rows_of o)) }
+    ensures settles { IfOk result (λ o. SettlesTo (plain layered.now) (rows_of order) (rows_of o)) }
 {
     let mut state = state_with(alloc, layered, order, left, right)?;
     let mut settled: Vec<bool> = vec![in alloc; false; layered.layers as usize]?;
@@ -370,7 +358,7 @@ pub(crate) fn exchanged(alloc: Global, layered: &Layered, order: Order) -> Resul
     requires rows { AreRows (plain layered.now) (rows_of order) }
     ensures same { IfOk result (λ o. HasSameRows (rows_of order) (rows_of o)) }
     ensures settled { IfOk result (λ o. NoBetterSwap (plain layered.now) (rows_of o)) }
-    ensures lowered { IfOk result (λ o. LowersTo (plain layered.now) (rows_of order) (rows_of o)) }
+    ensures settles { IfOk result (λ o. SettlesTo (plain layered.now) (rows_of order) (rows_of o)) }
 {
     let left = fans_for(alloc, layered, Towards::Left)?;
     let right = fans_for(alloc, layered, Towards::Right)?;

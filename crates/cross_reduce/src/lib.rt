@@ -4,6 +4,8 @@
 //! search goes on from there, by sweeps from shuffled rows and by simulated annealing; and in the end
 //! neighbours are exchanged as long as an exchange lowers the crossings. Crossings are counted by tail key,
 //! with a vector kernel over the head keys; an exchange is judged by the links of the two neighbours alone.
+//! The search works on a list of its own and keeps what it counted of pairs of units. Of what it finds the
+//! rows are ordered anew and the crossings counted anew, so it can't do worse than leave them as they were.
 #![tactic(auto)]
 
 mod annealing;
@@ -12,16 +14,18 @@ mod counting;
 mod effort;
 mod exchanging;
 mod fans;
+mod flat;
 mod lots;
+mod neighbours;
 mod ordering;
+mod pairs;
 mod places;
 mod reducing;
-mod replacing;
-mod resweeping;
+mod reordering;
 mod searching;
 mod settling;
 mod starts;
 mod sweeping;
 
 pub use counting::crossings;
-pub use reducing::reduce;
+pub use reducing::{reduce, reduce_with_effort};

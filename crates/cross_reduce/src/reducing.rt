@@ -7,13 +7,14 @@ ghost use Rattle.elk_layers.specs.Crossings as spec;
 ghost use Rattle.cross_reduce.specs.declared.fans.Towards.TheVariants.{Left, Right};
 ghost use Rattle.cross_reduce.specs.Fans.{fan_lists, AreFans};
 ghost use Rattle.cross_reduce.specs.Reduced.{IsFirstOfFewest, IsExchangedFromFewest};
+ghost use Rattle.cross_reduce.specs.Candidates.{IsKeptOrFewer};
 ghost use Rattle.elk_layers.specs.Sweeps.{sweep_orders, forward_sweep, backward_sweep};
 
 use crate::counting::crossings;
-use crate::effort::work_for;
+use crate::effort::{USUAL, work_for};
 use crate::exchanging::{exchanged, exchanged_by};
 use crate::fans::{Fans, Towards};
-use crate::searching::search;
+use crate::searching::{search, search_on};
 use crate::sweeping::{backward, fans_for, forward};
 use elk_layers::{Layered, Order};
 use std::alloc::{AllocError, Global};
@@ -26,11 +27,7 @@ pub(crate) struct Counted {
 }
 
 /// An order with its crossings.
-pub(crate) fn with_count(
-    alloc: Global,
-    layered: &Layered,
-    order: Order,
-) -> Result<Counted, AllocError>
+fn with_count(alloc: Global, layered: &Layered, order: Order) -> Result<Counted, AllocError>
     requires sound { IsSound (plain layered.now) }
     requires rows { AreRows (plain layered.now) (rows_of order) }
     ensures order { IfOk result (λ k. k.order ≡ order) }
@@ -55,6 +52,7 @@ pub(crate) fn fewer(
     ensures rows { IfOk result (λ k. AreRows (plain layered.now) (rows_of k.order)) }
     ensures first { IfOk result (λ k. (orders : List (List (List ℕ))) → IsFirstOfFewest (plain layered.now) orders (rows_of kept.order) → IsFirstOfFewest (plain layered.now) (orders ++ rows_of new ∷ []) (rows_of k.order)) }
     ensures either { IfOk result (λ k. (rows_of k.order ≡ rows_of kept.order) ⊎ (spec.crossings (plain layered.now) (rows_of k.order) < spec.crossings (plain layered.now) (rows_of kept.order))) }
+    ensures one { IfOk result (λ k. (rows_of k.order ≡ rows_of kept.order) ⊎ (rows_of k.order ≡ rows_of new)) }
     ensures same { IfOk result (λ k. (start : List (List ℕ)) → HasSameRows start (rows_of kept.order) → HasSameRows start (rows_of new) → HasSameRows start (rows_of k.order)) }
 {
     let new = with_count(alloc, layered, new)?;
@@ -114,6 +112,49 @@ fn best_sweep(
     Ok(best.order)
 }
 
+/// What the search of an effort finds from a settled order: this, or a settled one with fewer crossings.
+fn searched(
+    alloc: Global,
+    layered: &Layered,
+    settled: Order,
+    effort: u32,
+) -> Result<Order, AllocError>
+    requires sound { IsSound (plain layered.now) }
+    requires rows { AreRows (plain layered.now) (rows_of settled) }
+    requires settled { NoBetterSwap (plain layered.now) (rows_of settled) }
+    ensures same { IfOk result (λ o. HasSameRows (rows_of settled) (rows_of o)) }
+    ensures settled { IfOk result (λ o. NoBetterSwap (plain layered.now) (rows_of o)) }
+    ensures fewer { IfOk result (λ o. IsKeptOrFewer (plain layered.now) (rows_of settled) (rows_of o)) }
+{
+    let kept = with_count(alloc, layered, settled)?;
+    let best = search(alloc, layered, kept, work_for(layered, effort.min(USUAL)))?;
+    exchanged(alloc, layered, best.order)
+}
+
+/// What more effort than the usual finds from there.
+fn searched_on(
+    alloc: Global,
+    layered: &Layered,
+    settled: Order,
+    effort: u32,
+) -> Result<Order, AllocError>
+    requires sound { IsSound (plain layered.now) }
+    requires rows { AreRows (plain layered.now) (rows_of settled) }
+    requires settled { NoBetterSwap (plain layered.now) (rows_of settled) }
+    ensures same { IfOk result (λ o. HasSameRows (rows_of settled) (rows_of o)) }
+    ensures settled { IfOk result (λ o. NoBetterSwap (plain layered.now) (rows_of o)) }
+    ensures fewer { IfOk result (λ o. IsKeptOrFewer (plain layered.now) (rows_of settled) (rows_of o)) }
+{
+    if effort <= USUAL {
+        return Ok(settled);
+    }
+    let kept = with_count(alloc, layered, settled)?;
+    let usual = work_for(layered, USUAL);
+    let more = work_for(layered, effort).saturating_sub(usual);
+    let best = search_on(alloc, layered, kept, usual / 7 * 3, more)?;
+    Ok(best.order)
+}
+
 /// An order of the same rows with few crossings.
 ///
 /// It has at most the crossings of the start, and of the orders after a forward sweep of it by the
@@ -121,12 +162,38 @@ fn best_sweep(
 /// of a row lowers its crossings. A start without crossings is given back. The only error is want of
 /// memory, which drops the start.
 ///
-/// The exchanges begin from the first of fewest crossings among these five orders, or from an order with
-/// fewer crossings that a search finds: by sweeps from shuffled rows, and by simulated annealing of what is
-/// best then. The search looks at 1,000 links for each unit and link of the level and at most at 2^24, so
+/// The exchanges begin from the first of fewest crossings among these five orders, and go through the rows
+/// from the top, again and again. What they reach is the answer, unless a search finds an order with fewer
+/// crossings: by sweeps from shuffled rows, and by simulated annealing of what is best then. By the usual
+/// effort, 7, the search looks at 1,000 links for each unit and link of the level and at most at 2^24, so
 /// small levels are searched more thoroughly than large ones, and a level of more than 2^18 units and links
 /// not at all. Nothing in it is chance or measured time: equal drawings have equal answers.
 pub fn reduce(alloc: Global, layered: &Layered, start: Order) -> Result<Order, AllocError>
+    requires sound { IsSound (plain layered.now) }
+    requires rows { AreRows (plain layered.now) (rows_of start) }
+    ensures same_rows { IfOk result (λ o. HasSameRows (rows_of start) (rows_of o)) }
+    ensures no_more { IfOk result (λ o. spec.crossings (plain layered.now) (rows_of o) ≤ spec.crossings (plain layered.now) (rows_of start)) }
+    ensures sweeps { IfOk result (λ o. All (λ swept. spec.crossings (plain layered.now) (rows_of o) ≤ spec.crossings (plain layered.now) swept) (sweep_orders (plain layered.now) (rows_of start))) }
+    ensures settled { IfOk result (λ o. NoBetterSwap (plain layered.now) (rows_of o)) }
+    ensures from_fewest { IfOk result (λ o. IsExchangedFromFewest (plain layered.now) (rows_of start) (rows_of o)) }
+    ensures without_crossings { IfOk result (λ o. spec.crossings (plain layered.now) (rows_of start) ≡ 0 → rows_of o ≡ rows_of start) }
+{
+    reduce_with_effort(alloc, layered, start, USUAL)
+}
+
+/// An order of the same rows with few crossings, with the contract of `reduce` and an effort of one's own.
+///
+/// The effort is a factor on the work of the search: 7 is that of `reduce`, 0 is no search, and what is
+/// above 1,000 counts as 1,000. By more than 7 the answer of 7 is annealed again and again, first by three
+/// more, then each time with half as much more. So from 7 on an answer has at most the crossings that it has
+/// by less effort. For each one of effort the search looks at most at 2^24 / 7 links, which is 2^31.2 by the
+/// greatest.
+pub fn reduce_with_effort(
+    alloc: Global,
+    layered: &Layered,
+    start: Order,
+    effort: u32,
+) -> Result<Order, AllocError>
     requires sound { IsSound (plain layered.now) }
     requires rows { AreRows (plain layered.now) (rows_of start) }
     ensures same_rows { IfOk result (λ o. HasSameRows (rows_of start) (rows_of o)) }
@@ -144,10 +211,9 @@ pub fn reduce(alloc: Global, layered: &Layered, start: Order) -> Result<Order, A
     let right = fans_for(alloc, layered, Towards::Right)?;
     let swept = best_sweep(alloc, layered, start, &left, &right)?;
     let settled = exchanged_by(alloc, layered, swept, left, right)?;
-    if work_for(layered) == 0 {
+    if work_for(layered, effort) == 0 {
         return Ok(settled);
     }
-    let settled = with_count(alloc, layered, settled)?;
-    let best = search(alloc, layered, settled)?;
-    exchanged(alloc, layered, best.order)
+    let found = searched(alloc, layered, settled, effort)?;
+    searched_on(alloc, layered, found, effort)
 }

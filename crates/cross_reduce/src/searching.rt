@@ -1,19 +1,20 @@
 //! A search for an order with few crossings: sweeps from shuffled rows, and then exchanges by chance.
 ghost use Rattle.std.specs.Prelude.{◌≡◌, ◌⊎◌, ℕ, List, IfOk, OnOk};
 ghost use Rattle.elk_layers.specs.Layered.{plain, rows_of, IsSound, AreRows};
-ghost use Rattle.elk_layers.specs.Crossings.{HasSameRows};
+ghost use Rattle.elk_layers.specs.Crossings.{HasSameRows, NoBetterSwap};
 ghost use Rattle.elk_layers.specs.Crossings as spec;
-ghost use Rattle.cross_reduce.specs.Candidates.{IsCandidate, IsReordered, IsBestFrom, IsKeptOrFewer};
+ghost use Rattle.cross_reduce.specs.Candidates.{IsBestFrom, IsKeptOrFewer, IsSettledFrom};
 
-use crate::annealing::{Annealing, anneal, anneal_rows};
-use crate::copying::copy_of;
-use crate::effort::{size_of, work_for};
-use crate::exchanging::{State, state_of};
+use crate::annealing::{Annealing, anneal};
+use crate::effort::{Effort, size_of};
+use crate::exchanging::exchanged;
 use crate::fans::Towards;
+use crate::flat::{Flat, flat_of};
+use crate::neighbours::lower_rows;
 use crate::reducing::{Counted, fewer};
-use crate::resweeping::sweep_again;
-use crate::starts::shuffle;
-use elk_layers::Layered;
+use crate::reordering::order_in;
+use crate::starts::{shuffle, sweep_again};
+use elk_layers::{Layered, Order};
 use std::alloc::{AllocError, Global};
 
 /// The side to which a sweep looks: the one and the other in turn, beginning to the left at even starts.
@@ -28,83 +29,49 @@ fn side_of(start: u64, sweep: u64) -> Towards {
 /// A sweep, and the exchanges of neighbours after it that lower the crossings.
 fn sweep_and_exchange(
     alloc: Global,
-    layered: &Layered,
-    state: &mut State,
+    flat: &mut Flat,
     towards: Towards,
-    annealing: &mut Annealing,
-) -> Result<(), AllocError>
-    requires { IsCandidate (plain layered.now) state.old }
-    ensures { OnOk result (IsReordered (plain layered.now) state.old state.new) }
-{
-    annealing.spend(size_of(layered).saturating_mul(3));
-    sweep_again(alloc, layered, state, towards)?;
-    anneal_rows(layered, state, annealing);
+    size: u64,
+    effort: &mut Effort,
+) -> Result<(), AllocError> {
+    effort.spend(size.saturating_mul(3));
+    sweep_again(alloc, flat, towards)?;
+    lower_rows(flat, effort);
     Ok(())
 }
 
-/// Eight sweeps.
-fn swept(
+/// The rows shuffled, and then swept eight times.
+fn shuffled_and_swept(
     alloc: Global,
-    layered: &Layered,
-    state: &mut State,
+    flat: &mut Flat,
     start: u64,
-    annealing: &mut Annealing,
-) -> Result<(), AllocError>
-    requires { IsCandidate (plain layered.now) state.old }
-    ensures { OnOk result (IsReordered (plain layered.now) state.old state.new) }
-{
+    size: u64,
+    effort: &mut Effort,
+) -> Result<(), AllocError> {
+    effort.spend(size.saturating_mul(16));
+    shuffle(alloc, flat, start)?;
     for sweep in 0..8_u64 {
         let towards = side_of(start, sweep);
-        sweep_and_exchange(alloc, layered, state, towards, annealing)?;
+        sweep_and_exchange(alloc, flat, towards, size, effort)?;
     }
     Ok(())
 }
 
-/// The rows shuffled, and then swept.
-fn shuffled_and_swept(
-    alloc: Global,
-    layered: &Layered,
-    state: &mut State,
-    start: u64,
-    annealing: &mut Annealing,
-) -> Result<(), AllocError>
-    requires { IsCandidate (plain layered.now) state.old }
-    ensures { OnOk result (IsReordered (plain layered.now) state.old state.new) }
-{
-    annealing.spend(size_of(layered).saturating_mul(16));
-    shuffle(alloc, layered, state, start)?;
-    swept(alloc, layered, state, start, annealing)?;
-    Ok(())
-}
-
-/// The kept order, or the state's where it has fewer crossings.
+/// The kept order, or that of a list where it has fewer crossings.
 fn fewer_of(
     alloc: Global,
     layered: &Layered,
     kept: Counted,
-    state: &State,
+    flat: &Flat,
 ) -> Result<Counted, AllocError>
-    requires candidate { IsCandidate (plain layered.now) state.now }
-    requires kept_rows { AreRows (plain layered.now) (rows_of kept.order) }
-    requires counted { kept.crossings ≡ spec.crossings (plain layered.now) (rows_of kept.order) }
-    ensures best { IfOk result (λ k. (rows : List (List ℕ)) → HasSameRows rows (rows_of kept.order) → HasSameRows rows (rows_of state.now.order) → IsBestFrom (plain layered.now) rows k) }
-    ensures either { IfOk result (λ k. IsKeptOrFewer (plain layered.now) (rows_of kept.order) (rows_of k.order)) }
-{
-    let copy = copy_of(alloc, &state.order)?;
-    let best = fewer(alloc, layered, kept, copy)?;
-    Ok(best)
-}
-
-/// The order once more, with its places and far ends.
-fn state_again(alloc: Global, layered: &Layered, kept: &Counted) -> Result<State, AllocError>
     requires sound { IsSound (plain layered.now) }
-    requires rows { AreRows (plain layered.now) (rows_of kept.now.order) }
-    ensures candidate { IfOk result (λ state. IsCandidate (plain layered.now) state) }
-    ensures order { IfOk result (λ state. rows_of state.order ≡ rows_of kept.now.order) }
+    requires best { IsBestFrom (plain layered.now) (rows_of kept.order) kept }
+    ensures best { IfOk result (λ k. IsBestFrom (plain layered.now) (rows_of kept.order) k) }
+    ensures fewer { IfOk result (λ k. IsKeptOrFewer (plain layered.now) (rows_of kept.order) (rows_of k.order)) }
 {
-    let copy = copy_of(alloc, &kept.order)?;
-    let state = state_of(alloc, layered, copy)?;
-    Ok(state)
+    let new = order_in(alloc, layered, &kept.order, flat)?;
+    let best = fewer(alloc, layered, kept, new)?;
+    Ok(best)
 }
 
 /// The kept order, or one with fewer crossings that sweeps find from up to 32 shuffles.
@@ -119,15 +86,15 @@ fn best_start(
     ensures best { IfOk result (λ k. IsBestFrom (plain layered.now) (rows_of kept.order) k) }
     ensures fewer { IfOk result (λ k. IsKeptOrFewer (plain layered.now) (rows_of kept.order) (rows_of k.order)) }
 {
-    let mut state = state_again(alloc, layered, &kept)?;
-    let mut annealing = Annealing::of(kept.crossings, work);
+    let mut flat = flat_of(alloc, layered, &kept.order)?;
+    let mut effort = Effort::of(work);
     let mut kept = kept;
     for start in 0..32_u64 {
-        if kept.crossings == 0 || annealing.is_spent() {
+        if kept.crossings == 0 || effort.is_spent() {
             return Ok(kept);
         }
-        shuffled_and_swept(alloc, layered, &mut state, start, &mut annealing)?;
-        kept = fewer_of(alloc, layered, kept, &state)?;
+        shuffled_and_swept(alloc, &mut flat, start, size_of(layered), &mut effort)?;
+        kept = fewer_of(alloc, layered, kept, &flat)?;
     }
     Ok(kept)
 }
@@ -144,10 +111,10 @@ fn annealed(
     ensures best { IfOk result (λ k. IsBestFrom (plain layered.now) (rows_of kept.order) k) }
     ensures fewer { IfOk result (λ k. IsKeptOrFewer (plain layered.now) (rows_of kept.order) (rows_of k.order)) }
 {
-    let mut state = state_again(alloc, layered, &kept)?;
+    let mut flat = flat_of(alloc, layered, &kept.order)?;
     let mut annealing = Annealing::of(kept.crossings, work);
-    anneal(layered, &mut state, &mut annealing);
-    let best = fewer_of(alloc, layered, kept, &state)?;
+    anneal(alloc, &mut flat, &mut annealing)?;
+    let best = fewer_of(alloc, layered, kept, &flat)?;
     Ok(best)
 }
 
@@ -158,13 +125,17 @@ fn annealed(
 /// crossings. With the rest the best of these orders is annealed. The search ends where nothing crosses.
 /// The work is bounded by the units and links alone, and what seems to be chance has fixed seeds, so equal
 /// drawings have equal answers.
-pub(crate) fn search(alloc: Global, layered: &Layered, kept: Counted) -> Result<Counted, AllocError>
+pub(crate) fn search(
+    alloc: Global,
+    layered: &Layered,
+    kept: Counted,
+    work: u64,
+) -> Result<Counted, AllocError>
     requires sound { IsSound (plain layered.now) }
     requires best { IsBestFrom (plain layered.now) (rows_of kept.order) kept }
     ensures best { IfOk result (λ k. IsBestFrom (plain layered.now) (rows_of kept.order) k) }
     ensures fewer { IfOk result (λ k. IsKeptOrFewer (plain layered.now) (rows_of kept.order) (rows_of k.order)) }
 {
-    let work = work_for(layered);
     if kept.crossings == 0 || work == 0 {
         return Ok(kept);
     }
@@ -174,4 +145,71 @@ pub(crate) fn search(alloc: Global, layered: &Layered, kept: Counted) -> Result<
     }
     let best = annealed(alloc, layered, swept, work / 10 * 7)?;
     Ok(best)
+}
+
+/// An order annealed by the chances of a seed, and then exchanged until no exchange lowers the crossings.
+fn annealed_and_exchanged(
+    alloc: Global,
+    layered: &Layered,
+    kept: &Counted,
+    work: u64,
+    seed: u64,
+) -> Result<Order, AllocError>
+    requires sound { IsSound (plain layered.now) }
+    requires rows { AreRows (plain layered.now) (rows_of kept.now.order) }
+    ensures same { IfOk result (λ o. HasSameRows (rows_of kept.now.order) (rows_of o)) }
+    ensures settled { IfOk result (λ o. NoBetterSwap (plain layered.now) (rows_of o)) }
+{
+    let mut flat = flat_of(alloc, layered, &kept.order)?;
+    let mut annealing = Annealing::again(kept.crossings, work, seed);
+    anneal(alloc, &mut flat, &mut annealing)?;
+    let order = order_in(alloc, layered, &kept.order, &flat)?;
+    exchanged(alloc, layered, order)
+}
+
+/// The kept order, or one with fewer crossings that another annealing finds.
+fn annealed_again(
+    alloc: Global,
+    layered: &Layered,
+    kept: Counted,
+    work: u64,
+    seed: u64,
+) -> Result<Counted, AllocError>
+    requires sound { IsSound (plain layered.now) }
+    requires settled { IsSettledFrom (plain layered.now) (rows_of kept.order) kept }
+    ensures { IfOk result (λ k. IsSettledFrom (plain layered.now) (rows_of kept.order) k) }
+{
+    let new = annealed_and_exchanged(alloc, layered, &kept, work, seed)?;
+    let best = fewer(alloc, layered, kept, new)?;
+    Ok(best)
+}
+
+/// The kept order, or one with fewer crossings that a longer search finds.
+///
+/// The best order is annealed again and again, the first time with the work that is told, then each time
+/// with half as much more, as long as the work lasts for a whole annealing. So a search with more work
+/// begins as one with less, and finds no more crossings.
+pub(crate) fn search_on(
+    alloc: Global,
+    layered: &Layered,
+    kept: Counted,
+    first: u64,
+    work: u64,
+) -> Result<Counted, AllocError>
+    requires sound { IsSound (plain layered.now) }
+    requires settled { IsSettledFrom (plain layered.now) (rows_of kept.order) kept }
+    ensures { IfOk result (λ k. IsSettledFrom (plain layered.now) (rows_of kept.order) k) }
+{
+    let mut kept = kept;
+    let mut next = first;
+    let mut left = work;
+    for seed in 2..64_u64 {
+        if kept.crossings == 0 || left < next {
+            return Ok(kept);
+        }
+        kept = annealed_again(alloc, layered, kept, next, seed)?;
+        left = left.saturating_sub(next);
+        next = next.saturating_add(next / 2);
+    }
+    Ok(kept)
 }

@@ -15,6 +15,10 @@ mod cuts;
 #[cfg(test)]
 mod distances;
 #[cfg(test)]
+mod efforts;
+#[cfg(test)]
+mod fifty;
+#[cfg(test)]
 mod forks;
 #[cfg(test)]
 mod heights;

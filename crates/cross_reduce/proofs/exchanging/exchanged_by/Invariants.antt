@@ -1,8 +1,8 @@
-use Rattle.std.proofs.Common.{◌≡◌, ◌+◌, ◌*◌, false}
+use Rattle.std.proofs.Common.{◌≡◌, ◌+◌, ◌*◌, false, List, ℕ}
 use Rattle.elk_layers.specs.Layered.{plain, rows_of}
 use Rattle.elk_layers.specs.Crossings.{HasSameRows, NoBetterSwap, crossings}
 use Rattle.cross_reduce.specs.Fans.{fan_lists}
-use Rattle.cross_reduce.specs.Reduced.{LowersTo}
+use Rattle.cross_reduce.specs.Reduced.{SettlesTo}
 use Rattle.cross_reduce.specs.Exchanges.{IsState, AreSettled}
 use Rattle.cross_reduce.proofs.Sums.{one_if}
 use Rattle.cross_reduce.proofs.exchanging.exchanged_by.Given as goal
@@ -13,7 +13,7 @@ invariant-loop-changed l =
       state : IsState (plain l.layered) (rows_of l.state.order) l.state.place.items (fan_lists l.state.left) (fan_lists l.state.right);
       flags : AreSettled (plain l.layered) (rows_of l.state.order) l.settled.items;
       same : HasSameRows (rows_of l.initial.state.order) (rows_of l.state.order);
-      lowered : LowersTo (plain l.layered) (rows_of l.initial.state.order) (rows_of l.state.order);
+      settles : (b : List (List ℕ)) → SettlesTo (plain l.layered) (rows_of l.state.order) b → SettlesTo (plain l.layered) (rows_of l.initial.state.order) b;
       settled : l.changed ≡ false → NoBetterSwap (plain l.layered) (rows_of l.state.order);
     }
 

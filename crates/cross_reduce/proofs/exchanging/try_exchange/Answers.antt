@@ -1,10 +1,9 @@
-use Rattle.std.proofs.Common.{◌+◌, ◌<◌, arith, refl, subst, sym}
+use Rattle.std.proofs.Common.{◌+◌, ◌<◌, arith, refl, subst, sym, ◌∙◌}
 use Rattle.elk_layers.specs.Layered.{plain, rows_of}
 use Rattle.elk_layers.specs.Crossings.{crossings}
 use Rattle.cross_reduce.specs.Fans.{fan_lists}
 use Rattle.cross_reduce.proofs.RowLemmas.{row_of}
-use Rattle.cross_reduce.specs.Reduced.{LowersTo, stay}
-use Rattle.cross_reduce.proofs.LoweringLemmas.{lowers_once}
+use Rattle.cross_reduce.proofs.LoweringLemmas.{pair_lowers, pair_stays}
 use Rattle.cross_reduce.proofs.StateLemmas.{left_fits, right_fits, same_exchanged, try_then, try_else}
 use Rattle.cross_reduce.proofs.SettledLemmas.{others_exchanged}
 use Rattle.cross_reduce.proofs.exchanging.try_exchange.Goals as goal
@@ -47,15 +46,18 @@ returns-else-better-clause-tried c =
           (rw (c.as_slice-place.ensures.value, c.neighbours-upper.ensures.upper, c.neighbours-upper.ensures.lower) at c.in_ok-better.ensures) c.if-better.false,
     )
 
-pub returns-then-better-clause-lowered : goal.returns-then-better-clause-lowered
-returns-then-better-clause-lowered c =
-    subst (λ rows. LowersTo (plain c.args.layered.now) (rows_of c.args.state.now.order) rows) (sym c.exchange.ensures.rows)
-    (lowers_once (plain c.args.layered.now) (rows_of c.args.state.now.order) c.args.r c.args.i c.requires.row c.requires.place
+pub returns-then-better-clause-after : goal.returns-then-better-clause-after
+returns-then-better-clause-after c =
+    c.exchange.ensures.rows
+    ∙ pair_lowers (plain c.args.layered.now) (rows_of c.args.state.now.order) c.args.r c.args.i
     (try_then (plain c.args.layered.now) (rows_of c.args.state.now.order) c.args.state.now.place.items (fan_lists c.args.state.now.left) (fan_lists c.args.state.now.right) c.args.r c.args.i c.in_ok-better.better c.requires.state c.requires.row c.requires.place
-    (rw (c.as_slice-place.ensures.value, c.neighbours-upper.ensures.upper, c.neighbours-upper.ensures.lower) at c.in_ok-better.ensures) c.if-better.true))
+    (rw (c.as_slice-place.ensures.value, c.neighbours-upper.ensures.upper, c.neighbours-upper.ensures.lower) at c.in_ok-better.ensures) c.if-better.true)
 
-pub returns-else-better-clause-lowered : goal.returns-else-better-clause-lowered
-returns-else-better-clause-lowered c = stay (rows_of c.args.state.now.order)
+pub returns-else-better-clause-after : goal.returns-else-better-clause-after
+returns-else-better-clause-after c =
+    pair_stays (plain c.args.layered.now) (rows_of c.args.state.now.order) c.args.r c.args.i
+    (try_else (plain c.args.layered.now) (rows_of c.args.state.now.order) c.args.state.now.place.items (fan_lists c.args.state.now.left) (fan_lists c.args.state.now.right) c.args.r c.args.i c.in_ok-better.better c.requires.state c.requires.row c.requires.place
+    (rw (c.as_slice-place.ensures.value, c.neighbours-upper.ensures.upper, c.neighbours-upper.ensures.lower) at c.in_ok-better.ensures) c.if-better.false)
 
 pub returns-then-better-clause-others : goal.returns-then-better-clause-others
 returns-then-better-clause-others c = rw c.exchange.ensures.rows (others_exchanged (rows_of c.args.state.now.order) c.args.r c.args.i)

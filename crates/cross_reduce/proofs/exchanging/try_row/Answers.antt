@@ -3,8 +3,7 @@ use Rattle.std.proofs.lemmas.Bool.{cases_eq}
 use Rattle.std.proofs.lemmas.List.Sorted.{length_permutation}
 use Rattle.elk_layers.specs.Layered.{plain, rows_of, row_at}
 use Rattle.cross_reduce.specs.Exchanges.{IsNoBetter}
-use Rattle.cross_reduce.specs.Reduced.{stay}
-use Rattle.cross_reduce.proofs.LoweringLemmas.{lowers_join}
+use Rattle.cross_reduce.proofs.LoweringLemmas.{pairs_more, pairs_done}
 use Rattle.cross_reduce.proofs.StateLemmas.{same_refl, same_trans, tried_more}
 use Rattle.cross_reduce.proofs.exchanging.try_row.Goals as goal
 
@@ -18,7 +17,7 @@ loop-i-preserved c =
     record {
       state = c.in_ok-now.ensures.state;
       same = same_trans (rows_of c.args.state.now.order) (rows_of c.loop-i.state.order) (rows_of c.try_exchange.new.state.order) c.loop-i.invariant.same c.in_ok-now.ensures.same;
-      lowered = lowers_join (plain c.args.layered.now) (rows_of c.args.state.now.order) (rows_of c.loop-i.state.order) (rows_of c.try_exchange.new.state.order) c.loop-i.invariant.lowered c.in_ok-now.ensures.lowered;
+      after = c.in_ok-now.ensures.after ∙ pairs_more (plain c.args.layered.now) (rows_of c.args.state.now.order) (rows_of c.loop-i.state.order) c.args.r c.loop-i.i c.loop-i.auto.i c.loop-i.invariant.after;
       tried = rw c.either-changed.ensures
           (tried_more (plain c.args.layered.now) (rows_of c.args.state.now.order) (rows_of c.loop-i.state.order) (rows_of c.try_exchange.new.state.order) c.loop-i.changed c.in_ok-now.now
           ((k : ℕ) → k + 1 < c.loop-i.i → IsNoBetter (plain c.args.layered.now) (rows_of c.args.state.now.order) c.args.r k)
@@ -28,9 +27,16 @@ loop-i-preserved c =
             | inl e ↦ subst (λ (x : ℕ). IsNoBetter (plain c.args.layered.now) (rows_of c.args.state.now.order) c.args.r x) (sym e) here
             | inr n ↦ before k (omega (arith, h, n))
           ]));
+      end = inr (omega (arith, c.loop-i-test.true, c.row_len-len.ensures));
       others = λ g n. c.in_ok-now.ensures.others g n ∙ c.loop-i.invariant.others g n;
     }
 
 pub loop-i-init : goal.loop-i-init
 loop-i-init c =
-    record { state = c.requires.state; same = same_refl (rows_of c.args.state.now.order); lowered = stay (rows_of c.args.state.now.order); tried = (refl, λ k h. absurd (omega (arith, h))); others = λ g n. refl }
+    record { state = c.requires.state; same = same_refl (rows_of c.args.state.now.order); after = refl; end = inl refl; tried = (refl, λ k h. absurd (omega (arith, h))); others = λ g n. refl }
+
+pub returns-clause-after : goal.returns-clause-after
+returns-clause-after c =
+    pairs_done (plain c.args.layered.now) (rows_of c.args.state.now.order) (rows_of c.loop-i.state.order) c.args.r c.loop-i.i
+    (elim c.loop-i.invariant.end [ inl one ↦ omega (arith, one, c.loop-i-test.false, c.row_len-len.ensures) | inr most ↦ omega (arith, most, c.loop-i-test.false, c.row_len-len.ensures) ])
+    c.loop-i.invariant.after

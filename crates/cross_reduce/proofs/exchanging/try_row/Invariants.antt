@@ -1,8 +1,8 @@
-use Rattle.std.proofs.Common.{◌<◌, ◌+◌, ℕ}
-use Rattle.elk_layers.specs.Layered.{plain, rows_of}
+use Rattle.std.proofs.Common.{◌≡◌, ◌⊎◌, ◌<◌, ◌≤◌, ◌+◌, ◌-◌, ℕ, length}
+use Rattle.elk_layers.specs.Layered.{plain, rows_of, row_at}
 use Rattle.elk_layers.specs.Crossings.{HasSameRows}
 use Rattle.cross_reduce.specs.Fans.{fan_lists}
-use Rattle.cross_reduce.specs.Reduced.{LowersTo}
+use Rattle.cross_reduce.specs.Reduced.{after_pairs}
 use Rattle.cross_reduce.specs.Exchanges.{IsState, IsTried, IsNoBetter, KeepsOthers}
 use Rattle.cross_reduce.proofs.exchanging.try_row.Given as goal
 
@@ -11,7 +11,8 @@ invariant-loop-i l =
     record {
       state : IsState (plain l.layered) (rows_of l.state.order) l.state.place.items (fan_lists l.state.left) (fan_lists l.state.right);
       same : HasSameRows (rows_of l.initial.state.order) (rows_of l.state.order);
-      lowered : LowersTo (plain l.layered) (rows_of l.initial.state.order) (rows_of l.state.order);
+      after : rows_of l.state.order ≡ after_pairs (plain l.layered) (rows_of l.initial.state.order) l.r (l.i - 1);
+      end : (l.i ≡ 1) ⊎ (l.i ≤ length (row_at (rows_of l.initial.state.order) l.r));
       tried : IsTried (plain l.layered) (rows_of l.initial.state.order) (rows_of l.state.order) l.changed ((k : ℕ) → k + 1 < l.i → IsNoBetter (plain l.layered) (rows_of l.initial.state.order) l.r k);
       others : KeepsOthers (rows_of l.initial.state.order) (rows_of l.state.order) l.r;
     }

@@ -1,8 +1,8 @@
-use Rattle.std.proofs.Common.{◌<◌, ℕ}
+use Rattle.std.proofs.Common.{◌≡◌, ◌<◌, ℕ}
 use Rattle.elk_layers.specs.Layered.{plain, rows_of}
 use Rattle.elk_layers.specs.Crossings.{HasSameRows}
 use Rattle.cross_reduce.specs.Fans.{fan_lists}
-use Rattle.cross_reduce.specs.Reduced.{LowersTo}
+use Rattle.cross_reduce.specs.Reduced.{after_rows}
 use Rattle.cross_reduce.specs.Exchanges.{IsState, IsTried, NoneInRow, AreSettled}
 use Rattle.cross_reduce.proofs.exchanging.try_rows.Given as goal
 
@@ -12,6 +12,6 @@ invariant-loop-r l =
       state : IsState (plain l.layered) (rows_of l.state.order) l.state.place.items (fan_lists l.state.left) (fan_lists l.state.right);
       settled : AreSettled (plain l.layered) (rows_of l.state.order) l.settled.items;
       same : HasSameRows (rows_of l.initial.state.order) (rows_of l.state.order);
-      lowered : LowersTo (plain l.layered) (rows_of l.initial.state.order) (rows_of l.state.order);
+      after : rows_of l.state.order ≡ after_rows (plain l.layered) (rows_of l.initial.state.order) l.r;
       tried : IsTried (plain l.layered) (rows_of l.initial.state.order) (rows_of l.state.order) l.changed ((g : ℕ) → g < l.r → NoneInRow (plain l.layered) (rows_of l.initial.state.order) g);
     }
