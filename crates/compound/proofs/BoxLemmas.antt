@@ -108,8 +108,8 @@ same_certificate a b c x y z p q s t e f g h k = cc
 pub alone_is : (d : Document) (p : Placed) (n : ℕ) (o : LevelOptions) (l : LevelIn) → IsSound d → n < length d.nodes → (node_at d n).level ≡ Some o → IsTrue o.boxes
     → plain_level l ≡ level_of d p n o → plain_level (alone l) ≡ level_of d p n o
 alone_is d p n o l sound there options boxes is =
-    let bare : PlainLevel → PlainLevel = λ m. record { children = m.children; edges = []; spacing = m.spacing } in
-    let f : List LevelEdge → PlainLevel = λ es. record { children = (level_of d p n o).children; edges = es; spacing = o.spacing } in
+    let bare : PlainLevel → PlainLevel = λ m. record { children = m.children; edges = []; spacing = m.spacing; choices = m.choices } in
+    let f : List LevelEdge → PlainLevel = λ es. record { children = (level_of d p n o).children; edges = es; spacing = o.spacing; choices = o.choices } in
     ap bare is ∙ ap f (sym (ap (map (level_edge d n)) (no_edges d n o sound there options boxes)))
 
 module _ (d : Document) (p : Placed) (n : ℕ) (o : LevelOptions) (l : LevelIn) (v : LevelFigure)
@@ -181,7 +181,7 @@ module _ (d : Document) (p : Placed) (n : ℕ) (o : LevelOptions) (l : LevelIn) 
 
   pub boxed_planned : IsBoxedPlan d p n o
   boxed_planned =
-      let bare : PlainLevel → PlainLevel = λ m. record { children = m.children; edges = []; spacing = m.spacing } in
+      let bare : PlainLevel → PlainLevel = λ m. record { children = m.children; edges = []; spacing = m.spacing; choices = m.choices } in
       record {
         level = alone l;
         out = layout.out;

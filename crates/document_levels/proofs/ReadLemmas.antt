@@ -64,9 +64,9 @@ children_same d p n way sizes has =
 -- the level that is read
 pub level_same : (d : Document) (p : Placed) (n : ℕ) (o : LevelOptions) (sizes : List Size) (numbers edges : List ℕ) (cs : List Child) (es : List LevelEdge)
     → numbers ≡ children d n → edges ≡ edges_of d n → cs ≡ map (sized_child d o.direction sizes) numbers → es ≡ map (level_edge d n) edges → HasSizes d p n sizes
-    → record { children = cs; edges = es; spacing = o.spacing } ≡ level_of d p n o
+    → record { children = cs; edges = es; spacing = o.spacing; choices = o.choices } ≡ level_of d p n o
 level_same d p n o sizes numbers edges cs es are_children are_edges cs_are es_are has =
-    let with_children : List Child → PlainLevel = λ xs. record { children = xs; edges = es; spacing = o.spacing } in
-    let with_edges : List LevelEdge → PlainLevel = λ xs. record { children = map (level_child d p o.direction) (children d n); edges = xs; spacing = o.spacing } in
+    let with_children : List Child → PlainLevel = λ xs. record { children = xs; edges = es; spacing = o.spacing; choices = o.choices } in
+    let with_edges : List LevelEdge → PlainLevel = λ xs. record { children = map (level_child d p o.direction) (children d n); edges = xs; spacing = o.spacing; choices = o.choices } in
     ap with_children (cs_are ∙ ap (map (sized_child d o.direction sizes)) are_children ∙ children_same d p n o.direction sizes has)
     ∙ ap with_edges (es_are ∙ ap (map (level_edge d n)) are_edges)

@@ -195,5 +195,6 @@ pub fn level_in(
         spacing: options.spacing,
         fixed: options.fixed,
         placing: options.placing,
+        choices: options.choices,
     })
 }

@@ -29,7 +29,7 @@ AllShort l = (c : ℕ) → c < length l.children → HasShortPorts (child_at l c
 
 module _ (l : PlainLevel) (p : PlainPlan) (o : Orders) (layers : List ℕ) (d : LevelDrawing) (ready : IsReady l p o layers) (drawn : IsDrawnFrom l p o d) (short : AllShort l) where
   abbrev no_child : Child
-  no_child = child_at (record { children = []; edges = []; spacing = l.spacing }) 0
+  no_child = child_at (record { children = []; edges = []; spacing = l.spacing; choices = l.choices }) 0
 
   pub wide_at : (m i : ℕ) → m ≡ 0 + i → i < length l.children → (drawn_outline l d m).width ≤ℤ ((child_at l i).size.width +ℤ pos (2 ^ 23))
   wide_at m i e h =

@@ -94,8 +94,8 @@ pub level_is : (d : Document) (p : Placed) (c : Certificate) (o : LevelOptions) 
 level_is d p c o =
     let w = lowered d in
     let q = lowered_drawing p c in
-    let with_numbers : List ℕ → List ℕ → PlainLevel = λ cs es. record { children = map (level_child w q o.direction) cs; edges = map (level_edge w 0) es; spacing = o.spacing } in
-    let with_child : Child → PlainLevel = λ x. record { children = x ∷ []; edges = []; spacing = o.spacing } in
+    let with_numbers : List ℕ → List ℕ → PlainLevel = λ cs es. record { children = map (level_child w q o.direction) cs; edges = map (level_edge w 0) es; spacing = o.spacing; choices = o.choices } in
+    let with_child : Child → PlainLevel = λ x. record { children = x ∷ []; edges = []; spacing = o.spacing; choices = o.choices } in
     ap₂ with_numbers (only_child d) (no_edges d) ∙ ap with_child (child_is d p c o.direction)
 
 -- ---- that level is one

@@ -128,11 +128,11 @@ module _ (d : Document) (p : Placed) (n : ℕ) (o : LevelOptions) (s : IsSound d
         leaves = λ c is leaf. planned.leaves c (behind c is) is.node_in leaf;
         solid = child_solid;
         widths = sides_room (over wide cs) (over high cs) _ (cost d n) (total_ports cs) (length d.ports) (total_width cs)
-            (widths_low cs (child_at (record { children = []; edges = []; spacing = o.spacing }) 0) (λ i h j l. (short i h j l).width)) sum
-            (over_least high cs (child_at (record { children = []; edges = []; spacing = o.spacing }) 0) (λ i h. (sides_least i h).1)) most few s.few_ports;
+            (widths_low cs (child_at (record { children = []; edges = []; spacing = o.spacing; choices = o.choices }) 0) (λ i h j l. (short i h j l).width)) sum
+            (over_least high cs (child_at (record { children = []; edges = []; spacing = o.spacing; choices = o.choices }) 0) (λ i h. (sides_least i h).1)) most few s.few_ports;
         heights = sides_room (over high cs) (over wide cs) _ (cost d n) (total_ports cs) (length d.ports) (total_height cs)
-            (heights_low cs (child_at (record { children = []; edges = []; spacing = o.spacing }) 0) (λ i h j l. (short i h j l).height)) (swapped (over wide cs) (over high cs) _ sum)
-            (over_least wide cs (child_at (record { children = []; edges = []; spacing = o.spacing }) 0) (λ i h. (sides_least i h).0)) most few s.few_ports;
+            (heights_low cs (child_at (record { children = []; edges = []; spacing = o.spacing; choices = o.choices }) 0) (λ i h j l. (short i h j l).height)) (swapped (over wide cs) (over high cs) _ sum)
+            (over_least wide cs (child_at (record { children = []; edges = []; spacing = o.spacing; choices = o.choices }) 0) (λ i h. (sides_least i h).0)) most few s.few_ports;
       }
     where
       swapped : (a b t : ℤ) → (a +ℤ b) ≡ t → (b +ℤ a) ≡ t

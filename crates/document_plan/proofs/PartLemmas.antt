@@ -32,7 +32,7 @@ module _ (level : LevelIn) (component : ℤ) (v : PartsOut) (apart : IsDistance 
   count = length v.outs
 
   abbrev no_child : Child
-  no_child = child_at (record { children = []; edges = []; spacing = l.spacing }) 0
+  no_child = child_at (record { children = []; edges = []; spacing = l.spacing; choices = l.choices }) 0
 
   part_short : (k : ℕ) → AllShort (part_level l v.parts k)
   part_short k i h =

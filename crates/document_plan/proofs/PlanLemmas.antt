@@ -88,7 +88,7 @@ boxed_stays : (d : Document) (p q : Placed) (n : ℕ) (o : LevelOptions)
     → AgreeAt d p q n → certificate_of p n ≡ certificate_of q n → box_size p n ≡ box_size q n → IsBoxedPlan d p n o → IsBoxedPlan d q n o
 boxed_stays d p q n o agree certificate size planned =
     let child : (i : ℕ) → i < length (children d n) → IsChild d n (child_number d n i) = (numbers_match d n).children.meant in
-    let bare : PlainLevel → PlainLevel = λ l. record { children = l.children; edges = []; spacing = l.spacing } in
+    let bare : PlainLevel → PlainLevel = λ l. record { children = l.children; edges = []; spacing = l.spacing; choices = l.choices } in
     let sizes : outline_sizes d p n ≡ outline_sizes d q n =
     map_same (λ c. size_of (outline_of d p c)) (λ c. size_of (outline_of d q c)) (children d n) (λ i h. ap size_of (outlines_stay d p q n (child_number d n i) agree (child i h))) in
     record {

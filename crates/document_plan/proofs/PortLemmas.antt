@@ -58,7 +58,7 @@ module _ (d : Document) (p : Placed) (n : ℕ) (o : LevelOptions) (sound : IsSou
 
   bare : edgeless d p n o ≡ level_of d p n o
   bare =
-      let f : List LevelEdge → PlainLevel = λ es. record { children = (level_of d p n o).children; edges = es; spacing = o.spacing } in
+      let f : List LevelEdge → PlainLevel = λ es. record { children = (level_of d p n o).children; edges = es; spacing = o.spacing; choices = o.choices } in
       ap f (sym (ap (map (level_edge d n)) (no_edges d n o sound there options boxes)))
 
   pub level_is : plain_level planned.level ≡ level_of d p n o

@@ -26,7 +26,7 @@ use Rattle.document_levels.specs.Sizes.{IsSizeRound}
 
 -- the children of n, with their sizes in the drawing, as a level without edges
 abbrev pub edgeless : Document → Placed → ℕ → LevelOptions → PlainLevel
-edgeless d p n o = record { children = map (level_child d p o.direction) (children d n); edges = []; spacing = o.spacing }
+edgeless d p n o = record { children = map (level_child d p o.direction) (children d n); edges = []; spacing = o.spacing; choices = o.choices }
 
 -- the size of a rectangle, and the sizes of the children's outlines, in document order
 abbrev pub size_of : Rect → Size

@@ -44,7 +44,7 @@ pub record IsPlannedLevel (d : Document) (p : Placed) (n : ℕ) (o : LevelOption
 
 -- the root as a child: alone in a level of its own direction, without edges
 abbrev pub root_level : Document → Placed → LevelOptions → PlainLevel
-root_level d p o = record { children = level_child d p o.direction 0 ∷ []; edges = []; spacing = o.spacing }
+root_level d p o = record { children = level_child d p o.direction 0 ∷ []; edges = []; spacing = o.spacing; choices = o.choices }
 
 -- The ports of the root stand at it as those of this child do in a layout of that level, turned back.
 pub record RootPortsStand (d : Document) (p : Placed) (o : LevelOptions) : Type 0 where

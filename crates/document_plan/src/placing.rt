@@ -53,6 +53,7 @@ fn level_of_root(
         spacing: options.spacing,
         fixed: None,
         placing: Placing::BrandesKoepf,
+        choices: options.choices,
     })
 }
 

@@ -2,7 +2,14 @@
 use Rattle.std.specs.Prelude.{pos, None, false}
 use Rattle.elk_doc.specs.declared.document.Direction.{Direction}
 use Rattle.elk_doc.specs.declared.document.Placing.TheVariants.{BrandesKoepf}
+use Rattle.elk_doc.specs.declared.document.Slotting.TheVariants.{Fewest}
+use Rattle.elk_doc.specs.declared.document.RowOrder.TheVariants.{Swept}
+use Rattle.elk_doc.specs.declared.document.Choices.{Choices}
 use Rattle.elk_doc.specs.declared.document.LevelOptions.{LevelOptions}
+
+-- what a level chooses that asks for nothing
+abbrev pub default_choices : Choices
+default_choices = record { slots = Fewest; effort = 7; order = Swept }
 
 -- the options of a level that asks for nothing but this direction
 abbrev pub default_options : Direction → LevelOptions
@@ -16,4 +23,5 @@ default_options way =
       component = pos 20;
       placing = BrandesKoepf;
       boxes = false;
+      choices = default_choices;
     }

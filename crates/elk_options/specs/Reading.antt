@@ -1,5 +1,5 @@
 -- The options of an element.
-use Rattle.std.specs.Prelude.{◌≡◌, ℕ, List, [], ◌∷◌, ◌++◌, Bool, true, false, not, ◌&&◌, is_some, find, Option, Some, None, option_map, unwrap_or, ℤ, pos, nat_abs, Result, MatchResult}
+use Rattle.std.specs.Prelude.{◌≡◌, ℕ, List, [], ◌∷◌, ◌++◌, Bool, true, false, not, ◌&&◌, is_some, find, Option, Some, None, option_map, unwrap_or, ℤ, pos, ◌≤ℤ◌, nat_abs, Result, MatchResult}
 use Rattle.std.specs.Option.{option_map_or, option_and_then}
 use Rattle.std.specs.Int.{int_max}
 use Rattle.serde_json.specs.Data.{Data}
@@ -10,6 +10,9 @@ use Rattle.elk_doc.specs.declared.document.Direction.TheVariants as direction
 use Rattle.elk_doc.specs.declared.document.PortRule.{PortRule}
 use Rattle.elk_doc.specs.declared.document.PortRule.TheVariants as rule
 use Rattle.elk_doc.specs.declared.document.Placing.TheVariants as placing
+use Rattle.elk_doc.specs.declared.document.Slotting.TheVariants as slotting
+use Rattle.elk_doc.specs.declared.document.RowOrder.TheVariants as order
+use Rattle.elk_doc.specs.declared.document.Choices.{Choices}
 use Rattle.elk_doc.specs.declared.document.Padding.{Padding}
 use Rattle.elk_doc.specs.declared.document.Spacing.{Spacing}
 use Rattle.elk_doc.specs.declared.document.LevelOptions.{LevelOptions}
@@ -23,7 +26,7 @@ use denote.Bor.{Bor}
 use Rattle.serde_json.specs.View.{view}
 use Rattle.serde_json.specs.declared.value.Value.{Value}
 use Rattle.elk_options.specs.Names.{asked, or_empty}
-use Rattle.elk_options.specs.Table.{to_boxes, to_direction, to_rule, to_side, to_index, to_routing, to_padding, to_distance, to_sweep, to_shortness, to_truth, to_placing}
+use Rattle.elk_options.specs.Table.{to_boxes, to_direction, to_rule, to_side, to_index, to_routing, to_padding, to_distance, to_sweep, to_shortness, to_truth, to_placing, to_slots, to_effort, to_order}
 
 unfoldable pub front_names : List OptionName
 front_names = name.Algorithm ∷ name.Direction ∷ name.PortConstraints ∷ name.EdgeRouting ∷ name.Padding ∷ []
@@ -34,9 +37,12 @@ spacing_names = name.NodeNode ∷ name.EdgeNode ∷ name.EdgeEdge ∷ name.NodeL
 unfoldable pub back_names : List OptionName
 back_names = name.FixedAlignment ∷ name.SeparateParts ∷ name.ComponentComponent ∷ name.NodePlacement ∷ []
 
+unfoldable pub choice_names : List OptionName
+choice_names = name.Slots ∷ name.Effort ∷ name.Order ∷ []
+
 -- the options that are read in a role, in order
 abbrev pub names_of : Role → List OptionName
-names_of Level = front_names ++ (spacing_names ++ back_names)
+names_of Level = front_names ++ (spacing_names ++ (back_names ++ choice_names))
 names_of Leaf = name.PortConstraints ∷ []
 names_of Port = name.PortSide ∷ name.PortIndex ∷ []
 names_of Edge = name.Shortness ∷ []
@@ -61,6 +67,9 @@ is_valued name.Shortness d = is_some (to_shortness d)
 is_valued name.SeparateParts d = is_some (to_truth d)
 is_valued name.ComponentComponent d = is_some (to_distance d)
 is_valued name.NodePlacement d = is_some (to_placing d)
+is_valued name.Slots d = is_some (to_slots d)
+is_valued name.Effort d = is_some (to_effort d)
+is_valued name.Order d = is_some (to_order d)
 
 -- the option is there, with a value outside its table
 unfoldable pub is_bad : Data → OptionName → Bool
@@ -100,6 +109,17 @@ AreDistances d s =
 abbrev pub usual_padding : Padding
 usual_padding = record { top = pos 12; left = pos 12; bottom = pos 12; right = pos 12 }
 
+-- the effort is at least 1
+unfoldable pub effort_of : Data → ℕ
+effort_of d = nat_abs (value_or to_effort (pos 7) name.Effort d)
+
+unfoldable pub choices_of : Data → Choices
+choices_of d = record {
+  slots = value_or to_slots slotting.Fewest name.Slots d;
+  effort = effort_of d;
+  order = value_or to_order order.Swept name.Order d;
+}
+
 -- a level of boxes is never split
 unfoldable pub level_of : Data → LevelOptions
 level_of d =
@@ -112,6 +132,7 @@ level_of d =
       component = distance_or 20 name.ComponentComponent d;
       placing = value_or to_placing placing.BrandesKoepf name.NodePlacement d;
       boxes = boxes;
+      choices = choices_of d;
     }
 
 unfoldable pub rule_of : Data → PortRule
@@ -130,9 +151,9 @@ options_of Edge d = record { level = None; rule = rule.Free; side = None; index 
 -- ---- for private clauses
 
 -- a level's options from what was read
-abbrev pub joined_options : Bool → Direction → PortRule → Padding → Spacing → Option Sweep → Bool → ℤ → Placing → Options
-joined_options boxes direction rule padding spacing sweep split component placing = record {
-  level = Some (record { direction = direction; spacing = spacing; padding = padding; fixed = sweep; split = not boxes && split; component = component; placing = placing; boxes = boxes });
+abbrev pub joined_options : Bool → Direction → PortRule → Padding → Spacing → Option Sweep → Bool → ℤ → Placing → Choices → Options
+joined_options boxes direction rule padding spacing sweep split component placing choices = record {
+  level = Some (record { direction = direction; spacing = spacing; padding = padding; fixed = sweep; split = not boxes && split; component = component; placing = placing; boxes = boxes; choices = choices });
   rule = rule;
   side = None;
   index = pos 0;
@@ -148,3 +169,7 @@ Reads option d value r = MatchResult r (λ v. (is_bad d option ≡ false) × (v 
 -- the options that are handed in
 abbrev pub given : Option (Bor Value) → Data
 given o = or_empty (option_map (λ v. view v.now) o)
+
+-- a factor on the work of the search for orders
+abbrev pub IsFactor : ℤ → Type 0
+IsFactor n = (pos 1 ≤ℤ n) × (n ≤ℤ pos 1000)

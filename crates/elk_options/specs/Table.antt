@@ -13,6 +13,10 @@ use Rattle.elk_doc.specs.declared.document.Sweep.{Sweep}
 use Rattle.elk_doc.specs.declared.document.Sweep.TheVariants as sweep
 use Rattle.elk_doc.specs.declared.document.Placing.{Placing}
 use Rattle.elk_doc.specs.declared.document.Placing.TheVariants as placing
+use Rattle.elk_doc.specs.declared.document.Slotting.{Slotting}
+use Rattle.elk_doc.specs.declared.document.Slotting.TheVariants as slotting
+use Rattle.elk_doc.specs.declared.document.RowOrder.{RowOrder}
+use Rattle.elk_doc.specs.declared.document.RowOrder.TheVariants as order
 use Rattle.elk_doc.specs.declared.document.Padding.{Padding}
 use Rattle.elk_options.specs.Values.{says, whole_within}
 use Rattle.elk_options.specs.PaddingText.{padding_text}
@@ -73,6 +77,12 @@ placing_text s =
     else (if says (codes "BRANDES_KOEPF") s || says (codes "SIMPLE") s || says (codes "LINEAR_SEGMENTS") s || says (codes "INTERACTIVE") s then Some placing.BrandesKoepf
     else None)
 
+abbrev pub slots_text : List ℕ → Option Slotting
+slots_text s = if says (codes "FEWEST") s then Some slotting.Fewest else (if says (codes "UNCROSSED") s then Some slotting.Uncrossed else None)
+
+abbrev pub order_text : List ℕ → Option RowOrder
+order_text s = if says (codes "SWEPT") s then Some order.Swept else (if says (codes "DOCUMENT") s then Some order.Document else None)
+
 -- ---- values
 
 abbrev pub to_boxes : Data → Option Bool
@@ -111,3 +121,12 @@ to_truth d = option_or (as_bool d) (option_and_then truth_text (as_str d))
 
 abbrev pub to_placing : Data → Option Placing
 to_placing d = option_and_then placing_text (as_str d)
+
+abbrev pub to_slots : Data → Option Slotting
+to_slots d = option_and_then slots_text (as_str d)
+
+abbrev pub to_effort : Data → Option ℤ
+to_effort d = whole_within (pos 1) (pos 1000) d
+
+abbrev pub to_order : Data → Option RowOrder
+to_order d = option_and_then order_text (as_str d)

@@ -4,11 +4,13 @@ ghost use Rattle.elk_doc.specs.declared.document.Direction.TheVariants as direct
 ghost use Rattle.elk_doc.specs.declared.document.Placing.TheVariants as placing;
 ghost use Rattle.elk_options.specs.declared.names.OptionName.TheVariants as name;
 ghost use Rattle.elk_options.specs.Table.{to_boxes, to_direction, to_padding, to_sweep, to_truth, to_placing};
-ghost use Rattle.elk_options.specs.Reading.{given, is_bad, front_names, spacing_names, back_names, value_or, distance_or, usual_padding, AreDistances, rule_of, first_bad, options_of, joined_options};
+ghost use Rattle.elk_options.specs.Reading.{given, is_bad, front_names, spacing_names, back_names, choice_names, choices_of, value_or, distance_or, usual_padding, AreDistances, rule_of, first_bad, options_of, joined_options};
 
 use crate::names::OptionName;
 use crate::readers;
-use elk_doc::document::{Direction, LevelOptions, Padding, Placing, PortRule, Spacing, Sweep};
+use elk_doc::document::{
+    Choices, Direction, LevelOptions, Padding, Placing, PortRule, Spacing, Sweep,
+};
 use elk_doc::shape::Side;
 use serde_json::Value;
 
@@ -121,8 +123,24 @@ fn back(options: Option<&Value>) -> Result<BackValues, BadValue>
     })
 }
 
-fn joined(front: FrontValues, spacing: Spacing, back: BackValues) -> Options
-    ensures { result ≡ joined_options front.boxes front.direction front.rule front.padding spacing back.sweep back.split back.component back.placing }
+#[tactic(auto, unfolding(crate::specs::Reading::choice_names, crate::specs::Reading::choices_of))]
+fn choices(options: Option<&Value>) -> Result<Choices, BadValue>
+    ensures { MatchResult result
+        (λ v. (find (is_bad (given options.entry)) choice_names ≡ None) × (v ≡ choices_of (given options.entry)))
+        (λ e. find (is_bad (given options.entry)) choice_names ≡ Some e.option) }
+{
+    let slots = readers::slots(options)?;
+    let effort = readers::effort(options)?;
+    let order = readers::order(options)?;
+    Ok(Choices {
+        slots,
+        effort,
+        order,
+    })
+}
+
+fn joined(front: FrontValues, spacing: Spacing, back: BackValues, choices: Choices) -> Options
+    ensures { result ≡ joined_options front.boxes front.direction front.rule front.padding spacing back.sweep back.split back.component back.placing choices }
 {
     Options {
         level: Some(LevelOptions {
@@ -134,6 +152,7 @@ fn joined(front: FrontValues, spacing: Spacing, back: BackValues) -> Options
             component: back.component,
             placing: back.placing,
             boxes: front.boxes,
+            choices,
         }),
         rule: front.rule,
         side: None,
@@ -150,7 +169,8 @@ fn level_options(options: Option<&Value>) -> Result<Options, BadValue>
     let front = front(options)?;
     let spacing = spacing(options)?;
     let back = back(options)?;
-    Ok(joined(front, spacing, back))
+    let choices = choices(options)?;
+    Ok(joined(front, spacing, back, choices))
 }
 
 #[tactic(auto, unfolding(crate::specs::Reading::first_bad, crate::specs::Reading::options_of))]

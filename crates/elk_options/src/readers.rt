@@ -5,18 +5,21 @@ ghost use Rattle.std.specs.Int.{int_max};
 ghost use Rattle.serde_json.specs.View.{view};
 ghost use Rattle.elk_doc.specs.declared.document.Direction.TheVariants as direction;
 ghost use Rattle.elk_doc.specs.declared.document.Placing.TheVariants as placing;
+ghost use Rattle.elk_doc.specs.declared.document.Slotting.TheVariants as slotting;
+ghost use Rattle.elk_doc.specs.declared.document.RowOrder.TheVariants as order;
 ghost use Rattle.elk_options.specs.declared.names.OptionName.TheVariants as name;
-ghost use Rattle.elk_options.specs.Table.{to_boxes, to_direction, to_side, to_index, to_routing, to_padding, to_distance, to_sweep, to_shortness, to_truth, to_placing};
-ghost use Rattle.elk_options.specs.Reading.{given, rule_of, value_or, distance_or, usual_padding, Reads};
+ghost use Rattle.elk_options.specs.Table.{to_boxes, to_direction, to_side, to_index, to_routing, to_padding, to_distance, to_sweep, to_shortness, to_truth, to_placing, to_slots, to_effort, to_order};
+ghost use Rattle.elk_options.specs.Reading.{given, rule_of, value_or, distance_or, effort_of, usual_padding, IsFactor, Reads};
 
 use crate::names::{OptionName, asked_of};
 use crate::options::BadValue;
 use crate::padding::read_padding;
 use crate::texts::{
-    boxes_of, direction_of, placing_of, routing_of, rule_of, side_of, sweep_of, truth_of,
+    boxes_of, direction_of, order_of, placing_of, routing_of, rule_of, side_of, slots_of, sweep_of,
+    truth_of,
 };
 use crate::values::whole_in;
-use elk_doc::document::{Direction, Padding, Placing, PortRule, Sweep};
+use elk_doc::document::{Direction, Padding, Placing, PortRule, RowOrder, Slotting, Sweep};
 use elk_doc::shape::Side;
 use serde_json::Value;
 
@@ -288,4 +291,46 @@ pub(crate) fn component(options: Option<&Value>) -> Result<i64, BadValue>
         20,
         OptionName::ComponentComponent,
     )
+}
+
+#[tactic(auto, unfolding(crate::specs::Reading::is_bad))]
+pub(crate) fn slots(options: Option<&Value>) -> Result<Slotting, BadValue>
+    ensures { Reads name.Slots (given options.entry) (value_or to_slots slotting.Fewest name.Slots (given options.entry)) result }
+{
+    let asked = asked_of(options, OptionName::Slots);
+    let value = asked.and_then(Value::as_str).and_then(slots_of);
+    settled(asked.is_some(), value, Slotting::Fewest, OptionName::Slots)
+}
+
+#[tactic(auto, unfolding(crate::specs::Reading::is_bad))]
+pub(crate) fn order(options: Option<&Value>) -> Result<RowOrder, BadValue>
+    ensures { Reads name.Order (given options.entry) (value_or to_order order.Swept name.Order (given options.entry)) result }
+{
+    let asked = asked_of(options, OptionName::Order);
+    let value = asked.and_then(Value::as_str).and_then(order_of);
+    settled(asked.is_some(), value, RowOrder::Swept, OptionName::Order)
+}
+
+fn factor_of(value: &Value) -> Option<i64>
+    ensures { result ≡ to_effort (view value.now) }
+{
+    whole_in(value, 1, 1000)
+}
+
+#[tactic(auto, unfolding(crate::specs::Reading::is_bad))]
+fn factor(options: Option<&Value>) -> Result<i64, BadValue>
+    ensures reads { Reads name.Effort (given options.entry) (value_or to_effort (pos 7) name.Effort (given options.entry)) result }
+    ensures within { IfOk result (λ n. IsFactor n) }
+{
+    let asked = asked_of(options, OptionName::Effort);
+    let value = asked.and_then(factor_of);
+    settled(asked.is_some(), value, 7, OptionName::Effort)
+}
+
+#[tactic(auto, unfolding(crate::specs::Reading::effort_of))]
+pub(crate) fn effort(options: Option<&Value>) -> Result<u32, BadValue>
+    ensures { Reads name.Effort (given options.entry) (effort_of (given options.entry)) result }
+{
+    let factor = factor(options)?;
+    Ok(factor as u32)
 }

@@ -1,9 +1,9 @@
 //! Texts of options.
 ghost use Rattle.std.specs.Prelude.{◌≡◌, bytes_eq};
-ghost use Rattle.elk_options.specs.Table.{boxes_text, direction_text, rule_text, side_text, routing_text, sweep_text, truth_text, placing_text};
+ghost use Rattle.elk_options.specs.Table.{boxes_text, direction_text, rule_text, side_text, routing_text, sweep_text, truth_text, placing_text, slots_text, order_text};
 
 use crate::values::is_word;
-use elk_doc::document::{Direction, Placing, PortRule, Sweep};
+use elk_doc::document::{Direction, Placing, PortRule, RowOrder, Slotting, Sweep};
 use elk_doc::shape::Side;
 
 fn is_text(text: &str, word: &str) -> bool
@@ -131,6 +131,30 @@ pub(crate) fn placing_of(text: &str) -> Option<Placing>
         || is_word(text, "INTERACTIVE")
     {
         Some(Placing::BrandesKoepf)
+    } else {
+        None
+    }
+}
+
+pub(crate) fn slots_of(text: &str) -> Option<Slotting>
+    ensures { result ≡ slots_text text.now }
+{
+    if is_word(text, "FEWEST") {
+        Some(Slotting::Fewest)
+    } else if is_word(text, "UNCROSSED") {
+        Some(Slotting::Uncrossed)
+    } else {
+        None
+    }
+}
+
+pub(crate) fn order_of(text: &str) -> Option<RowOrder>
+    ensures { result ≡ order_text text.now }
+{
+    if is_word(text, "SWEPT") {
+        Some(RowOrder::Swept)
+    } else if is_word(text, "DOCUMENT") {
+        Some(RowOrder::Document)
     } else {
         None
     }

@@ -18,7 +18,7 @@ use Rattle.level_boxes.specs.Placing.{IsBroad, StandsTurned}
 
 -- a level without its edges
 abbrev pub alone : LevelIn → LevelIn
-alone l = record { children = l.children; edges = []; spacing = l.spacing; fixed = l.fixed; placing = l.placing }
+alone l = record { children = l.children; edges = []; spacing = l.spacing; fixed = l.fixed; placing = l.placing; choices = l.choices }
 
 -- Ports stand as in a layout of the level without its edges. Outlines, turned back into the document, stand in the squarest rows
 -- of their sizes there, in the order of the children and with the gap between nodes. In the frame they and the extent are those

@@ -36,6 +36,7 @@ fn alone(alloc: Global, level: LevelIn) -> LevelIn
         spacing: level.spacing,
         fixed: level.fixed,
         placing: level.placing,
+        choices: level.choices,
     }
 }
 

@@ -121,7 +121,8 @@ pub fn draw_by_table(
 /// and in the frame in which its direction runs to the right. Outlines and routes begin at 0. The certificate, the order that
 /// the rows began with and what the drawing is made from are kept in it.
 ///
-/// The tops need only keep the distances of units. The only error is want of memory; what was given is dropped then.
+/// The tops need only keep the distances of units. No layer comes after the last that the certificate lists: it would be a column
+/// in which nothing stands, and this engine makes none. The only error is want of memory; what was given is dropped then.
 pub fn draw(
     alloc: Global,
     level: &LevelIn,

@@ -109,7 +109,7 @@ ports_within (x ∷ cs) zero d e = omega arith
 ports_within (x ∷ cs) (suc c) d e = let h = ports_within cs c d e in omega (arith, h)
 
 pub ports_few : (l : PlainLevel) (c : ℕ) → IsLevel l → length (child_at l c).ports ≤ 4096
-ports_few l c level = let h = ports_within l.children c (child_at (record { children = []; edges = []; spacing = l.spacing }) 0) refl in let t = level.few_ports in omega (arith, h, t)
+ports_few l c level = let h = ports_within l.children c (child_at (record { children = []; edges = []; spacing = l.spacing; choices = l.choices }) 0) refl in let t = level.few_ports in omega (arith, h, t)
 
 pub row_few : (l : PlainLevel) (p : PlainPlan) (c : ℕ) (ns : List End) → IsLevel l → length ns ≤ 4096 → length (row_of l p c ns) ≤ 8192
 row_few l p c ns level few =

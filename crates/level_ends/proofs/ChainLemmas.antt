@@ -164,7 +164,7 @@ tables l p place marks firsts lasts es e level sound rows linked places marks_ar
 pub edge_read : (l : PlainLevel) (es : List LevelEdge) (e : ℕ) (d : LevelEdge) → es ≡ l.edges → e < length es → (get_or es e d ≡ edge_at l e) × (e < length l.edges)
 edge_read l es e d q h =
     let inside : e < length l.edges = subst (λ (xs : List LevelEdge). e < length xs) q h in (
-      ap (λ (xs : List LevelEdge). get_or xs e d) q ∙ get_or_default l.edges e d (edge_at (record { children = []; edges = []; spacing = l.spacing }) 0) inside,
+      ap (λ (xs : List LevelEdge). get_or xs e d) q ∙ get_or_default l.edges e d (edge_at (record { children = []; edges = []; spacing = l.spacing; choices = l.choices }) 0) inside,
       inside,
     )
 

@@ -157,12 +157,12 @@ edge_added l flows e edge flow v w mid a b is s q r na nb pushed =
 
 -- a child that is read from the level's
 pub child_read : (l : PlainLevel) (cs : List Child) (c : ℕ) (x : Child) → cs ≡ l.children → x ≡ get_or cs c x → c < length cs → x ≡ child_at l c
-child_read l cs c x q is h = get_or_read cs c x h is (child_at (record { children = []; edges = []; spacing = l.spacing }) 0) ∙ ap (λ (ys : List Child). child_at (record { children = ys; edges = l.edges; spacing = l.spacing }) c) q
+child_read l cs c x q is h = get_or_read cs c x h is (child_at (record { children = []; edges = []; spacing = l.spacing; choices = l.choices }) 0) ∙ ap (λ (ys : List Child). child_at (record { children = ys; edges = l.edges; spacing = l.spacing; choices = l.choices }) c) q
 
 -- what is read of an edge
 pub added : (l : PlainLevel) (flows : List Flow) (e : ℕ) (edge : LevelEdge) → IsLevel l → ((p : PlainPlan) × AreFlows l p (length l.edges) flows) → e < length l.edges → edge ≡ get_or l.edges e edge → IsAdded l flows e edge (flow_at flows e)
 added l flows e edge level flows_are h is =
-    record { level = level; plan = flows_are.0; flows_are = flows_are.1; inside = h; edge_is = get_or_read l.edges e edge h is (edge_at (record { children = []; edges = []; spacing = l.spacing }) 0); flow_is = refl }
+    record { level = level; plan = flows_are.0; flows_are = flows_are.1; inside = h; edge_is = get_or_read l.edges e edge h is (edge_at (record { children = []; edges = []; spacing = l.spacing; choices = l.choices }) 0); flow_is = refl }
 
 -- what was told of an edge
 pub told_read : (l : PlainLevel) (flows : List Flow) (e : ℕ) (edge : LevelEdge) (d : Flow) (t : Bool) (told : Told) → IsAdded l flows e edge (flow_at flows e) → told ≡ told_by (get_or flows e d) t → told ≡ told_by (flow_at flows e) t

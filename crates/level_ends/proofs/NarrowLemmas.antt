@@ -95,11 +95,11 @@ at_most a b c h k = omega (arith, ints, h, k)
 -- the children of a level are narrow
 pub narrow : (l : PlainLevel) (c : ℕ) → IsLevel l → c < length l.children → IsNarrow (child_at l c)
 narrow l c level h =
-    let d : Child = child_at (record { children = []; edges = []; spacing = l.spacing }) 0 in
+    let d : Child = child_at (record { children = []; edges = []; spacing = l.spacing; choices = l.choices }) 0 in
     let is = level.children c h in
-    let sound : (k : ℕ) → k < length l.children → IsChild (get_or l.children k (child_at (record { children = []; edges = []; spacing = l.spacing }) 0)) = λ k less. (level.children k less).sound in
-    let wide = at_most _ _ _ ((child_width l.children c (child_at (record { children = []; edges = []; spacing = l.spacing }) 0) sound).1 h) level.widths in
-    let high = at_most _ _ _ ((child_height l.children c (child_at (record { children = []; edges = []; spacing = l.spacing }) 0) sound).1 h) level.heights in
+    let sound : (k : ℕ) → k < length l.children → IsChild (get_or l.children k (child_at (record { children = []; edges = []; spacing = l.spacing; choices = l.choices }) 0)) = λ k less. (level.children k less).sound in
+    let wide = at_most _ _ _ ((child_width l.children c (child_at (record { children = []; edges = []; spacing = l.spacing; choices = l.choices }) 0) sound).1 h) level.widths in
+    let high = at_most _ _ _ ((child_height l.children c (child_at (record { children = []; edges = []; spacing = l.spacing; choices = l.choices }) 0) sound).1 h) level.heights in
     let widths : (k : ℕ) → k < length (sizes_of (child_at l c)) → (get_or (sizes_of (child_at l c)) k no_size).width ≤ℤ pos (2 ^ 46) = λ k less.
     at_most _ _ _ (part_most (λ s. s.width) (sizes_of (child_at l c)) no_size k (widths_least (child_at l c) is.sound) less) wide
     in

@@ -1,18 +1,23 @@
 -- A drawing that is moved as a whole.
-use Rattle.std.proofs.Common.{◌≡◌, ℕ, zero, suc, ◌<◌, true, false, [], map, length, ℤ, pos, ◌+ℤ◌, ◌-ℤ◌, arith, refl, sym, ◌∙◌, ap, ap₂, subst, inl, inr}
+use Rattle.std.proofs.Common.{◌≡◌, ℕ, zero, suc, ◌<◌, true, false, List, [], map, length, ℤ, pos, ◌+ℤ◌, ◌-ℤ◌, arith, refl, sym, ◌∙◌, ap, ap₂, subst, inl, inr}
 use Rattle.std.proofs.lemmas.Int.{ints}
 use Rattle.std.proofs.lemmas.Bool.{cases_lt}
 use Rattle.std.proofs.lemmas.List.{get_or-map, get_or_past, length-map}
 use Rattle.elk_doc.specs.declared.shape.Point.{Point}
 use Rattle.elk_doc.specs.Shapes.{moved_by, point_rect}
+use Rattle.elk_doc.specs.declared.document.Slotting.{Slotting}
+use Rattle.elk_doc.specs.declared.document.Slotting.TheVariants.{Fewest, Uncrossed}
+use Rattle.route_slots.specs.declared.Net.{Net}
+use Rattle.route_slots.specs.declared.NetRoute.{NetRoute}
 use Rattle.route_slots.specs.GapFree.{GapFree}
 use Rattle.route_lines.specs.Points.{PlainGap, gap_in, trace_points}
 use Rattle.route_lines.specs.Tidied.{IsTidied, IsSectionOf}
 use Rattle.level_plan.specs.Level.{PlainLevel, PlainPlan, Orders, End, end_at, spoke, spot_of, anchor_of_spot, outline}
 use Rattle.level_plan.specs.Nets.{gap_left, gap_width, first_slot, column_width, layer_of_child, box_top}
-use Rattle.level_plan.specs.FromPlan.{LevelDrawing, counts, IsGap, IsRoute, IsPlaced, IsDrawnFrom, box_place, anchor, trace_at, section_at}
-use Rattle.level_frame.specs.Moved.{moved, moved_point, moved_net, moved_step, moved_gap, moved_trace, moved_section, HasPlaces}
-use Rattle.level_frame.proofs.GapMoves.{gap_moves}
+use Rattle.level_plan.specs.FromPlan.{LevelDrawing, AreSlots, counts, IsGap, IsRoute, IsPlaced, IsDrawnFrom, box_place, anchor, trace_at, section_at}
+use Rattle.level_frame.specs.Moved.{moved, moved_point, moved_net, moved_route, moved_step, moved_gap, moved_trace, moved_section, HasPlaces}
+use Rattle.route_slots.proofs.SlotMoves.{fewest_moves, uncrossed_moves}
+use Rattle.route_slots.proofs.GapMoves.{gap_moves}
 use Rattle.elk_doc.proofs.ShapeLaws.{same_point}
 use Rattle.level_frame.proofs.PathMoves.{tidied_moves, section_moves, gap_is, points_move}
 use Rattle.level_frame.proofs.StepMoves.{steps_move, nets_move}
@@ -22,6 +27,12 @@ unfolding gap_left
 left_same l p o c c' same zero = refl
 left_same l p o c c' same (suc g) =
     ap₂ (λ (a : ℤ) (n : ℕ). a +ℤ gap_width l p g n +ℤ column_width l p o g) (left_same l p o c c' same g) (same g)
+
+-- the slots are as they are asked for wherever the gap stands
+slots_move : (y : ℤ) (asked : Slotting) (nets : List Net) (count : ℕ) (routes : List NetRoute)
+    → AreSlots asked nets count routes → AreSlots asked (map (moved_net y) nets) count (map (moved_route y) routes)
+slots_move y Fewest nets count routes = fewest_moves y nets count routes
+slots_move y Uncrossed nets count routes = uncrossed_moves y nets count routes
 
 module _ (l : PlainLevel) (p : PlainPlan) (o : Orders) (d : LevelDrawing) (x y : ℤ) (has : HasPlaces l p) (drawn : IsDrawnFrom l p o d) where
   abbrev d' : LevelDrawing
@@ -60,6 +71,7 @@ module _ (l : PlainLevel) (p : PlainPlan) (o : Orders) (d : LevelDrawing) (x y :
             ∙ ap₂ (λ (a : ℤ) (n : ℕ). a +ℤ gap_width l p g n) (sym (ap (λ k. k.left) is)) (sym (same_counts g));
         nets = ap (λ k. k.nets) is ∙ ap (map (moved_net y)) was.nets ∙ sym (nets_move l p o d.top y g);
         free = subst (λ k. GapFree k.nets k.count k.routes) (sym is) (gap_moves y (gap_in d.gaps g).nets (gap_in d.gaps g).count (gap_in d.gaps g).routes was.free);
+        slots = subst (λ k. AreSlots l.choices.slots k.nets k.count k.routes) (sym is) (slots_move y l.choices.slots (gap_in d.gaps g).nets (gap_in d.gaps g).count (gap_in d.gaps g).routes was.slots);
       }
 
   box_moves : (c : ℕ) → c < length l.children → box_place l p o d' c ≡ moved_point x y (box_place l p o d c)

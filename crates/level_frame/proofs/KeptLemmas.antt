@@ -36,7 +36,7 @@ sized d way c s =
 pub levels_read_sizes : (d : Document) (p q : Placed) (n : ℕ) (o : LevelOptions)
     → ((c : ℕ) → IsChild d n c → box_size p c ≡ box_size q c) → level_of d p n o ≡ level_of d q n o
 levels_read_sizes d p q n o same =
-    let f : List Child → PlainLevel = λ cs. record { children = cs; edges = (level_of d p n o).edges; spacing = o.spacing } in
+    let f : List Child → PlainLevel = λ cs. record { children = cs; edges = (level_of d p n o).edges; spacing = o.spacing; choices = o.choices } in
     ap f (map_same (level_child d p o.direction) (level_child d q o.direction) (children d n)
     (λ i h. ap (sized d o.direction (child_number d n i)) (same (child_number d n i) ((numbers_match d n).children.meant i h))))
 

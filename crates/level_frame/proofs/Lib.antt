@@ -3,7 +3,6 @@ pub mod KeptLemmas
 pub mod Growing
 pub mod Spanned
 pub mod MapLemmas
-pub mod GapMoves
 pub mod PathMoves
 pub mod StepMoves
 pub mod DrawingMoves

@@ -16,7 +16,7 @@ use Rattle.route_lines.specs.declared.Step.TheVariants.{Lane, Leg}
 use Rattle.route_lines.specs.Points.{PlainGap, gap_in, stand, point_at, leg_points, net_leg, height_next, last_point, points_on, step_points, trace_points}
 use Rattle.route_lines.specs.Tidied.{IsMiddle, Drops, equal, middle, later, DropsSome, none, more, IsTidied, IsSectionOf, one, many}
 use Rattle.level_frame.specs.Moved.{moved_point, moved_route, moved_gap, moved_step, moved_section}
-use Rattle.level_frame.proofs.GapMoves.{less_min}
+use Rattle.route_slots.proofs.GapMoves.{less_min}
 
 -- dropping points
 

@@ -7,7 +7,7 @@ use Rattle.elk_doc.proofs.ShapeLaws.{same_point}
 use Rattle.level_frame.specs.declared.spanning.Reach.{Reach}
 use Rattle.level_frame.specs.Reach.{least, greatest, abscissae, heights, IsReach, ReachMovesBy}
 use Rattle.level_frame.specs.Walk.{joined, reach_over}
-use Rattle.level_frame.proofs.GapMoves.{max_moves, min_moves}
+use Rattle.route_slots.proofs.GapMoves.{max_moves, min_moves}
 use Rattle.level_frame.proofs.Growing.{same_reach}
 
 least_moves : (x z : ℤ) (zs : List ℤ) → least (map (λ a. a -ℤ x) (z ∷ zs)) ≡ least (z ∷ zs) -ℤ x

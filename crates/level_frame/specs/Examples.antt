@@ -38,6 +38,7 @@ level_with way first second port =
           ∷ [];
       edges = record { source = record { child = 0; port = Some 0 }; target = record { child = 1; port = None }; weight = 3 } ∷ [];
       spacing = (options way).spacing;
+      choices = (options way).choices;
     }
 
 abbrev pub port_with : Size → Point → ℕ → Side → ChildPort

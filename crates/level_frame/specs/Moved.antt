@@ -2,10 +2,7 @@
 use Rattle.std.specs.Prelude.{ℕ, ◌<◌, Bool, length, map, ℤ, ◌+ℤ◌, ◌-ℤ◌}
 use Rattle.elk_doc.specs.declared.shape.Point.{Point}
 use Rattle.elk_doc.specs.declared.drawing.Section.{Section}
-use Rattle.route_slots.specs.declared.Pin.{Pin}
-use Rattle.route_slots.specs.declared.Net.{Net}
-use Rattle.route_slots.specs.declared.NetRoute.{NetRoute}
-use Rattle.route_slots.specs.declared.NetRoute.TheVariants.{Straight, One, Two}
+pub use Rattle.route_slots.specs.Moved.{moved_pin, moved_net, moved_route}
 use Rattle.route_lines.specs.declared.Step.{Step}
 use Rattle.route_lines.specs.declared.Step.TheVariants.{Lane, Leg}
 use Rattle.route_lines.specs.Points.{PlainGap}
@@ -15,17 +12,6 @@ use Rattle.level_plan.specs.FromPlan.{LevelDrawing, PlainTrace, IsDrawnFrom}
 
 abbrev pub moved_point : ℤ → ℤ → Point → Point
 moved_point x y p = record { x = p.x -ℤ x; y = p.y -ℤ y }
-
-abbrev pub moved_pin : ℤ → Pin → Pin
-moved_pin y p = record { on_left = p.on_left; height = p.height -ℤ y }
-
-abbrev pub moved_net : ℤ → Net → Net
-moved_net y n = record { a = moved_pin y n.a; b = moved_pin y n.b }
-
-abbrev pub moved_route : ℤ → NetRoute → NetRoute
-moved_route y Straight = Straight
-moved_route y (One s) = One s
-moved_route y (Two s h t) = Two s (h -ℤ y) t
 
 abbrev pub moved_gap : ℤ → ℤ → PlainGap → PlainGap
 moved_gap x y g =

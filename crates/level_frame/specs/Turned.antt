@@ -110,4 +110,5 @@ level_of d p n o =
       children = map (level_child d p o.direction) (children d n);
       edges = map (level_edge d n) (edges_of d n);
       spacing = o.spacing;
+      choices = o.choices;
     }

@@ -41,7 +41,7 @@ module _ (l : PlainLevel) (p : PlainPlan) (o : Orders) (layers : List ℕ) (read
   most t s a n h e low few = omega (arith, ints, h, e, low, few)
 
   abbrev no_child : Child
-  no_child = child_at (record { children = []; edges = []; spacing = l.spacing }) 0
+  no_child = child_at (record { children = []; edges = []; spacing = l.spacing; choices = l.choices }) 0
 
   pub widths_low : over (λ c. (outline l p o c).width) (range_with_len 0 (length l.children)) ≤ℤ pos (2 ^ 33 + 2 ^ 47)
   widths_low =

@@ -15,7 +15,7 @@ use Rattle.level_layers.specs.Marks.{AreEdges, AreMarkedEdges, AreNodes, is_mark
 pub edge_read : (l : PlainLevel) (es : List LevelEdge) (e : ℕ) (d : LevelEdge) → es ≡ l.edges → e < length es → (get_or es e d ≡ edge_at l e) × (e < length l.edges)
 edge_read l es e d same h =
     let inside : e < length l.edges = subst (λ (xs : List LevelEdge). e < length xs) same h in (
-      ap (λ (xs : List LevelEdge). get_or xs e d) same ∙ get_or_default l.edges e d (edge_at (record { children = []; edges = []; spacing = l.spacing }) 0) inside,
+      ap (λ (xs : List LevelEdge). get_or xs e d) same ∙ get_or_default l.edges e d (edge_at (record { children = []; edges = []; spacing = l.spacing; choices = l.choices }) 0) inside,
       inside,
     )
 

@@ -1,18 +1,19 @@
 -- Crossings and sweeps read only the layers of units, and the ends and ranks of links: orders that reduce crossings do so for
 -- all units and links that have these.
-use Rattle.std.proofs.Common.{◌≡◌, ℕ, suc, ◌+◌, ◌<◌, ◌≤◌, ◌*◌, ◌==◌, cond, Bool, true, false, not, ◌&&◌, ◌||◌, List, [], ◌∷◌, length, get_or, reverse, refl, sym, subst, ap, ap₂, ◌∙◌, ⊎_elim, inl, inr, arith}
+use Rattle.std.proofs.Common.{◌≡◌, ℕ, zero, suc, ◌+◌, ◌-◌, ◌<◌, ◌≤◌, ◌*◌, ◌==◌, cond, Bool, true, false, not, ◌&&◌, ◌||◌, List, [], ◌∷◌, length, get_or, reverse, refl, sym, subst, ap, ap₂, ◌∙◌, ⊎_elim, inl, inr, arith}
 use Rattle.std.proofs.lemmas.Bool.{cases_Bool}
 use Rattle.std.proofs.lemmas.List.Elements.{All-weaker}
 use Rattle.std.proofs.lemmas.List.Sums.{sum_by-cons}
-use Rattle.std.specs.Prelude.{nat_lt}
+use Rattle.std.specs.Prelude.{nat_lt, if◌then◌else◌}
 use Rattle.std.specs.List.{All, count_by, filter, sum_by}
 use Rattle.elk_layers.specs.declared.units.Link.{Link}
 use Rattle.elk_layers.specs.Layered.{Plain, gap_of, head_key, layer_of, link_at, place_in, place_of, row_at, tail_key}
-use Rattle.elk_layers.specs.Crossings.{cross, crossings, crossings_among, exchanged}
+use Rattle.elk_layers.specs.Crossings.{cross, crossings, crossings_among, exchanged, NoBetterSwap}
 use Rattle.elk_layers.specs.Sweeps.{Ends, backward_sweep, far_count, far_sum, forward_sweep, has_links, insert_by, mean_le, ordered, refilled, sorted_by, sweep_orders, swept, swept_after, to_left, to_right}
-use Rattle.cross_reduce.specs.Reduced.{AtMostOf, FewerThan, IsExchangedFromFewest, IsFirstOfFewest, Lowers, LowersTo, go, stay}
+use Rattle.cross_reduce.specs.Reduced.{after_pair, after_pairs, after_row, after_rows, again, at_rest, AtMostOf, FewerThan, IsExchangedFromFewest, IsFirstOfFewest, SettlesTo}
 use Rattle.level_units.specs.Fitted.{AreKept}
-use Rattle.level_layout.specs.Chosen.{IsReduced}
+use Rattle.elk_doc.specs.declared.document.RowOrder.{RowOrder}
+use Rattle.level_layout.specs.Chosen.{AreChosenRows, IsReduced}
 
 -- two links with the same ends and ranks
 pub record SameEnds (x y : Link) : Type 0 where
@@ -186,17 +187,6 @@ module _ (a b : Plain) (kept : AreKept a b) where
         backward_same (forward_sweep b (backward_sweep b (forward_sweep b start))),
       ) refl
 
-  lowers_same : (xs ys : List (List ℕ)) → Lowers a xs ys → Lowers b xs ys
-  lowers_same xs ys s =
-      let here = same_crossings a b kept ys in
-      let there = same_crossings a b kept xs in
-      let less = s.fewer in
-      record { r = s.r; i = s.i; row = s.row; place = s.place; swapped = s.swapped; fewer = omega (arith, here, there, less) }
-
-  lowers_to_same : (xs ys : List (List ℕ)) → LowersTo a xs ys → LowersTo b xs ys
-  lowers_to_same xs ys (stay _) = stay xs
-  lowers_to_same xs ys (go _ m _ s rest) = go xs m ys (lowers_same xs m s) (lowers_to_same m ys rest)
-
   fewer_same : (rows : List (List ℕ)) (others : List (List (List ℕ))) → FewerThan a rows others → FewerThan b rows others
   fewer_same rows others h =
       let here = same_crossings a b kept rows in
@@ -213,14 +203,46 @@ module _ (a b : Plain) (kept : AreKept a b) where
   first_same orders rows s =
       record { before = s.before; behind = s.behind; splits = s.splits; fewer = fewer_same rows s.before s.fewer; at_most = most_same rows s.behind s.at_most }
 
+  settled_same : (rows : List (List ℕ)) → NoBetterSwap a rows → NoBetterSwap b rows
+  settled_same rows settled n i h k =
+      let here = same_crossings a b kept rows in
+      let after = same_crossings a b kept (exchanged rows n i) in
+      let less = settled n i h k in
+      omega (arith, here, after, less)
+
+  pair_same : (rows : List (List ℕ)) (r i : ℕ) → after_pair a rows r i ≡ after_pair b rows r i
+  pair_same rows r i =
+      ap₂ (λ (m n : ℕ). if nat_lt m n then exchanged rows r i else rows) (same_crossings a b kept (exchanged rows r i)) (same_crossings a b kept rows)
+
+  pairs_same : (rows : List (List ℕ)) (r n : ℕ) → after_pairs a rows r n ≡ after_pairs b rows r n
+  pairs_same rows r zero = refl
+  pairs_same rows r (suc n) = pair_same (after_pairs a rows r n) r n ∙ ap (λ x. after_pair b x r n) (pairs_same rows r n)
+
+  rows_same : (rows : List (List ℕ)) (n : ℕ) → after_rows a rows n ≡ after_rows b rows n
+  rows_same rows zero = refl
+  rows_same rows (suc n) =
+      pairs_same (after_rows a rows n) n (length (row_at (after_rows a rows n) n) - 1) ∙ ap (λ x. after_row b x n) (rows_same rows n)
+
+  settles_same : (xs ys : List (List ℕ)) → SettlesTo a xs ys → SettlesTo b xs ys
+  settles_same xs ys (at_rest _ none) = at_rest xs (settled_same xs none)
+  settles_same xs ys (again _ _ rest) =
+      again xs ys (subst (λ z. SettlesTo b z ys) (rows_same xs (length xs)) (settles_same (after_rows a xs (length xs)) ys rest))
+
   from_fewest_same : (start rows : List (List ℕ)) → IsExchangedFromFewest a start rows → IsExchangedFromFewest b start rows
   from_fewest_same start rows s =
+      let from = s.from_fewest in
+      let here = same_crossings a b kept rows in
+      let there = same_crossings a b kept s.reached in
       record {
-        from = s.from;
-        reached = lowers_to_same s.from rows s.reached;
-        best = elim s.best [
-          | inl h ↦ inl (subst (λ (xs : List (List (List ℕ))). IsFirstOfFewest b (start ∷ xs) s.from) (orders_same start) (first_same (start ∷ sweep_orders a start) s.from h))
-          | inr h ↦ inr (subst (λ (xs : List (List (List ℕ))). FewerThan b s.from (start ∷ xs)) (orders_same start) (fewer_same s.from (start ∷ sweep_orders a start) h))
+        reached = s.reached;
+        from_fewest = record {
+          from = from.from;
+          first = subst (λ (xs : List (List (List ℕ))). IsFirstOfFewest b (start ∷ xs) from.from) (orders_same start) (first_same (start ∷ sweep_orders a start) from.from from.first);
+          settles = settles_same from.from s.reached from.settles;
+        };
+        kept_or_fewer = elim s.kept_or_fewer [
+          | inl e ↦ inl e
+          | inr less ↦ inr (omega (arith, here, there, less))
         ];
       }
 
@@ -234,10 +256,13 @@ module _ (a b : Plain) (kept : AreKept a b) where
         no_more = omega (arith, here, there, fewer);
         sweeps = subst (All (λ swept. crossings b rows ≤ crossings b swept)) (orders_same start)
             (λ k e less. at_most here (same_crossings a b kept (get_or (sweep_orders a start) k e)) (r.sweeps k e less));
-        settled = λ n i h k. let after = same_crossings a b kept (exchanged rows n i) in let less = r.settled n i h k in omega (arith, here, after, less);
+        settled = settled_same rows r.settled;
         from_fewest = from_fewest_same start rows r.from_fewest;
         without_crossings = λ none. r.without_crossings (there ∙ none);
       }
     where
       at_most : {m n p q : ℕ} → m ≡ n → p ≡ q → m ≤ p → n ≤ q
       at_most e f h = omega (arith, e, f, h)
+
+  pub chosen_for : (order : RowOrder) (start rows : List (List ℕ)) → AreChosenRows a order start rows → AreChosenRows b order start rows
+  chosen_for order start rows r = record { swept = λ e. reduced_for start rows (r.swept e); kept = r.kept }

@@ -3,6 +3,8 @@ use Rattle.std.specs.Prelude.{◌≡◌, ◌≤◌, ℕ, List, ℤ, Option}
 use Rattle.std.specs.List.{All}
 use Rattle.elk_doc.specs.declared.document.Placing.{Placing}
 use Rattle.elk_doc.specs.declared.document.Placing.TheVariants.{BrandesKoepf, NetworkSimplex}
+use Rattle.elk_doc.specs.declared.document.RowOrder.{RowOrder}
+use Rattle.elk_doc.specs.declared.document.RowOrder.TheVariants.{Document, Swept}
 use Rattle.elk_doc.specs.declared.document.Sweep.{Sweep}
 use Rattle.elk_layers.specs.Layered.{Plain}
 use Rattle.elk_layers.specs.Crossings.{crossings, HasSameRows, NoBetterSwap}
@@ -15,8 +17,9 @@ use Rattle.ns_place.specs.declared.least.PairFlow.{PairFlow}
 use Rattle.ns_place.specs.Heights.{IsLeastPlacing}
 
 -- The rows of a start in an order with no more crossings than the start and each of its four sweep orders, which no exchange
--- of two neighbours makes better, and the start itself where it has no crossings. It comes by exchanges that lower the crossings
--- from the first of fewest crossings among these five orders, or from an order that has fewer than all five.
+-- of two neighbours makes better, and the start itself where it has no crossings. It is what exchanges that lower the crossings
+-- reach, one row after the other from the top, from the first of fewest crossings among these five orders, or has fewer
+-- crossings than what they reach.
 pub record IsReduced (l : Plain) (start rows : List (List ℕ)) : Type 0 where
   pub same_rows : HasSameRows start rows
   pub no_more : crossings l rows ≤ crossings l start
@@ -24,6 +27,11 @@ pub record IsReduced (l : Plain) (start rows : List (List ℕ)) : Type 0 where
   pub settled : NoBetterSwap l rows
   pub from_fewest : IsExchangedFromFewest l start rows
   pub without_crossings : crossings l start ≡ 0 → rows ≡ start
+
+-- The rows of a plan: those of its start where the order of the document is asked for, and else ones that reduce its crossings.
+pub record AreChosenRows (l : Plain) (order : RowOrder) (start rows : List (List ℕ)) : Type 0 where
+  pub swept : order ≡ Swept → IsReduced l start rows
+  pub kept : order ≡ Document → rows ≡ start
 
 -- No tops that keep the distances have links that are together less high than at these, and a flow shows it.
 pub record AreLeastHigh (l : Plain) (rows : List (List ℕ)) (tops : List ℤ) : Type 0 where

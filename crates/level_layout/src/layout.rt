@@ -26,7 +26,7 @@ pub fn layout_level(alloc: Global, level: &LevelIn) -> Result<LevelOut, AllocErr
     let marks = marks_of(alloc, reversed, level.edges.len())?;
     let turned = marks.as_slice();
     let start = start_for(alloc, level, &certificate, turned)?;
-    let order = order_for(alloc, &start.layered, &start.rows)?;
+    let order = order_for(alloc, level, &start.layered, &start.rows)?;
     let fitted = pinned(alloc, level, start.layered, &order, reversed, turned)?;
     let lines = lines_for(alloc, level, &fitted.layered, &order)?;
     let basis = Basis {

@@ -4,10 +4,11 @@ ghost use Rattle.elk_layers.specs.Layered.{plain, rows_of, AreRows, IsSound};
 ghost use Rattle.level_plan.specs.Conditions.{plain_level, IsLevel};
 ghost use Rattle.level_plan.specs.Marks.{AreMarks};
 ghost use Rattle.level_layers.specs.Certificate.{IsCertificateOf};
-ghost use Rattle.level_layout.specs.Chosen.{IsReduced};
+ghost use Rattle.level_layout.specs.Chosen.{AreChosenRows, IsReduced};
 ghost use Rattle.level_layout.specs.Phases.{AreRankedUnits, IsStart};
 
-use cross_reduce::reduce;
+use cross_reduce::reduce_with_effort;
+use elk_doc::document::RowOrder;
 use elk_doc::drawing::Certificate;
 use elk_layers::{Layered, Order};
 use level_plan::LevelIn;
@@ -62,11 +63,12 @@ fn copy_of(alloc: Global, order: &Order) -> Result<Order, AllocError>
     Ok(Order { rows })
 }
 
-/// The order of a start's rows with few crossings.
-pub(crate) fn order_for(
+/// The order of a start's rows with few crossings, by so much work.
+fn swept_order(
     alloc: Global,
     layered: &Layered,
     start: &Order,
+    effort: u32,
 ) -> Result<Order, AllocError>
     requires sound { IsSound (plain layered.now) }
     requires rows { AreRows (plain layered.now) (rows_of start.now) }
@@ -74,6 +76,24 @@ pub(crate) fn order_for(
     ensures rows { IfOk result (λ v. AreRows (plain layered.now) (rows_of v)) }
 {
     let copy = copy_of(alloc, start)?;
-    let order = reduce(alloc, layered, copy)?;
+    let order = reduce_with_effort(alloc, layered, copy, effort)?;
     Ok(order)
+}
+
+/// The order of a start's rows that the level asks for: the start itself, or one with few crossings.
+pub(crate) fn order_for(
+    alloc: Global,
+    level: &LevelIn,
+    layered: &Layered,
+    start: &Order,
+) -> Result<Order, AllocError>
+    requires sound { IsSound (plain layered.now) }
+    requires rows { AreRows (plain layered.now) (rows_of start.now) }
+    ensures chosen { IfOk result (λ v. AreChosenRows (plain layered.now) level.now.choices.order (rows_of start.now) (rows_of v)) }
+    ensures rows { IfOk result (λ v. AreRows (plain layered.now) (rows_of v)) }
+{
+    match level.choices.order {
+        RowOrder::Swept => swept_order(alloc, layered, start, level.choices.effort),
+        RowOrder::Document => copy_of(alloc, start),
+    }
 }

@@ -3,8 +3,11 @@ ghost use Rattle.std.specs.Prelude.{◌≡◌, ℕ, ◌+◌, ◌<◌, ◌≤◌,
 ghost use Rattle.std.specs.Int.{int_max};
 ghost use Rattle.elk_doc.specs.Sound.{IsDistance, IsSoundSpacing};
 ghost use Rattle.elk_layers.specs.Layered.{IsFromZero};
+ghost use Rattle.std.specs.List.{All};
+ghost use Rattle.route_slots.specs.GapFree.{AreHeights, GapFree, IsNet};
 ghost use Rattle.route_lines.specs.Points.{gap_in, plain_gap};
 ghost use Rattle.level_plan.specs.Conditions.{plain_level};
+ghost use Rattle.level_plan.specs.FromPlan.{AreSlots};
 ghost use Rattle.level_plan.specs.Nets as nets;
 ghost use Rattle.level_nets.specs.Parts.{plan_of};
 ghost use Rattle.level_nets.specs.Held.{plain_gaps};
@@ -12,9 +15,10 @@ ghost use Rattle.level_nets.specs.Placed.{HaveBorders, AreWidest, AreWidths, IsP
 ghost use Rattle.level_nets.specs.Reach.{AreColumnsIn, AreNetsIn, IsSheet, parts_in};
 
 use crate::sheet::{Sheet, child_at, unit_at};
+use elk_doc::document::Slotting;
 use level_plan::LevelIn;
 use route_lines::Gap;
-use route_slots::assign;
+use route_slots::{Net, Slots, assign, assign_uncrossed_near};
 use std::alloc::{AllocError, Global};
 
 // Makes a column at least so wide.
@@ -132,6 +136,21 @@ fn first_slot(level: &LevelIn, gap: u32) -> i64
     }
 }
 
+// Slots for the nets of a gap, as the level asks for them. Lines that needn't run side by side nearer than edges keep don't,
+// where it costs no crossing.
+fn slots_for(alloc: Global, level: &LevelIn, nets: &[Net]) -> Result<Slots, AllocError>
+    requires few { length nets.now ≤ 2 ^ 24 }
+    requires pins { All IsNet nets.now }
+    requires heights { All AreHeights nets.now }
+    ensures free { IfOk result (λ v. GapFree nets.now v.count v.routes.items) }
+    ensures asked { IfOk result (λ v. AreSlots level.now.choices.slots nets.now v.count v.routes.items) }
+{
+    match level.choices.slots {
+        Slotting::Fewest => assign(alloc, nets),
+        Slotting::Uncrossed => assign_uncrossed_near(alloc, nets, level.spacing.edge_edge),
+    }
+}
+
 // Finds slots for a gap's nets, and sets its borders.
 fn place_gap(
     alloc: Global,
@@ -146,7 +165,7 @@ fn place_gap(
     ensures placed { OnOk result (IsPlaced (parts_in sheet.now) number left (plain_gap gap.new)) }
     ensures nets { OnOk result ((plain_gap gap.new).nets ≡ (plain_gap gap.old).nets) }
 {
-    gap.slots = assign(alloc, gap.nets.as_slice())?;
+    gap.slots = slots_for(alloc, sheet.level, gap.nets.as_slice())?;
     gap.left = left;
     gap.first = left + first_slot(sheet.level, number);
     gap.step = sheet.level.spacing.edge_edge_layers;

@@ -93,7 +93,7 @@ size_least m low c child (suc k) h =
 -- ---- the children of a level, by number
 
 children_are : (l : PlainLevel) → l.children ≡ map (child_at l) (range_with_len 0 (length l.children))
-children_are l = fill_by_all (child_at l) l.children (length l.children) (child_at (record { children = []; edges = []; spacing = l.spacing }) 0) refl (λ k h. refl)
+children_are l = fill_by_all (child_at l) l.children (length l.children) (child_at (record { children = []; edges = []; spacing = l.spacing; choices = l.choices }) 0) refl (λ k h. refl)
 
 module _ (l : PlainLevel) (numbers : List ℕ) (k : ℕ) (level : IsLevel l) (parts : AreParts l numbers) where
   abbrev part : PlainLevel
@@ -112,11 +112,11 @@ module _ (l : PlainLevel) (numbers : List ℕ) (k : ℕ) (level : IsLevel l) (pa
   many_keys = length-map l.edges (part_of_edge numbers)
 
   pub child_is : (i : ℕ) → i < length (members numbers k) → child_at part i ≡ child_at l (child_number numbers k i)
-  child_is i h = get_or-map (child_at l) (members numbers k) i 0 (child_at (record { children = []; edges = []; spacing = l.spacing }) 0) h
+  child_is i h = get_or-map (child_at l) (members numbers k) i 0 (child_at (record { children = []; edges = []; spacing = l.spacing; choices = l.choices }) 0) h
 
   pub edge_is : (j : ℕ) → j < length (members keys k) → edge_at part j ≡ placed_at (place_of numbers) (edge_at l (edge_number l numbers k j))
   edge_is j h =
-      get_or-map (λ e. placed_at (place_of numbers) (edge_at l e)) (members keys k) j 0 (edge_at (record { children = []; edges = []; spacing = l.spacing }) 0) h
+      get_or-map (λ e. placed_at (place_of numbers) (edge_at l e)) (members keys k) j 0 (edge_at (record { children = []; edges = []; spacing = l.spacing; choices = l.choices }) 0) h
 
   -- a child and an edge of the part by their numbers in the level
   pub child_in : (i : ℕ) → i < length (members numbers k) → (child_number numbers k i < length l.children) × (slice_index numbers (child_number numbers k i) ≡ k)
@@ -125,7 +125,7 @@ module _ (l : PlainLevel) (numbers : List ℕ) (k : ℕ) (level : IsLevel l) (pa
       (subst (λ n. child_number numbers k i < n) parts.as_many found.0, found.1)
 
   pub edge_part : (e : ℕ) → e < length l.edges → slice_index keys e ≡ slice_index numbers (edge_at l e).source.child
-  edge_part e h = get_or-map (part_of_edge numbers) l.edges e (edge_at (record { children = []; edges = []; spacing = l.spacing }) 0) 0 h
+  edge_part e h = get_or-map (part_of_edge numbers) l.edges e (edge_at (record { children = []; edges = []; spacing = l.spacing; choices = l.choices }) 0) 0 h
 
   pub edge_in : (j : ℕ) → j < length (members keys k) → edge_number l numbers k j < length l.edges
   edge_in j h = subst (λ n. edge_number l numbers k j < n) many_keys (node_in keys k j h).0

@@ -14,7 +14,7 @@ pub many_joins : (l : PlainLevel) → length (map join l.edges) ≡ length l.edg
 many_joins l = length-map l.edges join
 
 pub join_at : (l : PlainLevel) (e : ℕ) → e < length l.edges → net_at (map join l.edges) e ≡ join (edge_at l e)
-join_at l e h = get_or-map join l.edges e (edge_at (record { children = l.children; edges = []; spacing = l.spacing }) 0) (record { tail = 0; head = 0; least = 0; weight = 0 }) h
+join_at l e h = get_or-map join l.edges e (edge_at (record { children = l.children; edges = []; spacing = l.spacing; choices = l.choices }) 0) (record { tail = 0; head = 0; least = 0; weight = 0 }) h
 
 pub ends_below : (l : PlainLevel) → IsLevel l → EndsBelow (length l.children) (map join l.edges)
 ends_below l level e h =

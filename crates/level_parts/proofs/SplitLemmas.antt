@@ -3,6 +3,7 @@ use Rattle.std.proofs.Common.{◌≡◌, ℕ, ◌+◌, ◌<◌, ◌==◌, List, 
 use Rattle.std.specs.Prelude.{Option}
 use Rattle.std.proofs.lemmas.Bool.{cases_lt}
 use Rattle.std.proofs.lemmas.List.{get_or_append_left, get_or_push, length_push}
+use Rattle.elk_doc.specs.declared.document.Choices.{Choices}
 use Rattle.elk_doc.specs.declared.document.Placing.{Placing}
 use Rattle.elk_doc.specs.declared.document.Spacing.{Spacing}
 use Rattle.elk_doc.specs.declared.document.Sweep.{Sweep}
@@ -20,14 +21,15 @@ use Rattle.level_parts.specs.Parts.{AreParts}
 use Rattle.level_parts.specs.Split.{ArePartLevels, IsPartFrom, IsPartLevel, no_level, part_at, part_in}
 use Rattle.level_parts.proofs.LevelLemmas.{edge_part, is_level, many_keys}
 
-same_level : (a b : LevelIn) → a.children ≡ b.children → a.edges ≡ b.edges → a.spacing ≡ b.spacing → a.fixed ≡ b.fixed → a.placing ≡ b.placing → a ≡ b
-same_level a b c e s f p =
-    let g1 : List Child → LevelIn = λ z. record { children = z; edges = a.edges; spacing = a.spacing; fixed = a.fixed; placing = a.placing } in
-    let g2 : List LevelEdge → LevelIn = λ z. record { children = b.children; edges = z; spacing = a.spacing; fixed = a.fixed; placing = a.placing } in
-    let g3 : Spacing → LevelIn = λ z. record { children = b.children; edges = b.edges; spacing = z; fixed = a.fixed; placing = a.placing } in
-    let g4 : Option Sweep → LevelIn = λ z. record { children = b.children; edges = b.edges; spacing = b.spacing; fixed = z; placing = a.placing } in
-    let g5 : Placing → LevelIn = λ z. record { children = b.children; edges = b.edges; spacing = b.spacing; fixed = b.fixed; placing = z } in
-    ap g1 c ∙ ap g2 e ∙ ap g3 s ∙ ap g4 f ∙ ap g5 p
+same_level : (a b : LevelIn) → a.children ≡ b.children → a.edges ≡ b.edges → a.spacing ≡ b.spacing → a.fixed ≡ b.fixed → a.placing ≡ b.placing → a.choices ≡ b.choices → a ≡ b
+same_level a b c e s f p h =
+    let g1 : List Child → LevelIn = λ z. record { children = z; edges = a.edges; spacing = a.spacing; fixed = a.fixed; placing = a.placing; choices = a.choices } in
+    let g2 : List LevelEdge → LevelIn = λ z. record { children = b.children; edges = z; spacing = a.spacing; fixed = a.fixed; placing = a.placing; choices = a.choices } in
+    let g3 : Spacing → LevelIn = λ z. record { children = b.children; edges = b.edges; spacing = z; fixed = a.fixed; placing = a.placing; choices = a.choices } in
+    let g4 : Option Sweep → LevelIn = λ z. record { children = b.children; edges = b.edges; spacing = b.spacing; fixed = z; placing = a.placing; choices = a.choices } in
+    let g5 : Placing → LevelIn = λ z. record { children = b.children; edges = b.edges; spacing = b.spacing; fixed = b.fixed; placing = z; choices = a.choices } in
+    let g6 : Choices → LevelIn = λ z. record { children = b.children; edges = b.edges; spacing = b.spacing; fixed = b.fixed; placing = b.placing; choices = z } in
+    ap g1 c ∙ ap g2 e ∙ ap g3 s ∙ ap g4 f ∙ ap g5 p ∙ ap g6 h
 
 -- an edge by listed places is one by the places that are meant
 edge_same : (l : PlainLevel) (numbers places : List ℕ) → IsLevel l → AreParts l numbers → ArePlaces numbers (length numbers) places → (e : ℕ) → e < length l.edges
@@ -52,7 +54,7 @@ part_made level numbers places children edges k v sound parts are some many from
           (from.has_edges ∙ ap (map (λ e. placed_at (slice_index places) (edge_at l e))) many
           ∙ map_same (λ e. slice_index keys e == k) (λ e. placed_at (slice_index places) (edge_at l e)) (λ e. placed_at (place_of numbers) (edge_at l e)) (length keys)
           (λ e h t. edge_same l numbers places sound parts are e (subst (λ n. e < n) (many_keys l numbers k sound parts) h)))
-          from.spacing from.fixed from.placing;
+          from.spacing from.fixed from.placing from.choices;
     }
 
 pub part_levels_more : (level : LevelIn) (numbers : List ℕ) (n : ℕ) (parts new : List PartLevel) (part : PartLevel) → new ≡ parts ++ part ∷ [] → IsPartLevel level numbers n part

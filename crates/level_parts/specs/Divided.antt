@@ -41,4 +41,5 @@ part_level l numbers k =
       children = map (child_at l) (members numbers k);
       edges = map (λ e. placed_at (place_of numbers) (edge_at l e)) (members (edge_keys l numbers) k);
       spacing = l.spacing;
+      choices = l.choices;
     }

@@ -1,5 +1,6 @@
 -- A level of three parts whose children and edges are mixed.
 use Rattle.std.specs.Prelude.{ℕ, [], ◌∷◌, None}
+use Rattle.elk_doc.specs.Defaults.{default_choices}
 use Rattle.elk_doc.specs.declared.document.PortRule.TheVariants.{Free}
 use Rattle.level_plan.specs.declared.level.LevelEdge.{LevelEdge}
 use Rattle.level_plan.specs.Examples.{spacing, square}
@@ -14,4 +15,5 @@ mixed =
       children = square [] Free ∷ square [] Free ∷ square [] Free ∷ square [] Free ∷ square [] Free ∷ [];
       edges = edge 3 1 3 ∷ edge 4 0 1 ∷ edge 2 2 1 ∷ edge 1 3 1 ∷ [];
       spacing = spacing;
+      choices = default_choices;
     }

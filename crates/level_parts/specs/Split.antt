@@ -1,6 +1,7 @@
 -- A level split into its parts.
 use Rattle.std.specs.Prelude.{◌≡◌, ◌<◌, ℕ, List, [], pos, None, length, map, slice_index, slice_index_or}
 use Rattle.elk_doc.specs.declared.document.Placing.TheVariants.{BrandesKoepf}
+use Rattle.elk_doc.specs.Defaults.{default_choices}
 use Rattle.level_plan.specs.Conditions.{plain_level}
 use Rattle.level_plan.specs.Level.{child_at, edge_at}
 use Rattle.level_plan.specs.declared.level.LevelIn.{LevelIn}
@@ -20,6 +21,7 @@ no_level =
       spacing = record { node_node = pos 1; edge_node = pos 1; edge_edge = pos 1; node_layers = pos 1; edge_node_layers = pos 1; edge_edge_layers = pos 1 };
       fixed = None;
       placing = BrandesKoepf;
+      choices = default_choices;
     }
 
 abbrev pub part_at : List PartLevel → ℕ → PartLevel
@@ -34,6 +36,7 @@ pub record IsPartFrom (level : LevelIn) (places children edges : List ℕ) (v : 
   pub spacing : v.level.spacing ≡ level.spacing
   pub fixed : v.level.fixed ≡ level.fixed
   pub placing : v.level.placing ≡ level.placing
+  pub choices : v.level.choices ≡ level.choices
 
 -- part k of the level, with the options of the whole
 abbrev pub part_in : LevelIn → List ℕ → ℕ → LevelIn
@@ -44,6 +47,7 @@ part_in level numbers k =
       spacing = level.spacing;
       fixed = level.fixed;
       placing = level.placing;
+      choices = level.choices;
     }
 
 -- the numbers of the part's children and edges, and the part

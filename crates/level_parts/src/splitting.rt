@@ -35,6 +35,7 @@ fn part_from(
         spacing: level.spacing,
         fixed: level.fixed,
         placing: level.placing,
+        choices: level.choices,
     };
     Ok(PartLevel {
         level,

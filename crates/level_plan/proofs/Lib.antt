@@ -45,3 +45,4 @@ pub mod Alternating
 pub mod NetsThere
 pub mod LegsThere
 pub mod NearPoints
+pub mod CrossedLinks

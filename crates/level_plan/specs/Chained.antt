@@ -1,5 +1,6 @@
 -- Three children in a row, joined one to the next and the first to the last, and what they are drawn from.
 use Rattle.std.specs.Prelude.{ℕ, zero, suc, [], ◌∷◌, pos, None, Some}
+use Rattle.elk_doc.specs.Defaults.{default_choices}
 use Rattle.elk_doc.specs.declared.shape.Side.TheVariants.{East, West}
 use Rattle.elk_doc.specs.declared.document.PortRule.TheVariants.{Free}
 use Rattle.elk_layers.specs.declared.units.Unit.{Unit as LayerUnit}
@@ -13,6 +14,7 @@ chained =
       children = square [] Free ∷ square [] Free ∷ square [] Free ∷ [];
       edges = edge 0 None 1 ∷ edge 1 None 2 ∷ edge 0 None 2 ∷ [];
       spacing = spacing;
+      choices = default_choices;
     }
 
 -- the unit of a child, and a lane

@@ -17,7 +17,7 @@ use Rattle.level_plan.specs.Level.{PlainLevel, PlainPlan, child_at, edge_at}
 
 -- a level, and what it is drawn from, as plain data
 abbrev pub plain_level : LevelIn → PlainLevel
-plain_level l = record { children = l.children; edges = l.edges; spacing = l.spacing }
+plain_level l = record { children = l.children; edges = l.edges; spacing = l.spacing; choices = l.choices }
 
 abbrev pub plain_plan : Layered → Order → List ℤ → List ℕ → PlainPlan
 plain_plan layered order tops reversed =

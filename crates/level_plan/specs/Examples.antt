@@ -1,5 +1,6 @@
 -- A small level: two children side by side, joined by two parallel edges.
 use Rattle.std.specs.Prelude.{◌≡◌, ℕ, zero, suc, Bool, true, false, List, [], ◌∷◌, ℤ, pos, Option, None, Some}
+use Rattle.elk_doc.specs.Defaults.{default_choices}
 use Rattle.elk_doc.specs.declared.shape.Point.{Point}
 use Rattle.elk_doc.specs.declared.shape.Side.TheVariants.{North, East, West}
 use Rattle.elk_doc.specs.declared.document.PortRule.{PortRule}
@@ -44,7 +45,7 @@ link e a b = record { edge = e; tail = 0; head = 1; tail_rank = 0; head_rank = 0
 
 -- two parallel edges
 abbrev pub parallel : PlainLevel
-parallel = record { children = square [] Free ∷ square [] Free ∷ []; edges = edge 0 None 1 ∷ edge 0 None 1 ∷ []; spacing = spacing }
+parallel = record { children = square [] Free ∷ square [] Free ∷ []; edges = edge 0 None 1 ∷ edge 0 None 1 ∷ []; spacing = spacing; choices = default_choices }
 
 abbrev pub parallel_plan : PlainPlan
 parallel_plan =
@@ -85,6 +86,7 @@ west =
           ∷ square [] Free ∷ [];
       edges = edge 0 (Some 0) 1 ∷ [];
       spacing = spacing;
+      choices = default_choices;
     }
 
 abbrev pub west_plan : PlainPlan

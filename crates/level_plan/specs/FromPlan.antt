@@ -4,7 +4,12 @@ use Rattle.elk_doc.specs.declared.shape.Point.{Point}
 use Rattle.elk_doc.specs.declared.shape.Size.{Size}
 use Rattle.elk_doc.specs.declared.drawing.Section.{Section}
 use Rattle.elk_doc.specs.Shapes.{moved_by, point_rect}
+use Rattle.elk_doc.specs.declared.document.Slotting.{Slotting}
+use Rattle.elk_doc.specs.declared.document.Slotting.TheVariants.{Fewest, Uncrossed}
+use Rattle.route_slots.specs.declared.Net.{Net}
+use Rattle.route_slots.specs.declared.NetRoute.{NetRoute}
 use Rattle.route_slots.specs.GapFree.{GapFree}
+use Rattle.route_slots.specs.Promised.{AreFewest, AreUncrossed}
 use Rattle.route_lines.specs.declared.Step.{Step}
 use Rattle.route_lines.specs.Points.{PlainGap, gap_in, trace_points}
 use Rattle.route_lines.specs.Tidied.{IsTidied, IsSectionOf}
@@ -32,7 +37,12 @@ pub record LevelDrawing : Type 0 where
 abbrev pub counts : List PlainGap → ℕ → ℕ
 counts gaps g = (gap_in gaps g).count
 
--- a gap: its borders and slots by the widths left of it, its nets, and their free routes
+-- the slots of a gap are as few as its level asks for, or such that its nets cross no more often than they have to
+abbrev pub AreSlots : Slotting → List Net → ℕ → List NetRoute → Type 0
+AreSlots Fewest = AreFewest
+AreSlots Uncrossed = AreUncrossed
+
+-- a gap: its borders and slots by the widths left of it, its nets, and their free routes, in the slots that the level asks for
 pub record IsGap (l : PlainLevel) (p : PlainPlan) (o : Orders) (d : LevelDrawing) (g : ℕ) : Type 0 where
   pub left : (gap_in d.gaps g).left ≡ gap_left l p o (counts d.gaps) g -ℤ d.left
   pub first : (gap_in d.gaps g).first ≡ (gap_in d.gaps g).left +ℤ first_slot l g
@@ -40,6 +50,7 @@ pub record IsGap (l : PlainLevel) (p : PlainPlan) (o : Orders) (d : LevelDrawing
   pub right : (gap_in d.gaps g).right ≡ (gap_in d.gaps g).left +ℤ gap_width l p g (counts d.gaps g)
   pub nets : (gap_in d.gaps g).nets ≡ nets_in l p o d.top g
   pub free : GapFree (gap_in d.gaps g).nets (gap_in d.gaps g).count (gap_in d.gaps g).routes
+  pub slots : AreSlots l.choices.slots (gap_in d.gaps g).nets (gap_in d.gaps g).count (gap_in d.gaps g).routes
 
 -- the place of a child's box: its outline flush at the left of its column, its top by its unit
 abbrev pub box_place : PlainLevel → PlainPlan → Orders → LevelDrawing → ℕ → Point

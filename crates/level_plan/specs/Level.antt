@@ -5,6 +5,7 @@ use Rattle.elk_doc.specs.declared.shape.Point.{Point}
 use Rattle.elk_doc.specs.declared.shape.Rect.{Rect}
 use Rattle.elk_doc.specs.declared.shape.Side.{Side}
 use Rattle.elk_doc.specs.declared.shape.Dock.{Dock}
+use Rattle.elk_doc.specs.declared.document.Choices.{Choices}
 use Rattle.elk_doc.specs.declared.document.Spacing.{Spacing}
 use Rattle.elk_doc.specs.declared.document.PortRule.TheVariants.{Free}
 use Rattle.elk_doc.specs.declared.document.Direction.TheVariants.{Right}
@@ -24,6 +25,7 @@ pub record PlainLevel : Type 0 where
   pub children : List Child
   pub edges : List LevelEdge
   pub spacing : Spacing
+  pub choices : Choices
 
 -- what a drawing is made from: units and links, rows, tops, and the edges that are turned round
 pub record PlainPlan : Type 0 where

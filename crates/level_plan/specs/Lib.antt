@@ -4,6 +4,7 @@ pub mod Nets
 pub mod Traces
 pub mod Units
 pub mod FromPlan
+pub mod Crossed
 pub mod Drawing
 pub mod Conditions
 pub mod Table

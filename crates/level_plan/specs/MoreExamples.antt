@@ -1,5 +1,6 @@
 -- A port on the north side between two edges, and self-loops between all pairs of sides.
 use Rattle.std.specs.Prelude.{◌≡◌, ℕ, List, [], ◌∷◌, ℤ, pos, negsuc, None, Some, true, false}
+use Rattle.elk_doc.specs.Defaults.{default_choices}
 use Rattle.elk_doc.specs.declared.shape.Side.{Side}
 use Rattle.elk_doc.specs.declared.shape.Side.TheVariants.{North, East, South, West}
 use Rattle.elk_doc.specs.declared.document.PortRule.TheVariants.{Free, FixedSide}
@@ -32,6 +33,7 @@ north =
           (record { source = record { child = 0; port = None }; target = record { child = 1; port = Some 0 }; weight = 1 })
           ∷ (record { source = record { child = 1; port = Some 0 }; target = record { child = 2; port = None }; weight = 1 }) ∷ [];
       spacing = spacing;
+      choices = default_choices;
     }
 
 abbrev pub north_link : ℕ → ℕ → ℕ → ℤ → ℤ → Link
@@ -102,6 +104,7 @@ looped =
       edges =
           loop_between 0 1 ∷ loop_between 2 5 ∷ loop_between 3 10 ∷ loop_between 4 15 ∷ loop_between 6 7 ∷ loop_between 8 11 ∷ loop_between 9 16 ∷ loop_between 12 13 ∷ loop_between 14 17 ∷ loop_between 18 19 ∷ [];
       spacing = spacing;
+      choices = default_choices;
     }
 
 abbrev pub looped_plan : PlainPlan

@@ -1,6 +1,7 @@
-//! What the definitions say of small levels, as the contract of a function that does nothing.
+//! What the definitions say of small levels, and of links that cross, as contracts of functions that do nothing.
 ghost use Rattle.level_plan.specs.Examples.{ParallelEdges, WestParts, WestPort};
 ghost use Rattle.level_plan.specs.MoreExamples.{AllLoops, NorthPort};
+ghost use Rattle.level_plan.specs.Crossed.{LinksCrossAsInRows};
 
 /// The definitions say of four small levels what they should.
 pub fn examples()
@@ -9,4 +10,10 @@ pub fn examples()
     ensures parts { WestParts }
     ensures north { NorthPort }
     ensures loops { AllLoops }
+{}
+
+/// Where the nets of a gap cross no more often than they have to, two links cross in it as often as in the rows, if their pins
+/// stand as in the rows.
+pub fn links_cross_as_in_rows()
+    ensures { LinksCrossAsInRows }
 {}

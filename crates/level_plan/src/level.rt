@@ -1,5 +1,5 @@
 //! A level in the working frame.
-use elk_doc::document::{Placing, Spacing, Sweep};
+use elk_doc::document::{Choices, Placing, Spacing, Sweep};
 use elk_doc::list::Items;
 use port_order::Child;
 
@@ -27,4 +27,5 @@ pub struct LevelIn {
     pub spacing: Spacing,
     pub fixed: Option<Sweep>,
     pub placing: Placing,
+    pub choices: Choices,
 }

@@ -19,7 +19,7 @@ mod table;
 
 pub use joins::{legs_are_there, points_are_near, steps_alternate, traces_join};
 pub use lawful::routes_are_lawful;
-pub use laws::examples;
+pub use laws::{examples, links_cross_as_in_rows};
 pub use level::{LevelEdge, LevelIn, Spoke};
 pub use marks::marks_of;
 pub use routes::routes_are_kept;

@@ -23,6 +23,7 @@ padded way =
       component = pos 20;
       placing = (options way).placing;
       boxes = false;
+      choices = (options way).choices;
     }
 
 abbrev pub root : Direction → Node

@@ -1,12 +1,13 @@
 //! Children, distances and small levels that several tests draw.
 ghost use Rattle.std.specs.Prelude.{◌≡◌, [], None, IfOk};
+ghost use Rattle.elk_doc.specs.Defaults.{default_choices};
 ghost use Rattle.elk_layers.specs.Layered.{plain};
 ghost use Rattle.level_nets.specs.Worked as worked;
 ghost use Rattle.level_plan.specs.Conditions.{plain_level};
 ghost use Rattle.level_plan.specs.Examples as examples;
 ghost use Rattle.level_parts.specs.Examples as parted;
 
-use elk_doc::document::{Direction, Placing, PortRule, Spacing, default_options};
+use elk_doc::document::{Direction, Placing, PortRule, Spacing, default_choices, default_options};
 use elk_doc::list::Items;
 use elk_doc::shape::{Dock, Point, Rect, Side, Size};
 use elk_layers::{Layered, Link, Unit};
@@ -63,7 +64,7 @@ pub(crate) fn edge(source: u32, target: u32) -> LevelEdge
 
 /// A level of these children and edges with the default distances.
 pub(crate) fn level_of(children: Vec<Child>, edges: Vec<LevelEdge>, placing: Placing) -> LevelIn
-    ensures { plain_level result ≡ record { children = children.items; edges = edges.items; spacing = examples.spacing } }
+    ensures { plain_level result ≡ record { children = children.items; edges = edges.items; spacing = examples.spacing; choices = default_choices } }
 {
     LevelIn {
         children: Items::from_vec(children),
@@ -71,6 +72,7 @@ pub(crate) fn level_of(children: Vec<Child>, edges: Vec<LevelEdge>, placing: Pla
         spacing: distances(),
         fixed: None,
         placing,
+        choices: default_choices(),
     }
 }
 

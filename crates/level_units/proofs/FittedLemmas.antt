@@ -344,7 +344,7 @@ module _ (l : PlainLevel) (p : PlainPlan) (o : Orders) (t : Table) (marks : List
   together =
       let total = total_within (length l.children) bound (unit_of r) us bound_least counted one_unit in
       let doubled = first_double (λ m. heights_of (child_at l m)) (length l.children) in
-      let heights = first_heights l.children (child_at (record { children = []; edges = []; spacing = l.spacing }) 0) in
+      let heights = first_heights l.children (child_at (record { children = []; edges = []; spacing = l.spacing; choices = l.choices }) 0) in
       let high = made.level.heights in
       let few = made.level.few_children in
       small (total_height us) (first bound (length l.children)) (first (λ m. heights_of (child_at l m)) (length l.children)) (level.total_height l.children) (length l.children) total doubled heights high few

@@ -51,7 +51,7 @@ module _ (l : PlainLevel) (p : PlainPlan) (marks : List Bool) (are : AreMarks p.
   passed_in b [] inside = refl
   passed_in b (e ∷ es) inside =
       let h = inside e (inl refl) in
-      let there : level_edge l.edges e ≡ edge_at l e = get_or_default l.edges e (level_edge [] 0) (edge_at (record { children = []; edges = []; spacing = l.spacing }) 0) h in
+      let there : level_edge l.edges e ≡ edge_at l e = get_or_default l.edges e (level_edge [] 0) (edge_at (record { children = []; edges = []; spacing = l.spacing; choices = l.choices }) 0) h in
       let one : passes (level_edge l.edges e) (mark_at marks e) c k b ≡ ((at_port l c k (end_at e true) && (not (is_loop l e) && asked p b (end_at e true))) || (at_port l c k (end_at e false) && (not (is_loop l e) && asked p b (end_at e false)))) =
       ap₂ (λ (x : LevelEdge) (m : Bool). passes x m c k b) there (are.each e h) ∙ passes_is (edge_at l e) (holds p.reversed e) c k b
       in

@@ -12,7 +12,7 @@ use Rattle.level_ends.proofs.tables.end_entry.Goals as goal
 pub anchor_at-anchor-requires-clause-child : goal.anchor_at-anchor-requires-clause-child
 anchor_at-anchor-requires-clause-child c =
     let l = plain_level c.args.level.now in
-    let child = get_or_read l.children c.args.spoke.child c.at.result.now c.requires.spoke.child c.at.ensures (child_at (record { children = []; edges = []; spacing = l.spacing }) 0) in
+    let child = get_or_read l.children c.args.spoke.child c.at.result.now c.requires.spoke.child c.at.ensures (child_at (record { children = []; edges = []; spacing = l.spacing; choices = l.choices }) 0) in
     subst IsNarrow (sym child) (narrow l c.args.spoke.child c.requires.level c.requires.spoke.child)
 
 pub end_lane-lane-requires-clause-near : goal.end_lane-lane-requires-clause-near
@@ -27,7 +27,7 @@ end_lane-lane-requires-clause-lanes c =
 pub returns : goal.returns
 returns c =
     let l = plain_level c.args.level.now in
-    let child = get_or_read l.children c.args.spoke.child c.at.result.now c.requires.spoke.child c.at.ensures (child_at (record { children = []; edges = []; spacing = l.spacing }) 0) in
+    let child = get_or_read l.children c.args.spoke.child c.at.result.now c.requires.spoke.child c.at.ensures (child_at (record { children = []; edges = []; spacing = l.spacing; choices = l.choices }) 0) in
     end_made l (map plain_lanes c.args.lanes.now) c.args.entries.now c.args.spoke c.args.dock c.args.number c.at.result.now c.index-entries-c.result (plain_lanes c.index-lanes-c.result) c.anchor_at-anchor.result c.end_lane-lane.result
     child
     (entry_read c.args.entries.now c.args.spoke.child (length c.args.level.now.children) c.index-entries-c.result c.index-entries-c.is c.requires.entries c.requires.spoke.child)

@@ -64,5 +64,5 @@ returns c =
     (IsLaidOut c.args.level.now)
     c.draw_by_table.ensures.given c.draw_by_table.ensures.drawn
     (λ w given drawn. laid_out c.args.level.now c.in_ok-certificate.certificate c.in_ok-start.start.layered c.in_ok-fitted.fitted.layered c.in_ok-start.start.rows c.in_ok-order.order c.in_ok-lines.lines w
-    make_units c.requires c.in_ok-certificate.ensures c.in_ok-start.ensures.units c.in_ok-start.ensures.start c.in_ok-order.ensures.reduced pinned
+    make_units c.requires c.in_ok-certificate.ensures c.in_ok-start.ensures.units c.in_ok-start.ensures.start c.in_ok-order.ensures.chosen pinned
     c.in_ok-lines.ensures given drawn)

@@ -2,6 +2,7 @@ use Rattle.std.proofs.Common.{List, w64, subst, arith}
 use Rattle.std.proofs.lemmas.Int.{ints, to_z-of_z}
 use Rattle.route_slots.specs.declared.Net.{Net}
 use Rattle.route_slots.specs.GapFree.{GapFree}
+use Rattle.level_plan.specs.FromPlan.{AreSlots}
 use Rattle.level_nets.proofs.borders.place_gap.Goals as goal
 
 pub returns-clause-placed : goal.returns-clause-placed
@@ -22,4 +23,5 @@ returns-clause-placed c =
       step = omega (arith, ints, step_low, step_high);
       right = omega (arith, ints, low, high, width, width_low, width_high);
       free = subst (λ (ns : List Net). GapFree ns c.in_ok-gap.field-0.count c.in_ok-gap.field-0.routes.items) c.as_slice.ensures.value c.in_ok-gap.ensures.free;
+      slots = subst (λ (ns : List Net). AreSlots c.args.sheet.now.level.now.choices.slots ns c.in_ok-gap.field-0.count c.in_ok-gap.field-0.routes.items) c.as_slice.ensures.value c.in_ok-gap.ensures.asked;
     }

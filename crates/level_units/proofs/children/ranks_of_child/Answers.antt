@@ -12,7 +12,7 @@ use Rattle.level_units.proofs.children.ranks_of_child.Goals as goal
 pub port_spots-requires-clause-few : goal.port_spots-requires-clause-few
 port_spots-requires-clause-few c =
     let l = plain_level c.args.level.now in
-    let child = get_or_read l.children c.args.child c.at-found.result.now c.requires.child c.at-found.ensures (child_at (record { children = []; edges = []; spacing = l.spacing }) 0) in
+    let child = get_or_read l.children c.args.child c.at-found.result.now c.requires.child c.at-found.ensures (child_at (record { children = []; edges = []; spacing = l.spacing; choices = l.choices }) 0) in
     let long = ap (λ (x : Child). length x.ports) child in
     let few = ports_few l c.args.child c.requires.level in
     let same = c.len-count.ensures in
@@ -21,13 +21,13 @@ port_spots-requires-clause-few c =
 pub ranks_of-requires-clause-child : goal.ranks_of-requires-clause-child
 ranks_of-requires-clause-child c =
     let l = plain_level c.args.level.now in
-    let child = get_or_read l.children c.args.child c.at-found.result.now c.requires.child c.at-found.ensures (child_at (record { children = []; edges = []; spacing = l.spacing }) 0) in
+    let child = get_or_read l.children c.args.child c.at-found.result.now c.requires.child c.at-found.ensures (child_at (record { children = []; edges = []; spacing = l.spacing; choices = l.choices }) 0) in
     subst IsChild (sym child) (c.requires.level.children c.args.child c.requires.child).sound
 
 pub ranks_of-requires-clause-spots : goal.ranks_of-requires-clause-spots
 ranks_of-requires-clause-spots c =
     let l = plain_level c.args.level.now in
-    let child = get_or_read l.children c.args.child c.at-found.result.now c.requires.child c.at-found.ensures (child_at (record { children = []; edges = []; spacing = l.spacing }) 0) in
+    let child = get_or_read l.children c.args.child c.at-found.result.now c.requires.child c.at-found.ensures (child_at (record { children = []; edges = []; spacing = l.spacing; choices = l.choices }) 0) in
     let long = ap (λ (x : Child). length x.ports) child in
     let few = ports_few l c.args.child c.requires.level in
     let same = c.len-count.ensures in

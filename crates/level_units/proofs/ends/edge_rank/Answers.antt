@@ -17,7 +17,7 @@ child_rank-requires-clause-ranks c =
     let l = plain_level c.args.ranking.now.level.now in
     let vs = c.args.ranking.now.ranks.now in
     let there : IsSpoke l c.spoke_of-spoke.result = subst (λ (s : Spoke). IsSpoke l s) (sym c.spoke_of-spoke.ensures) (spoke_there l c.args.edge c.args.at_source c.requires.ranking.level c.requires.edge) in
-    let child = get_or_read l.children c.spoke_of-spoke.result.child c.at-child.result.now there.child c.at-child.ensures (child_at (record { children = []; edges = []; spacing = l.spacing }) 0) in
+    let child = get_or_read l.children c.spoke_of-spoke.result.child c.at-child.result.now there.child c.at-child.ensures (child_at (record { children = []; edges = []; spacing = l.spacing; choices = l.choices }) 0) in
     let many = c.requires.ranking.as_many_ranks in
     let same = length-map vs plain_ranks in
     let inside = there.child in
@@ -35,7 +35,7 @@ returns-clause-value c =
     let l = plain_level c.args.ranking.now.level.now in
     let vs = c.args.ranking.now.ranks.now in
     let there : IsSpoke l c.spoke_of-spoke.result = subst (λ (s : Spoke). IsSpoke l s) (sym c.spoke_of-spoke.ensures) (spoke_there l c.args.edge c.args.at_source c.requires.ranking.level c.requires.edge) in
-    let child = get_or_read l.children c.spoke_of-spoke.result.child c.at-child.result.now there.child c.at-child.ensures (child_at (record { children = []; edges = []; spacing = l.spacing }) 0) in
+    let child = get_or_read l.children c.spoke_of-spoke.result.child c.at-child.result.now there.child c.at-child.ensures (child_at (record { children = []; edges = []; spacing = l.spacing; choices = l.choices }) 0) in
     let many = c.requires.ranking.as_many_ranks in
     let same = length-map vs plain_ranks in
     let inside = there.child in

@@ -1,10 +1,10 @@
 use Rattle.std.proofs.Common.{sym, subst}
 use Rattle.elk_layers.specs.Layered.{AreRows, plain, rows_of}
 use Rattle.level_layout.proofs.RowsLemmas.{reduced_from, rows_kept}
-use Rattle.level_layout.proofs.phases.order_for.Goals as goal
+use Rattle.level_layout.proofs.phases.swept_order.Goals as goal
 
-pub reduce-requires-clause-rows : goal.reduce-requires-clause-rows
-reduce-requires-clause-rows c = subst (AreRows (plain c.args.layered.now)) (sym c.in_ok-copy.ensures) c.requires.rows
+pub reduce_with_effort-requires-clause-rows : goal.reduce_with_effort-requires-clause-rows
+reduce_with_effort-requires-clause-rows c = subst (AreRows (plain c.args.layered.now)) (sym c.in_ok-copy.ensures) c.requires.rows
 
 pub returns-clause-reduced : goal.returns-clause-reduced
 returns-clause-reduced c =
