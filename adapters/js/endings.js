@@ -1,12 +1,12 @@
 'use strict';
 // Which option of ELK a key of options means: its name, with a prefix or without, or an ending that no other has.
 
-const { adapter, elk, options, prefixes, unread } = require('./data/options.json');
+const { adapter, elk, options, prefixes } = require('./data/options.json');
 
 const named = (list) => list.map(({ name }) => name);
 
 /** The names of all options of ELK and of this engine, without a prefix. */
-const ALL_NAMES = [...new Set([...named(options), ...named(adapter), ...elk])].filter((name) => !unread.includes(name));
+const ALL_NAMES = [...new Set([...named(options), ...named(adapter), ...elk])];
 
 const NAMES = new Set(ALL_NAMES);
 

@@ -4,11 +4,8 @@
 const path = require('node:path');
 const { fileURLToPath } = require('node:url');
 const { Worker } = require('node:worker_threads');
-const { moduleFile } = require('./module-file');
 const { Batch } = require('./process');
 const { WorkerQueue } = require('./worker-queue');
-
-const LAUNCHER = path.join(__dirname, '..', '..', 'elk');
 
 const threadOf = (script) => new Worker(path.join(__dirname, 'thread.js'), { workerData: script });
 
@@ -22,10 +19,8 @@ const workerAt = (url) => threadOf(/^file:/.test(url) ? fileURLToPath(url) : pat
 const shared = new WorkerQueue(() => threadOf(path.join(__dirname, 'worker.js')));
 
 function defaultEngine() {
-  if (process.env.ELK_PROGRAM || !moduleFile()) {
-    return programEngine(process.env.ELK_PROGRAM || LAUNCHER);
-  }
-  return shared.prepare().client();
+  const program = process.env.ELK_PROGRAM;
+  return program ? programEngine(program) : shared.prepare().client();
 }
 
 module.exports = { defaultEngine, programEngine, workerAt };

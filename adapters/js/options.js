@@ -1,15 +1,12 @@
 'use strict';
 // What the engine knows of options and algorithms, by data/options.json.
 
-const { options, prefixes, unread } = require('./data/options.json');
+const { options: OPTIONS, prefixes } = require('./data/options.json');
 const { meanings } = require('./endings');
 const { isObject } = require('./levels');
 const { standIns } = require('./stand-ins');
 
 const [PREFIX] = prefixes;
-
-/** The options that the running engine reads, each with its values and its default. */
-const OPTIONS = options.filter(({ name }) => !unread.includes(name));
 
 const READERS = new Map(OPTIONS.map(({ name, at }) => [name, at]));
 

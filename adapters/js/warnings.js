@@ -3,7 +3,7 @@
 // that are read. The drawing is made all the same.
 
 const FAULTS = require('./data/faults.json');
-const { adapter, prefixes, unread } = require('./data/options.json');
+const { adapter, prefixes } = require('./data/options.json');
 const { elementsIn } = require('./elements');
 const { ALL_NAMES, CLEAR_KEYS, meanings } = require('./endings');
 const { filled, pathOf, textOf } = require('./faults');
@@ -18,10 +18,7 @@ const MEANT = new Map(Object.entries(FAULTS.meant).map(([kind, names]) => [kind,
 // Names of this engine's options come first, where several are as near.
 const NEAR_KEYS = [...OPTIONS.map(({ name }) => name), ...ALL_NAMES, ...CLEAR_KEYS];
 
-// An option that stands for one which the engine doesn't read yet has no effect either.
-const EFFECTIVE = adapter.filter(({ standsFor }) => !unread.includes(standsFor));
-
-const READ = new Map([...EFFECTIVE, ...OPTIONS].map(({ name, at }) => [name, [at].flat()]));
+const READ = new Map([...adapter, ...OPTIONS].map(({ name, at }) => [name, [at].flat()]));
 
 const BY_ADAPTER = new Map(adapter.map((option) => [option.name, option]));
 

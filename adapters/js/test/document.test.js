@@ -200,16 +200,14 @@ test('options are sent under names that the engine finds, from properties too', 
 });
 
 test('every level is asked for lines that cross no more than they must', () => {
-  const isRead = OPTIONS.some(({ name }) => name === 'layered.slots');
   const graph = { children: [{ id: 'a', children: [{ id: 'b' }] }] };
   const document = documentOf(graph, { numbers: 'ceil', general: {} });
-  const asked = isRead ? 'UNCROSSED' : undefined;
   assert.deepEqual(
     [document, document.children[0]].map(({ layoutOptions }) => layoutOptions?.[SLOTS]),
-    [asked, asked],
+    ['UNCROSSED', 'UNCROSSED'],
   );
   assert.equal(document.children[0].children[0].layoutOptions, undefined);
   const general = { slots: 'FEWEST' };
   const given = documentOf(graph, { numbers: 'ceil', general }).layoutOptions;
-  assert.deepEqual(given, isRead ? { 'org.eclipse.elk.layered.slots': 'FEWEST' } : undefined);
+  assert.deepEqual(given, { 'org.eclipse.elk.layered.slots': 'FEWEST' });
 });

@@ -15,7 +15,7 @@ READS = {"levels": ("levels", "nodes"), "nodes": ("nodes",), "ports": ("ports",)
 def _readers() -> Dict[str, str]:
     """The options that the running engine reads, each with the elements that read it."""
     options = table("options")
-    return {it["name"]: it["at"] for it in options["options"] if it["name"] not in options["unread"]}
+    return {it["name"]: it["at"] for it in options["options"]}
 
 
 @lru_cache(maxsize=None)
@@ -24,7 +24,7 @@ def _names_by_ending() -> Dict[str, Set[str]]:
     options = table("options")
     names = {it["name"] for it in (*options["options"], *options["adapter"])} | set(options["elk"])
     endings: Dict[str, Set[str]] = {}
-    for name in names - set(options["unread"]):
+    for name in names:
         parts = f"{options['prefixes'][0]}{name}".split(".")
         for start in range(1, len(parts)):
             endings.setdefault(".".join(parts[start:]), set()).add(name)

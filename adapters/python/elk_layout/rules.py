@@ -28,7 +28,7 @@ class Read:
         options = table("options")
         for option in options["options"]:
             name = option["name"]
-            if name in self.keys and option["at"] in READS[element.role] and name not in options["unread"]:
+            if name in self.keys and option["at"] in READS[element.role]:
                 value = given[self.keys[name]]
                 if not is_taken(option, value):
                     self.bad.append((option, self.keys[name]))

@@ -1,10 +1,8 @@
 """Options: which ones a key means, and which ones stand for others, as in the adapter for JavaScript."""
 
-import contextlib
 import json
 import subprocess
 import unittest
-import unittest.mock
 
 from .program import PROGRAM, TOP, chain, with_node, with_program
 from elk_layout import layout, options
@@ -50,20 +48,6 @@ console.log(JSON.stringify({
 """
 
 
-@contextlib.contextmanager
-def all_read():
-    """All options of the table are read by the engine."""
-    readers = {it["name"]: it["at"] for it in table("options")["options"]}
-    caches = (options.spellings, options._engine_key, options.option_name, options._names_by_ending)
-    for cache in caches:
-        cache.cache_clear()
-    with unittest.mock.patch.object(options, "_readers", lambda: readers):
-        with unittest.mock.patch.dict(table("options"), unread=[]):
-            yield
-    for cache in caches:
-        cache.cache_clear()
-
-
 class Options(unittest.TestCase):
     @with_node
     def test_keys_and_values_are_what_they_are_to_javascript_and_the_same_stand_for_others(self):
@@ -74,19 +58,17 @@ class Options(unittest.TestCase):
             for value, expected in zip(VALUES, judged):
                 with self.subTest(option=option["name"], value=value):
                     self.assertEqual([is_taken(option, value), near_value(option, value)], expected)
-        with all_read():
-            self.assertEqual([options.stand_ins(options.carried_by(it)) for it in ASKED], theirs["standIns"])
+        self.assertEqual([options.stand_ins(options.carried_by(it)) for it in ASKED], theirs["standIns"])
 
-    def test_levels_ask_for_what_they_say_nothing_of_once_the_engine_reads_it(self):
+    def test_levels_ask_for_what_they_say_nothing_of(self):
         def sent(document):
             return json.loads(Sender().sent_of(document).line)
 
         inner = {"id": "in", "layoutOptions": {"slots": "FEWEST"}, "children": [{"id": "a"}, {"id": "b"}]}
         outer = {"id": "r", "layoutOptions": {"thoroughness": 9}, "children": [inner]}
-        with all_read():
-            self.assertEqual(sent({"id": "r"})["layoutOptions"], {"elk.layered.slots": "UNCROSSED"})
-            self.assertNotIn("layoutOptions", sent({"id": "r", "children": [{"id": "a"}]})["children"][0])
-            found = sent(outer)
+        self.assertEqual(sent({"id": "r"})["layoutOptions"], {"elk.layered.slots": "UNCROSSED"})
+        self.assertNotIn("layoutOptions", sent({"id": "r", "children": [{"id": "a"}]})["children"][0])
+        found = sent(outer)
         self.assertEqual(found["layoutOptions"], {"elk.layered.slots": "UNCROSSED", "elk.layered.effort": 9})
         self.assertEqual(found["children"][0]["layoutOptions"], {"org.eclipse.elk.layered.slots": "FEWEST"})
 
@@ -94,9 +76,7 @@ class Options(unittest.TestCase):
     def test_what_was_asked_for_besides_does_not_show_in_the_result(self):
         for own in ({}, {"layoutOptions": {"elk.direction": "DOWN"}}):
             document = {**chain(3), **own}
-            with all_read():
-                placed = layout(document, program=PROGRAM)
-            self.assertEqual(placed, layout(document, program=PROGRAM))
+            placed = layout(document, program=PROGRAM)
             self.assertEqual(placed.get("layoutOptions"), own.get("layoutOptions"))
 
 

@@ -31,8 +31,12 @@ class Package(unittest.TestCase):
         self.assertEqual((ended.returncode, ended.stdout), (0, b"True True\n"))
 
     def test_tables_are_those_of_the_adapter_for_javascript(self):
-        for table in sorted((PACKAGE / "elk_layout" / "data").iterdir()):
-            self.assertEqual(table.resolve(), TOP / "adapters" / "js" / "data" / table.name)
+        theirs = TOP / "adapters" / "js" / "data"
+        names = sorted(table.name for table in theirs.glob("*.json"))
+        self.assertEqual(sorted(table.name for table in (PACKAGE / "elk_layout" / "data").glob("*.json")), names)
+        for name in names:
+            with self.subTest(table=name):
+                self.assertEqual((PACKAGE / "elk_layout" / "data" / name).read_text(), (theirs / name).read_text())
 
     @with_program
     def test_a_copy_and_an_archive_of_the_folder_work(self):
