@@ -18,7 +18,7 @@ use crate::sheet::{Sheet, child_at, unit_at};
 use elk_doc::document::Slotting;
 use level_plan::LevelIn;
 use route_lines::Gap;
-use route_slots::{Net, Slots, assign, assign_uncrossed_near};
+use route_slots::{Net, Slots, assign_near, assign_uncrossed_near};
 use std::alloc::{AllocError, Global};
 
 // Makes a column at least so wide.
@@ -137,7 +137,7 @@ fn first_slot(level: &LevelIn, gap: u32) -> i64
 }
 
 // Slots for the nets of a gap, as the level asks for them. Lines that needn't run side by side nearer than edges keep don't,
-// where it costs no crossing.
+// where it costs no crossing and, by the fewest slots, none of these.
 fn slots_for(alloc: Global, level: &LevelIn, nets: &[Net]) -> Result<Slots, AllocError>
     requires few { length nets.now ≤ 2 ^ 24 }
     requires pins { All IsNet nets.now }
@@ -146,7 +146,7 @@ fn slots_for(alloc: Global, level: &LevelIn, nets: &[Net]) -> Result<Slots, Allo
     ensures asked { IfOk result (λ v. AreSlots level.now.choices.slots nets.now v.count v.routes.items) }
 {
     match level.choices.slots {
-        Slotting::Fewest => assign(alloc, nets),
+        Slotting::Fewest => assign_near(alloc, nets, level.spacing.edge_edge),
         Slotting::Uncrossed => assign_uncrossed_near(alloc, nets, level.spacing.edge_edge),
     }
 }

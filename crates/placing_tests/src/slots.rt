@@ -3,7 +3,9 @@ ghost use Rattle.std.specs.Prelude.{◌≢◌, ◌≤◌, ◌^◌, length};
 ghost use Rattle.std.specs.List.{All};
 ghost use Rattle.route_slots.specs.GapFree.{IsNet, AreHeights};
 
-use route_slots::{Net, NetRoute, Pin, Slots, assign, assign_uncrossed, assign_uncrossed_near};
+use route_slots::{
+    Net, NetRoute, Pin, Slots, assign, assign_near, assign_uncrossed, assign_uncrossed_near,
+};
 use std::alloc::{AllocError, Global};
 use std::test::Fail;
 
@@ -276,5 +278,23 @@ fn nets_that_have_to_cross_stand_in_two_slots(rt: HostRuntime) -> Result<(), Fai
     let beside = uncrossed(rt.alloc(), &[bent(true, 0, 10), bent(true, 5, 15)])?;
     assert_eq!(rt; across.count, 2);
     assert_eq!(rt; beside.count, 2);
+    Ok(())
+}
+
+// Whether the first of some nets stands before the second, in as few slots as there can be.
+fn first_before_second(alloc: Global, nets: &[Net], near: i64) -> Result<bool, AllocError>
+    requires few { length nets.now ≤ 2 ^ 24 }
+    requires pins { All IsNet nets.now }
+    requires heights { All AreHeights nets.now }
+{
+    let slots = assign_near(alloc, nets, near)?;
+    Ok(slot_at(slots.routes.as_slice(), 0) < slot_at(slots.routes.as_slice(), 1))
+}
+
+// The line that comes to the right border at 20 runs near the one from the left border at 22, unless this turns off first.
+#[test]
+fn lines_do_not_run_near_in_the_fewest_slots(rt: HostRuntime) -> Result<(), Fail> {
+    assert!(rt; !first_before_second(rt.alloc(), &[net(0, 20), net(22, 9)], 8)?);
+    assert!(rt; first_before_second(rt.alloc(), &[net(22, 9), net(0, 20)], 8)?);
     Ok(())
 }

@@ -30,7 +30,8 @@ const HARD: i8 = 100;
 
 const CROSSING: i8 = 8;
 
-fn part_of(place: usize, pin: Pin, end: Pin) -> Part {
+/// The part from its pin to its other end.
+pub fn part_of(place: usize, pin: Pin, end: Pin) -> Part {
     Part {
         place,
         low: pin.height.min(end.height),
@@ -41,10 +42,25 @@ fn part_of(place: usize, pin: Pin, end: Pin) -> Part {
 }
 
 // The end of a split net's piece at its middle, on the other side than the piece's pin.
-fn middle_end(pin: Pin, middle: Height) -> Pin {
+fn middle_end(pin: Pin, height: i64) -> Pin {
     Pin {
         on_left: !pin.on_left,
-        height: middle.value,
+        height,
+    }
+}
+
+/// The parts of a split net, at its two pins.
+#[derive(Clone, Copy)]
+pub struct Pair {
+    pub at_a: Part,
+    pub at_b: Part,
+}
+
+/// The parts of a net that is split at this height.
+pub fn split_parts(place: usize, net: Net, height: i64) -> Pair {
+    Pair {
+        at_a: part_of(place, net.a, middle_end(net.a, height)),
+        at_b: part_of(place.wrapping_add(1), net.b, middle_end(net.b, height)),
     }
 }
 
@@ -63,9 +79,9 @@ fn push_parts(
         parts.push(part_of(place, net.a, net.b))?;
         return Ok(());
     }
-    parts.push(part_of(place, net.a, middle_end(net.a, middle)))?;
-    let other = place.wrapping_add(1);
-    parts.push(part_of(other, net.b, middle_end(net.b, middle)))?;
+    let pair = split_parts(place, net, middle.value);
+    parts.push(pair.at_a)?;
+    parts.push(pair.at_b)?;
     Ok(())
 }
 
@@ -111,8 +127,8 @@ fn crosses(pin: Pin, on_left: bool, other: &Part) -> i8 {
     count(pin.on_left == on_left && other.low < pin.height && pin.height < other.high)
 }
 
-// How often the parts cross with the first one before the second.
-fn in_order(part: &Part, other: &Part) -> i8 {
+/// How often the parts cross with the first one before the second.
+pub fn in_order(part: &Part, other: &Part) -> i8 {
     crosses(part.pin, false, other)
         .wrapping_add(crosses(part.end, false, other))
         .wrapping_add(crosses(other.pin, true, part))
@@ -125,8 +141,8 @@ fn are_near(pin: Pin, other: Pin, near: i64) -> i8 {
     count(pin.on_left && !other.on_left && apart < near && apart > near.wrapping_neg())
 }
 
-// How many lines would run nearer than this side by side with the first part behind the second.
-fn lanes(part: &Part, other: &Part, near: i64) -> i8 {
+/// How many lines would run nearer than this side by side with the first part behind the second.
+pub fn lanes(part: &Part, other: &Part, near: i64) -> i8 {
     are_near(part.pin, other.pin, near)
         .wrapping_add(are_near(part.pin, other.end, near))
         .wrapping_add(are_near(part.end, other.pin, near))

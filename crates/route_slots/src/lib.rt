@@ -7,10 +7,12 @@ mod crossings;
 mod demands;
 mod depths;
 mod dropping;
+mod easing;
 mod exchanging;
 mod filling;
 mod fitting;
 mod heights;
+mod lanes;
 pub mod laws;
 mod marks;
 mod middles;
@@ -25,6 +27,7 @@ mod uncrossing;
 mod untangling;
 
 pub use assigning::assign;
+pub use easing::assign_near;
 pub use uncrossing::{assign_uncrossed, assign_uncrossed_near};
 
 /// The end of a net at the gap's left or right border, at this height.

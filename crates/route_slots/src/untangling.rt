@@ -10,8 +10,9 @@ use crate::choosing::{all_keep_order, marks_by};
 use crate::crossings::crossings_of;
 use crate::depths::depths_of;
 use crate::fitting::fitted_pieces;
-use crate::marks::marks_of;
-use crate::middles::middles_of;
+use crate::lanes::eased_pieces;
+use crate::marks::{Mark, marks_of};
+use crate::middles::{Height, middles_of};
 use crate::settling::settle;
 use crate::{Net, Slots};
 use std::alloc::{AllocError, Global};
@@ -32,8 +33,32 @@ fn lighter(nets: &[Net], slots: Slots, other: Slots) -> Slots
     other
 }
 
-// Slots by demands of which the lightest are dropped, if no two pieces overlap by them.
-fn relaid(alloc: Global, nets: &[Net], near: i64) -> Result<Option<Slots>, AllocError>
+// Levels by demands, or from slots by which lines run too near.
+fn levels_from(
+    alloc: Global,
+    nets: &[Net],
+    marks: &[Mark],
+    middles: &[Height],
+    near: i64,
+    from: Option<&Slots>,
+) -> Result<Vec<u32>, AllocError>
+    requires marks { length marks.now ≡ length nets.now }
+    requires middles { length middles.now ≡ length nets.now }
+{
+    match from {
+        None => fitted_pieces(alloc, nets, marks, middles, near),
+        Some(slots) => eased_pieces(alloc, nets, slots, near),
+    }
+}
+
+/// Slots by demands of which the lightest are dropped, if no two pieces overlap by them. With slots to begin from, those by which
+/// fewer lines run side by side too near.
+pub fn relaid(
+    alloc: Global,
+    nets: &[Net],
+    near: i64,
+    from: Option<&Slots>,
+) -> Result<Option<Slots>, AllocError>
     requires few { length nets.now ≤ 8192 }
     requires pins { All IsNet nets.now }
     requires heights { All AreHeights nets.now }
@@ -43,7 +68,14 @@ fn relaid(alloc: Global, nets: &[Net], near: i64) -> Result<Option<Slots>, Alloc
     let depths = depths_of(alloc, nets)?;
     let marks = marks_of(alloc, nets, &depths)?;
     let middles = middles_of(alloc, nets, marks.as_slice())?;
-    let levels = fitted_pieces(alloc, nets, marks.as_slice(), middles.as_slice(), near)?;
+    let levels = levels_from(
+        alloc,
+        nets,
+        marks.as_slice(),
+        middles.as_slice(),
+        near,
+        from,
+    )?;
     let others = marks_by(alloc, marks.as_slice(), levels.as_slice())?;
     if !all_keep_order(nets, others.as_slice()) {
         return Ok(None);
@@ -83,7 +115,7 @@ fn settled(alloc: Global, nets: &[Net]) -> Result<Slots, AllocError>
     ensures { IfOk result (λ slots. AreSettled nets.now slots.count slots.routes.items) }
 {
     let fewest = assign(alloc, nets)?;
-    match relaid(alloc, nets, 1)? {
+    match relaid(alloc, nets, 1, None)? {
         None => Ok(fewest),
         Some(slots) => {
             let settled = settle(alloc, nets, slots)?;
@@ -104,6 +136,6 @@ pub fn untangle(alloc: Global, nets: &[Net], near: i64) -> Result<Slots, AllocEr
     if near <= 1 {
         return Ok(slots);
     }
-    let other = relaid(alloc, nets, near)?;
+    let other = relaid(alloc, nets, near, None)?;
     rather(alloc, nets, slots, other)
 }

@@ -4,7 +4,7 @@ use Rattle.level_nets.proofs.borders.slots_for.Goals as goal
 
 pub returns-in-Fewest-clause-asked : goal.returns-in-Fewest-clause-asked
 returns-in-Fewest-clause-asked c =
-    subst (λ s. IfOk c.assign.result (λ v. AreSlots s c.args.nets.now v.count v.routes.items)) (sym c.in-Fewest.is) c.assign.ensures.all
+    subst (λ s. IfOk c.assign_near.result (λ v. AreSlots s c.args.nets.now v.count v.routes.items)) (sym c.in-Fewest.is) c.assign_near.ensures.all
 
 pub returns-in-Uncrossed-clause-asked : goal.returns-in-Uncrossed-clause-asked
 returns-in-Uncrossed-clause-asked c =

@@ -1,0 +1,31 @@
+use Rattle.std.proofs.Common.{◌≡◌, ◌⊎◌, ⊎_elim, ◌≤◌, List, length, Result, Ok, Err, IfOk, sym, subst}
+use Rattle.std.specs.declared.alloc.AllocError.{AllocError}
+use Rattle.route_slots.specs.declared.Net.{Net}
+use Rattle.route_slots.specs.declared.Slots.{Slots}
+use Rattle.route_slots.specs.Density.{IsDensity}
+use Rattle.route_slots.specs.Exchanges.{AreLaid, NoBetterExchange}
+use Rattle.route_slots.specs.Promised.{AreFewest}
+use Rattle.route_slots.proofs.easing.ease.Goals as goal
+
+-- one of two answers, as many slots as the first has
+one_of : (nets : List Net) (slots other : Slots) (r : Result Slots AllocError) → AreFewest nets slots.count slots.routes.items → AreLaid nets other.count other.routes.items
+    → (length nets ≤ 1024 → NoBetterExchange nets other.count other.routes.items) → IfOk r (λ best. (best ≡ slots) ⊎ (best ≡ other)) → IfOk r (λ best. best.count ≡ slots.count)
+    → IfOk r (λ best. AreFewest nets best.count best.routes.items)
+one_of nets slots other (Ok best) first laid none which same =
+    ⊎_elim
+    (λ (e : best ≡ slots). subst (λ (s : Slots). AreFewest nets s.count s.routes.items) (sym e) first)
+    (λ (e : best ≡ other). subst (λ (s : Slots). AreFewest nets s.count s.routes.items) (sym e)
+    (record {
+      free = laid.free;
+      apart = laid.apart;
+      splits = laid.splits;
+      density = λ clear. subst (IsDensity nets) (sym (subst (λ (s : Slots). s.count ≡ slots.count) e same)) (first.density clear);
+      exchanges = none;
+    }))
+    which
+one_of nets slots other (Err e) first laid none which same = which
+
+pub returns-in_ok-settled-in-Some-clause-all : goal.returns-in_ok-settled-in-Some-clause-all
+returns-in_ok-settled-in-Some-clause-all c =
+    let then = c.in_ok-settled-in-Some.ensures in
+    one_of c.args.nets.now c.args.slots c.in_ok-settled-in-Some.settled c.rather.result c.requires.all then.laid then.none c.rather.ensures.which c.rather.ensures.count
