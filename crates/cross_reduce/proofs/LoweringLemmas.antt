@@ -1,5 +1,5 @@
 -- Exchanges one after the other, and the first order of fewest crossings.
-use Rattle.std.proofs.Common.{◌≡◌, ◌+◌, ◌-◌, ◌<◌, ◌≤◌, List, [], ◌∷◌, ℕ, zero, suc, length, nat_lt, ltb-true, ltb-false, add-one, sym, refl, inl, inr, arith, rules, ap, ◌∙◌, subst}
+use Rattle.std.proofs.Common.{◌≡◌, ◌+◌, ◌-◌, ◌<◌, ◌≤◌, List, [], ◌∷◌, ℕ, zero, suc, length, ◌++◌, append_assoc, nat_lt, ltb-true, ltb-false, add-one, sym, refl, inl, inr, arith, rules, ap, ◌∙◌, subst}
 use Rattle.std.proofs.lemmas.Bool.{cases_Bool}
 use Rattle.std.proofs.lemmas.List.Elements.{All-append, All-cons, All-head, All-tail, All-weaker}
 use Rattle.elk_layers.specs.Layered.{Plain, row_at}
@@ -91,6 +91,38 @@ first_of_five l start one two three four rows a b c d s =
     let e : one ∷ two ∷ three ∷ four ∷ [] ≡ sweep_orders l start = rw (d, c, b, a) refl in
     subst (λ (xs : List (List (List ℕ))). IsFirstOfFewest l (start ∷ xs) rows) e s
 
+-- an order without crossings has at most those of any other
+none_above : (l : Plain) (rows : List (List ℕ)) (os : List (List (List ℕ))) → crossings l rows ≡ 0 → AtMostOf l rows os
+none_above l rows [] none = search rules
+none_above l rows (o ∷ os) none = All-cons (λ (x : List (List ℕ)). crossings l rows ≤ crossings l x) o os (omega (arith, none)) (none_above l rows os none)
+
+-- so it is the first of fewest crossings also where more orders follow
+first_with_more : (l : Plain) (orders more : List (List (List ℕ))) (rows : List (List ℕ)) → crossings l rows ≡ 0 → IsFirstOfFewest l orders rows → IsFirstOfFewest l (orders ++ more) rows
+first_with_more l orders more rows none s =
+    record {
+      before = s.before;
+      behind = s.behind ++ more;
+      splits = sym (append_assoc s.before (rows ∷ s.behind) more) ∙ ap (λ (xs : List (List (List ℕ))). xs ++ more) s.splits;
+      fewer = s.fewer;
+      at_most = none_above l rows (s.behind ++ more) none;
+    }
+
+-- found after one sweep, and after two
+pub first_of_two : (l : Plain) (start one rows : List (List ℕ)) → one ≡ forward_sweep l start → crossings l rows ≡ 0 → IsFirstOfFewest l (start ∷ one ∷ []) rows → IsFirstOfFewest l (start ∷ sweep_orders l start) rows
+first_of_two l start one rows a none s =
+    first_of_five l start one (backward_sweep l (forward_sweep l start)) (forward_sweep l (backward_sweep l (forward_sweep l start))) (backward_sweep l (forward_sweep l (backward_sweep l (forward_sweep l start)))) rows
+    a refl refl refl
+    (first_with_more l (start ∷ one ∷ []) (backward_sweep l (forward_sweep l start) ∷ forward_sweep l (backward_sweep l (forward_sweep l start)) ∷ backward_sweep l (forward_sweep l (backward_sweep l (forward_sweep l start))) ∷ []) rows none s)
+
+pub first_of_three : (l : Plain) (start one two rows : List (List ℕ)) → one ≡ forward_sweep l start → two ≡ backward_sweep l (forward_sweep l start) → crossings l rows ≡ 0 → IsFirstOfFewest l (start ∷ one ∷ two ∷ []) rows → IsFirstOfFewest l (start ∷ sweep_orders l start) rows
+first_of_three l start one two rows a b none s =
+    first_of_five l start one two (forward_sweep l two) (backward_sweep l (forward_sweep l two)) rows a b refl refl
+    (first_with_more l (start ∷ one ∷ two ∷ []) (forward_sweep l two ∷ backward_sweep l (forward_sweep l two) ∷ []) rows none s)
+
+-- without crossings no exchange lowers them
+pub none_settled : (l : Plain) (rows : List (List ℕ)) → crossings l rows ≡ 0 → NoBetterSwap l rows
+none_settled l rows none = λ r i hr hi. omega (arith, none)
+
 -- a start without crossings
 pub reduced_at_once : (l : Plain) (start : List (List ℕ)) → crossings l start ≡ 0 → IsExchangedFromFewest l start start
 reduced_at_once l start none =
@@ -98,15 +130,11 @@ reduced_at_once l start none =
       reached = start;
       from_fewest = record {
         from = start;
-        first = record { before = []; behind = sweep_orders l start; splits = refl; fewer = search rules; at_most = none_above (sweep_orders l start) };
-        settles = at_rest start (λ r i hr hi. omega (arith, none));
+        first = record { before = []; behind = sweep_orders l start; splits = refl; fewer = search rules; at_most = none_above l start (sweep_orders l start) none };
+        settles = at_rest start (none_settled l start none);
       };
       kept_or_fewer = inl refl;
     }
-  where
-    none_above : (os : List (List (List ℕ))) → AtMostOf l start os
-    none_above [] = search rules
-    none_above (o ∷ os) = All-cons (λ (x : List (List ℕ)). crossings l start ≤ crossings l x) o os (omega (arith, none)) (none_above os)
 
 pub kept_or_fewer_trans : (l : Plain) (a b c : List (List ℕ)) → IsKeptOrFewer l a b → IsKeptOrFewer l b c → IsKeptOrFewer l a c
 kept_or_fewer_trans l a b c (inl e) (inl f) = inl (f ∙ e)
@@ -125,6 +153,11 @@ first_at_most l orders rows s =
 pub exchanged_fewer : (l : Plain) (reached best rows : List (List ℕ)) → NoBetterSwap l reached → IsKeptOrFewer l reached best → SettlesTo l best rows → IsKeptOrFewer l reached rows
 exchanged_fewer l reached best rows none (inl e) last = inl (settles_stays l reached rows none (subst (λ (xs : List (List ℕ)). SettlesTo l xs rows) e last))
 exchanged_fewer l reached best rows none (inr h) last = inr (let fewer = settles_at_most l best rows last in omega (arith, h, fewer))
+
+-- a search from a settled order that finds none with fewer crossings
+pub kept_settled : (l : Plain) (kept best : List (List ℕ)) → NoBetterSwap l kept → IsKeptOrFewer l kept best → crossings l best ≡ crossings l kept → NoBetterSwap l best
+kept_settled l kept best none (inl e) same = subst (λ (xs : List (List ℕ)). NoBetterSwap l xs) (sym e) none
+kept_settled l kept best none (inr h) same = absurd (omega (arith, h, same))
 
 -- the exchanges of the first of fewest crossings, and what a search makes of these
 pub reduced_found : (l : Plain) (start swept reached rows : List (List ℕ)) → IsFirstOfFewest l (start ∷ sweep_orders l start) swept → SettlesTo l swept reached

@@ -50,6 +50,11 @@ impl Annealing {
         self.effort.spend(links);
     }
 
+    /// The crossings as they stand.
+    pub(crate) fn crossings(&self) -> u64 {
+        self.crossings
+    }
+
     /// Whether no work is left.
     fn is_spent(&self) -> bool {
         self.effort.is_spent()

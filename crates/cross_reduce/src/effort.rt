@@ -60,8 +60,12 @@ fn usual_work(layered: &Layered) -> u64 {
     size.saturating_mul(1000).min(16777216)
 }
 
+/// The most work that a level is worth by any effort: 2^28.
+const MOST: u64 = 268_435_456;
+
 /// The work that a level is worth by an effort.
 pub(crate) fn work_for(layered: &Layered, effort: u32) -> u64 {
     let times = effort.min(GREATEST) as u64;
-    usual_work(layered).saturating_mul(times) / USUAL as u64
+    let work = usual_work(layered).saturating_mul(times) / USUAL as u64;
+    work.min(MOST)
 }

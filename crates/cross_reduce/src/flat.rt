@@ -26,38 +26,38 @@ pub(crate) struct Span {
     pub(crate) last: usize,
 }
 
+/// Where a unit's far ends to the left begin, those to the right, and where these end.
+#[derive(Clone, Copy)]
+struct Sides {
+    left: u32,
+    right: u32,
+    end: u32,
+}
+
 /// The far ends of all links: those to the left of the first unit, those to its right, and so on.
 #[derive(Drop)]
 pub(crate) struct Ends {
-    first: Vec<u32>,
+    sides: Vec<Sides>,
     far: Vec<Far>,
 }
 
 impl Ends {
-    /// Where a unit's far ends to the left begin, those to the right, and where these end.
-    fn bounds(&self, unit: u32) -> (usize, usize, usize) {
-        let first = self.first.as_slice();
-        let side = unit as usize * 2;
-        if side + 2 < first.len() {
-            (
-                first[side] as usize,
-                first[side + 1] as usize,
-                first[side + 2] as usize,
-            )
-        } else {
-            (0, 0, 0)
-        }
-    }
-
     /// The far ends of a unit's links to the left, and of those to the right.
     pub(crate) fn of(&self, unit: u32) -> (&[Far], &[Far]) {
-        let (left, right, end) = self.bounds(unit);
+        let unit = unit as usize;
         let far = self.far.as_slice();
-        if left <= right && right <= end && end <= far.len() {
-            (&far[left..right], &far[right..end])
-        } else {
-            (&far[0..0], &far[0..0])
+        if unit < self.sides.len() {
+            let sides = self.sides[unit];
+            let (left, right, end) = (
+                sides.left as usize,
+                sides.right as usize,
+                sides.end as usize,
+            );
+            if left <= right && right <= end && end <= far.len() {
+                return (&far[left..right], &far[right..end]);
+            }
         }
+        (&far[0..0], &far[0..0])
     }
 }
 
@@ -122,18 +122,33 @@ fn put_link(far: &mut [Far], next: &mut [u32], link: Link) {
     put_far(far, next, right_side(link.tail), head);
 }
 
+/// Where the far ends of each unit's sides begin and end.
+fn sides_of(alloc: Global, first: &[u32], units: usize) -> Result<Vec<Sides>, AllocError> {
+    let mut list: Vec<Sides> = Vec::with_capacity(alloc, units)?;
+    for unit in 0..units {
+        let side = unit.wrapping_mul(2);
+        list.push(Sides {
+            left: number_at(first, side),
+            right: number_at(first, side.wrapping_add(1)),
+            end: number_at(first, side.wrapping_add(2)),
+        })?;
+    }
+    Ok(list)
+}
+
 /// The far ends of all links.
 fn ends_for(alloc: Global, layered: &Layered) -> Result<Ends, AllocError> {
     let counts = side_counts(alloc, layered)?;
     let first = sums(alloc, counts.as_slice())?;
-    let mut next = first.as_slice().to_vec(alloc)?;
+    let sides = sides_of(alloc, first.as_slice(), layered.units.len())?;
+    let mut next = first;
     let none = Far { unit: 0, rank: 0 };
     let count = layered.links.len().saturating_mul(2);
     let mut far: Vec<Far> = vec![in alloc; none; count]?;
     for link in layered.links.as_slice() {
         put_link(far.as_mut_slice(), next.as_mut_slice(), *link);
     }
-    Ok(Ends { first, far })
+    Ok(Ends { sides, far })
 }
 
 /// An order in one list: its units, the place of each, its rows of two or more units, and the links.

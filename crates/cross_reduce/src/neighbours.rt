@@ -27,6 +27,9 @@ fn more_by_end(place: &[usize], upper: u64, lower: &[Far]) -> i32 {
 
 /// What it brings by the links to one side.
 fn more_by_side(place: &[usize], upper: &[Far], lower: &[Far]) -> i32 {
+    if lower.is_empty() {
+        return 0;
+    }
     let mut more: i32 = 0;
     for far in upper {
         more = more.wrapping_add(more_by_end(place, key_of(place, *far), lower));
@@ -36,8 +39,8 @@ fn more_by_side(place: &[usize], upper: &[Far], lower: &[Far]) -> i32 {
 
 /// The pairs of links to one side, and two for the look at it.
 fn looks_at(upper: &[Far], lower: &[Far]) -> u64 {
-    let pairs = (upper.len() as u64).saturating_mul(lower.len() as u64);
-    pairs.saturating_add(2)
+    let pairs = (upper.len() as u64).wrapping_mul(lower.len() as u64);
+    pairs.wrapping_add(2)
 }
 
 /// How many more crossings the links of two units have where the one that stands above stands below, and how
@@ -48,7 +51,7 @@ pub(crate) fn compare(flat: &Flat, upper: u32, lower: u32) -> (i32, u64) {
     let (lower_left, lower_right) = flat.ends.of(lower);
     let by_left = more_by_side(place, left, lower_left);
     let by_right = more_by_side(place, right, lower_right);
-    let looks = looks_at(left, lower_left).saturating_add(looks_at(right, lower_right));
+    let looks = looks_at(left, lower_left).wrapping_add(looks_at(right, lower_right));
     (by_left.wrapping_add(by_right), looks)
 }
 

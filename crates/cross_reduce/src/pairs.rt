@@ -19,6 +19,13 @@ struct Pair {
     looks: u32,
 }
 
+/// Where nothing is known.
+const NOTHING: Pair = Pair {
+    greater: 0,
+    more: 0,
+    looks: 0,
+};
+
 /// For each unit so many others are kept, by their numbers.
 const KEPT: usize = 16;
 
@@ -31,21 +38,16 @@ pub(crate) struct Pairs {
 impl Pairs {
     /// Nothing is known yet of pairs of so many units.
     pub(crate) fn of(alloc: Global, units: usize) -> Result<Pairs, AllocError> {
-        let unknown = Pair {
-            greater: 0,
-            more: 0,
-            looks: 0,
-        };
-        let list: Vec<Pair> = vec![in alloc; unknown; units.saturating_mul(KEPT)]?;
+        let list: Vec<Pair> = vec![in alloc; NOTHING; units.saturating_mul(KEPT)]?;
         Ok(Pairs { list })
     }
 
     /// What is kept at a place.
-    fn at(&self, i: usize) -> Option<Pair> {
+    fn at(&self, i: usize) -> Pair {
         if i < self.list.len() {
-            Some(self.list[i])
+            self.list[i]
         } else {
-            None
+            NOTHING
         }
     }
 
@@ -91,10 +93,9 @@ fn compared(flat: &Flat, lesser: u32, greater: u32) -> Pair {
 /// What is known of two units.
 fn pair_of(flat: &Flat, pairs: &mut Pairs, lesser: u32, greater: u32) -> Pair {
     let i = place_of(lesser, greater);
-    if let Some(pair) = pairs.at(i) {
-        if pair.greater == greater && pair.looks > 0 {
-            return pair;
-        }
+    let known = pairs.at(i);
+    if known.greater == greater && known.looks > 0 {
+        return known;
     }
     let pair = compared(flat, lesser, greater);
     pairs.put(i, pair);
@@ -137,6 +138,9 @@ fn turn_end(pairs: &mut Pairs, upper: u32, lower: &[Far]) {
 
 /// The same for the links to one side.
 fn turn_side(pairs: &mut Pairs, upper: &[Far], lower: &[Far]) {
+    if lower.is_empty() {
+        return;
+    }
     for far in upper {
         turn_end(pairs, far.unit, lower);
     }

@@ -6,7 +6,7 @@ ghost use Rattle.elk_layers.specs.Crossings.{HasSameRows, NoBetterSwap};
 ghost use Rattle.elk_layers.specs.Crossings as spec;
 ghost use Rattle.cross_reduce.specs.declared.fans.Towards.TheVariants.{Left, Right};
 ghost use Rattle.cross_reduce.specs.Fans.{fan_lists, AreFans};
-ghost use Rattle.cross_reduce.specs.Reduced.{IsFirstOfFewest, IsExchangedFromFewest};
+ghost use Rattle.cross_reduce.specs.Reduced.{IsFirstOfFewest, IsExchangedFromFewest, SettlesTo};
 ghost use Rattle.cross_reduce.specs.Candidates.{IsKeptOrFewer};
 ghost use Rattle.elk_layers.specs.Sweeps.{sweep_orders, forward_sweep, backward_sweep};
 
@@ -88,28 +88,60 @@ fn two_sweeps(
 }
 
 /// The first of fewest crossings among an order and its four sweep orders.
+///
+/// One without crossings is the answer at once, since those behind it can't have fewer.
 fn best_sweep(
     alloc: Global,
     layered: &Layered,
     start: Counted,
     left: &Fans,
     right: &Fans,
-) -> Result<Order, AllocError>
+) -> Result<Counted, AllocError>
     requires sound { IsSound (plain layered.now) }
     requires rows { AreRows (plain layered.now) (rows_of start.order) }
     requires left { AreFans Left (plain layered.now).links (length (plain layered.now).units) (fan_lists left.now) }
     requires right { AreFans Right (plain layered.now).links (length (plain layered.now).units) (fan_lists right.now) }
     requires counted { start.crossings ≡ spec.crossings (plain layered.now) (rows_of start.order) }
-    ensures same_rows { IfOk result (λ o. HasSameRows (rows_of start.order) (rows_of o)) }
-    ensures first { IfOk result (λ o. IsFirstOfFewest (plain layered.now) (rows_of start.order ∷ sweep_orders (plain layered.now) (rows_of start.order)) (rows_of o)) }
+    ensures same_rows { IfOk result (λ k. HasSameRows (rows_of start.order) (rows_of k.order)) }
+    ensures first { IfOk result (λ k. IsFirstOfFewest (plain layered.now) (rows_of start.order ∷ sweep_orders (plain layered.now) (rows_of start.order)) (rows_of k.order)) }
+    ensures counted { IfOk result (λ k. k.crossings ≡ spec.crossings (plain layered.now) (rows_of k.order)) }
 {
     let (one, two) = two_sweeps(alloc, layered, &start.order, left, right)?;
-    let (three, four) = two_sweeps(alloc, layered, &two, left, right)?;
     let best = fewer(alloc, layered, start, one)?;
+    if best.crossings == 0 {
+        return Ok(best);
+    }
+    let (three, four) = two_sweeps(alloc, layered, &two, left, right)?;
     let best = fewer(alloc, layered, best, two)?;
+    if best.crossings == 0 {
+        return Ok(best);
+    }
     let best = fewer(alloc, layered, best, three)?;
     let best = fewer(alloc, layered, best, four)?;
-    Ok(best.order)
+    Ok(best)
+}
+
+/// What the exchanges of neighbours reach from an order. One without crossings stays as it is.
+fn settled_from(
+    alloc: Global,
+    layered: &Layered,
+    swept: Counted,
+    left: Fans,
+    right: Fans,
+) -> Result<Order, AllocError>
+    requires sound { IsSound (plain layered.now) }
+    requires rows { AreRows (plain layered.now) (rows_of swept.order) }
+    requires left { AreFans Left (plain layered.now).links (length (plain layered.now).units) (fan_lists left) }
+    requires right { AreFans Right (plain layered.now).links (length (plain layered.now).units) (fan_lists right) }
+    requires counted { swept.crossings ≡ spec.crossings (plain layered.now) (rows_of swept.order) }
+    ensures same { IfOk result (λ o. HasSameRows (rows_of swept.order) (rows_of o)) }
+    ensures settled { IfOk result (λ o. NoBetterSwap (plain layered.now) (rows_of o)) }
+    ensures settles { IfOk result (λ o. SettlesTo (plain layered.now) (rows_of swept.order) (rows_of o)) }
+{
+    if swept.crossings == 0 {
+        return Ok(swept.order);
+    }
+    exchanged_by(alloc, layered, swept.order, left, right)
 }
 
 /// What the search of an effort finds from a settled order: this, or a settled one with fewer crossings.
@@ -127,8 +159,17 @@ fn searched(
     ensures fewer { IfOk result (λ o. IsKeptOrFewer (plain layered.now) (rows_of settled) (rows_of o)) }
 {
     let kept = with_count(alloc, layered, settled)?;
+    let before = kept.crossings;
     let best = search(alloc, layered, kept, work_for(layered, effort.min(USUAL)))?;
+    if best.crossings == before {
+        return Ok(best.order);
+    }
     exchanged(alloc, layered, best.order)
+}
+
+/// Whether there is nothing to search for: nothing crosses, or the level is worth no work.
+fn is_done(layered: &Layered, effort: u32, is_free: bool) -> bool {
+    is_free || work_for(layered, effort) == 0
 }
 
 /// What more effort than the usual finds from there.
@@ -159,8 +200,8 @@ fn searched_on(
 ///
 /// It has at most the crossings of the start, and of the orders after a forward sweep of it by the
 /// barycentre rule, after a backward sweep of that order, and once more so. No exchange of two neighbours
-/// of a row lowers its crossings. A start without crossings is given back. The only error is want of
-/// memory, which drops the start.
+/// of a row lowers its crossings. A start without crossings is given back, and of the orders after the sweeps
+/// the first without crossings. The only error is want of memory, which drops the start.
 ///
 /// The exchanges begin from the first of fewest crossings among these five orders, and go through the rows
 /// from the top, again and again. What they reach is the answer, unless a search finds an order with fewer
@@ -186,8 +227,8 @@ pub fn reduce(alloc: Global, layered: &Layered, start: Order) -> Result<Order, A
 /// The effort is a factor on the work of the search: 7 is that of `reduce`, 0 is no search, and what is
 /// above 1,000 counts as 1,000. By more than 7 the answer of 7 is annealed again and again, first by three
 /// more, then each time with half as much more. So from 7 on an answer has at most the crossings that it has
-/// by less effort. For each one of effort the search looks at most at 2^24 / 7 links, which is 2^31.2 by the
-/// greatest.
+/// by less effort. For each one of effort the search looks at most at 2^24 / 7 links, and by no effort at
+/// more than 2^28.
 pub fn reduce_with_effort(
     alloc: Global,
     layered: &Layered,
@@ -210,8 +251,9 @@ pub fn reduce_with_effort(
     let left = fans_for(alloc, layered, Towards::Left)?;
     let right = fans_for(alloc, layered, Towards::Right)?;
     let swept = best_sweep(alloc, layered, start, &left, &right)?;
-    let settled = exchanged_by(alloc, layered, swept, left, right)?;
-    if work_for(layered, effort) == 0 {
+    let is_free = swept.crossings == 0;
+    let settled = settled_from(alloc, layered, swept, left, right)?;
+    if is_done(layered, effort, is_free) {
         return Ok(settled);
     }
     let found = searched(alloc, layered, settled, effort)?;

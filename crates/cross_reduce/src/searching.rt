@@ -114,6 +114,9 @@ fn annealed(
     let mut flat = flat_of(alloc, layered, &kept.order)?;
     let mut annealing = Annealing::of(kept.crossings, work);
     anneal(alloc, &mut flat, &mut annealing)?;
+    if annealing.crossings() >= kept.crossings {
+        return Ok(kept);
+    }
     let best = fewer_of(alloc, layered, kept, &flat)?;
     Ok(best)
 }
