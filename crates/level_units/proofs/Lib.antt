@@ -30,3 +30,4 @@ pub mod FlowLemmas
 pub mod MeaningLemmas
 pub mod RankedLemmas
 pub mod RankMadeLemmas
+pub mod ChangingLemmas

@@ -1,22 +1,21 @@
 -- What the code has at hand when it gives units and links their heights and pins.
-use Rattle.std.proofs.Common.{◌≡◌, ℕ, Bool, List, [], length, ℤ, refl, sym, subst, arith, SFits, w64, to_z, of_z}
-use Rattle.std.proofs.lemmas.Int.{ints, to_z-of_z}
+use Rattle.std.proofs.Common.{◌≡◌, ℕ, Bool, List, [], length, refl, sym, subst}
 use Rattle.elk_doc.specs.declared.document.Spacing.{Spacing}
 use Rattle.elk_layers.specs.declared.units.Unit.{Unit as LayerUnit}
 use Rattle.elk_layers.specs.declared.units.Link.{Link}
 use Rattle.elk_layers.specs.declared.units.Layered.{Layered}
 use Rattle.elk_layers.specs.declared.units.Order.{Order}
-use Rattle.elk_layers.specs.Layered.{Plain, AreRows, IsSound, IsSpacing, plain, rows_of}
+use Rattle.elk_layers.specs.Layered.{Plain, AreRows, IsSound, plain, rows_of}
 use Rattle.level_plan.specs.declared.level.LevelIn.{LevelIn}
 use Rattle.level_plan.specs.declared.table.Table.{Table}
 use Rattle.level_plan.specs.Conditions.{IsLevel, plain_level, plain_plan}
-use Rattle.level_plan.specs.Level.{Orders}
+use Rattle.level_plan.specs.Level.{Orders, PlainPlan}
 use Rattle.level_plan.specs.Table.{IsTable}
 use Rattle.level_plan.specs.Units.{AreLinked, AreOrders}
 use Rattle.level_ends.specs.Bounds.{AreNumbersIn}
 use Rattle.level_plan.specs.Marks.{AreMarks}
 use Rattle.level_units.specs.Reading.{AreFittedLinks, AreFittedUnits}
-use Rattle.level_units.proofs.FittedLemmas.{IsTabled}
+use Rattle.level_units.proofs.FittedLemmas.{IsTabled, plain_with}
 
 pub tabled : (level : LevelIn) (layered : Layered) (order : Order) (reversed : List ℕ) (t : Table) (marks : List Bool) → IsLevel (plain_level level) → IsSound (plain layered) → AreRows (plain layered) (rows_of order)
     → layered.node_node ≡ level.spacing.node_node → layered.edge_node ≡ level.spacing.edge_node → layered.edge_edge ≡ level.spacing.edge_edge
@@ -47,13 +46,6 @@ pub links_read : (s : Spacing) (t : Table) (marks : List Bool) (ys us : List Lay
 links_read s t marks ys us xs links ks units same fit =
     subst (λ (zs : List Link). AreFittedLinks s t us marks zs (length zs) ks) same (subst (λ (zs : List LayerUnit). AreFittedLinks s t zs marks xs (length xs) ks) units fit)
 
--- a distance that is handed on
-pub distance_read : (z : ℤ) → IsSpacing z → to_z w64 (of_z w64 z) ≡ z
-distance_read z is = let low = is.low in let high = is.high in let f : SFits w64 z = omega (arith, ints, low, high) in to_z-of_z w64 z f
-
-pub respaced : (P : Plain → Type 0) (a : Plain) (x y z : ℤ) → x ≡ a.node_node → y ≡ a.edge_node → z ≡ a.edge_edge → P a
-    → P (record { layers = a.layers; units = a.units; links = a.links; node_node = x; edge_node = y; edge_edge = z })
-respaced P a x y z e f g h =
-    subst (λ u. P (record { layers = a.layers; units = a.units; links = a.links; node_node = u; edge_node = y; edge_edge = z })) (sym e)
-    (subst (λ u. P (record { layers = a.layers; units = a.units; links = a.links; node_node = a.node_node; edge_node = u; edge_edge = z })) (sym f)
-    (subst (λ u. P (record { layers = a.layers; units = a.units; links = a.links; node_node = a.node_node; edge_node = a.edge_node; edge_edge = u })) (sym g) h))
+-- what holds with units and links holds as they are kept
+pub refitted : (P : Plain → Type 0) (p : PlainPlan) (us vs : List LayerUnit) (ks ls : List Link) → vs ≡ us → ls ≡ ks → P (plain_with p us ks) → P (plain_with p vs ls)
+refitted P p us vs ks ls e f h = subst (λ (zs : List LayerUnit). P (plain_with p zs ls)) (sym e) (subst (λ (zs : List Link). P (plain_with p us zs)) (sym f) h)

@@ -1,14 +1,14 @@
 -- What the code has at hand when it gives links their ranks.
-use Rattle.std.proofs.Common.{◌≡◌, ℕ, Bool, List, [], map, length, refl, sym, subst}
+use Rattle.std.proofs.Common.{◌≡◌, ℕ, Bool, false, List, [], map, length, refl, sym, subst}
 use Rattle.elk_layers.specs.declared.units.Unit.{Unit as LayerUnit}
 use Rattle.elk_layers.specs.declared.units.Link.{Link}
 use Rattle.elk_layers.specs.declared.units.Layered.{Layered}
 use Rattle.elk_layers.specs.declared.units.Order.{Order}
-use Rattle.elk_layers.specs.Layered.{IsSound, plain}
+use Rattle.elk_layers.specs.Layered.{IsSound, Plain, plain}
 use Rattle.level_plan.specs.declared.level.LevelIn.{LevelIn}
 use Rattle.level_plan.specs.declared.table.Table.{Table}
 use Rattle.level_plan.specs.Conditions.{IsLevel, plain_level, plain_plan}
-use Rattle.level_plan.specs.Level.{Orders, PlainLevel}
+use Rattle.level_plan.specs.Level.{Orders, PlainLevel, PlainPlan}
 use Rattle.level_plan.specs.Table.{IsTable}
 use Rattle.level_plan.specs.Units.{AreLinked, AreOrders}
 use Rattle.level_ends.specs.Bounds.{AreNumbersIn}
@@ -16,8 +16,9 @@ use Rattle.level_plan.specs.Marks.{AreMarks}
 use Rattle.level_units.specs.declared.ports.PortRanks.{PortRanks}
 use Rattle.level_units.specs.Levels.{AreRanksTo}
 use Rattle.level_units.specs.Ports.{PlainRanks, plain_ranks}
+use Rattle.level_units.specs.Ranked.{AreBareLinks, IsRanking, has_ranks}
 use Rattle.level_units.specs.RankReading.{AreRankedLinks}
-use Rattle.level_units.proofs.RankedLemmas.{IsMade}
+use Rattle.level_units.proofs.RankedLemmas.{IsMade, are_ranked, bare_ranked, bare_relinked, ranking, relinked, with_links}
 
 pub made_of : (level : LevelIn) (layered : Layered) (order : Order) (reversed : List ℕ) (t : Table) (marks : List Bool) (ranks read : List PortRanks) → IsLevel (plain_level level) → IsSound (plain layered)
     → ((layers : List ℕ) × AreLinked (plain_level level) (plain_plan layered order [] reversed) layers)
@@ -41,3 +42,18 @@ made_of level layered order reversed t marks ranks read is sound linked made num
 pub links_read : (l : PlainLevel) (t : Table) (vs : List PlainRanks) (marks : List Bool) (ys us : List LayerUnit) (xs links ks : List Link) → ys ≡ us → xs ≡ links → AreRankedLinks l t vs ys marks xs (length xs) ks → AreRankedLinks l t vs us marks links (length links) ks
 links_read l t vs marks ys us xs links ks units same fit =
     subst (λ (zs : List Link). AreRankedLinks l t vs us marks zs (length zs) ks) same (subst (λ (zs : List LayerUnit). AreRankedLinks l t vs zs marks xs (length xs) ks) units fit)
+
+-- ---- what the code gives, where `items` are the links as they are kept
+
+pub bare_ranking : (l : PlainLevel) (a : Plain) (was ks items : List Link) (reversed : List ℕ) → has_ranks l.children ≡ false → IsSound a → was ≡ a.links → items ≡ ks → AreBareLinks was (length was) ks → IsRanking l a (with_links a items) reversed
+bare_ranking l a was ks items reversed none sound same end links =
+    let read : AreBareLinks a.links (length a.links) ks = subst (λ (xs : List Link). AreBareLinks xs (length xs) ks) same links in
+    subst (λ (ys : List Link). IsRanking l a (with_links a ys) reversed) (sym end)
+    (ranking a ks sound (bare_relinked l a ks reversed none read) l reversed (bare_ranked l a ks reversed none read))
+
+pub table_ranking : (l : PlainLevel) (p : PlainPlan) (o : Orders) (t : Table) (marks : List Bool) (vs : List PlainRanks) (ys : List LayerUnit) (was ks items : List Link) → IsMade l p o t marks vs → ys ≡ p.layered.units → was ≡ p.layered.links
+    → items ≡ ks → AreRankedLinks l t vs ys marks was (length was) ks → IsRanking l p.layered (with_links p.layered items) p.reversed
+table_ranking l p o t marks vs ys was ks items made units same end links =
+    let read = links_read l t vs marks ys p.layered.units was p.layered.links ks units same links in
+    subst (λ (zs : List Link). IsRanking l p.layered (with_links p.layered zs) p.reversed) (sym end)
+    (ranking p.layered ks made.sound (relinked l p o t marks vs ks made read) l p.reversed (are_ranked l p o t marks vs ks made read))

@@ -1,13 +1,13 @@
 -- What ranks read off a table are, case by case.
-use Rattle.std.proofs.Common.{◌≡◌, ℕ, ◌+◌, ◌*◌, ◌<◌, cond, Bool, true, false, not, List, [], ◌∷◌, ◌++◌, map, length, get_or, inl, inr, refl, sym, subst, ap, ◌∙◌, arith}
+use Rattle.std.proofs.Common.{◌≡◌, ℕ, ◌+◌, ◌*◌, ◌<◌, ◌≤◌, cond, Bool, true, false, not, List, [], ◌∷◌, ◌++◌, map, set, length, get_or, inl, inr, refl, sym, subst, ap, ◌∙◌, arith}
 use Rattle.std.specs.Prelude.{Option, Some, is_some}
 use Rattle.std.proofs.lemmas.Bool.{cases_eq}
-use Rattle.std.proofs.lemmas.List.{get_or-map, get_or_append_left, get_or_push, length_push}
+use Rattle.std.proofs.lemmas.List.{get_or-map, get_or-set_other, get_or-set_same, length-set, get_or_append_left, get_or_push, length_push}
 use Rattle.port_order.specs.declared.children.Child.{Child}
 use Rattle.port_order.specs.Child.{is_pinned}
 use Rattle.elk_layers.specs.declared.units.Unit.{Unit as LayerUnit}
 use Rattle.elk_layers.specs.declared.units.Link.{Link}
-use Rattle.elk_layers.specs.Layered.{unit_at}
+use Rattle.elk_layers.specs.Layered.{link_at, unit_at}
 use Rattle.level_plan.specs.declared.level.Spoke.{Spoke}
 use Rattle.level_plan.specs.declared.table.EndAt.{EndAt}
 use Rattle.level_plan.specs.declared.table.Table.{Table}
@@ -19,7 +19,9 @@ use Rattle.level_units.specs.Reading.{end_of, is_on_lane, mark_at}
 use Rattle.level_units.specs.declared.ports.PortRanks.{PortRanks}
 use Rattle.level_units.specs.Levels.{AreRanksTo, IsRankedChild}
 use Rattle.level_units.specs.Ports.{PlainRanks, plain_ranks}
-use Rattle.level_units.specs.RankReading.{child_rank, edge_rank, end_rank, last_in, link_with, port_rank, ranks_at, unit_rank}
+use Rattle.level_units.specs.Ranked.{AreBareLinks, bare_link}
+use Rattle.level_units.proofs.ChangingLemmas.{each_next, rest_next}
+use Rattle.level_units.specs.RankReading.{AreRankedLinks, child_rank, edge_rank, end_rank, last_in, link_with, port_rank, ranks_at, unit_rank}
 
 pub on_lane : (c : Child) (v : PlainRanks) (end : EndAt) (k : ℕ) (enters : Bool) → is_spread_fixed c.rule (Some k) (is_pinned c k) ≡ false → is_on_lane end.dock.side enters ≡ true
     → port_rank c v end k enters ≡ lane_rank (last_in v enters) (side_by c.size.height end.dock.side end.anchor.y)
@@ -98,4 +100,30 @@ ranks_pushed l marks n vs v own s =
         | inl e ↦ subst (λ x. IsRankedChild l marks x (ranks_at (vs ++ v ∷ []) x)) (sym e) (subst (IsRankedChild l marks n) (sym (get_or_push vs v (ranks_at [] 0) n long)) own)
         | inr ne ↦ subst (IsRankedChild l marks d) (sym (get_or_append_left vs (v ∷ []) (ranks_at [] 0) d (omega (arith, h, ne, long)))) (s.each d (omega (arith, h, ne)))
       ];
+    }
+
+-- one more link
+pub link_ranked : (l : PlainLevel) (t : Table) (vs : List PlainRanks) (units : List LayerUnit) (marks : List Bool) (links ks : List Link) (n : ℕ) (x : Link) → n < length links → x ≡ link_with l t vs units marks (link_at ks n)
+    → x.tail_rank ≤ 4098 → x.head_rank ≤ 4098 → AreRankedLinks l t vs units marks links n ks → AreRankedLinks l t vs units marks links (n + 1) (set ks n x)
+link_ranked l t vs units marks links ks n x less is tail head s =
+    let many = s.as_many in
+    let inside : n < length ks = omega (arith, less, many) in
+    record {
+      as_many = length-set ks n x ∙ many;
+      each = each_next (link_with l t vs units marks) links ks n x (link_at [] 0) inside s.each s.rest is;
+      few = λ k h. elim (cases_eq k n) [
+        | inl e ↦ subst (λ (y : Link). (y.tail_rank < 65536) × (y.head_rank < 65536)) (sym (ap (λ i. link_at (set ks n x) i) e ∙ get_or-set_same ks n x (link_at [] 0) inside)) (omega (arith, tail), omega (arith, head))
+        | inr ne ↦ subst (λ (y : Link). (y.tail_rank < 65536) × (y.head_rank < 65536)) (sym (get_or-set_other ks n k x (link_at [] 0) ne)) (s.few k (omega (arith, h, ne)))
+      ];
+      rest = rest_next links ks n x (link_at [] 0) s.rest;
+    }
+
+-- one more link without ranks
+pub link_bared : (links ks : List Link) (n : ℕ) (x : Link) → n < length links → x ≡ bare_link (link_at ks n) → AreBareLinks links n ks → AreBareLinks links (n + 1) (set ks n x)
+link_bared links ks n x less is s =
+    let many = s.as_many in
+    record {
+      as_many = length-set ks n x ∙ many;
+      each = each_next bare_link links ks n x (link_at [] 0) (omega (arith, less, many)) s.each s.rest is;
+      rest = rest_next links ks n x (link_at [] 0) s.rest;
     }

@@ -1,9 +1,9 @@
 -- Links with ranks that are read off a table have the ranks of every plan with these units and links, and keep what is asked of
 -- units and links.
-use Rattle.std.proofs.Common.{◌≡◌, ◌⊎◌, inl, inr, ⊎_elim, ℕ, ◌+◌, ◌<◌, ◌≤◌, ◌&&◌, ◌||◌, not, cond, Bool, true, false, ℤ, List, [], map, length, get_or, refl, sym, subst, ap, ap₂, ◌∙◌, arith, IfSome}
+use Rattle.std.proofs.Common.{◌≡◌, ◌⊎◌, inl, inr, ⊎_elim, ℕ, zero, suc, ◌+◌, ◌<◌, ◌≤◌, ◌&&◌, ◌||◌, not, cond, Bool, true, false, ℤ, List, [], ◌∷◌, map, length, get_or, refl, sym, subst, ap, ap₂, ◌∙◌, arith, IfSome}
 use Rattle.std.specs.Prelude.{Option, None, Some, is_some}
 use Rattle.std.specs.List.{filter}
-use Rattle.std.proofs.lemmas.Bool.{cases_lt}
+use Rattle.std.proofs.lemmas.Bool.{cases_lt, or_parts}
 use Rattle.std.proofs.lemmas.List.{get_or_past, length-map}
 use Rattle.elk_doc.specs.declared.shape.Side.{Side}
 use Rattle.elk_doc.specs.declared.shape.Side.TheVariants.{North, East, South, West}
@@ -11,6 +11,7 @@ use Rattle.elk_doc.specs.declared.shape.Dock.{Dock}
 use Rattle.elk_doc.specs.declared.shape.Point.{Point}
 use Rattle.elk_doc.specs.declared.document.PortRule.{PortRule}
 use Rattle.elk_doc.specs.declared.document.PortRule.TheVariants.{Free, FixedSide, FixedOrder, FixedPos}
+use Rattle.port_order.specs.declared.children.Child.{Child}
 use Rattle.port_order.specs.Child.{is_pinned}
 use Rattle.port_order.specs.Places.{place_in}
 use Rattle.elk_layers.specs.declared.units.Unit.{Unit as LayerUnit}
@@ -19,7 +20,7 @@ use Rattle.elk_layers.specs.Layered.{Plain, IsFromZero, IsSound, IsSoundLink, la
 use Rattle.self_loops.specs.Loops.{is_upright}
 use Rattle.level_plan.specs.declared.table.Table.{Table}
 use Rattle.level_plan.specs.Conditions.{IsLevel}
-use Rattle.level_plan.specs.Level.{Orders, PlainLevel, PlainPlan, child_at, dock_of, dock_of_spot, end_at, enters, holds, is_loop, port_spot, spoke, spot_at_port, spot_of}
+use Rattle.level_plan.specs.Level.{End, Orders, PlainLevel, PlainPlan, child_at, dock_of, dock_of_spot, end_at, enters, head_end, holds, is_loop, port_spot, spoke, spot_at_port, spot_of, tail_end}
 use Rattle.level_plan.specs.Lanes.{lane_side}
 use Rattle.level_plan.specs.Nets.{inverts, unit_of}
 use Rattle.level_plan.specs.Table.{IsEndAt, IsTable}
@@ -37,7 +38,7 @@ use Rattle.level_units.proofs.AlikeLemmas.{no_heights}
 use Rattle.level_plan.proofs.LineLemmas.{level_offset}
 use Rattle.level_units.specs.Levels.{AreRanksTo, seen_spots}
 use Rattle.level_units.specs.Ports.{AreRanksOf, PlainRanks, counts, port_at}
-use Rattle.level_units.specs.Ranked.{AreRanked, AreReranked, plan_of}
+use Rattle.level_units.specs.Ranked.{AreBareLinks, AreRanked, AreReranked, IsRanking, bare_link, has_ranks, plan_of}
 use Rattle.level_units.specs.RankReading as reading
 use Rattle.level_units.specs.RankReading.{AreRankedLinks, HasRanksIn, IsReadable, child_rank, edge_rank, last_in, link_with, ranks_at, unit_rank}
 use Rattle.level_units.proofs.AgreeLemmas.{beside, either, implicit_beside, lies_on_lane, need_no_rows, off_lane, rank_by}
@@ -240,16 +241,18 @@ linked_rows l p rows layers h =
 abbrev pub with_links : Plain → List Link → Plain
 with_links a links = record { layers = a.layers; units = a.units; links = links; node_node = a.node_node; edge_node = a.edge_node; edge_edge = a.edge_edge }
 
-module _ (l : PlainLevel) (p : PlainPlan) (o : Orders) (t : Table) (marks : List Bool) (vs : List PlainRanks) (ks : List Link) (made : IsMade l p o t marks vs)
-    (links : AreRankedLinks l t vs p.layered.units marks p.layered.links (length p.layered.links) ks) where
-  field_is : {X : Type 0} (f : Link → X) → ((x : Link) → f (link_with l t vs p.layered.units marks x) ≡ f x) → (k : ℕ) → f (link_at ks k) ≡ f (link_at p.layered.links k)
-  field_is f kept k =
-      ⊎_elim
-      (λ less. ap f (links.each k less) ∙ kept (link_at p.layered.links k))
-      (λ past. let many = links.as_many in ap f (get_or_past ks k (link_at [] 0) (omega (arith, past, many)) ∙ sym (get_or_past p.layered.links k (link_at [] 0) past)))
-      (cases_lt k (length p.layered.links))
+-- links as they were, but for their ranks
+pub record AreRelinked (links ks : List Link) : Type 0 where
+  pub as_many : length ks ≡ length links
+  pub edge_is : (k : ℕ) → (link_at ks k).edge ≡ (link_at links k).edge
+  pub tail_is : (k : ℕ) → (link_at ks k).tail ≡ (link_at links k).tail
+  pub head_is : (k : ℕ) → (link_at ks k).head ≡ (link_at links k).head
+  pub tail_at_is : (k : ℕ) → (link_at ks k).tail_at ≡ (link_at links k).tail_at
+  pub head_at_is : (k : ℕ) → (link_at ks k).head_at ≡ (link_at links k).head_at
+  pub few : (k : ℕ) → k < length links → ((link_at ks k).tail_rank < 65536) × ((link_at ks k).head_rank < 65536)
 
-  pub alike : AreAlike p.layered (with_links p.layered ks)
+module _ (a : Plain) (ks : List Link) (sound : IsSound a) (links : AreRelinked a.links ks) where
+  alike : AreAlike a (with_links a ks)
   alike =
       record {
         layers_are = refl;
@@ -257,69 +260,97 @@ module _ (l : PlainLevel) (p : PlainPlan) (o : Orders) (t : Table) (marks : List
         as_many_links = links.as_many;
         layer_is = λ u. refl;
         child_is = λ u. refl;
-        edge_is = field_is (λ (x : Link). x.edge) (λ x. (is_link_with l t vs p.layered.units marks x).edge);
-        tail_is = field_is (λ (x : Link). x.tail) (λ x. (is_link_with l t vs p.layered.units marks x).tail);
-        head_is = field_is (λ (x : Link). x.head) (λ x. (is_link_with l t vs p.layered.units marks x).head);
+        edge_is = links.edge_is;
+        tail_is = links.tail_is;
+        head_is = links.head_is;
       }
 
-  pub reranked : AreReranked p.layered (with_links p.layered ks)
+  reranked : AreReranked a (with_links a ks)
   reranked =
       record {
         alike = alike;
         units_are = refl;
-        tail_at_is = field_is (λ (x : Link). x.tail_at) (λ x. (is_link_with l t vs p.layered.units marks x).tail_at);
-        head_at_is = field_is (λ (x : Link). x.head_at) (λ x. (is_link_with l t vs p.layered.units marks x).head_at);
+        tail_at_is = links.tail_at_is;
+        head_at_is = links.head_at_is;
         node_node = refl;
         edge_node = refl;
         edge_edge = refl;
       }
 
-  sound_link : (k : ℕ) → k < length p.layered.links → IsSoundLink (with_links p.layered ks) (link_at ks k)
+  sound_link : (k : ℕ) → k < length a.links → IsSoundLink (with_links a ks) (link_at ks k)
   sound_link k h =
-      let old = made.sound.links_are k h in
-      let tail = alike.tail_is k in
-      let head = alike.head_is k in
+      let old = sound.links_are k h in
+      let tail = links.tail_is k in
+      let head = links.head_is k in
       let tail_in = old.tail in
       let head_in = old.head in
       record {
         tail = omega (arith, tail, tail_in);
         head = omega (arith, head, head_in);
-        next_layer = ap (layer_of p.layered) head ∙ old.next_layer ∙ ap (λ u. layer_of p.layered u + 1) (sym tail);
+        next_layer = ap (layer_of a) head ∙ old.next_layer ∙ ap (λ u. layer_of a u + 1) (sym tail);
         tail_rank = (links.few k h).0;
         head_rank = (links.few k h).1;
-        tail_at = subst (λ z. IsFromZero z (unit_at p.layered.units (link_at ks k).tail).height) (sym (reranked.tail_at_is k)) (subst (λ u. IsFromZero (link_at p.layered.links k).tail_at (unit_at p.layered.units u).height) (sym tail) old.tail_at);
-        head_at = subst (λ z. IsFromZero z (unit_at p.layered.units (link_at ks k).head).height) (sym (reranked.head_at_is k)) (subst (λ u. IsFromZero (link_at p.layered.links k).head_at (unit_at p.layered.units u).height) (sym head) old.head_at);
+        tail_at = subst (λ z. IsFromZero z (unit_at a.units (link_at ks k).tail).height) (sym (links.tail_at_is k)) (subst (λ u. IsFromZero (link_at a.links k).tail_at (unit_at a.units u).height) (sym tail) old.tail_at);
+        head_at = subst (λ z. IsFromZero z (unit_at a.units (link_at ks k).head).height) (sym (links.head_at_is k)) (subst (λ u. IsFromZero (link_at a.links k).head_at (unit_at a.units u).height) (sym head) old.head_at);
       }
 
-  pub is_sound : IsSound (with_links p.layered ks)
+  is_sound : IsSound (with_links a ks)
   is_sound =
       let many = links.as_many in
-      let few = made.sound.few_links in
+      let few = sound.few_links in
       record {
-        node_node_is = made.sound.node_node_is;
-        edge_node_is = made.sound.edge_node_is;
-        edge_edge_is = made.sound.edge_edge_is;
-        few_units = made.sound.few_units;
+        node_node_is = sound.node_node_is;
+        edge_node_is = sound.edge_node_is;
+        edge_edge_is = sound.edge_edge_is;
+        few_units = sound.few_units;
         few_links = omega (arith, many, few);
-        layers_are = made.sound.layers_are;
-        few_in_layer = made.sound.few_in_layer;
+        layers_are = sound.layers_are;
+        few_in_layer = sound.few_in_layer;
         links_are = λ k h. sound_link k (omega (arith, h, many));
-        heights = made.sound.heights;
-        together = made.sound.together;
-        lanes_are_flat = made.sound.lanes_are_flat;
-        bodies = made.sound.bodies;
+        heights = sound.heights;
+        together = sound.together;
+        lanes_are_flat = sound.lanes_are_flat;
+        bodies = sound.bodies;
       }
 
-  flat : AreFlat (with_links p.layered ks)
+  flat : AreFlat (with_links a ks)
   flat u none =
       ⊎_elim
-      (λ less. made.sound.lanes_are_flat u less (ap (λ k. not (is_some k)) none))
-      (λ past. ap (λ (x : LayerUnit). x.height) (get_or_past p.layered.units u (unit_at [] 0) past))
-      (cases_lt u (length p.layered.units))
+      (λ less. sound.lanes_are_flat u less (ap (λ k. not (is_some k)) none))
+      (λ past. ap (λ (x : LayerUnit). x.height) (get_or_past a.units u (unit_at [] 0) past))
+      (cases_lt u (length a.units))
 
-  pub are_linked : (rows : List (List ℕ)) (tops : List ℤ) (layers : List ℕ) → AreLinked l p layers → AreLinked l (plan_of (with_links p.layered ks) rows tops p.reversed) layers
-  are_linked rows tops layers h =
-      no_heights.linked l (with_rows p rows) (with_links p.layered ks) tops layers alike made.layers_are flat (linked_rows l p rows layers h)
+  -- links with their ranks are all that is asked
+  pub ranking : (l : PlainLevel) (reversed : List ℕ) → AreRanked l (with_links a ks) reversed → IsRanking l a (with_links a ks) reversed
+  ranking l reversed ranks =
+      record {
+        ranks = ranks;
+        sound = is_sound;
+        rows = λ rows h. record { as_many = h.as_many; in_range = h.in_range; in_layer = h.in_layer; complete = h.complete; once = h.once };
+        linked = λ from to tops layers h. no_heights.linked l (plan_of a to [] reversed) (with_links a ks) tops layers alike refl flat (linked_rows l (plan_of a from [] reversed) to layers h);
+        kept = reranked;
+      }
+
+module _ (l : PlainLevel) (p : PlainPlan) (o : Orders) (t : Table) (marks : List Bool) (vs : List PlainRanks) (ks : List Link) (made : IsMade l p o t marks vs)
+    (links : AreRankedLinks l t vs p.layered.units marks p.layered.links (length p.layered.links) ks) where
+  field_is : {X : Type 0} (f : Link → X) → ((x : Link) → f (link_with l t vs p.layered.units marks x) ≡ f x) → (k : ℕ) → f (link_at ks k) ≡ f (link_at p.layered.links k)
+  field_is f kept k =
+      ⊎_elim
+      (λ less. ap f (links.each k less) ∙ kept (link_at p.layered.links k))
+      (λ past. ap f (links.rest k past))
+      (cases_lt k (length p.layered.links))
+
+  pub relinked : AreRelinked p.layered.links ks
+  relinked =
+      record {
+        as_many = links.as_many;
+        edge_is = field_is (λ (x : Link). x.edge) (λ x. (is_link_with l t vs p.layered.units marks x).edge);
+        tail_is = field_is (λ (x : Link). x.tail) (λ x. (is_link_with l t vs p.layered.units marks x).tail);
+        head_is = field_is (λ (x : Link). x.head) (λ x. (is_link_with l t vs p.layered.units marks x).head);
+        tail_at_is = field_is (λ (x : Link). x.tail_at) (λ x. (is_link_with l t vs p.layered.units marks x).tail_at);
+        head_at_is = field_is (λ (x : Link). x.head_at) (λ x. (is_link_with l t vs p.layered.units marks x).head_at);
+        few = links.few;
+      }
 
   unit_rank_is : (u e : ℕ) (a b : Bool) (q : PlainPlan) (r : Orders) → p.reversed ≡ q.reversed → AreOrders l q r → e < length l.edges → is_loop l e ≡ false → enters p (end_at e a) ≡ b
       → unit_rank l t vs (unit_at p.layered.units u) e a b ≡ cond (is_some (unit_at p.layered.units u).child) (rank_of_end l q r (end_at e a)) 0
@@ -333,7 +364,6 @@ module _ (l : PlainLevel) (p : PlainPlan) (o : Orders) (t : Table) (marks : List
   are_ranked rows tops r k are less =
       let many = links.as_many in
       let h : k < length p.layered.links = omega (arith, less, many) in
-      let old = link_at p.layered.links k in
       let is = made.linked.links k h in
       let q = plan_of (with_links p.layered ks) rows tops p.reversed in
       record {
@@ -341,10 +371,70 @@ module _ (l : PlainLevel) (p : PlainPlan) (o : Orders) (t : Table) (marks : List
             ∙ (is_link_with l t vs p.layered.units marks (link_at p.layered.links k)).tail_rank
             ∙ ap (λ m. unit_rank l t vs (unit_at p.layered.units (link_at p.layered.links k).tail) (link_at p.layered.links k).edge (not m) false) (made.marks_are.each (link_at p.layered.links k).edge is.edge_in)
             ∙ unit_rank_is (link_at p.layered.links k).tail (link_at p.layered.links k).edge (not (holds p.reversed (link_at p.layered.links k).edge)) false (plan_of (with_links p.layered ks) rows tops p.reversed) r refl are is.edge_in is.no_loop (tail_leaves p (link_at p.layered.links k).edge)
-            ∙ sym (ap₂ (λ u e. cond (is_some (unit_at p.layered.units u).child) (rank_of_end l (plan_of (with_links p.layered ks) rows tops p.reversed) r (end_at e (not (holds p.reversed e)))) 0) (alike.tail_is k) (alike.edge_is k));
+            ∙ sym (ap₂ (λ u e. cond (is_some (unit_at p.layered.units u).child) (rank_of_end l (plan_of (with_links p.layered ks) rows tops p.reversed) r (end_at e (not (holds p.reversed e)))) 0) (relinked.tail_is k) (relinked.edge_is k));
         head = ap (λ (x : Link). x.head_rank) (links.each k h)
             ∙ (is_link_with l t vs p.layered.units marks (link_at p.layered.links k)).head_rank
             ∙ ap (λ m. unit_rank l t vs (unit_at p.layered.units (link_at p.layered.links k).head) (link_at p.layered.links k).edge m true) (made.marks_are.each (link_at p.layered.links k).edge is.edge_in)
             ∙ unit_rank_is (link_at p.layered.links k).head (link_at p.layered.links k).edge (holds p.reversed (link_at p.layered.links k).edge) true (plan_of (with_links p.layered ks) rows tops p.reversed) r refl are is.edge_in is.no_loop (head_enters p (link_at p.layered.links k).edge)
-            ∙ sym (ap₂ (λ u e. cond (is_some (unit_at p.layered.units u).child) (rank_of_end l (plan_of (with_links p.layered ks) rows tops p.reversed) r (end_at e (holds p.reversed e))) 0) (alike.head_is k) (alike.edge_is k));
+            ∙ sym (ap₂ (λ u e. cond (is_some (unit_at p.layered.units u).child) (rank_of_end l (plan_of (with_links p.layered ks) rows tops p.reversed) r (end_at e (holds p.reversed e))) 0) (relinked.head_is k) (relinked.edge_is k));
+      }
+
+-- ---- a level none of whose ports are ranked
+
+none_fixed : (cs : List Child) → has_ranks cs ≡ false → (i : ℕ) (d : Child) → i < length cs → is_fixed (get_or cs i d).rule ≡ false
+none_fixed [] e i d h = absurd (omega (arith, h))
+none_fixed (c ∷ cs) e zero d h = (or_parts (is_fixed c.rule) (has_ranks cs) e).0
+none_fixed (c ∷ cs) e (suc i) d h = none_fixed cs (or_parts (is_fixed c.rule) (has_ranks cs) e).1 i d (omega (arith, h))
+
+without : (b : Bool) (x : ℕ) → b ≡ false → cond (not b) 0 x ≡ 0
+without b x e = ap (λ c. cond (not c) 0 x) e
+
+nothing : (b : Bool) (x : ℕ) → x ≡ 0 → cond b x 0 ≡ 0
+nothing true x e = e
+nothing false x e = refl
+
+module _ (l : PlainLevel) (a : Plain) (ks : List Link) (reversed : List ℕ) (none : has_ranks l.children ≡ false) (links : AreBareLinks a.links (length a.links) ks) where
+  field_kept : {X : Type 0} (f : Link → X) → ((x : Link) → f (bare_link x) ≡ f x) → (k : ℕ) → f (link_at ks k) ≡ f (link_at a.links k)
+  field_kept f kept k =
+      ⊎_elim
+      (λ less. ap f (links.each k less) ∙ kept (link_at a.links k))
+      (λ past. ap f (links.rest k past))
+      (cases_lt k (length a.links))
+
+  few_bare : (k : ℕ) → k < length a.links → ((link_at ks k).tail_rank < 65536) × ((link_at ks k).head_rank < 65536)
+  few_bare k h =
+      let tail = ap (λ (x : Link). x.tail_rank) (links.each k h) in
+      let head = ap (λ (x : Link). x.head_rank) (links.each k h) in
+      (omega (arith, tail), omega (arith, head))
+
+  pub bare_relinked : AreRelinked a.links ks
+  bare_relinked =
+      record {
+        as_many = links.as_many;
+        edge_is = field_kept (λ (x : Link). x.edge) (λ x. refl);
+        tail_is = field_kept (λ (x : Link). x.tail) (λ x. refl);
+        head_is = field_kept (λ (x : Link). x.head) (λ x. refl);
+        tail_at_is = field_kept (λ (x : Link). x.tail_at) (λ x. refl);
+        head_at_is = field_kept (λ (x : Link). x.head_at) (λ x. refl);
+        few = few_bare;
+      }
+
+  free : (c : ℕ) → is_fixed (child_at l c).rule ≡ false
+  free c =
+      ⊎_elim
+      (λ less. none_fixed l.children none c (child_at (record { children = []; edges = []; spacing = l.spacing; choices = l.choices }) 0) less)
+      (λ past. ap (λ (x : Child). is_fixed x.rule) (get_or_past l.children c (child_at (record { children = []; edges = []; spacing = l.spacing; choices = l.choices }) 0) past))
+      (cases_lt c (length l.children))
+
+  no_rank : (q : PlainPlan) (o : Orders) (n : End) → rank_of_end l q o n ≡ 0
+  no_rank q o n = without (is_fixed (child_at l (spoke l n).child).rule) _ (free (spoke l n).child)
+
+  pub bare_ranked : AreRanked l (with_links a ks) reversed
+  bare_ranked rows tops o k are less =
+      let many = links.as_many in
+      let h : k < length a.links = omega (arith, less, many) in
+      let q = plan_of (with_links a ks) rows tops reversed in
+      record {
+        tail = ap (λ (x : Link). x.tail_rank) (links.each k h) ∙ sym (nothing _ _ (no_rank q o (tail_end q (link_at ks k).edge)));
+        head = ap (λ (x : Link). x.head_rank) (links.each k h) ∙ sym (nothing _ _ (no_rank q o (head_end q (link_at ks k).edge)));
       }

@@ -1,9 +1,9 @@
 -- What single entries of the table give: heights and pins of one unit, of one end and of one link.
-use Rattle.std.proofs.Common.{◌≡◌, inl, inr, ⊎_elim, ◌⊎◌, ℕ, zero, suc, ◌+◌, ◌-◌, ◌*◌, ◌≤◌, ◌^◌, ◌==◌, cond, Bool, true, false, not, ℤ, pos, ◌+ℤ◌, ◌*ℤ◌, List, [], ◌∷◌, length, map, refl, sym, ap, ap₂, ◌∙◌, ◌≤ℤ◌, negsuc, arith}
+use Rattle.std.proofs.Common.{◌≡◌, inl, inr, ⊎_elim, ◌⊎◌, ℕ, zero, suc, ◌+◌, ◌-◌, ◌*◌, ◌<◌, ◌≤◌, ◌^◌, ◌==◌, cond, Bool, true, false, not, ℤ, pos, ◌+ℤ◌, ◌*ℤ◌, List, [], ◌∷◌, length, map, set, refl, sym, ap, ap₂, ◌∙◌, ◌≤ℤ◌, negsuc, arith}
 use Rattle.std.proofs.Math.Nat.{mul-le-mul_left}
 use Rattle.std.proofs.lemmas.Bool.{cases_lt, eqb-true, false≢true}
 use Rattle.std.proofs.lemmas.Int.{ints}
-use Rattle.std.proofs.lemmas.List.{get_or_past, length-map, length-append}
+use Rattle.std.proofs.lemmas.List.{length-map, length-append, length-set}
 use Rattle.std.proofs.lemmas.List.Sums.{sum_by-cons}
 use Rattle.std.proofs.lemmas.List.FromFn.{length-range_with_len}
 use Rattle.std.specs.Prelude.{Option, None, Some, is_some}
@@ -29,6 +29,7 @@ use Rattle.level_ends.specs.Lanes.{room}
 use Rattle.level_ends.proofs.AddLemmas.{ends_to_long, ports_few}
 use Rattle.level_ends.proofs.TimesLemmas.{times_within}
 use Rattle.level_nets.proofs.ListLemmas.{filter_short}
+use Rattle.level_units.proofs.ChangingLemmas.{each_next, rest_next}
 use Rattle.level_units.specs.Reading.{AreFittedLinks, AreFittedUnits, anchor_below, end_of, is_on_lane, link_with, mark_at, pin_at, pin_of, roomy, unit_for, unit_with}
 
 -- ---- units
@@ -63,7 +64,7 @@ pub field_same : {X : Type 0} (f : LayerUnit → X) (s : Spacing) (children : Li
 field_same f s children units fitted fit kept u =
     ⊎_elim
     (λ less. ap f (fit.each u less) ∙ kept (unit_at units u))
-    (λ past. let many = fit.as_many in ap f (get_or_past fitted u (unit_at [] 0) (omega (arith, past, many)) ∙ sym (get_or_past units u (unit_at [] 0) past)))
+    (λ past. ap f (fit.rest u past))
     (cases_lt u (length units))
 
 abbrev one_in : ℕ → LayerUnit → ℕ
@@ -191,8 +192,29 @@ pub link_field : {X : Type 0} (f : Link → X) (s : Spacing) (t : Table) (units 
 link_field f s t units marks links fitted fit kept k =
     ⊎_elim
     (λ less. ap f (fit.each k less) ∙ kept (link_at links k))
-    (λ past. let many = fit.as_many in ap f (get_or_past fitted k (link_at [] 0) (omega (arith, past, many)) ∙ sym (get_or_past links k (link_at [] 0) past)))
+    (λ past. ap f (fit.rest k past))
     (cases_lt k (length links))
+
+-- one more unit and one more link
+pub unit_fitted : (s : Spacing) (children : List ChildAt) (units us : List LayerUnit) (n : ℕ) (x : LayerUnit) → n < length units → x ≡ unit_with s children (unit_at us n)
+    → AreFittedUnits s children units n us → AreFittedUnits s children units (n + 1) (set us n x)
+unit_fitted s children units us n x less is fit =
+    let many = fit.as_many in
+    record {
+      as_many = length-set us n x ∙ many;
+      each = each_next (unit_with s children) units us n x (unit_at [] 0) (omega (arith, less, many)) fit.each fit.rest is;
+      rest = rest_next units us n x (unit_at [] 0) fit.rest;
+    }
+
+pub link_fitted : (s : Spacing) (t : Table) (units : List LayerUnit) (marks : List Bool) (links ks : List Link) (n : ℕ) (x : Link) → n < length links → x ≡ link_with s t units marks (link_at ks n)
+    → AreFittedLinks s t units marks links n ks → AreFittedLinks s t units marks links (n + 1) (set ks n x)
+link_fitted s t units marks links ks n x less is fit =
+    let many = fit.as_many in
+    record {
+      as_many = length-set ks n x ∙ many;
+      each = each_next (link_with s t units marks) links ks n x (link_at [] 0) (omega (arith, less, many)) fit.each fit.rest is;
+      rest = rest_next links ks n x (link_at [] 0) fit.rest;
+    }
 
 -- a number is twice another, or one more
 pub half : (i : ℕ) → (e : ℕ) × ((i ≡ 2 * e) ⊎ (i ≡ 2 * e + 1))

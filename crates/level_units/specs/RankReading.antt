@@ -74,8 +74,9 @@ pub record IsReadable (l : PlainLevel) (t : Table) (vs : List PlainRanks) (marks
   pub numbers : AreNumbersIn t
   pub ranks : (c : ℕ) → c < length l.children → is_fixed (child_at l c).rule ≡ true → HasRanksIn (child_at l c) (ranks_at vs c)
 
--- the first n links with their ranks
+-- of some links the first n have their ranks, and the others are as they were
 pub record AreRankedLinks (l : PlainLevel) (t : Table) (vs : List PlainRanks) (units : List LayerUnit) (marks : List Bool) (links : List Link) (n : ℕ) (ranked : List Link) : Type 0 where
-  pub as_many : length ranked ≡ n
+  pub as_many : length ranked ≡ length links
   pub each : (k : ℕ) → k < n → link_at ranked k ≡ link_with l t vs units marks (link_at links k)
   pub few : (k : ℕ) → k < n → ((link_at ranked k).tail_rank < 65536) × ((link_at ranked k).head_rank < 65536)
+  pub rest : (k : ℕ) → n ≤ k → link_at ranked k ≡ link_at links k

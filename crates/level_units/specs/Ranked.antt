@@ -1,8 +1,11 @@
 -- Links with the ranks of their ends.
-use Rattle.std.specs.Prelude.{◌≡◌, ℕ, ◌<◌, List, ℤ, length}
-use Rattle.elk_layers.specs.Layered.{Plain, link_at}
+use Rattle.std.specs.Prelude.{◌≡◌, ℕ, ◌<◌, ◌≤◌, Bool, List, [], ℤ, length}
+use Rattle.std.specs.List.{list_any}
+use Rattle.port_order.specs.declared.children.Child.{Child}
+use Rattle.elk_layers.specs.declared.units.Link.{Link}
+use Rattle.elk_layers.specs.Layered.{AreRows, IsSound, Plain, link_at}
 use Rattle.level_plan.specs.Level.{Orders, PlainLevel, PlainPlan}
-use Rattle.level_plan.specs.Units.{AreOrders, head_rank, tail_rank}
+use Rattle.level_plan.specs.Units.{AreLinked, AreOrders, head_rank, is_fixed, tail_rank}
 use Rattle.level_units.specs.Alike.{AreAlike}
 
 -- a plan with these units and links, rows, tops and turned edges
@@ -28,3 +31,25 @@ pub record AreReranked (a b : Plain) : Type 0 where
   pub node_node : b.node_node ≡ a.node_node
   pub edge_node : b.edge_node ≡ a.edge_node
   pub edge_edge : b.edge_edge ≡ a.edge_edge
+
+-- links without ranks
+abbrev pub bare_link : Link → Link
+bare_link k = record { edge = k.edge; tail = k.tail; head = k.head; tail_rank = 0; head_rank = 0; tail_at = k.tail_at; head_at = k.head_at }
+
+-- of some links the first n have no ranks, and the others are as they were
+pub record AreBareLinks (links : List Link) (n : ℕ) (bare : List Link) : Type 0 where
+  pub as_many : length bare ≡ length links
+  pub each : (k : ℕ) → k < n → link_at bare k ≡ bare_link (link_at links k)
+  pub rest : (k : ℕ) → n ≤ k → link_at bare k ≡ link_at links k
+
+-- the ports of some child are ranked
+abbrev pub has_ranks : List Child → Bool
+has_ranks children = list_any (λ (c : Child). is_fixed c.rule) children
+
+-- Units and links b are units and links a with the ranks of their ends, and are still sound and those of the level.
+pub record IsRanking (l : PlainLevel) (a b : Plain) (reversed : List ℕ) : Type 0 where
+  pub ranks : AreRanked l b reversed
+  pub sound : IsSound b
+  pub rows : (rows : List (List ℕ)) → AreRows a rows → AreRows b rows
+  pub linked : (from to : List (List ℕ)) (tops : List ℤ) (layers : List ℕ) → AreLinked l (plan_of a from [] reversed) layers → AreLinked l (plan_of b to tops reversed) layers
+  pub kept : AreReranked a b

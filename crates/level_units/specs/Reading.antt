@@ -91,11 +91,13 @@ pub record IsLinkIn (l : PlainLevel) (units : List LayerUnit) (k : Link) : Type 
   pub tail : k.tail < length units
   pub head : k.head < length units
 
--- the first n units and links with heights and pins
+-- of some units and links the first n have their heights and pins, and the others are as they were
 pub record AreFittedUnits (s : Spacing) (children : List ChildAt) (units : List LayerUnit) (n : ℕ) (fitted : List LayerUnit) : Type 0 where
-  pub as_many : length fitted ≡ n
+  pub as_many : length fitted ≡ length units
   pub each : (u : ℕ) → u < n → unit_at fitted u ≡ unit_with s children (unit_at units u)
+  pub rest : (u : ℕ) → n ≤ u → unit_at fitted u ≡ unit_at units u
 
 pub record AreFittedLinks (s : Spacing) (t : Table) (units : List LayerUnit) (marks : List Bool) (links : List Link) (n : ℕ) (fitted : List Link) : Type 0 where
-  pub as_many : length fitted ≡ n
+  pub as_many : length fitted ≡ length links
   pub each : (k : ℕ) → k < n → link_at fitted k ≡ link_with s t units marks (link_at links k)
+  pub rest : (k : ℕ) → n ≤ k → link_at fitted k ≡ link_at links k

@@ -1,9 +1,8 @@
 //! The ranks of links' ends.
-ghost use Rattle.std.specs.Prelude.{◌≡◌, ℕ, ◌+ℤ◌, ◌<◌, ◌≤◌, length, map, int_lt, true, Some, IfOk, IfSome};
+ghost use Rattle.std.specs.Prelude.{◌≡◌, ℕ, ◌+ℤ◌, ◌<◌, ◌≤◌, length, map, int_lt, true, Some, IfSome};
 ghost use Rattle.elk_layers.specs.Layered.{link_at, unit_at};
 ghost use Rattle.port_order.specs.Child.{is_pinned};
 ghost use Rattle.level_plan.specs.Conditions.{plain_level};
-ghost use Rattle.level_plan.specs.Level as plan;
 ghost use Rattle.level_plan.specs.Units as units;
 ghost use Rattle.level_ends.specs.Bounds.{IsEndIn};
 ghost use Rattle.level_ends.specs.Lanes.{side_by};
@@ -14,13 +13,14 @@ ghost use Rattle.level_units.specs.RankReading as spec;
 ghost use Rattle.level_units.specs.RankReading.{AreRankedLinks, HasRanksIn, IsReadable, last_in};
 
 use crate::children::is_fixed;
+use crate::pins::is_on_lane;
 use crate::ports::{PortRanks, is_pinned};
+use crate::runs::spoke_of;
 use elk_doc::document::PortRule;
 use elk_doc::shape::Side;
 use elk_layers::{Link, Unit};
-use level_plan::{EndAt, LevelIn, Spoke, Table};
+use level_plan::{EndAt, LevelIn, Table};
 use port_order::Child;
-use std::alloc::{AllocError, Global};
 
 /// A level, its table, the ranks of its children's ports, and by edge whether it is turned round.
 #[derive(Clone, Copy)]
@@ -86,18 +86,6 @@ fn is_spread(child: &Child, port: u32) -> bool
     match child.rule {
         PortRule::FixedPos => !is_pinned(child, port),
         _ => false,
-    }
-}
-
-// Whether the end of a link lies on its dock's lane, where the edge enters or leaves.
-fn is_on_lane(side: Side, enters: bool) -> bool
-    ensures { result ≡ pins.is_on_lane side enters }
-{
-    match side {
-        Side::North => true,
-        Side::East => enters,
-        Side::South => true,
-        Side::West => !enters,
     }
 }
 
@@ -168,19 +156,6 @@ fn end_of(ranking: &Ranking<'_>, edge: u32, at_source: bool) -> EndAt
     *ranking.table.ends.at(place)
 }
 
-// An end of an edge as the level has it.
-fn spoke_of(level: &LevelIn, edge: u32, at_source: bool) -> Spoke
-    requires { edge < length level.now.edges }
-    ensures { result ≡ plan.spoke (plain_level level.now) (plan.end_at edge at_source) }
-{
-    let found = level.edges.at(edge as usize);
-    if at_source {
-        found.source
-    } else {
-        found.target
-    }
-}
-
 // The rank of a link's end, by its edge.
 fn edge_rank(ranking: &Ranking<'_>, edge: u32, at_source: bool, enters: bool) -> u32
     requires ranking { IsReadable (plain_level ranking.now.level.now) ranking.now.table.now (map plain_ranks ranking.now.ranks.now) ranking.now.marks.now }
@@ -225,20 +200,13 @@ fn ranked_link(ranking: &Ranking<'_>, units: &[Unit], link: Link) -> Link
     ranked
 }
 
-/// All links with their ranks.
-pub(crate) fn ranked_links(
-    alloc: Global,
-    ranking: &Ranking<'_>,
-    units: &[Unit],
-    links: &[Link],
-) -> Result<Vec<Link>, AllocError>
+/// Gives all links their ranks.
+pub(crate) fn rank_links(ranking: &Ranking<'_>, units: &[Unit], links: &mut [Link])
     requires ranking { IsReadable (plain_level ranking.now.level.now) ranking.now.table.now (map plain_ranks ranking.now.ranks.now) ranking.now.marks.now }
-    requires links { (k : ℕ) → k < length links.now → IsLinkIn (plain_level ranking.now.level.now) units.now (link_at links.now k) }
-    ensures { IfOk result (λ ranked. AreRankedLinks (plain_level ranking.now.level.now) ranking.now.table.now (map plain_ranks ranking.now.ranks.now) units.now ranking.now.marks.now links.now (length links.now) ranked.items) }
+    requires links { (k : ℕ) → k < length links.old → IsLinkIn (plain_level ranking.now.level.now) units.now (link_at links.old k) }
+    ensures { AreRankedLinks (plain_level ranking.now.level.now) ranking.now.table.now (map plain_ranks ranking.now.ranks.now) units.now ranking.now.marks.now links.old (length links.old) links.new }
 {
-    let mut ranked: Vec<Link> = Vec::with_capacity(alloc, links.len())?;
-    for link in links {
-        ranked.push(ranked_link(ranking, units, *link))?;
+    for k in 0..links.len() {
+        links[k] = ranked_link(ranking, units, links[k]);
     }
-    Ok(ranked)
 }

@@ -8,8 +8,8 @@ ghost use Rattle.level_plan.specs.Units.{AreLinked};
 ghost use Rattle.level_units.specs.Fitted.{AreFitted, AreKept};
 ghost use Rattle.level_units.specs.Tabled.{IsTableOf};
 
-use crate::heights::fitted_units;
-use crate::pins::{Fitting, fitted_links};
+use crate::heights::fit_units;
+use crate::pins::{Fitting, fit_links};
 use elk_layers::{Layered, Order};
 use level_ends::table_of;
 use level_plan::{LevelIn, Table};
@@ -58,17 +58,15 @@ pub fn pinned(
         table: &table,
         marks: turned,
     };
-    let units = fitted_units(alloc, &fitting, layered.units.as_slice())?;
-    let links = fitted_links(alloc, &fitting, units.as_slice(), layered.links.as_slice())?;
+    let mut fitted = layered;
+    fit_units(&fitting, fitted.units.as_mut_slice());
+    fit_links(
+        &fitting,
+        fitted.units.as_slice(),
+        fitted.links.as_mut_slice(),
+    );
     Ok(UnitsAndTable {
-        layered: Layered {
-            layers: layered.layers,
-            units,
-            links,
-            node_node: layered.node_node,
-            edge_node: layered.edge_node,
-            edge_edge: layered.edge_edge,
-        },
+        layered: fitted,
         table,
     })
 }

@@ -1,5 +1,5 @@
 //! Units with room for outlines and lanes.
-ghost use Rattle.std.specs.Prelude.{◌≡◌, ℕ, ◌-◌, ◌<◌, ◌≤◌, ◌^◌, length, pos, ◌+ℤ◌, ◌*ℤ◌, IfOk};
+ghost use Rattle.std.specs.Prelude.{◌≡◌, ℕ, ◌-◌, ◌<◌, ◌≤◌, ◌^◌, length, pos, ◌+ℤ◌, ◌*ℤ◌};
 ghost use Rattle.elk_doc.specs.Sound.{IsSoundSpacing, IsWithin};
 ghost use Rattle.elk_layers.specs.Layered.{unit_at};
 ghost use Rattle.level_plan.specs.Conditions.{plain_level};
@@ -11,7 +11,6 @@ use crate::pins::{Fitting, entry_at};
 use elk_doc::document::Spacing;
 use elk_layers::Unit;
 use level_plan::ChildAt;
-use std::alloc::{AllocError, Global};
 
 // A distance, so many times.
 fn times(count: u32, distance: i64) -> i64
@@ -86,19 +85,13 @@ fn fitted_unit(fitting: &Fitting<'_>, unit: Unit) -> Unit
     }
 }
 
-/// All units with their heights.
-pub(crate) fn fitted_units(
-    alloc: Global,
-    fitting: &Fitting<'_>,
-    units: &[Unit],
-) -> Result<Vec<Unit>, AllocError>
+/// Gives all units their heights.
+pub(crate) fn fit_units(fitting: &Fitting<'_>, units: &mut [Unit])
     requires fitting { IsReadable (plain_level fitting.now.level.now) fitting.now.table.now fitting.now.marks.now }
-    requires children { (u : ℕ) → u < length units.now → HasChildIn fitting.now.table.now (unit_at units.now u) }
-    ensures { IfOk result (λ fitted. AreFittedUnits fitting.now.level.now.spacing fitting.now.table.now.children units.now (length units.now) fitted.items) }
+    requires children { (u : ℕ) → u < length units.old → HasChildIn fitting.now.table.now (unit_at units.old u) }
+    ensures { AreFittedUnits fitting.now.level.now.spacing fitting.now.table.now.children units.old (length units.old) units.new }
 {
-    let mut fitted = Vec::with_capacity(alloc, units.len())?;
-    for (u, unit) in units.iter().enumerate() {
-        fitted.push(fitted_unit(fitting, *unit))?;
+    for u in 0..units.len() {
+        units[u] = fitted_unit(fitting, units[u]);
     }
-    Ok(fitted)
 }

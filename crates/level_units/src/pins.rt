@@ -1,5 +1,5 @@
 //! The heights at which links leave and enter their units.
-ghost use Rattle.std.specs.Prelude.{◌≡◌, ℕ, ◌<◌, length, IfOk};
+ghost use Rattle.std.specs.Prelude.{◌≡◌, ℕ, ◌<◌, length};
 ghost use Rattle.elk_layers.specs.Layered.{link_at};
 ghost use Rattle.level_plan.specs.Conditions.{plain_level};
 ghost use Rattle.level_plan.specs.Table.{child_in};
@@ -10,7 +10,6 @@ use crate::heights::room;
 use elk_doc::shape::Side;
 use elk_layers::{Link, Unit};
 use level_plan::{ChildAt, EndAt, LevelIn, Table};
-use std::alloc::{AllocError, Global};
 
 /// A level, its table, and by edge whether it is turned round.
 #[derive(Clone, Copy)]
@@ -28,8 +27,8 @@ pub(crate) fn entry_at<'a>(fitting: &Fitting<'a>, child: u32) -> &'a ChildAt
     fitting.table.children.at(child as usize)
 }
 
-// Whether the end of a link lies on its dock's lane, where the edge enters or leaves.
-fn is_on_lane(side: Side, enters: bool) -> bool
+/// Whether the end of a link lies on its dock's lane, where the edge enters or leaves.
+pub(crate) fn is_on_lane(side: Side, enters: bool) -> bool
     ensures { result ≡ is_on_lane side enters }
 {
     match side {
@@ -101,20 +100,13 @@ fn fitted_link(fitting: &Fitting<'_>, units: &[Unit], link: Link) -> Link
     }
 }
 
-/// All links with their pins.
-pub(crate) fn fitted_links(
-    alloc: Global,
-    fitting: &Fitting<'_>,
-    units: &[Unit],
-    links: &[Link],
-) -> Result<Vec<Link>, AllocError>
+/// Gives all links their pins.
+pub(crate) fn fit_links(fitting: &Fitting<'_>, units: &[Unit], links: &mut [Link])
     requires fitting { IsReadable (plain_level fitting.now.level.now) fitting.now.table.now fitting.now.marks.now }
-    requires links { (k : ℕ) → k < length links.now → IsLinkIn (plain_level fitting.now.level.now) units.now (link_at links.now k) }
-    ensures { IfOk result (λ fitted. AreFittedLinks fitting.now.level.now.spacing fitting.now.table.now units.now fitting.now.marks.now links.now (length links.now) fitted.items) }
+    requires links { (k : ℕ) → k < length links.old → IsLinkIn (plain_level fitting.now.level.now) units.now (link_at links.old k) }
+    ensures { AreFittedLinks fitting.now.level.now.spacing fitting.now.table.now units.now fitting.now.marks.now links.old (length links.old) links.new }
 {
-    let mut fitted = Vec::with_capacity(alloc, links.len())?;
-    for (k, link) in links.iter().enumerate() {
-        fitted.push(fitted_link(fitting, units, *link))?;
+    for k in 0..links.len() {
+        links[k] = fitted_link(fitting, units, links[k]);
     }
-    Ok(fitted)
 }

@@ -21,8 +21,8 @@ pub struct Run {
     pub first: u32,
 }
 
-// An end of an edge.
-fn spoke_of(level: &LevelIn, edge: u32, at_source: bool) -> Spoke
+/// An end of an edge.
+pub(crate) fn spoke_of(level: &LevelIn, edge: u32, at_source: bool) -> Spoke
     requires { edge < length level.now.edges }
     ensures { result ≡ spoke (plain_level level.now) (end_at edge at_source) }
 {
