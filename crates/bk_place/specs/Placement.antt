@@ -18,7 +18,8 @@ pub record IsFirstLowest (l : Plain) (rows : List (List ℕ)) (tops : List ℤ) 
   pub sweep : Sweep
   pub are_least : AreLeastLines l rows sweep tops
   pub lowest : (other : Sweep) (others : List ℤ) → AreLeastLines l rows other others → extent l tops ≤ℤ extent l others
-  pub earliest : (other : Sweep) (others : List ℤ) → AreLeastLines l rows other others → rank_of other < rank_of sweep → extent l tops <ℤ extent l others
+  pub earliest : (other : Sweep) (others : List ℤ) → AreLeastLines l rows other others → rank_of other < rank_of sweep
+      → extent l tops <ℤ extent l others
 
 -- the lines of the fixed sweep, or of the first sweep of least height
 abbrev pub AreLinesOf : Plain → List (List ℕ) → Option Sweep → List ℤ → Type 0
@@ -33,5 +34,7 @@ pub record IsFirstAmong (l : Plain) (rows : List (List ℕ)) (from to : ℕ) (to
   pub are_least : AreLeastLines l rows sweep tops
   pub within : EndsWithinStack l tops
   pub height_is : height ≡ extent l tops
-  pub lowest : (other : Sweep) (others : List ℤ) → from ≤ rank_of other → rank_of other < to → AreLeastLines l rows other others → height ≤ℤ extent l others
-  pub earliest : (other : Sweep) (others : List ℤ) → from ≤ rank_of other → AreLeastLines l rows other others → rank_of other < rank_of sweep → height <ℤ extent l others
+  pub lowest : (other : Sweep) (others : List ℤ) → from ≤ rank_of other → rank_of other < to → AreLeastLines l rows other others
+      → height ≤ℤ extent l others
+  pub earliest : (other : Sweep) (others : List ℤ) → from ≤ rank_of other → AreLeastLines l rows other others
+      → rank_of other < rank_of sweep → height <ℤ extent l others

@@ -31,7 +31,8 @@ pub(crate) fn extent(layered: &Layered, lines: &Lines) -> i64
     requires as_many { length lines.now.top.items ≡ length (plain layered.now).units }
     requires from_zero { (u : ℕ) → u < length (plain layered.now).units → pos 0 ≤ℤ top_of lines.now.top.items u }
     requires heights { (u : ℕ) → u < length (plain layered.now).units → pos 0 ≤ℤ (unit_at (plain layered.now).units u).height }
-    requires within { (u : ℕ) → u < length (plain layered.now).units → (top_of lines.now.top.items u +ℤ (unit_at (plain layered.now).units u).height) ≤ℤ pos (2 ^ 60) }
+    requires within { (u : ℕ) → u < length (plain layered.now).units
+        → (top_of lines.now.top.items u +ℤ (unit_at (plain layered.now).units u).height) ≤ℤ pos (2 ^ 60) }
     ensures extent { result ≡ spec.extent (plain layered.now) lines.now.top.items }
     ensures low { pos 0 ≤ℤ result }
     ensures high { result ≤ℤ pos (2 ^ 60) }

@@ -72,7 +72,9 @@ fn measured(
 
 /// The second lines where they are lower, and else the first.
 fn lower(first: Placed, second: Placed) -> Placed
-    ensures { (l : Plain) (rows : List (List ℕ)) (a b c : ℕ) → IsFirstAmong l rows a b first.lines.top.items first.height → IsFirstAmong l rows b c second.lines.top.items second.height → IsFirstAmong l rows a c result.lines.top.items result.height }
+    ensures { (l : Plain) (rows : List (List ℕ)) (a b c : ℕ) → IsFirstAmong l rows a b first.lines.top.items first.height
+        → IsFirstAmong l rows b c second.lines.top.items second.height
+        → IsFirstAmong l rows a c result.lines.top.items result.height }
 {
     if second.height < first.height {
         second

@@ -43,4 +43,5 @@ pub record AreSpaced (sizes : List Size) (gap : ℤ) (rows : Rows) : Type 0 wher
 
 abbrev pub RowsAreSpaced : Type 0
 RowsAreSpaced =
-    (sizes : List Size) (gap limit : ℤ) (rows : Rows) → AreSolid sizes → pos 0 ≤ℤ gap → AreRows sizes gap limit rows → AreSpaced sizes gap rows
+    (sizes : List Size) (gap limit : ℤ) (rows : Rows) → AreSolid sizes → pos 0 ≤ℤ gap → AreRows sizes gap limit rows
+    → AreSpaced sizes gap rows

@@ -1,5 +1,6 @@
 -- How rows are filled, box by box.
-use Rattle.std.specs.Prelude.{◌≡◌, ℕ, zero, suc, ◌<◌, ◌≤◌, ◌*◌, ◌^◌, Bool, true, false, cond, List, ℤ, pos, ◌+ℤ◌, ◌≤ℤ◌, ◌<ℤ◌, int_lt, length}
+use Rattle.std.specs.Prelude.{◌≡◌, ℕ, zero, suc, ◌<◌, ◌≤◌, ◌*◌, ◌^◌, Bool, true, false, cond, List, ℤ, pos, ◌+ℤ◌, ◌≤ℤ◌, ◌<ℤ◌, int_lt}
+use Rattle.std.specs.Prelude.{length}
 use Rattle.std.specs.Int.{int_max, int_min}
 use Rattle.elk_doc.specs.declared.shape.Point.{Point}
 use Rattle.elk_doc.specs.declared.shape.Size.{Size}
@@ -70,7 +71,10 @@ next_to sizes r (suc i) =
 -- the extent of the first boxes, and the next limit that changes their rows
 abbrev pub measured_to : List Size → Strip → ℕ → Measured
 measured_to sizes r i =
-    record { extent = record { width = greatest_of (spot_right sizes r) i; height = greatest_of (spot_bottom sizes r) i }; next = next_to sizes r i }
+    record {
+      extent = record { width = greatest_of (spot_right sizes r) i; height = greatest_of (spot_bottom sizes r) i };
+      next = next_to sizes r i;
+    }
 
 -- the same with one more box
 abbrev pub grown : Size → Cursor → Size → Size

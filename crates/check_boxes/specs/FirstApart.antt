@@ -79,7 +79,11 @@ pub record FirstPair (P : ℕ → ℕ → Type 0) (x : Fault) : Type 0 where
 
 abbrev pub FirstApart : Document → Placed → ℕ → LevelOptions → Certificate → Fault → Type 0
 FirstApart d p n o c x =
-    FirstPart d n o c x ⊎ (((a : ℕ) → PartHolds d n o c a) × (FirstPair (LayersHold d p n o c) x ⊎ (((a b : ℕ) → LayersHold d p n o c a b) × (FirstPair (PartsHold d p n o c) x ⊎ (((a b : ℕ) → PartsHold d p n o c a b) × FirstPair (BoxesHold d p n o) x)))))
+    FirstPart d n o c x
+    ⊎ (((a : ℕ) → PartHolds d n o c a)
+    × (FirstPair (LayersHold d p n o c) x
+    ⊎ (((a b : ℕ) → LayersHold d p n o c a b)
+    × (FirstPair (PartsHold d p n o c) x ⊎ (((a b : ℕ) → PartsHold d p n o c a b) × FirstPair (BoxesHold d p n o) x)))))
 
 -- a fault that is named breaks Apart
 abbrev pub FaultBreaksApart : Type 0

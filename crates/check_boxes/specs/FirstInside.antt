@@ -30,7 +30,8 @@ PointsHold d p n o e = IsEdge d n e → PointsWithin (section_of p e) (box_of p 
 -- a fault names the first child whose outline is not inside, and else the first edge whose route is not
 abbrev pub FirstInside : Document → Placed → ℕ → LevelOptions → Fault → Type 0
 FirstInside d p n o x =
-    ((a : ℕ) × (x ≡ lone_fault (Node a)) × FailsFirst (OutlineHolds d p n o) a) ⊎ (((a : ℕ) → OutlineHolds d p n o a) × ((e : ℕ) × (x ≡ lone_fault (Edge e)) × FailsFirst (PointsHold d p n o) e))
+    ((a : ℕ) × (x ≡ lone_fault (Node a)) × FailsFirst (OutlineHolds d p n o) a)
+    ⊎ (((a : ℕ) → OutlineHolds d p n o a) × ((e : ℕ) × (x ≡ lone_fault (Edge e)) × FailsFirst (PointsHold d p n o) e))
 
 -- a fault that is named breaks Inside
 abbrev pub FaultBreaksInside : Type 0

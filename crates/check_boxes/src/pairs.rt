@@ -49,7 +49,10 @@ fn is_one_part(level: &Level<'_>, one: u32, other: u32) -> bool
     requires one_in { one < length (doc_of level.now).nodes }
     requires other_in { other < length (doc_of level.now).nodes }
     requires level { IsReadLevel level.now }
-    ensures { IsTrue result ↔ (IsTrue level.now.options.now.split → part_in (doc_of level.now) level.now.node level.now.certificate.now one ≡ part_in (doc_of level.now) level.now.node level.now.certificate.now other) }
+    ensures { IsTrue result
+        ↔ (IsTrue level.now.options.now.split
+        → part_in (doc_of level.now) level.now.node level.now.certificate.now one
+        ≡ part_in (doc_of level.now) level.now.node level.now.certificate.now other) }
 {
     if !level.options.split {
         return true;

@@ -1,5 +1,6 @@
 -- The faults of a level's certificate: which comes first.
-use Rattle.std.specs.Prelude.{◌≡◌, ◌≢◌, ◌⊎◌, ℕ, ◌+◌, ◌*◌, ◌<◌, pos, ◌+ℤ◌, ◌≤ℤ◌, List, length, Contains, slice_index, ◌-◌, Bool, ◌&&◌, ◌==◌, not, IsTrue, IsFalse}
+use Rattle.std.specs.Prelude.{◌≡◌, ◌≢◌, ◌⊎◌, ℕ, ◌+◌, ◌*◌, ◌<◌, pos, ◌+ℤ◌, ◌≤ℤ◌, List, length, Contains, slice_index, ◌-◌, Bool, ◌&&◌, ◌==◌}
+use Rattle.std.specs.Prelude.{not, IsTrue, IsFalse}
 use Rattle.elk_doc.specs.declared.drawing.Certificate.{Certificate}
 use Rattle.elk_doc.specs.declared.drawing.Placed.{Placed}
 use Rattle.elk_doc.specs.Document.{Document}
@@ -51,7 +52,8 @@ NeverRound steps = (a b : ℕ) → HasStep steps a b → Reaches (HasStep steps)
 -- a fault names the first listed edge that closes no cycle, and else the node of a level where a cycle is left
 abbrev pub FirstReversed : Document → ℕ → Certificate → Fault → Type 0
 FirstReversed d n c x =
-    ((e : ℕ) × (x ≡ lone_fault (Edge e)) × FailsFirst (ClosesAt d n c) e) ⊎ (((e : ℕ) → ClosesAt d n c e) × (x ≡ lone_fault (Node n)) × (IsAcyclic d n c → ⊥))
+    ((e : ℕ) × (x ≡ lone_fault (Edge e)) × FailsFirst (ClosesAt d n c) e)
+    ⊎ (((e : ℕ) → ClosesAt d n c e) × (x ≡ lone_fault (Node n)) × (IsAcyclic d n c → ⊥))
 
 -- an oriented edge of the level, if it is no self-loop, leads to a greater layer
 abbrev pub EdgeRises : Document → Placed → ℕ → Certificate → ℕ → Type 0
@@ -61,7 +63,8 @@ EdgeRises d p n c e =
 -- a fault names the first edge that does not lead to a greater layer, and else the node of a level whose span is wrong
 abbrev pub FirstLayering : Document → Placed → ℕ → Certificate → Fault → Type 0
 FirstLayering d p n c x =
-    ((e : ℕ) × (x ≡ lone_fault (Edge e)) × FailsFirst (EdgeRises d p n c) e) ⊎ (((e : ℕ) → EdgeRises d p n c e) × (x ≡ lone_fault (Node n)) × (span_of d p n (written_layer d n c) ≡ pos c.span → ⊥))
+    ((e : ℕ) × (x ≡ lone_fault (Edge e)) × FailsFirst (EdgeRises d p n c) e)
+    ⊎ (((e : ℕ) → EdgeRises d p n c e) × (x ≡ lone_fault (Node n)) × (span_of d p n (written_layer d n c) ≡ pos c.span → ⊥))
 
 -- a fault names the node of a level whose flow fails
 abbrev pub FirstFlow : Document → Placed → ℕ → Certificate → Fault → Type 0
@@ -73,7 +76,9 @@ IsIdle d n c e = IsEdge d n e → IsTrue (is_loop d e) → flow_in d n c e ≡ 0
 
 abbrev pub IsBalanced : Document → Placed → ℕ → Certificate → ℕ → Type 0
 IsBalanced d p n c a =
-    IsChild d n a → sum_below (enters_child d p n a) (flow_in d n c) (length d.edges) + sum_below (leaves_child d p n a) (weight_at d) (length d.edges) ≡ sum_below (leaves_child d p n a) (flow_in d n c) (length d.edges) + sum_below (enters_child d p n a) (weight_at d) (length d.edges)
+    IsChild d n a
+    → sum_below (enters_child d p n a) (flow_in d n c) (length d.edges) + sum_below (leaves_child d p n a) (weight_at d) (length d.edges)
+    ≡ sum_below (leaves_child d p n a) (flow_in d n c) (length d.edges) + sum_below (enters_child d p n a) (weight_at d) (length d.edges)
 
 -- the numbers of a list that has one for each child of n, by node
 abbrev pub AreByChild : Document → ℕ → List ℕ → List ℕ → Type 0

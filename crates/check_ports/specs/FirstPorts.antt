@@ -9,7 +9,8 @@ use Rattle.elk_doc.specs.Drawing.{box_of}
 use Rattle.elk_doc.specs.Level.{IsChild, IsEdge}
 use Rattle.elk_doc.specs.Sides.{side_of_end, end_of}
 use Rattle.elk_doc.specs.Sound.{IsSound}
-use Rattle.elk_doc.specs.PortsKept.{KeepsPort, KeepsEnd, AreInOrder, side_length, Spot, a_port, an_end, IsSpread, spread_count, spot_offset, PortsKept}
+use Rattle.elk_doc.specs.PortsKept.{KeepsPort, KeepsEnd, AreInOrder, side_length, Spot, a_port, an_end, IsSpread, spread_count, spot_offset}
+use Rattle.elk_doc.specs.PortsKept.{PortsKept}
 use Rattle.check_faults.specs.declared.fault.Fault.{Fault}
 use Rattle.check_faults.specs.declared.fault.Place.TheVariants.{Port, Edge}
 use Rattle.check_faults.specs.Faults.{lone_fault, FailsFirst}
@@ -22,7 +23,8 @@ CountsWith d n m = IsChild d n m ⊎ ((n ≡ 0) × (m ≡ 0))
 -- where a side of m is longer than the number of its spread spots, these two have different offsets there
 abbrev pub SpotsDiffer : Document → Placed → ℕ → Spot → Spot → Type 0
 SpotsDiffer d p m x y =
-    (s : Side) → (pos (spread_count d p m s) <ℤ side_length s (box_of p m)) → IsSpread d p m s x → IsSpread d p m s y → spot_offset d p m s x ≢ spot_offset d p m s y
+    (s : Side) → (pos (spread_count d p m s) <ℤ side_length s (box_of p m)) → IsSpread d p m s x → IsSpread d p m s y
+    → spot_offset d p m s x ≢ spot_offset d p m s y
 
 -- under a fixed order the ports j and k of m stand in it
 abbrev pub OrderHolds : Document → Placed → ℕ → ℕ → ℕ → Type 0
@@ -94,7 +96,8 @@ EndsHold d p n e =
 -- a fault names the first port that is not kept, and else the first edge with an end at a node that is not
 abbrev pub FirstPorts : Document → Placed → ℕ → Fault → Type 0
 FirstPorts d p n x =
-    ((k : ℕ) × (x ≡ lone_fault (Port k)) × FailsFirst (PortHolds d p n) k) ⊎ (((k : ℕ) → PortHolds d p n k) × ((e : ℕ) × (x ≡ lone_fault (Edge e)) × FailsFirst (EndsHold d p n) e))
+    ((k : ℕ) × (x ≡ lone_fault (Port k)) × FailsFirst (PortHolds d p n) k)
+    ⊎ (((k : ℕ) → PortHolds d p n k) × ((e : ℕ) × (x ≡ lone_fault (Edge e)) × FailsFirst (EndsHold d p n) e))
 
 -- a fault that is named breaks PortsKept
 abbrev pub FaultBreaksPorts : Type 0

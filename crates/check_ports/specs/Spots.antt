@@ -27,7 +27,12 @@ port_spot d p k =
 
 abbrev pub end_spot : Document → Placed → ℕ → Bool → SideSpot
 end_spot d p e at_source =
-    record { node = end_node d e at_source; side = side_of_end d p e at_source; offset = (dock_of d p e at_source).offset; spread = is_implicit (end_of d e at_source) }
+    record {
+      node = end_node d e at_source;
+      side = side_of_end d p e at_source;
+      offset = (dock_of d p e at_source).offset;
+      spread = is_implicit (end_of d e at_source);
+    }
 
 abbrev pub spot_of : Document → Placed → Spot → SideSpot
 spot_of d p (a_port k) = port_spot d p k

@@ -46,7 +46,8 @@ fn port_clear(
     requires at_node { end_of scene.now.doc.now edge at_source ≡ AtNode node }
     requires scene { IsScene scene.now }
     requires roomy { HasRoom scene.now.doc.now scene.now.placed.now node edge at_source → IsTrue roomy }
-    ensures { Tells roomy (HasRoom scene.now.doc.now scene.now.placed.now node edge at_source) (PortClear scene.now.doc.now scene.now.placed.now node edge at_source port) result }
+    ensures { Tells roomy (HasRoom scene.now.doc.now scene.now.placed.now node edge at_source)
+        (PortClear scene.now.doc.now scene.now.placed.now node edge at_source port) result }
 {
     if scene.doc.port(port).node != node {
         return true;
@@ -62,7 +63,8 @@ fn ports_clear(scene: &Scene<'_>, roomy: bool, node: u32, edge: u32, at_source: 
     requires at_node { end_of scene.now.doc.now edge at_source ≡ AtNode node }
     requires scene { IsScene scene.now }
     requires roomy { HasRoom scene.now.doc.now scene.now.placed.now node edge at_source → IsTrue roomy }
-    ensures { Tells roomy (HasRoom scene.now.doc.now scene.now.placed.now node edge at_source) (PortsClear scene.now.doc.now scene.now.placed.now node edge at_source) result }
+    ensures { Tells roomy (HasRoom scene.now.doc.now scene.now.placed.now node edge at_source)
+        (PortsClear scene.now.doc.now scene.now.placed.now node edge at_source) result }
 {
     for port in 0..scene.doc.ports().len() {
         let clear = port_clear(scene, roomy, node, edge, at_source, port as u32);
@@ -88,7 +90,8 @@ fn end_clear(
     requires at_node { end_of scene.now.doc.now edge at_source ≡ AtNode _node }
     requires scene { IsScene scene.now }
     requires roomy { HasRoom scene.now.doc.now scene.now.placed.now _node edge at_source → IsTrue roomy }
-    ensures { Tells roomy (HasRoom scene.now.doc.now scene.now.placed.now _node edge at_source) (SpotsDiffer scene.now.doc.now scene.now.placed.now _node (an_end other other_source) (an_end edge at_source)) result }
+    ensures { Tells roomy (HasRoom scene.now.doc.now scene.now.placed.now _node edge at_source)
+        (SpotsDiffer scene.now.doc.now scene.now.placed.now _node (an_end other other_source) (an_end edge at_source)) result }
 {
     let first = end_spot(scene, other, other_source);
     let second = end_spot(scene, edge, at_source);
@@ -109,7 +112,8 @@ fn edge_clear(
     requires at_node { end_of scene.now.doc.now edge at_source ≡ AtNode node }
     requires scene { IsScene scene.now }
     requires roomy { HasRoom scene.now.doc.now scene.now.placed.now node edge at_source → IsTrue roomy }
-    ensures { Tells roomy (HasRoom scene.now.doc.now scene.now.placed.now node edge at_source) (EdgeClear scene.now.doc.now scene.now.placed.now node edge at_source other) result }
+    ensures { Tells roomy (HasRoom scene.now.doc.now scene.now.placed.now node edge at_source)
+        (EdgeClear scene.now.doc.now scene.now.placed.now node edge at_source other) result }
 {
     if !end_clear(scene, roomy, node, edge, at_source, other, true) {
         return false;
@@ -123,7 +127,8 @@ fn edges_clear(scene: &Scene<'_>, roomy: bool, node: u32, edge: u32, at_source: 
     requires at_node { end_of scene.now.doc.now edge at_source ≡ AtNode node }
     requires scene { IsScene scene.now }
     requires roomy { HasRoom scene.now.doc.now scene.now.placed.now node edge at_source → IsTrue roomy }
-    ensures { Tells roomy (HasRoom scene.now.doc.now scene.now.placed.now node edge at_source) (EdgesClear scene.now.doc.now scene.now.placed.now node edge at_source) result }
+    ensures { Tells roomy (HasRoom scene.now.doc.now scene.now.placed.now node edge at_source)
+        (EdgesClear scene.now.doc.now scene.now.placed.now node edge at_source) result }
 {
     for other in 0..edge {
         if !edge_clear(scene, roomy, node, edge, at_source, other) {
@@ -139,7 +144,8 @@ fn is_apart(scene: &Scene<'_>, roomy: bool, node: u32, edge: u32, at_source: boo
     requires at_node { end_of scene.now.doc.now edge at_source ≡ AtNode node }
     requires scene { IsScene scene.now }
     requires roomy { HasRoom scene.now.doc.now scene.now.placed.now node edge at_source → IsTrue roomy }
-    ensures { Tells roomy (HasRoom scene.now.doc.now scene.now.placed.now node edge at_source) (EndApart scene.now.doc.now scene.now.placed.now node edge at_source) result }
+    ensures { Tells roomy (HasRoom scene.now.doc.now scene.now.placed.now node edge at_source)
+        (EndApart scene.now.doc.now scene.now.placed.now node edge at_source) result }
 {
     if !ports_clear(scene, roomy, node, edge, at_source) {
         return false;

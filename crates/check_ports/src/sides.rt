@@ -1,24 +1,13 @@
 //! Coordinates along and across sides.
 ghost use Rattle.std.specs.Prelude.{◌≡◌, ◌↔◌, ◌<◌, IsTrue, length};
 ghost use Rattle.elk_doc.specs.Fits.{FitsBox};
-ghost use Rattle.elk_doc.specs.PortsKept.{IsOnSide, across, clockwise, flush, is_pinned, pins, side_length, size_along};
-ghost use Rattle.elk_doc.specs.Sound.{IsSoundSize, along};
+ghost use Rattle.elk_doc.specs.PortsKept.{IsOnSide, across, clockwise, flush, is_pinned, pins, side_length};
+ghost use Rattle.elk_doc.specs.Sound.{IsSoundSize};
 ghost use Rattle.check_ports.specs.Spots.{AgreeAcross, AgreeAlong, StandsFlush};
 
 use elk_doc::document::{Doc, PortRule};
 use elk_doc::shape::{Point, Rect, Side, Size};
-
-// The coordinate of a point along a side.
-pub(crate) fn along(side: Side, point: Point) -> i64
-    ensures { result ≡ along side point }
-{
-    match side {
-        Side::North => point.x,
-        Side::East => point.y,
-        Side::South => point.x,
-        Side::West => point.y,
-    }
-}
+use elk_doc::sides::along;
 
 // The coordinate of a point across a side.
 pub(crate) fn across(side: Side, point: Point) -> i64
@@ -41,18 +30,6 @@ pub(crate) fn side_length(side: Side, r: Rect) -> i64
         Side::East => r.height,
         Side::South => r.width,
         Side::West => r.height,
-    }
-}
-
-// A size along a side.
-pub(crate) fn size_along(side: Side, size: Size) -> i64
-    ensures { result ≡ size_along side size }
-{
-    match side {
-        Side::North => size.width,
-        Side::East => size.height,
-        Side::South => size.width,
-        Side::West => size.height,
     }
 }
 

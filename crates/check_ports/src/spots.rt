@@ -7,7 +7,7 @@ ghost use Rattle.elk_doc.specs.Sound.{IsPlaceWithin, IsSoundSize, along};
 ghost use Rattle.check_faults.specs.Scenes.{IsScene};
 ghost use Rattle.check_ports.specs.Spots.{IsRoomy, KeepApart, LiesOn, end_spot, is_implicit, port_spot};
 
-use crate::sides::{along, is_pinned, side_length, size_along};
+use crate::sides::{is_pinned, side_length};
 use check_faults::{Scene, dock_of, side_at};
 use elk_doc::document::End;
 use elk_doc::shape::{Point, Rect, Side, Size};

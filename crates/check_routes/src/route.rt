@@ -98,7 +98,9 @@ fn is_outward(scene: &Scene<'_>, edge: u32) -> bool
 fn is_orthogonal(scene: &Scene<'_>, edge: u32) -> bool
     requires edge_in { edge < length scene.now.doc.now.edges }
     requires scene { IsScene scene.now }
-    ensures { IsTrue result ↔ IsOrthogonal (path_of scene.now.placed.now edge) (side_of_end scene.now.doc.now scene.now.placed.now edge true) (side_of_end scene.now.doc.now scene.now.placed.now edge false) }
+    ensures { IsTrue result
+        ↔ IsOrthogonal (path_of scene.now.placed.now edge) (side_of_end scene.now.doc.now scene.now.placed.now edge true)
+        (side_of_end scene.now.doc.now scene.now.placed.now edge false) }
 {
     let section = scene.placed.section(edge);
     if !are_steps(section) {

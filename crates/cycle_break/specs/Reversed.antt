@@ -14,13 +14,15 @@ pub record UnlistedStep (g : Graph) (listed : List ℕ) (a b : ℕ) : Type 0 whe
 -- From the head of each listed edge unlisted edges lead back to its tail; unlisted edges never lead round. Listed are
 -- edges, each once, and no self-loops.
 pub record IsReversed (g : Graph) (listed : List ℕ) : Type 0 where
-  pub edges : (e : ℕ) → 0 < occurs e listed → (x : Ends) × (ends_at g e ≡ Some x) × (x.tail ≢ x.head) × Reaches (UnlistedStep g listed) x.head x.tail
+  pub edges : (e : ℕ) → 0 < occurs e listed
+      → (x : Ends) × (ends_at g e ≡ Some x) × (x.tail ≢ x.head) × Reaches (UnlistedStep g listed) x.head x.tail
   pub once : (e : ℕ) → occurs e listed ≤ 1
   pub acyclic : (a b : ℕ) → UnlistedStep g listed a b → Reaches (UnlistedStep g listed) b a → ⊥
 
 -- just the listed edges are turned round
 pub record TurnsRound (old new : Graph) (listed : List ℕ) : Type 0 where
-  pub turned : (e : ℕ) (x : Ends) → 0 < occurs e listed → ends_at old e ≡ Some x → ends_at new e ≡ Some (record { tail = x.head; head = x.tail })
+  pub turned : (e : ℕ) (x : Ends) → 0 < occurs e listed → ends_at old e ≡ Some x
+      → ends_at new e ≡ Some (record { tail = x.head; head = x.tail })
   pub others : (e : ℕ) → occurs e listed ≡ 0 → ends_at new e ≡ ends_at old e
   pub same_nodes : (v : ℕ) → IsNode new v ↔ IsNode old v
   pub outs : (v : ℕ) → filter (λ e. occurs e listed == 0) (out_list new v) ≡ filter (λ e. occurs e listed == 0) (out_list old v)

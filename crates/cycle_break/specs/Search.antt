@@ -25,7 +25,8 @@ pub record Sorted (g work : Graph) (early late ready : List ℕ) : Type 0 where
   pub listed : (v : ℕ) → 0 < occurs v late + occurs v ready → IsNode g v
   pub met : (v : ℕ) → IsNode g v → (0 < occurs v late + occurs v ready) ⊎ HasIn work v
   pub clean : (e : ℕ) (x : Ends) → ends_at work e ≡ Some x → occurs x.head late + occurs x.head ready ≡ 0
-  pub forward : (e : ℕ) (x : Ends) → ends_at g e ≡ Some x → 0 < occurs x.head late → (0 < occurs x.tail late) × (place late x.tail < place late x.head)
+  pub forward : (e : ℕ) (x : Ends) → ends_at g e ≡ Some x → 0 < occurs x.head late
+      → (0 < occurs x.tail late) × (place late x.tail < place late x.head)
 
 -- ---- searching backwards
 
@@ -35,7 +36,8 @@ reached_at rs k = slice_index_or rs k (record { node = record { at = 0 }; via = 
 -- the way on from an entry: none at the goal, else an edge to an earlier entry
 abbrev pub WayOn : Graph → ℕ → List Reached → ℕ → ℕ → Option Via → Type 0
 WayOn g to rs k v None = v ≡ to
-WayOn g to rs k v (Some via) = (via.next < k) × (ends_at g via.edge.at ≡ Some (record { tail = v; head = (reached_at rs via.next).node.at }))
+WayOn g to rs k v (Some via) =
+    (via.next < k) × (ends_at g via.edge.at ≡ Some (record { tail = v; head = (reached_at rs via.next).node.at }))
 
 abbrev pub IsLinked : ℕ → Option Via → Type 0
 IsLinked k None = Unit {0}

@@ -37,7 +37,10 @@ pub(crate) fn take_out(
 ) -> Result<(), AllocError>
     requires { IsNode work.old node.at }
     ensures same { OnOk result ((v : ℕ) → IsNode work.new v ↔ IsNode work.old v) }
-    ensures sorted { OnOk result ((g : Graph) (early late : List ℕ) → 0 < occurs node.at late → ((v : ℕ) → v ≢ node.at → occurs v late ≡ occurs v early) → Sorted g work.old early late (node_keys ready.old.items) → Sorted g work.new late late (node_keys ready.new.items)) }
+    ensures sorted { OnOk result
+        ((g : Graph) (early late : List ℕ) → 0 < occurs node.at late
+        → ((v : ℕ) → v ≢ node.at → occurs v late ≡ occurs v early)
+        → Sorted g work.old early late (node_keys ready.old.items) → Sorted g work.new late late (node_keys ready.new.items)) }
 {
     'edges: while let Some(edge) = work.first_out(node) {
         work.incidence();

@@ -71,7 +71,9 @@ fn stays_listed(
     requires edge { IsEdge arena.now edge.at }
     requires same { (v : ℕ) → IsNode arena.now v → IsNode kept.old v }
     ensures same { OnOk result ((v : ℕ) → IsNode arena.now v → IsNode kept.new v) }
-    ensures settled { IfOk result (λ stays. (chosen rest : List ℕ) → Settled arena.now kept.old chosen (edge.at ∷ rest) → MatchBool stays (Settled arena.now kept.new (chosen ++ edge.at ∷ []) rest) (Settled arena.now kept.new chosen rest)) }
+    ensures settled { IfOk result
+        (λ stays. (chosen rest : List ℕ) → Settled arena.now kept.old chosen (edge.at ∷ rest)
+        → MatchBool stays (Settled arena.now kept.new (chosen ++ edge.at ∷ []) rest) (Settled arena.now kept.new chosen rest)) }
 {
     arena.incidence();
     let tail = arena.tail(edge);

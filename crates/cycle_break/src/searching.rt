@@ -83,7 +83,9 @@ fn gather(
     ensures ready { OnOk result (IsReady work.new reached.new.items index.new) }
     ensures same { OnOk result ((v : ℕ) → IsNode work.new v ↔ IsNode work.old v) }
     ensures count { OnOk result (count_by is_none index.new + length reached.new.items ≡ count_by is_none index.old + length reached.old.items) }
-    ensures searched { OnOk result ((g : Graph) (to : ℕ) → Searched g work.old to next reached.old.items index.old → Searched g work.new to (next + 1) reached.new.items index.new) }
+    ensures searched { OnOk result
+        ((g : Graph) (to : ℕ) → Searched g work.old to next reached.old.items index.old
+        → Searched g work.new to (next + 1) reached.new.items index.new) }
 {
     let node = reached.as_slice()[next].node;
     'edges: while let Some(edge) = work.first_in(node) {
@@ -130,7 +132,9 @@ fn search(
 fn edges_from(alloc: Global, reached: &[Reached], from: usize) -> Result<Vec<EdgeKey>, AllocError>
     requires from { from < length reached.now }
     requires links { (k : ℕ) → k < length reached.now → IsLinked k (reached_at reached.now k).via }
-    ensures path { IfOk result (λ p. (g : Graph) (to : ℕ) (index : List (Option ℕ)) → ((k : ℕ) → k < length reached.now → WayOn g to reached.now k (reached_at reached.now k).node.at (reached_at reached.now k).via) → IsIndexed reached.now index
+    ensures path { IfOk result (λ p. (g : Graph) (to : ℕ) (index : List (Option ℕ))
+        → ((k : ℕ) → k < length reached.now → WayOn g to reached.now k (reached_at reached.now k).node.at (reached_at reached.now k).via)
+        → IsIndexed reached.now index
         → IsPath g (reached_at reached.now from).node.at (edge_keys p.items) to) }
 {
     let mut edges = Vec::new(alloc);

@@ -28,7 +28,9 @@ pub record HasPlaces (l : PlainLevel) (v : LevelDrawing) : Type 0 where
 -- of the children are at most 2^59 long, and where its certificate turns edges of the level round.
 abbrev pub TightDrawingsAreWritable : Type 0
 TightDrawingsAreWritable =
-    (d : Document) (p : Placed) (n : ℕ) (o : LevelOptions) (v : LevelFigure) (gaps : List PlainGap) (traces : List PlainTrace) (left top : ℤ)
-    → IsSound d → HasPlaces (level_of d p n o) (figure_in v gaps traces left top) → IsTight (level_of d p n o) (figure_in v gaps traces left top)
+    (d : Document) (p : Placed) (n : ℕ) (o : LevelOptions) (v : LevelFigure) (gaps : List PlainGap) (traces : List PlainTrace)
+    (left top : ℤ)
+    → IsSound d → HasPlaces (level_of d p n o) (figure_in v gaps traces left top)
+    → IsTight (level_of d p n o) (figure_in v gaps traces left top)
     → IsLongSize v.extent → ((c : ℕ) → IsChild d n c → IsLongBox (box_of p c)) → All (λ e. e < length (edges_of d n)) v.certificate.reversed
     → IsWritable d p n v

@@ -1,5 +1,6 @@
 -- The size that a node needs round the drawing of its level.
-use Rattle.std.specs.Prelude.{◌≡◌, ◌≢◌, ℕ, ◌<◌, ◌⊎◌, Bool, true, false, cond, List, length, ℤ, ◌+ℤ◌, Option, None, Some, IsTrue, slice_index_or, slice_set}
+use Rattle.std.specs.Prelude.{◌≡◌, ◌≢◌, ℕ, ◌<◌, ◌⊎◌, Bool, true, false, cond, List, length, ℤ, ◌+ℤ◌, Option, None, Some, IsTrue}
+use Rattle.std.specs.Prelude.{slice_index_or, slice_set}
 use Rattle.std.specs.Int.{int_max}
 use Rattle.elk_doc.specs.declared.shape.Point.{Point}
 use Rattle.elk_doc.specs.declared.shape.Size.{Size}
@@ -55,7 +56,8 @@ pinned_side d k = pinned_under (node_at d (node_of_port d k)).rule (port_at d k)
 -- the end of a pinned port of a compound node by its given place, across or down
 abbrev pub end_of : Document → Bool → ℕ → Option ℤ
 end_of d across k =
-    cond across (end_across (pinned_side d k) (port_at d k).place (port_at d k).size) (end_down (pinned_side d k) (port_at d k).place (port_at d k).size)
+    cond across (end_across (pinned_side d k) (port_at d k).place (port_at d k).size)
+    (end_down (pinned_side d k) (port_at d k).place (port_at d k).size)
 
 -- the greater of a length and of an end, where there is one
 abbrev pub raised : ℤ → Option ℤ → ℤ
@@ -109,7 +111,8 @@ pub record IsNodeFramed (d : Document) (n : ℕ) (o : LevelOptions) (extent : Si
 -- the pinned ports of the node n keep their given places along their sides
 abbrev pub KeepsPinned : Document → Placed → ℕ → Type 0
 KeepsPinned d p n =
-    (k : ℕ) → IsPortOf d n k → IsTrue (is_pinned d k) → along (side_of_port d p k) (port_place p k) ≡ along (side_of_port d p k) (port_at d k).place
+    (k : ℕ) → IsPortOf d n k → IsTrue (is_pinned d k)
+    → along (side_of_port d p k) (port_place p k) ≡ along (side_of_port d p k) (port_at d k).place
 
 -- A node of that size is framed round the drawing of its level in each drawing that keeps its pinned ports.
 abbrev pub SizesFrame : Type 0

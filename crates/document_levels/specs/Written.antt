@@ -75,11 +75,15 @@ abbrev pub section_change : Direction → Point → List Section → ℕ → Sec
 section_change way by sections i s = section_back way by (section_or sections i)
 
 -- The ports of the first of these children, up to this many, are put at their places in their boxes. All others stay.
-pub record ArePortsWritten (count : ℕ) (d : Document) (way : Direction) (children : List ℕ) (boxes : List Rect) (places : List (List Point)) (old now : List Point) : Type 0 where
+pub record ArePortsWritten (count : ℕ) (d : Document) (way : Direction) (children : List ℕ) (boxes : List Rect)
+    (places : List (List Point)) (old now : List Point) : Type 0 where
   pub as_many : length now ≡ length old
   pub at : (i j : ℕ) → i < count → j < length (ports_of d (number_at children i))
-      → slice_index_or now (port_number d (number_at children i) j) origin ≡ port_change d way (slice_index_or boxes (number_at children i) no_rect) (ports_of d (number_at children i)) (slice_index_or places i []) j origin
-  pub others : (k : ℕ) → ((i : ℕ) → i < count → number_at children i ≢ node_of_port d k) → slice_index_or now k origin ≡ slice_index_or old k origin
+      → slice_index_or now (port_number d (number_at children i) j) origin
+      ≡ port_change d way (slice_index_or boxes (number_at children i) no_rect) (ports_of d (number_at children i))
+      (slice_index_or places i []) j origin
+  pub others : (k : ℕ) → ((i : ℕ) → i < count → number_at children i ≢ node_of_port d k)
+      → slice_index_or now k origin ≡ slice_index_or old k origin
 
 -- a certificate with other numbers of the edges that are turned round
 abbrev pub numbered_by : List ℕ → Certificate → Certificate

@@ -156,7 +156,9 @@ fn read_edges(
 ) -> Result<Vec<LevelEdge>, AllocError>
     requires index { IsIndex source.now.doc.now source.now.index.now }
     requires edges { (i : ℕ) → i < length numbers.now → slice_index numbers.now i < length source.now.doc.now.edges }
-    ensures { IfOk result (λ found. (n : ℕ) → ((i : ℕ) → i < length numbers.now → IsEdge source.now.doc.now n (slice_index numbers.now i)) → found.items ≡ map (level_edge source.now.doc.now n) numbers.now) }
+    ensures { IfOk result
+        (λ found. (n : ℕ) → ((i : ℕ) → i < length numbers.now → IsEdge source.now.doc.now n (slice_index numbers.now i))
+        → found.items ≡ map (level_edge source.now.doc.now n) numbers.now) }
 {
     let mut found = Vec::with_capacity(alloc, numbers.len())?;
     for edge in numbers {

@@ -26,7 +26,13 @@ use Rattle.document_levels.specs.Sizes.{IsSizeRound}
 
 -- the children of n, with their sizes in the drawing, as a level without edges
 abbrev pub edgeless : Document → Placed → ℕ → LevelOptions → PlainLevel
-edgeless d p n o = record { children = map (level_child d p o.direction) (children d n); edges = []; spacing = o.spacing; choices = o.choices }
+edgeless d p n o =
+    record {
+      children = map (level_child d p o.direction) (children d n);
+      edges = [];
+      spacing = o.spacing;
+      choices = o.choices;
+    }
 
 -- the size of a rectangle, and the sizes of the children's outlines, in document order
 abbrev pub size_of : Rect → Size
@@ -60,7 +66,9 @@ pub record IsBoxedPlan (d : Document) (p : Placed) (n : ℕ) (o : LevelOptions) 
   pub placing : level.placing ≡ o.placing
   pub laid_out : IsLaidOut level out
   pub ports : (i j : ℕ) → i < length (children d n) → j < length (ports_of d (child_number d n i))
-      → turned_place o.direction (box_size p (child_number d n i)) (port_at d (port_number d (child_number d n i) j)).size (port_place p (port_number d (child_number d n i) j)) ≡ point_or (slice_index_or out.ports i []) j
+      → turned_place o.direction (box_size p (child_number d n i)) (port_at d (port_number d (child_number d n i) j)).size
+      (port_place p (port_number d (child_number d n i) j))
+      ≡ point_or (slice_index_or out.ports i []) j
   pub squarest : Squarest
   pub rows : IsSquarest (outline_sizes d p n) o.spacing.node_node squarest
   pub outlines : (i : ℕ) → i < length (children d n)

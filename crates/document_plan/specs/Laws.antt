@@ -12,4 +12,5 @@ use Rattle.document_plan.specs.Planned.{IsPlannedLevel}
 abbrev pub PlansStay : Type 0
 PlansStay =
     (d : Document) (p q : Placed) (n : ℕ) (o : LevelOptions)
-    → AgreeAt d p q n → certificate_of p n ≡ certificate_of q n → box_size p n ≡ box_size q n → IsPlannedLevel d p n o → IsPlannedLevel d q n o
+    → AgreeAt d p q n → certificate_of p n ≡ certificate_of q n → box_size p n ≡ box_size q n → IsPlannedLevel d p n o
+    → IsPlannedLevel d q n o

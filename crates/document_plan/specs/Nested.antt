@@ -16,7 +16,9 @@ pub record IsSmallBox (r : Rect) : Type 0 where
 
 -- Where all nodes after n are planned, the level of n has room.
 abbrev pub PlannedLevelsHaveRoom : Type 0
-PlannedLevelsHaveRoom = (d : Document) (p : Placed) (n : ℕ) (o : LevelOptions) → IsSound d → n < length d.nodes → (node_at d n).level ≡ Some o → ArePlannedFrom d p (suc n) → HasRoom d p n o
+PlannedLevelsHaveRoom =
+    (d : Document) (p : Placed) (n : ℕ) (o : LevelOptions) → IsSound d → n < length d.nodes → (node_at d n).level ≡ Some o
+    → ArePlannedFrom d p (suc n) → HasRoom d p n o
 
 -- Planned nodes have small boxes.
 abbrev pub PlannedBoxesAreSmall : Type 0

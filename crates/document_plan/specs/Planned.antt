@@ -53,7 +53,8 @@ pub record RootPortsStand (d : Document) (p : Placed) (o : LevelOptions) : Type 
   pub is : plain_level level ≡ root_level d p o
   pub laid_out : IsLaidOut level out
   pub ports : (j : ℕ) → j < length (ports_of d 0)
-      → turned_place o.direction (box_size p 0) (port_at d (port_number d 0 j)).size (port_place p (port_number d 0 j)) ≡ point_or (slice_index_or out.ports 0 []) j
+      → turned_place o.direction (box_size p 0) (port_at d (port_number d 0 j)).size (port_place p (port_number d 0 j))
+      ≡ point_or (slice_index_or out.ports 0 []) j
 
 -- every level comes from a layout, and so do the ports of the root
 pub record Planned (d : Document) (p : Placed) : Type 0 where

@@ -7,7 +7,7 @@ pub fn planned_levels_have_room()
     ensures { PlannedLevelsHaveRoom }
 {}
 
-/// A node has a box of at most 2^46 on each side where it and all nodes after it are planned.
+/// A node has a box of at most 2^45 + 2^37 on each side where it and all nodes after it are planned.
 pub fn planned_boxes_are_small()
     ensures { PlannedBoxesAreSmall }
 {}

@@ -18,7 +18,8 @@ box_options = record (options Right) { boxes = true }
 abbrev pub box_level : Document
 box_level =
     record {
-      nodes = record (root Right) { level = Some box_options } ∷ leaf 1 Free (size 100 20) ∷ leaf 2 Free (size 30 30) ∷ leaf 3 Free (size 30 30) ∷ [];
+      nodes = record (root Right) { level = Some box_options } ∷ leaf 1 Free (size 100 20) ∷ leaf 2 Free (size 30 30) ∷ leaf 3
+          Free (size 30 30) ∷ [];
       ports = [];
       edges = [];
     }

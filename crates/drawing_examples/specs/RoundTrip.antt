@@ -27,7 +27,14 @@ abbrev pub round_trip : Document
 round_trip =
     record {
       nodes = root Right ∷ leaf 1 Free (size 30 30) ∷ leaf 2 Free (size 30 30) ∷ [];
-      ports = record { id = Rattle.elk_doc.specs.declared.document.Id.TheVariants.Whole (pos 3); node = 1; size = size 10 10; place = point (pos 0) (pos 0); side = None; index = pos 0 } ∷ [];
+      ports = record {
+        id = Rattle.elk_doc.specs.declared.document.Id.TheVariants.Whole (pos 3);
+        node = 1;
+        size = size 10 10;
+        place = point (pos 0) (pos 0);
+        side = None;
+        index = pos 0;
+      } ∷ [];
       edges = edge (AtPort 0) (AtNode 2) ∷ edge (AtPort 0) (AtNode 2) ∷ edge (AtNode 2) (AtPort 0) ∷ edge (AtPort 0) (AtPort 0) ∷ [];
     }
 

@@ -31,7 +31,8 @@ small_port = record { id = Whole (pos 4); node = 3; size = size 10 10; place = a
 abbrev pub split_level : Document
 split_level =
     record {
-      nodes = record (root Right) { level = Some split_options } ∷ leaf 1 FixedPos (size 30 30) ∷ leaf 2 Free (size 30 30) ∷ leaf 3 FixedOrder (size 30 30) ∷ [];
+      nodes = record (root Right) { level = Some split_options } ∷ leaf 1 FixedPos (size 30 30) ∷ leaf 2 Free (size 30 30) ∷
+          leaf 3 FixedOrder (size 30 30) ∷ [];
       ports = record small_port { node = 1; place = at_xy 30 5; side = None } ∷ record small_port { index = pos 1 } ∷ small_port ∷ [];
       edges = record (edge (AtPort 0) (AtNode 2)) { weight = 2 } ∷ [];
     }

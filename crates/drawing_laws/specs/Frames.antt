@@ -66,7 +66,8 @@ turned_dock way r k = record { node = k.node; side = turned_side way k.side; off
 
 -- offsets in the frame are those of the turned boxes and points, and docks are the same in either frame
 pub record DocksTurn : Type 0 where
-  pub offset : (way : Direction) (s : Side) (r : Rect) (a : Point) → offset_on (turned_side way s) (turned way r) (turned_point way a) ≡ turned_offset way s r (offset_on s r a)
+  pub offset : (way : Direction) (s : Side) (r : Rect) (a : Point)
+      → offset_on (turned_side way s) (turned way r) (turned_point way a) ≡ turned_offset way s r (offset_on s r a)
   pub dock : (way : Direction) (box : ℕ → Rect) (k l : Dock) → (k ≡ l) ↔ (turned_dock way (box k.node) k ≡ turned_dock way (box l.node) l)
 
 -- ---- Route, Clear and Sharing
@@ -77,9 +78,12 @@ pub record PathsTurn : Type 0 where
   pub orthogonal : (way : Direction) (path : List Point) (source target : Side) → 2 ≤ length path
       → IsOrthogonal path source target ↔ IsOrthogonal (map (turned_point way) path) (turned_side way source) (turned_side way target)
   pub clear : (way : Direction) (path : List Point) (source target c : ℕ) (outline box : Rect)
-      → IsClear path source target c outline box ↔ IsClear (map (turned_point way) path) source target c (turned way outline) (turned way box)
-  pub on_segment : (way : Direction) (a b q : Point) → IsOnSegment a b q ↔ IsOnSegment (turned_point way a) (turned_point way b) (turned_point way q)
-  pub sharing : (way : Direction) (path other : List Point) → PathsShare path other ↔ PathsShare (map (turned_point way) path) (map (turned_point way) other)
+      → IsClear path source target c outline box
+      ↔ IsClear (map (turned_point way) path) source target c (turned way outline) (turned way box)
+  pub on_segment : (way : Direction) (a b q : Point)
+      → IsOnSegment a b q ↔ IsOnSegment (turned_point way a) (turned_point way b) (turned_point way q)
+  pub sharing : (way : Direction) (path other : List Point)
+      → PathsShare path other ↔ PathsShare (map (turned_point way) path) (map (turned_point way) other)
 
 -- ---- Inside and Apart
 
@@ -105,7 +109,8 @@ InsideIn way d p n o =
 -- two children of a level of boxes are apart in the frame
 abbrev pub BoxesApartIn : Direction → Document → Placed → LevelOptions → ℕ → ℕ → Type 0
 BoxesApartIn way d p o a b =
-    StandsClear o.spacing.node_node (turned way (outline_of d p a)) (turned way (outline_of d p b)) ⊎ StandsClear o.spacing.node_node (turned way (outline_of d p b)) (turned way (outline_of d p a))
+    StandsClear o.spacing.node_node (turned way (outline_of d p a)) (turned way (outline_of d p b))
+    ⊎ StandsClear o.spacing.node_node (turned way (outline_of d p b)) (turned way (outline_of d p a))
 
 -- Content is inside, and boxes are apart, in the one frame exactly where they are in the other. Every other distance of
 -- children is stated in the frame of the direction itself.

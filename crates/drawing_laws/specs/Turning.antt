@@ -39,7 +39,8 @@ turned_side Up West = North
 pub record SidesTurn : Type 0 where
   pub ahead : (way : Direction) → turned_side way (ahead way) ≡ East
   pub behind : (way : Direction) → turned_side way (behind way) ≡ West
-  pub outward : (way : Direction) (s : Side) (a b : Point) → LeavesOutward s a b ↔ LeavesOutward (turned_side way s) (turned_point way a) (turned_point way b)
+  pub outward : (way : Direction) (s : Side) (a b : Point)
+      → LeavesOutward s a b ↔ LeavesOutward (turned_side way s) (turned_point way a) (turned_point way b)
 
 -- steps and turns of routes are the same in either frame
 pub record RoutesTurn : Type 0 where
@@ -50,5 +51,7 @@ pub record RoutesTurn : Type 0 where
 pub record BoxesTurn : Type 0 where
   pub point : (way : Direction) (p : Point) → turned way (point_rect p) ≡ point_rect (turned_point way p)
   pub holds : (way : Direction) (r s : Rect) → Holds r s ↔ Holds (turned way r) (turned way s)
-  pub meets : (way : Direction) (a b : Point) (r : Rect) → MeetsRect a b r ↔ MeetsRect (turned_point way a) (turned_point way b) (turned way r)
-  pub enters : (way : Direction) (a b : Point) (r : Rect) → EntersRect a b r ↔ EntersRect (turned_point way a) (turned_point way b) (turned way r)
+  pub meets : (way : Direction) (a b : Point) (r : Rect)
+      → MeetsRect a b r ↔ MeetsRect (turned_point way a) (turned_point way b) (turned way r)
+  pub enters : (way : Direction) (a b : Point) (r : Rect)
+      → EntersRect a b r ↔ EntersRect (turned_point way a) (turned_point way b) (turned way r)

@@ -37,7 +37,8 @@ IsAccepted bytes = (r : Refusal) → Refuses bytes r → ⊥
 -- no layering of the same orientation has a smaller span, at any level
 abbrev pub HasLeastSpans : Document → Placed → Type 0
 HasLeastSpans d p =
-    (n : ℕ) (o : LevelOptions) (c : Certificate) → n < length d.nodes → (node_at d n).level ≡ Some o → certificate_of p n ≡ Some c → Least d p n c
+    (n : ℕ) (o : LevelOptions) (c : Certificate) → n < length d.nodes → (node_at d n).level ≡ Some o
+    → certificate_of p n ≡ Some c → Least d p n c
 
 -- What makes the text a good answer, for the document that the bytes are read as and a drawing of it. It is written from the
 -- same value with the members of the drawing put in, and its keys ascend; the drawing obeys the document, has no more room

@@ -19,7 +19,14 @@ demo_root = record { id = None; parent = None; size = no_size; rule = Free; leve
 
 -- the leaf i, with its number as its id: 30 wide, and 20, 30, 40 or 50 high in turn
 abbrev pub demo_leaf : ℕ → Node
-demo_leaf i = record { id = Some (Whole (pos i)); parent = Some 0; size = record { width = pos 30; height = pos (20 + 10 * (i % 4)) }; rule = Free; level = None }
+demo_leaf i =
+    record {
+      id = Some (Whole (pos i));
+      parent = Some 0;
+      size = record { width = pos 30; height = pos (20 + 10 * (i % 4)) };
+      rule = Free;
+      level = None;
+    }
 
 -- the edge to the leaf i from the leaf of half its number
 abbrev pub half_edge : ℕ → Edge

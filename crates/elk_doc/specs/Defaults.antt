@@ -16,7 +16,14 @@ abbrev pub default_options : Direction → LevelOptions
 default_options way =
     record {
       direction = way;
-      spacing = record { node_node = pos 20; edge_node = pos 10; edge_edge = pos 10; node_layers = pos 20; edge_node_layers = pos 10; edge_edge_layers = pos 10 };
+      spacing = record {
+        node_node = pos 20;
+        edge_node = pos 10;
+        edge_edge = pos 10;
+        node_layers = pos 20;
+        edge_node_layers = pos 10;
+        edge_edge_layers = pos 10;
+      };
       padding = record { top = pos 12; left = pos 12; bottom = pos 12; right = pos 12 };
       fixed = None;
       split = false;

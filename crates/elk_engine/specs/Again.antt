@@ -11,6 +11,9 @@ use Rattle.elk_engine.specs.Outcome.{Outcome, Gains, IsCutShort}
 abbrev pub AnswersAreGood : Type 0
 AnswersAreGood =
     (laid text : List ℕ) → Answers Layout laid 0 text → length text ≤ limit Check
-    → (status : ℕ) (taken : List ℕ) (left out new_out notes new_notes : Option (List ℕ)) (read new_read written new_written noted new_noted : ℕ) → Consumes (Some text) left taken
-    → Outcome Check status taken (IsAtEnd left) (Rose read new_read) (Rose written new_written) (Rose noted new_noted) out new_out notes new_notes
+    → (status : ℕ) (taken : List ℕ) (left out new_out notes new_notes : Option (List ℕ))
+    (read new_read written new_written noted new_noted : ℕ)
+    → Consumes (Some text) left taken
+    → Outcome Check status taken (IsAtEnd left) (Rose read new_read) (Rose written new_written) (Rose noted new_noted) out
+    new_out notes new_notes
     → IsCutShort status ⊎ ((status ≡ 0) × Gains out new_out notes new_notes (codes "yes\n") [])

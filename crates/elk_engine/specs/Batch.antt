@@ -18,7 +18,8 @@ IsShortReply line reply =
 
 -- the reply to a line, which is one line too
 unfoldable pub IsReply : List ℕ → List ℕ → Type 0
-IsReply line reply = IsOneLine reply × (((longest < length line) × (reply ≡ too_long_note)) ⊎ ((length line ≤ longest) × IsShortReply line reply))
+IsReply line reply =
+    IsOneLine reply × (((longest < length line) × (reply ≡ too_long_note)) ⊎ ((length line ≤ longest) × IsShortReply line reply))
 
 -- the text is the replies to the lines, in order
 abbrev pub AreReplies : List (List ℕ) → List ℕ → Type 0

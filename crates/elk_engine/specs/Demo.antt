@@ -20,7 +20,8 @@ pub record IsLeastSpan (d : Document) (n span : ℕ) : Type 0 where
 -- the line of a demo with this many leaves, edges, this sum of their weights and this span
 abbrev pub demo_text : ℕ → ℕ → ℕ → ℕ → List ℕ
 demo_text leaves edges weight span =
-    codes "nodes " ++ decimal leaves ++ codes " edges " ++ decimal edges ++ codes " weight " ++ decimal weight ++ codes " span " ++ decimal span ++ codes "\n"
+    codes "nodes " ++ decimal leaves ++ codes " edges " ++ decimal edges ++ codes " weight " ++ decimal weight ++ codes " span "
+    ++ decimal span ++ codes "\n"
 
 -- The text is the line of the document of this many leaves: how many leaves and edges it has, the sum of the weights of its
 -- edges, and the least span of the root's level.

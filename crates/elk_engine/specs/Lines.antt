@@ -76,9 +76,11 @@ IsReplyPut reply ended out new_out (Err TooLong) = ⊥
 
 -- a reply to what a reader gave out was written, or memory ran out before
 abbrev pub IsPut : Piece → Option (List ℕ) → Bool → Option (List ℕ) → Option (List ℕ) → Result Bool Halt → Type 0
-IsPut piece told ended out new_out (Ok last) = (reply : List ℕ) × IsPieceReply piece told reply × IsReplyPut reply ended out new_out (Ok last)
+IsPut piece told ended out new_out (Ok last) =
+    (reply : List ℕ) × IsPieceReply piece told reply × IsReplyPut reply ended out new_out (Ok last)
 IsPut piece told ended out new_out (Err Memory) = new_out ≡ out
-IsPut piece told ended out new_out (Err Write) = (reply : List ℕ) × IsPieceReply piece told reply × (piece ≢ End) × AppendsPart out new_out reply
+IsPut piece told ended out new_out (Err Write) =
+    (reply : List ℕ) × IsPieceReply piece told reply × (piece ≢ End) × AppendsPart out new_out reply
 IsPut piece told ended out new_out (Err Read) = ⊥
 IsPut piece told ended out new_out (Err TooLong) = ⊥
 

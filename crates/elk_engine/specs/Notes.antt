@@ -13,7 +13,8 @@ place_text (Some id) = id_spelling id
 
 -- the rule by number and by name, and the place
 abbrev pub refused_note : Refusal → List ℕ
-refused_note r = codes "refused " ++ decimal (rule_number r.rule) ++ codes " " ++ rule_name r.rule ++ codes " " ++ place_text r.place ++ codes "\n"
+refused_note r =
+    codes "refused " ++ decimal (rule_number r.rule) ++ codes " " ++ rule_name r.rule ++ codes " " ++ place_text r.place ++ codes "\n"
 
 abbrev pub too_long_note : List ℕ
 too_long_note = codes "refused 0 TooLong -\n"

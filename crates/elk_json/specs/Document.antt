@@ -1,5 +1,6 @@
 -- The document of a value.
-use Rattle.std.specs.Prelude.{◌≡◌, ℕ, ◌≤◌, List, take, length, filter, find, map, codes, Bool, false, if◌then◌else◌, Option, None, option_map, unwrap_or, pos}
+use Rattle.std.specs.Prelude.{◌≡◌, ℕ, ◌≤◌, List, take, length, filter, find, map, codes, Bool, false, if◌then◌else◌, Option, None}
+use Rattle.std.specs.Prelude.{option_map, unwrap_or, pos}
 use Rattle.serde_json.specs.Data.{Data}
 use Rattle.elk_doc.specs.declared.document.Id.{Id}
 use Rattle.elk_doc.specs.declared.document.Id.TheVariants.{Whole}

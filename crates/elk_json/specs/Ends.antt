@@ -1,5 +1,6 @@
 -- Ids, and the ends of edges.
-use Rattle.std.specs.Prelude.{ℕ, ◌+◌, List, [], ◌∷◌, ◌++◌, length, codes, Bool, false, not, ◌&&◌, ◌||◌, ◌==◌, nat_eq, is_some, if◌then◌else◌, Option, Some, None, option_and_then, slice_get, bytes_eq}
+use Rattle.std.specs.Prelude.{ℕ, ◌+◌, List, [], ◌∷◌, ◌++◌, length, codes, Bool, false, not, ◌&&◌, ◌||◌, ◌==◌, nat_eq, is_some}
+use Rattle.std.specs.Prelude.{if◌then◌else◌, Option, Some, None, option_and_then, slice_get, bytes_eq}
 use Rattle.std.specs.Option.{option_map_or, option_eq}
 use Rattle.std.specs.List.{list_all, list_any}
 use Rattle.std.specs.Ordering.{int_eq}
@@ -57,7 +58,13 @@ node_at es i = option_and_then (λ e. if is_node e then Some i else e.owner) (el
 -- the port that stands at the node
 unfoldable pub port_at_node : List Element → Option ℕ → Option ℕ → Option ℕ
 port_at_node es node port =
-    option_and_then (λ n. option_and_then (λ i. if option_map_or is_node (element_at es n) false && option_map_or (λ e. is_port e && option_eq nat_eq e.owner (Some n)) (element_at es i) false then Some i else None) port) node
+    option_and_then
+    (λ n. option_and_then
+    (λ i. if option_map_or is_node (element_at es n) false && option_map_or
+    (λ e. is_port e && option_eq nat_eq e.owner (Some n)) (element_at es i) false then Some i
+    else None)
+    port)
+    node
 
 -- what the primitive form names on one side
 unfoldable pub primitive_end : List Element → Option Data → Option Data → Option ℕ
@@ -70,16 +77,21 @@ extended_end es [] = None
 extended_end es (d ∷ ds) = named es d
 
 unfoldable pub source_of : List Element → Data → Option ℕ
-source_of es d = if is_extended d then extended_end es (listed (codes "sources") d) else primitive_end es (get (codes "source") d) (get (codes "sourcePort") d)
+source_of es d =
+    if is_extended d then extended_end es (listed (codes "sources") d)
+    else primitive_end es (get (codes "source") d) (get (codes "sourcePort") d)
 
 unfoldable pub target_of : List Element → Data → Option ℕ
-target_of es d = if is_extended d then extended_end es (listed (codes "targets") d) else primitive_end es (get (codes "target") d) (get (codes "targetPort") d)
+target_of es d =
+    if is_extended d then extended_end es (listed (codes "targets") d)
+    else primitive_end es (get (codes "target") d) (get (codes "targetPort") d)
 
 -- each reference names what it has to
 unfoldable pub has_known_ends : List Element → Data → Bool
 has_known_ends es d =
     if is_extended d
-    then list_all (λ r. is_some (named es r)) (listed (codes "sources") d) && list_all (λ r. is_some (named es r)) (listed (codes "targets") d)
+    then list_all (λ r. is_some (named es r)) (listed (codes "sources") d)
+    && list_all (λ r. is_some (named es r)) (listed (codes "targets") d)
     else is_some (source_of es d) && is_some (target_of es d)
 
 unfoldable pub is_hyperedge : Data → Bool

@@ -9,4 +9,5 @@ use Rattle.elk_json.specs.Rules.{refused}
 
 -- the document of a value that no rule refuses is sound
 abbrev pub AcceptedAreSound : Type 0
-AcceptedAreSound = (d : Data) → refused d ≡ None → IsSound (document (nodes_of (elements d)) (ports_of (elements d)) (edges_of (elements d)))
+AcceptedAreSound =
+    (d : Data) → refused d ≡ None → IsSound (document (nodes_of (elements d)) (ports_of (elements d)) (edges_of (elements d)))

@@ -1,5 +1,6 @@
 -- What the elements' members say.
-use Rattle.std.specs.Prelude.{ℕ, List, length, codes, Bool, true, false, not, ◌&&◌, ◌||◌, ◌==◌, nat_lt, is_some, if◌then◌else◌, Option, Some, None, option_map, option_and_then, unwrap_or, ℤ, pos, int_le}
+use Rattle.std.specs.Prelude.{ℕ, List, length, codes, Bool, true, false, not, ◌&&◌, ◌||◌, ◌==◌, nat_lt, is_some, if◌then◌else◌, Option}
+use Rattle.std.specs.Prelude.{Some, None, option_map, option_and_then, unwrap_or, ℤ, pos, int_le}
 use Rattle.std.specs.Option.{option_map_or}
 use Rattle.serde_json.specs.Data.{Data, null, boolean, number, string, array, object}
 use Rattle.serde_json.specs.Find.{get, as_array, as_object, as_number, as_integer, as_str}

@@ -1,5 +1,6 @@
 -- Ranges of sizes and places, and how many elements there may be.
-use Rattle.std.specs.Prelude.{ℕ, suc, ◌^◌, List, length, filter, max, codes, Bool, true, false, not, ◌&&◌, ◌||◌, nat_lt, if◌then◌else◌, bytes_eq, ℤ, pos, neg_ℤ}
+use Rattle.std.specs.Prelude.{ℕ, suc, ◌^◌, List, length, filter, max, codes, Bool, true, false, not, ◌&&◌, ◌||◌, nat_lt, if◌then◌else◌}
+use Rattle.std.specs.Prelude.{bytes_eq, ℤ, pos, neg_ℤ}
 use Rattle.std.specs.Option.{option_map_or}
 use Rattle.serde_json.specs.Data.{Data, null, boolean, number, string, array, object, Items, no_items, item, Members, no_members, member}
 use Rattle.elk_doc.specs.declared.document.PortRule.{PortRule}
@@ -7,7 +8,8 @@ use Rattle.elk_doc.specs.declared.document.PortRule.TheVariants as rule
 use Rattle.elk_doc.specs.declared.shape.Side.{Side}
 use Rattle.elk_doc.specs.declared.shape.Side.TheVariants as side
 use Rattle.elk_json.specs.Elements.{Element}
-use Rattle.elk_json.specs.Members.{is_node, is_port, is_edge, is_compound, is_at_compound, whole_at, has_bad_option, options_at, holder_has_bad_option, holder_options, is_between}
+use Rattle.elk_json.specs.Members.{is_node, is_port, is_edge, is_compound, is_at_compound, whole_at, has_bad_option, options_at}
+use Rattle.elk_json.specs.Members.{holder_has_bad_option, holder_options, is_between}
 
 unfoldable pub is_size : ℤ → Bool
 is_size z = is_between (pos 0) (pos (2 ^ 20)) z
@@ -56,7 +58,8 @@ is_out_of_range e =
 -- ---- how many
 
 abbrev pub are_too_many : List Element → Bool
-are_too_many es = nat_lt 2048 (length (filter is_node es)) || nat_lt 4096 (length (filter is_port es)) || nat_lt 2048 (length (filter is_edge es))
+are_too_many es =
+    nat_lt 2048 (length (filter is_node es)) || nat_lt 4096 (length (filter is_port es)) || nat_lt 2048 (length (filter is_edge es))
 
 -- ---- how deep: the levels on the longest path from a node that is not the root
 

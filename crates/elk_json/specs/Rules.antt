@@ -1,5 +1,6 @@
 -- Which rule refuses a value, and where: the first rule that holds, and the first element of which it holds.
-use Rattle.std.specs.Prelude.{ℕ, ◌+◌, List, [], ◌∷◌, codes, find, Bool, false, not, ◌&&◌, ◌||◌, nat_eq, if◌then◌else◌, Option, Some, None, option_map, ◌+ℤ◌, pos, int_lt}
+use Rattle.std.specs.Prelude.{ℕ, ◌+◌, List, [], ◌∷◌, codes, find, Bool, false, not, ◌&&◌, ◌||◌, nat_eq, if◌then◌else◌, Option, Some, None}
+use Rattle.std.specs.Prelude.{option_map, ◌+ℤ◌, pos, int_lt}
 use Rattle.std.specs.Option.{option_map_or, option_or, option_eq}
 use Rattle.std.specs.List.{list_any}
 use Rattle.serde_json.specs.Data.{Data}
@@ -46,7 +47,9 @@ has_face_inside side.South node port = int_lt (whole_at (codes "y") port +ℤ wh
 
 -- it reaches none of the four sides
 unfoldable pub lies_inside : Data → Data → Bool
-lies_inside node port = has_face_inside side.West node port && has_face_inside side.East node port && has_face_inside side.North node port && has_face_inside side.South node port
+lies_inside node port =
+    has_face_inside side.West node port && has_face_inside side.East node port && has_face_inside side.North node port
+    && has_face_inside side.South node port
 
 abbrev pub is_side_inside : Option Side → Element → Bool
 is_side_inside s e = option_map_or (λ t. has_face_inside t e.holder e.value) s (lies_inside e.holder e.value)

@@ -1,5 +1,6 @@
 -- The links that a sweep chooses: at each unit, in the order of visits, the first of its medians that is free.
-use Rattle.std.specs.Prelude.{ℕ, ◌-◌, ◌/◌, ◌==◌, cond, List, [], ◌∷◌, ◌++◌, reverse, length, drop, Bool, true, false, not, ◌&&◌, ◌||◌, nat_le, nat_lt, slice_index, map}
+use Rattle.std.specs.Prelude.{ℕ, ◌-◌, ◌/◌, ◌==◌, cond, List, [], ◌∷◌, ◌++◌, reverse, length, drop, Bool, true, false, not, ◌&&◌, ◌||◌}
+use Rattle.std.specs.Prelude.{nat_le, nat_lt, slice_index, map}
 use Rattle.std.specs.List.{filter, list_any, list_all, range_with_len, concat}
 use Rattle.elk_layers.specs.declared.units.Link.{Link}
 use Rattle.elk_doc.specs.declared.document.Sweep.{Sweep}

@@ -1,5 +1,6 @@
 -- Units and links by number, rows as lists of units, and the keys of a link's ends.
-use Rattle.std.specs.Prelude.{◌≡◌, ◌≢◌, ℕ, ◌<◌, ◌≤◌, ◌^◌, ◌≤ℤ◌, ◌<ℤ◌, length, ◌+◌, ◌*◌, ◌==◌, cond, pos, ◌+ℤ◌, ℤ, List, [], ◌∷◌, map, None, slice_index, slice_index_or, is_some, Bool, true, not}
+use Rattle.std.specs.Prelude.{◌≡◌, ◌≢◌, ℕ, ◌<◌, ◌≤◌, ◌^◌, ◌≤ℤ◌, ◌<ℤ◌, length, ◌+◌, ◌*◌, ◌==◌, cond, pos, ◌+ℤ◌, ℤ, List, [], ◌∷◌, map, None}
+use Rattle.std.specs.Prelude.{slice_index, slice_index_or, is_some, Bool, true, not}
 use Rattle.std.specs.List.{count_by}
 use Rattle.elk_layers.specs.declared.units.Unit.{Unit as LayerUnit}
 use Rattle.elk_layers.specs.declared.units.Link.{Link}
@@ -17,7 +18,14 @@ pub record Plain : Type 0 where
 
 abbrev pub plain : Layered → Plain
 plain l =
-    record { layers = l.layers; units = l.units.items; links = l.links.items; node_node = l.node_node; edge_node = l.edge_node; edge_edge = l.edge_edge }
+    record {
+      layers = l.layers;
+      units = l.units.items;
+      links = l.links.items;
+      node_node = l.node_node;
+      edge_node = l.edge_node;
+      edge_edge = l.edge_edge;
+    }
 
 abbrev pub unit_at : List LayerUnit → ℕ → LayerUnit
 unit_at units u =
@@ -118,4 +126,5 @@ pub record AreRows (l : Plain) (rows : List (List ℕ)) : Type 0 where
   pub in_range : (r : ℕ) → r < length rows → (i : ℕ) → i < length (row_at rows r) → slice_index (row_at rows r) i < length l.units
   pub in_layer : (r : ℕ) → r < length rows → (i : ℕ) → i < length (row_at rows r) → layer_of l (slice_index (row_at rows r) i) ≡ r
   pub complete : (u : ℕ) → u < length l.units → HasUnit (row_at rows (layer_of l u)) u
-  pub once : (r : ℕ) → r < length rows → (i j : ℕ) → i < j → j < length (row_at rows r) → slice_index (row_at rows r) i ≢ slice_index (row_at rows r) j
+  pub once : (r : ℕ) → r < length rows → (i j : ℕ) → i < j → j < length (row_at rows r)
+      → slice_index (row_at rows r) i ≢ slice_index (row_at rows r) j

@@ -1,5 +1,6 @@
 -- Distances of units, and the least lines of a sweep.
-use Rattle.std.specs.Prelude.{◌≡◌, ℕ, ◌+◌, ◌<◌, ◌==◌, cond, ℤ, pos, ◌+ℤ◌, ◌-ℤ◌, ◌≤ℤ◌, List, [], ◌∷◌, length, Bool, is_some, ◌&&◌, ◌||◌, not, slice_index, slice_index_or}
+use Rattle.std.specs.Prelude.{◌≡◌, ℕ, ◌+◌, ◌<◌, ◌==◌, cond, ℤ, pos, ◌+ℤ◌, ◌-ℤ◌, ◌≤ℤ◌, List, [], ◌∷◌, length, Bool, is_some, ◌&&◌, ◌||◌, not}
+use Rattle.std.specs.Prelude.{slice_index, slice_index_or}
 use Rattle.std.specs.List.{All, filter}
 use Rattle.std.specs.Int.{int_max}
 use Rattle.elk_layers.specs.declared.units.Unit.{Unit as LayerUnit}

@@ -13,7 +13,14 @@ leads head at = record { edge = 0; tail = 0; head = head; tail_rank = 0; head_ra
 
 abbrev pub forked : Plain
 forked =
-    record { layers = 2; units = box 0 ∷ box 1 ∷ box 1 ∷ []; links = leads 1 (pos 10) ∷ leads 2 (pos 20) ∷ []; node_node = pos 20; edge_node = pos 10; edge_edge = pos 10 }
+    record {
+      layers = 2;
+      units = box 0 ∷ box 1 ∷ box 1 ∷ [];
+      links = leads 1 (pos 10) ∷ leads 2 (pos 20) ∷ [];
+      node_node = pos 20;
+      edge_node = pos 10;
+      edge_edge = pos 10;
+    }
 
 abbrev pub forked_rows : List (List ℕ)
 forked_rows = (0 ∷ []) ∷ (1 ∷ 2 ∷ []) ∷ []

@@ -1,5 +1,6 @@
 -- How far a line has been read.
-use Rattle.std.specs.Prelude.{◌≡◌, ℕ, ◌+◌, ◌<◌, ◌≤◌, ◌^◌, Bool, true, false, List, [], ◌∷◌, ◌++◌, length, Option, None, Some, Result, Ok, Err, vec_len, slice_range, cond}
+use Rattle.std.specs.Prelude.{◌≡◌, ℕ, ◌+◌, ◌<◌, ◌≤◌, ◌^◌, Bool, true, false, List, [], ◌∷◌, ◌++◌, length, Option, None, Some, Result, Ok}
+use Rattle.std.specs.Prelude.{Err, vec_len, slice_range, cond}
 use Rattle.std.specs.Io.KnownBytes.{Consumes}
 use Rattle.elk_lines.specs.Reader.{Reader, HasNoFeed}
 use Rattle.elk_lines.specs.Answers.{IsAnswer}
@@ -35,7 +36,8 @@ abbrev pub told_by : Draft → Option (List ℕ)
 told_by d = Some d.bytes.items
 
 -- So far these bytes went into the draft, and these more were taken.
-pub record IsUnderWay (longest : ℕ) (held0 : List ℕ) (left0 left : Option (List ℕ)) (taken0 taken : ℕ) (now : List ℕ) (d : Draft) : Type 0 where
+pub record IsUnderWay (longest : ℕ) (held0 : List ℕ) (left0 left : Option (List ℕ)) (taken0 taken : ℕ) (now : List ℕ)
+    (d : Draft) : Type 0 where
   pub bytes : List ℕ
   pub more : List ℕ
   pub consumed : Consumes left0 left more

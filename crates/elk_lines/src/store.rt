@@ -45,7 +45,9 @@ pub(crate) fn move_held(
     requires within { vec_len draft.old.bytes ≤ longest }
     ensures store { IsStore store.new }
     ensures within { vec_len draft.new.bytes ≤ longest }
-    ensures moved { IfOk result (λ found. (bytes : List ℕ) → IsDraft longest bytes draft.old → MovesHeld longest bytes (held store.old) (held store.new) draft.new found) }
+    ensures moved { IfOk result
+        (λ found. (bytes : List ℕ) → IsDraft longest bytes draft.old
+        → MovesHeld longest bytes (held store.old) (held store.new) draft.new found) }
     ensures same_end { draft.new.ended ≡ draft.old.ended }
     ensures same { (store.new.taken ≡ store.old.taken) × (vec_len store.new.bytes ≡ vec_len store.old.bytes) }
 {
@@ -90,7 +92,9 @@ pub(crate) fn refill<S: Source>(
     ensures size { vec_len store.new.bytes ≡ vec_len store.old.bytes }
     ensures count { IfOk result (λ n. n ≤ room) }
     ensures taken { MatchResult result (λ n. store.new.taken ≡ store.old.taken + n) (λ _. store.new.taken ≡ store.old.taken) }
-    ensures bytes { MatchResult result (λ n. Consumes (S.left src.old) (S.left src.new) (held store.new) × (length (held store.new) ≡ n)) (λ _. Keeps (S.left src.old) (S.left src.new)) }
+    ensures bytes { MatchResult result
+        (λ n. Consumes (S.left src.old) (S.left src.new) (held store.new) × (length (held store.new) ≡ n))
+        (λ _. Keeps (S.left src.old) (S.left src.new)) }
     ensures end { IfOk result (λ n. n ≡ 0 → IsAtEnd (S.left src.new)) }
     ensures cause { HasCause (S.faults src.old) (S.faults src.new) result }
 {

@@ -1,5 +1,6 @@
 -- The text of a padding.
-use Rattle.std.specs.Prelude.{ℕ, ◌^◌, List, [], ◌∷◌, length, take, drop, slice_index, not, ◌&&◌, ◌-◌, ◌==◌, nat_le, bytes_eq, codes, if◌then◌else◌, Option, Some, None, option_map, option_and_then, unwrap_or, pos}
+use Rattle.std.specs.Prelude.{ℕ, ◌^◌, List, [], ◌∷◌, length, take, drop, slice_index, not, ◌&&◌, ◌-◌, ◌==◌, nat_le, bytes_eq, codes}
+use Rattle.std.specs.Prelude.{if◌then◌else◌, Option, Some, None, option_map, option_and_then, unwrap_or, pos}
 use Rattle.elk_doc.specs.declared.document.Padding.{Padding}
 use Rattle.elk_options.specs.Values.{unsigned_text}
 use Rattle.elk_options.specs.declared.padding.Given.{Given}
@@ -71,7 +72,13 @@ with_parts [] g = Some g
 with_parts (piece ∷ more) g = option_and_then (with_parts more) (with_part piece g)
 
 abbrev pub padding_of : Given → Padding
-padding_of g = record { top = pos (unwrap_or g.top 0); left = pos (unwrap_or g.left 0); bottom = pos (unwrap_or g.bottom 0); right = pos (unwrap_or g.right 0) }
+padding_of g =
+    record {
+      top = pos (unwrap_or g.top 0);
+      left = pos (unwrap_or g.left 0);
+      bottom = pos (unwrap_or g.bottom 0);
+      right = pos (unwrap_or g.right 0);
+    }
 
 -- between the brackets
 abbrev pub given_within : List ℕ → Option Given

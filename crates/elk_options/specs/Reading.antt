@@ -1,5 +1,6 @@
 -- The options of an element.
-use Rattle.std.specs.Prelude.{◌≡◌, ℕ, List, [], ◌∷◌, ◌++◌, Bool, true, false, not, ◌&&◌, is_some, find, Option, Some, None, option_map, unwrap_or, ℤ, pos, ◌≤ℤ◌, nat_abs, Result, MatchResult}
+use Rattle.std.specs.Prelude.{◌≡◌, ℕ, List, [], ◌∷◌, ◌++◌, Bool, true, false, not, ◌&&◌, is_some, find, Option, Some, None, option_map}
+use Rattle.std.specs.Prelude.{unwrap_or, ℤ, pos, ◌≤ℤ◌, nat_abs, Result, MatchResult}
 use Rattle.std.specs.Option.{option_map_or, option_and_then}
 use Rattle.std.specs.Int.{int_max}
 use Rattle.serde_json.specs.Data.{Data}
@@ -26,7 +27,8 @@ use denote.Bor.{Bor}
 use Rattle.serde_json.specs.View.{view}
 use Rattle.serde_json.specs.declared.value.Value.{Value}
 use Rattle.elk_options.specs.Names.{asked, or_empty}
-use Rattle.elk_options.specs.Table.{to_boxes, to_direction, to_rule, to_side, to_index, to_routing, to_padding, to_distance, to_sweep, to_shortness, to_truth, to_placing, to_slots, to_effort, to_order}
+use Rattle.elk_options.specs.Table.{to_boxes, to_direction, to_rule, to_side, to_index, to_routing, to_padding, to_distance, to_sweep}
+use Rattle.elk_options.specs.Table.{to_shortness, to_truth, to_placing, to_slots, to_effort, to_order}
 
 unfoldable pub front_names : List OptionName
 front_names = name.Algorithm ∷ name.Direction ∷ name.PortConstraints ∷ name.EdgeRouting ∷ name.Padding ∷ []
@@ -145,7 +147,14 @@ weight_of d = nat_abs (int_max (value_or to_shortness (pos 0) name.Shortness d) 
 unfoldable pub options_of : Role → Data → Options
 options_of Level d = record { level = Some (level_of d); rule = rule_of d; side = None; index = pos 0; weight = 1 }
 options_of Leaf d = record { level = None; rule = rule_of d; side = None; index = pos 0; weight = 1 }
-options_of Port d = record { level = None; rule = rule.Free; side = value_or to_side None name.PortSide d; index = value_or to_index (pos 0) name.PortIndex d; weight = 1 }
+options_of Port d =
+    record {
+      level = None;
+      rule = rule.Free;
+      side = value_or to_side None name.PortSide d;
+      index = value_or to_index (pos 0) name.PortIndex d;
+      weight = 1;
+    }
 options_of Edge d = record { level = None; rule = rule.Free; side = None; index = pos 0; weight = weight_of d }
 
 -- ---- for private clauses
@@ -153,7 +162,17 @@ options_of Edge d = record { level = None; rule = rule.Free; side = None; index 
 -- a level's options from what was read
 abbrev pub joined_options : Bool → Direction → PortRule → Padding → Spacing → Option Sweep → Bool → ℤ → Placing → Choices → Options
 joined_options boxes direction rule padding spacing sweep split component placing choices = record {
-  level = Some (record { direction = direction; spacing = spacing; padding = padding; fixed = sweep; split = not boxes && split; component = component; placing = placing; boxes = boxes; choices = choices });
+  level = Some (record {
+    direction = direction;
+    spacing = spacing;
+    padding = padding;
+    fixed = sweep;
+    split = not boxes && split;
+    component = component;
+    placing = placing;
+    boxes = boxes;
+    choices = choices;
+  });
   rule = rule;
   side = None;
   index = pos 0;
@@ -164,7 +183,8 @@ joined_options boxes direction rule padding spacing sweep split component placin
 
 -- the option's value or default, or its name where its value is outside the table
 abbrev pub Reads : {T : Type 0} → OptionName → Data → T → Result T BadValue → Type 0
-Reads option d value r = MatchResult r (λ v. (is_bad d option ≡ false) × (v ≡ value)) (λ e. (e ≡ record { option = option }) × (is_bad d option ≡ true))
+Reads option d value r =
+    MatchResult r (λ v. (is_bad d option ≡ false) × (v ≡ value)) (λ e. (e ≡ record { option = option }) × (is_bad d option ≡ true))
 
 -- the options that are handed in
 abbrev pub given : Option (Bor Value) → Data

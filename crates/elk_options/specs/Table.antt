@@ -1,5 +1,6 @@
 -- The values of each option, and its default.
-use Rattle.std.specs.Prelude.{ℕ, ◌-◌, ◌^◌, List, Bool, true, false, ◌||◌, bytes_eq, codes, if◌then◌else◌, Option, Some, None, option_and_then, ℤ, pos, neg_ℤ}
+use Rattle.std.specs.Prelude.{ℕ, ◌-◌, ◌^◌, List, Bool, true, false, ◌||◌, bytes_eq, codes, if◌then◌else◌, Option, Some, None}
+use Rattle.std.specs.Prelude.{option_and_then, ℤ, pos, neg_ℤ}
 use Rattle.std.specs.Option.{option_or}
 use Rattle.serde_json.specs.Data.{Data}
 use Rattle.serde_json.specs.Find.{as_bool, as_str}
@@ -74,11 +75,13 @@ truth_text s = if says (codes "true") s then Some true else (if says (codes "fal
 abbrev pub placing_text : List ℕ → Option Placing
 placing_text s =
     if says (codes "NETWORK_SIMPLEX") s then Some placing.NetworkSimplex
-    else (if says (codes "BRANDES_KOEPF") s || says (codes "SIMPLE") s || says (codes "LINEAR_SEGMENTS") s || says (codes "INTERACTIVE") s then Some placing.BrandesKoepf
+    else (if says (codes "BRANDES_KOEPF") s || says (codes "SIMPLE") s || says (codes "LINEAR_SEGMENTS") s || says (codes "INTERACTIVE") s
+    then Some placing.BrandesKoepf
     else None)
 
 abbrev pub slots_text : List ℕ → Option Slotting
-slots_text s = if says (codes "FEWEST") s then Some slotting.Fewest else (if says (codes "UNCROSSED") s then Some slotting.Uncrossed else None)
+slots_text s =
+    if says (codes "FEWEST") s then Some slotting.Fewest else (if says (codes "UNCROSSED") s then Some slotting.Uncrossed else None)
 
 abbrev pub order_text : List ℕ → Option RowOrder
 order_text s = if says (codes "SWEPT") s then Some order.Swept else (if says (codes "DOCUMENT") s then Some order.Document else None)

@@ -1,5 +1,6 @@
 -- A value with the written members: each object is built anew, by putting members into an empty one.
-use Rattle.std.specs.Prelude.{ℕ, ◌+◌, List, codes, Bool, false, true, ◌||◌, bytes_eq, if◌then◌else◌, Option, Some, None, option_and_then, slice_get}
+use Rattle.std.specs.Prelude.{ℕ, ◌+◌, List, codes, Bool, false, true, ◌||◌, bytes_eq, if◌then◌else◌, Option, Some, None, option_and_then}
+use Rattle.std.specs.Prelude.{slice_get}
 use Rattle.serde_json.specs.Data.{Data, array, object, Items, no_items, item, Members, no_members, member, put}
 use Rattle.elk_doc.specs.declared.shape.Point.{Point}
 use Rattle.elk_doc.specs.declared.shape.Rect.{Rect}
@@ -80,7 +81,10 @@ with_node compound doc p n ms = with_level compound doc p n (with_place (slice_g
 -- a node with the numbers `at`; its children have the numbers from `below` on
 abbrev mutual
   pub answer_node : Document → Placed → Numbers → Bool → Data → Data
-  answer_node doc p at root (object ms) = object (with_node (root || has_children (object ms)) doc p at.node (answer_into doc p at (root || has_children (object ms)) (past_own at (object ms)) no_members ms))
+  answer_node doc p at root (object ms) =
+      object
+      (with_node (root || has_children (object ms)) doc p at.node
+      (answer_into doc p at (root || has_children (object ms)) (past_own at (object ms)) no_members ms))
   answer_node doc p at root d = d
 
   pub answer_into : Document → Placed → Numbers → Bool → Numbers → Members → Members → Members

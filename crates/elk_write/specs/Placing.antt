@@ -1,5 +1,6 @@
 -- The drawing that a placed value says, and the elements that lack a written member.
-use Rattle.std.specs.Prelude.{◌≡◌, ℕ, ◌+◌, ◌==◌, List, [], ◌∷◌, filter, map, codes, Bool, not, ◌&&◌, ◌||◌, is_none, if◌then◌else◌, Option, Some, None, option_map, option_and_then, slice_get, pos}
+use Rattle.std.specs.Prelude.{◌≡◌, ℕ, ◌+◌, ◌==◌, List, [], ◌∷◌, filter, map, codes, Bool, not, ◌&&◌, ◌||◌, is_none, if◌then◌else◌, Option}
+use Rattle.std.specs.Prelude.{Some, None, option_map, option_and_then, slice_get, pos}
 use Rattle.std.specs.Option.{option_or}
 use Rattle.std.specs.Ordering.{int_eq}
 use Rattle.serde_json.specs.Data.{Data}

@@ -1,5 +1,6 @@
 -- What a drawing's parts are, as they are read from JSON. A part that can't be read is none; further members are passed over.
-use Rattle.std.specs.Prelude.{ℕ, ◌+◌, ◌^◌, List, [], ◌∷◌, length, codes, Bool, true, false, not, ◌&&◌, ◌==◌, nat_lt, nat_le, if◌then◌else◌, bytes_eq, Option, Some, None, option_map, option_and_then, ℤ, pos, neg_ℤ}
+use Rattle.std.specs.Prelude.{ℕ, ◌+◌, ◌^◌, List, [], ◌∷◌, length, codes, Bool, true, false, not, ◌&&◌, ◌==◌, nat_lt, nat_le, if◌then◌else◌}
+use Rattle.std.specs.Prelude.{bytes_eq, Option, Some, None, option_map, option_and_then, ℤ, pos, neg_ℤ}
 use Rattle.std.specs.Option.{option_map_or}
 use Rattle.std.specs.List.{list_all}
 use Rattle.serde_json.specs.Data.{Data, Items, no_items, item}
@@ -77,7 +78,10 @@ bends_in (Some d) = list_in point_in d
 
 abbrev pub route_in : Data → Option Section
 route_in d =
-    option_and_then (λ a. option_and_then (λ bends. option_map (λ z. record { start = a; bends = bends; end = z }) (option_and_then point_in (get (codes "endPoint") d))) (bends_in (get (codes "bendPoints") d)))
+    option_and_then
+    (λ a. option_and_then
+    (λ bends. option_map (λ z. record { start = a; bends = bends; end = z }) (option_and_then point_in (get (codes "endPoint") d)))
+    (bends_in (get (codes "bendPoints") d)))
     (option_and_then point_in (get (codes "startPoint") d))
 
 -- the section of the edge with this id: its own id is the edge's followed by `_s0`
@@ -135,7 +139,8 @@ reversed_in doc n d = option_and_then (listable doc n) (option_and_then (list_in
 
 -- parts are read exactly where the level is split
 abbrev pub parts_in : Document → ℕ → Bool → Data → Option (List ℕ)
-parts_in doc n split d = if split then option_and_then (counted (child_count doc n)) (option_and_then (list_in small_in) (get (codes "parts") d)) else Some []
+parts_in doc n split d =
+    if split then option_and_then (counted (child_count doc n)) (option_and_then (list_in small_in) (get (codes "parts") d)) else Some []
 
 abbrev pub span_in : Data → Option ℕ
 span_in d = option_and_then large_in (get (codes "span") d)
@@ -143,7 +148,15 @@ span_in d = option_and_then large_in (get (codes "span") d)
 -- a certificate of its five parts, each of them there
 abbrev pub certificate_with : Option (List ℕ) → Option (List ℕ) → Option (List ℕ) → Option (List ℕ) → Option ℕ → Option Certificate
 certificate_with flow layers parts reversed span =
-    option_and_then (λ f. option_and_then (λ l. option_and_then (λ p. option_and_then (λ r. option_map (λ s. record { layers = l; reversed = r; flow = f; span = s; parts = p }) span) reversed) parts) layers) flow
+    option_and_then
+    (λ f. option_and_then
+    (λ l. option_and_then
+    (λ p. option_and_then
+    (λ r. option_map (λ s. record { layers = l; reversed = r; flow = f; span = s; parts = p }) span) reversed)
+    parts)
+    layers)
+    flow
 
 abbrev pub certificate_in : Document → ℕ → Bool → Data → Option Certificate
-certificate_in doc n split d = certificate_with (flow_in doc n d) (layers_in doc n d) (parts_in doc n split d) (reversed_in doc n d) (span_in d)
+certificate_in doc n split d =
+    certificate_with (flow_in doc n d) (layers_in doc n d) (parts_in doc n split d) (reversed_in doc n d) (span_in d)

@@ -59,7 +59,9 @@ edge_ids doc (n ∷ ns) = edge_id (slice_get doc.edges n) ++ edge_ids doc ns
 
 -- the members of a certificate that are numbers in any case
 abbrev pub number_members : Certificate → Members
-number_members c = member (codes "flow") (wholes c.flow) (member (codes "layers") (wholes c.layers) (member (codes "span") (whole (pos c.span)) no_members))
+number_members c =
+    member (codes "flow") (wholes c.flow)
+    (member (codes "layers") (wholes c.layers) (member (codes "span") (whole (pos c.span)) no_members))
 
 -- `parts` is written exactly where the level is split
 abbrev pub with_parts : Bool → Certificate → Members → Members

@@ -1,5 +1,6 @@
 -- The written members.
-use Rattle.std.specs.Prelude.{◌≡◌, ℕ, ◌+◌, List, [], ◌∷◌, filter, codes, Bool, false, IsTrue, Option, Some, None, option_and_then, slice_get}
+use Rattle.std.specs.Prelude.{◌≡◌, ℕ, ◌+◌, List, [], ◌∷◌, filter, codes, Bool, false, IsTrue, Option, Some, None, option_and_then}
+use Rattle.std.specs.Prelude.{slice_get}
 use Rattle.std.specs.Option.{option_map_or}
 use Rattle.serde_json.specs.Data.{Data}
 use Rattle.serde_json.specs.Find.{get}
@@ -48,8 +49,10 @@ IsPortWritten p n e = IfThere (slice_get p.ports n) (λ at. Has e.value (codes "
 -- an edge has one section, and none of the members in which other layouts stand
 abbrev pub IsEdgeWritten : Document → Placed → ℕ → Element → Type 0
 IsEdgeWritten doc p n e =
-    IfThere (slice_get doc.edges n) (λ edge. IfThere (slice_get p.sections n) (λ s. Has e.value (codes "sections") (sections_data edge.id s)))
-    × HasNot e.value (codes "bendPoints") × HasNot e.value (codes "junctionPoints") × HasNot e.value (codes "sourcePoint") × HasNot e.value (codes "targetPoint")
+    IfThere (slice_get doc.edges n)
+    (λ edge. IfThere (slice_get p.sections n) (λ s. Has e.value (codes "sections") (sections_data edge.id s)))
+    × HasNot e.value (codes "bendPoints") × HasNot e.value (codes "junctionPoints") × HasNot e.value (codes "sourcePoint")
+    × HasNot e.value (codes "targetPoint")
 
 -- w is v placed by p: the same but for the written members, and these with the values of p, each node, port and edge by
 -- its number in document order

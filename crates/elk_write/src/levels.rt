@@ -35,7 +35,9 @@ fn small_list(
     key: &str,
     count: usize,
 ) -> Result<Option<Vec<u32>>, AllocError>
-    ensures { IfOk result (λ o. option_map (λ v. v.items) o ≡ option_and_then (counted count) (option_and_then (list_in small_spec) (get key.now (view value.now)))) }
+    ensures { IfOk result
+        (λ o. option_map (λ v. v.items) o
+        ≡ option_and_then (counted count) (option_and_then (list_in small_spec) (get key.now (view value.now)))) }
 {
     match value.get(key).and_then(Value::as_array) {
         None => Ok(None),
@@ -202,7 +204,9 @@ fn certificate_from(
     reversed: Option<Vec<u32>>,
     span: Option<u64>,
 ) -> Option<Certificate>
-    ensures { result ≡ certificate_spec_of (option_map (λ v. v.items) flow) (option_map (λ v. v.items) layers) (option_map (λ v. v.items) parts) (option_map (λ v. v.items) reversed) span }
+    ensures { result
+        ≡ certificate_spec_of (option_map (λ v. v.items) flow) (option_map (λ v. v.items) layers)
+        (option_map (λ v. v.items) parts) (option_map (λ v. v.items) reversed) span }
 {
     let flow = flow?;
     let layers = layers?;

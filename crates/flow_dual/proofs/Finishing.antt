@@ -1,5 +1,5 @@
 -- The last state, lowered to layer 0.
-use Rattle.std.proofs.Common.{◌≡◌, ℕ, ◌<◌, ◌^◌, Bool, false, ℤ, pos, ◌≤ℤ◌, ◌<ℤ◌, List, length, get_or, replicate, map, arith, ap, ◌∙◌, inl, inr}
+use Rattle.std.proofs.Common.{◌≡◌, ℕ, ◌<◌, ◌^◌, Bool, ℤ, pos, ◌≤ℤ◌, ◌<ℤ◌, List, length, get_or, replicate, map, arith, ap, ◌∙◌, inl, inr}
 use Rattle.std.proofs.lemmas.Int.{ints}
 use Rattle.std.specs.List.{All}
 use Rattle.std.proofs.lemmas.Bool.{cases_lt}
@@ -12,7 +12,6 @@ use Rattle.network_laws.specs.Lowering.{KeepsRises}
 use Rattle.network_laws.specs.Paths.{AreGreatestSums}
 use Rattle.network_laws.specs.Tight.{IsDone}
 use Rattle.flow_dual.specs.declared.Label.{Label}
-use Rattle.flow_dual.specs.Searching.{IsCleared}
 use Rattle.flow_dual.specs.Augmented.{AreDrained}
 use Rattle.flow_dual.proofs.Draining.{drained_balances}
 use Rattle.flow_dual.proofs.Starting.{first_low}
@@ -51,11 +50,3 @@ same_everywhere n i d xs is =
       | inl l ↦ ap (λ ys. get_or ys i d) is ∙ get_or-replicate n i d d l
       | inr p ↦ get_or_past xs i d (let e = ap length is ∙ length-replicate n d in omega (arith, e, p))
     ]
-
-pub all_clear : (n : ℕ) (reached : List Bool) (labels : List Label) → reached ≡ replicate n false → labels ≡ replicate n (record { parent = 0; depth = 0; room = 0 }) → IsCleared n reached labels
-all_clear n reached labels marks names = record {
-  mark_for_each = ap length marks ∙ length-replicate n false;
-  label_for_each = ap length names ∙ length-replicate n (record { parent = 0; depth = 0; room = 0 });
-  none_reached = λ v. same_everywhere n v false reached marks;
-  no_depth = λ v. ap (λ (l : Label). l.depth) (same_everywhere n v (record { parent = 0; depth = 0; room = 0 }) labels names);
-}

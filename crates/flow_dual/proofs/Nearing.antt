@@ -260,6 +260,9 @@ module _ (nodes : ℕ) (edges : List NetEdge) (layers : List ℤ) (flow : List �
       pub new_node : (v < nodes) × (marked reached v ≡ false) × (reached' ≡ set reached v true)
       new_node = what nodes edges flow source turn rises.layers' reached labels st.tree ends rises.within s.edge v reached' labels' is_there leads g
 
+      pub mark_each : length reached' ≡ nodes
+      mark_each = ap length new_node.2 ∙ (length-set reached v true ∙ st.within.mark_for_each)
+
       abbrev dist' : List ℕ
       dist' = set dist v d
 
@@ -339,6 +342,7 @@ module _ (nodes : ℕ) (edges : List NetEdge) (layers : List ℤ) (flow : List �
         tree = set st.tree s.edge true;
         found = turn_last nodes edges flow source turn rises.layers' reached labels st.tree ends rises.within s.edge v reached' labels' is_there leads g lacks;
         rise = new_rise;
+        mark_for_each = mark_each;
         dist_each = length-set dist v d ∙ st.dist_each;
         listed = new_listed;
         in_range = new_range;
@@ -498,6 +502,9 @@ module _ (nodes : ℕ) (edges : List NetEdge) (layers : List ℤ) (flow : List �
 
 pub tells_lack : (nodes : ℕ) (edges : List NetEdge) (flow : List ℕ) (excess : List ℤ) (v : ℕ) → TellsExcess nodes edges flow excess → v < nodes → layer_of excess v <ℤ pos 0 → given edges flow v < asked edges flow v
 tells_lack nodes edges flow excess v t l less = let e = t v l in omega (arith, ints, e, less)
+
+pub tells_surplus : (nodes : ℕ) (edges : List NetEdge) (flow : List ℕ) (excess : List ℤ) (v : ℕ) → TellsExcess nodes edges flow excess → v < nodes → pos 0 <ℤ layer_of excess v → asked edges flow v < given edges flow v
+tells_surplus nodes edges flow excess v t l more = let e = t v l in omega (arith, ints, e, more)
 
 pub tells_enough : (nodes : ℕ) (edges : List NetEdge) (flow : List ℕ) (excess : List ℤ) (v : ℕ) → TellsExcess nodes edges flow excess → v < nodes → pos 0 ≤ℤ layer_of excess v → asked edges flow v ≤ given edges flow v
 tells_enough nodes edges flow excess v t l le = let e = t v l in omega (arith, ints, e, le)

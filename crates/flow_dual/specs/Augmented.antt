@@ -19,20 +19,23 @@ abbrev pub NoNewSurplus : ℕ → List ℤ → List ℤ → Type 0
 NoNewSurplus source old new = (v : ℕ) → v ≢ source → layer_of old v ≤ℤ pos 0 → layer_of new v ≤ℤ pos 0
 
 -- the surplus of one node is less, and no other node has a new one
-pub record IsAugmented (nodes : ℕ) (edges : List NetEdge) (source : ℕ) (old : List ℤ) (layers : List ℤ) (flow : List ℕ) (excess : List ℤ) (reached : List Bool) (labels : List Label) (dist : List ℕ) : Type 0 where
+pub record IsAugmented (nodes : ℕ) (edges : List NetEdge) (source : ℕ) (old : List ℤ) (layers : List ℤ) (flow : List ℕ)
+    (excess : List ℤ) (reached : List Bool) (labels : List Label) (dist : List ℕ) : Type 0 where
   pub between : IsBetween nodes edges layers flow excess reached labels dist
   pub falls : layer_of excess source <ℤ layer_of old source
   pub from_zero : pos 0 ≤ℤ layer_of excess source
   pub others : NoNewSurplus source old excess
 
 -- one node has no surplus left
-pub record IsDrained (nodes : ℕ) (edges : List NetEdge) (source : ℕ) (old : List ℤ) (layers : List ℤ) (flow : List ℕ) (excess : List ℤ) (reached : List Bool) (labels : List Label) (dist : List ℕ) : Type 0 where
+pub record IsDrained (nodes : ℕ) (edges : List NetEdge) (source : ℕ) (old : List ℤ) (layers : List ℤ) (flow : List ℕ)
+    (excess : List ℤ) (reached : List Bool) (labels : List Label) (dist : List ℕ) : Type 0 where
   pub between : IsBetween nodes edges layers flow excess reached labels dist
   pub none_left : layer_of excess source ≤ℤ pos 0
   pub others : NoNewSurplus source old excess
 
 -- so far, while one node is drained
-pub record IsDraining (nodes : ℕ) (edges : List NetEdge) (source : ℕ) (old : List ℤ) (layers : List ℤ) (flow : List ℕ) (excess : List ℤ) (reached : List Bool) (labels : List Label) (dist : List ℕ) : Type 0 where
+pub record IsDraining (nodes : ℕ) (edges : List NetEdge) (source : ℕ) (old : List ℤ) (layers : List ℤ) (flow : List ℕ)
+    (excess : List ℤ) (reached : List Bool) (labels : List Label) (dist : List ℕ) : Type 0 where
   pub between : IsBetween nodes edges layers flow excess reached labels dist
   pub others : NoNewSurplus source old excess
 
@@ -42,11 +45,13 @@ pub record AreWaiting (nodes : ℕ) (excess : List ℤ) (sources : List Source) 
   pub waits : (v : ℕ) → v < nodes → pos 0 <ℤ layer_of excess v → (s : Source) × Contains sources s × (s.node ≡ v)
 
 -- between two nodes that are drained, while these sources wait
-pub record IsDrainingAll (nodes : ℕ) (edges : List NetEdge) (sources : List Source) (layers : List ℤ) (flow : List ℕ) (excess : List ℤ) (reached : List Bool) (labels : List Label) (dist : List ℕ) : Type 0 where
+pub record IsDrainingAll (nodes : ℕ) (edges : List NetEdge) (sources : List Source) (layers : List ℤ) (flow : List ℕ)
+    (excess : List ℤ) (reached : List Bool) (labels : List Label) (dist : List ℕ) : Type 0 where
   pub between : IsBetween nodes edges layers flow excess reached labels dist
   pub waiting : AreWaiting nodes excess sources
 
 -- no node has a surplus
-pub record AreDrained (nodes : ℕ) (edges : List NetEdge) (layers : List ℤ) (flow : List ℕ) (excess : List ℤ) (reached : List Bool) (labels : List Label) (dist : List ℕ) : Type 0 where
+pub record AreDrained (nodes : ℕ) (edges : List NetEdge) (layers : List ℤ) (flow : List ℕ) (excess : List ℤ)
+    (reached : List Bool) (labels : List Label) (dist : List ℕ) : Type 0 where
   pub between : IsBetween nodes edges layers flow excess reached labels dist
   pub none_left : (v : ℕ) → v < nodes → layer_of excess v ≤ℤ pos 0

@@ -8,11 +8,17 @@ use Rattle.std.specs.List.Sorted.{IsPermutation}
 use Rattle.network_laws.specs.declared.network.NetEdge.{NetEdge}
 use Rattle.network_laws.specs.declared.links.End.{End}
 use Rattle.network_laws.specs.declared.links.End.TheVariants.{Tail, Head}
+use Rattle.network_laws.specs.declared.links.Links.{Links}
 use Rattle.network_laws.specs.Network.{edge_at}
 use Rattle.network_laws.specs.Layering.{layer_of}
 use Rattle.network_laws.specs.Links.{end_of}
 use Rattle.flow_dual.specs.declared.queue.Step.{Step}
 use Rattle.flow_dual.specs.declared.queue.Steps.{Steps}
+
+-- of the edges by either end those by this one
+abbrev pub links_at : End → Links → Links → Links
+links_at Tail tails heads = tails
+links_at Head tails heads = heads
 
 -- how far the reached nodes have to be raised for a step
 abbrev pub nearness : Step → ℕ
@@ -69,15 +75,21 @@ IsStepFrom layers e amount near Tail d = layer_of layers e.tail +ℤ pos e.least
 IsStepFrom layers e amount near Head d = (0 < amount) × (d ≡ near)
 
 -- the open edges below i with this end at v give new steps
-pub record Offers (edges : List NetEdge) (layers : List ℤ) (flow : List ℕ) (set : ℕ → Bool) (end : End) (v near i : ℕ) (old new : List Step) : Type 0 where
+pub record Offers (edges : List NetEdge) (layers : List ℤ) (flow : List ℕ) (set : ℕ → Bool) (end : End) (v near i : ℕ)
+    (old new : List Step) : Type 0 where
   pub kept : (t : Step) → Contains old t → Contains new t
-  pub offered : (k : ℕ) → k < i → end_of end (edge_at edges k) ≡ v → IsOpen set end (edge_at edges k) (slice_index flow k) → (t : Step) × Contains new t × (t.edge ≡ k)
-  pub only : (t : Step) → Contains new t → Contains old t ⊎ ((t.edge < length edges) × (end_of end (edge_at edges t.edge) ≡ v) × IsStepFrom layers (edge_at edges t.edge) (slice_index flow t.edge) near end (nearness t))
+  pub offered : (k : ℕ) → k < i → end_of end (edge_at edges k) ≡ v → IsOpen set end (edge_at edges k) (slice_index flow k)
+      → (t : Step) × Contains new t × (t.edge ≡ k)
+  pub only : (t : Step) → Contains new t
+      → Contains old t
+      ⊎ ((t.edge < length edges) × (end_of end (edge_at edges t.edge) ≡ v)
+      × IsStepFrom layers (edge_at edges t.edge) (slice_index flow t.edge) near end (nearness t))
 
 -- the steps from v over its edges at one end are added, and then those at the other
 abbrev pub OffersBoth : List NetEdge → List ℤ → List ℕ → (ℕ → Bool) → ℕ → ℕ → List Step → List Step → Type 0
 OffersBoth edges layers flow set v near old new =
-    (mid : List Step) × Offers edges layers flow set Tail v near (length edges) old mid × Offers edges layers flow set Head v near (length edges) mid new
+    (mid : List Step) × Offers edges layers flow set Tail v near (length edges) old mid
+    × Offers edges layers flow set Head v near (length edges) mid new
 
 -- the end is the head, so the step goes back over the edge
 abbrev pub IsBack : End → Type 0

@@ -1,5 +1,6 @@
 -- What the method keeps from one augmentation to the next.
-use Rattle.std.specs.Prelude.{◌≡◌, ℕ, zero, suc, ◌+◌, ◌-◌, ◌*◌, ◌<◌, ◌≤◌, Bool, true, false, ℤ, pos, ◌+ℤ◌, ◌≤ℤ◌, ◌<ℤ◌, ◌^◌, cond, List, length, slice_index}
+use Rattle.std.specs.Prelude.{◌≡◌, ℕ, zero, suc, ◌+◌, ◌-◌, ◌*◌, ◌<◌, ◌≤◌, Bool, true, false, ℤ, pos, ◌+ℤ◌, ◌≤ℤ◌, ◌<ℤ◌, ◌^◌, cond, List}
+use Rattle.std.specs.Prelude.{length, slice_index}
 use Rattle.std.specs.List.{sum_by}
 use Rattle.network_laws.specs.declared.network.NetEdge.{NetEdge}
 use Rattle.network_laws.specs.Network.{edge_at, EndsBelow}
@@ -45,8 +46,10 @@ pub record StaysLow (nodes : ℕ) (edges : List NetEdge) (layers : List ℤ) (fl
 -- a raise by the slack of an edge that leaves the reached nodes
 abbrev pub RaiseStaysLow : Type 0
 RaiseStaysLow =
-    (nodes : ℕ) (edges : List NetEdge) (layers layers' : List ℤ) (flow : List ℕ) (source turn by k : ℕ) (reached : List Bool) (labels : List Label) (tree : List Bool)
-    → length layers ≡ nodes → EndsBelow nodes edges → IsSearch edges layers flow source turn reached labels tree → IsRaised layers (marked reached) by layers'
+    (nodes : ℕ) (edges : List NetEdge) (layers layers' : List ℤ) (flow : List ℕ) (source turn by k : ℕ) (reached : List Bool)
+    (labels : List Label) (tree : List Bool)
+    → length layers ≡ nodes → EndsBelow nodes edges → IsSearch edges layers flow source turn reached labels tree
+    → IsRaised layers (marked reached) by layers'
     → k < length edges → Leaves (marked reached) (edge_at edges k)
     → (layer_of layers (edge_at edges k).tail +ℤ pos (edge_at edges k).least +ℤ pos by ≡ layer_of layers (edge_at edges k).head)
     → StaysLow nodes edges layers flow (marked reached) → StaysLow nodes edges layers' flow (marked reached)
@@ -54,7 +57,8 @@ RaiseStaysLow =
 -- once a node that asks for more is reached, all layers are as low as between two searches
 abbrev pub FoundIsLow : Type 0
 FoundIsLow =
-    (nodes : ℕ) (edges : List NetEdge) (layers : List ℤ) (flow : List ℕ) (source turn to : ℕ) (reached : List Bool) (labels : List Label) (tree : List Bool) (set : ℕ → Bool)
+    (nodes : ℕ) (edges : List NetEdge) (layers : List ℤ) (flow : List ℕ) (source turn to : ℕ) (reached : List Bool)
+    (labels : List Label) (tree : List Bool) (set : ℕ → Bool)
     → IsSearch edges layers flow source turn reached labels tree → StaysLow nodes edges layers flow set
     → ((v : ℕ) → marked reached v ≡ false → set v ≡ false)
     → to < nodes → marked reached to ≡ true → given edges flow to < asked edges flow to
@@ -63,7 +67,8 @@ FoundIsLow =
 -- an augmentation keeps the state, and the surplus falls by the amount
 abbrev pub PushKeeps : Type 0
 PushKeeps =
-    (nodes : ℕ) (edges : List NetEdge) (layers : List ℤ) (flow flow' : List ℕ) (most source turn to amount : ℕ) (reached : List Bool) (labels : List Label) (tree : List Bool)
+    (nodes : ℕ) (edges : List NetEdge) (layers : List ℤ) (flow flow' : List ℕ) (most source turn to amount : ℕ)
+    (reached : List Bool) (labels : List Label) (tree : List Bool)
     → EndsBelow nodes edges → IsRound nodes edges layers flow most → IsSearch edges layers flow source turn reached labels tree
     → source < nodes → given edges flow to + amount ≤ asked edges flow to → asked edges flow source + amount ≤ given edges flow source
     → PushedFrom edges labels flow to amount source flow'
@@ -87,7 +92,8 @@ abbrev pub unreached : List Bool → ℕ
 unreached reached = sum_by (λ b. cond b 0 1) reached
 
 -- within a search that has found no node that asks for more
-pub record IsWithin (nodes : ℕ) (edges : List NetEdge) (flow : List ℕ) (source turn : ℕ) (layers : List ℤ) (reached : List Bool) (labels : List Label) (tree : List Bool) : Type 0 where
+pub record IsWithin (nodes : ℕ) (edges : List NetEdge) (flow : List ℕ) (source turn : ℕ) (layers : List ℤ) (reached : List Bool)
+    (labels : List Label) (tree : List Bool) : Type 0 where
   pub searched : IsSearch edges layers flow source turn reached labels tree
   pub low : StaysLow nodes edges layers flow (marked reached)
   pub layer_for_each : length layers ≡ nodes
@@ -99,7 +105,8 @@ pub record IsWithin (nodes : ℕ) (edges : List NetEdge) (flow : List ℕ) (sour
   pub begun : 0 < turn
 
 -- a node that asks for more is found
-pub record IsFound (nodes : ℕ) (edges : List NetEdge) (flow : List ℕ) (source to : ℕ) (layers : List ℤ) (reached : List Bool) (labels : List Label) (tree : List Bool) : Type 0 where
+pub record IsFound (nodes : ℕ) (edges : List NetEdge) (flow : List ℕ) (source to : ℕ) (layers : List ℤ) (reached : List Bool)
+    (labels : List Label) (tree : List Bool) : Type 0 where
   pub turn : ℕ
   pub searched : IsSearch edges layers flow source turn reached labels tree
   pub is_node : to < nodes
@@ -115,5 +122,7 @@ pub record IsFound (nodes : ℕ) (edges : List NetEdge) (flow : List ℕ) (sourc
 -- where a search ends there is a state between two searches again
 abbrev pub SearchEnds : Type 0
 SearchEnds =
-    (nodes : ℕ) (edges : List NetEdge) (layers layers' : List ℤ) (flow : List ℕ) (most source to : ℕ) (reached : List Bool) (labels : List Label) (tree : List Bool)
-    → IsRound nodes edges layers flow most → IsFound nodes edges flow source to layers' reached labels tree → IsRound nodes edges layers' flow most
+    (nodes : ℕ) (edges : List NetEdge) (layers layers' : List ℤ) (flow : List ℕ) (most source to : ℕ) (reached : List Bool)
+    (labels : List Label) (tree : List Bool)
+    → IsRound nodes edges layers flow most → IsFound nodes edges flow source to layers' reached labels tree
+    → IsRound nodes edges layers' flow most

@@ -10,11 +10,11 @@ ghost use Rattle.flow_dual.specs.Rounds.{all_least};
 ghost use Rattle.flow_dual.specs.Searching.{IsBetween};
 ghost use Rattle.flow_dual.specs.Augmented.{MovesExcess, IsAugmented, IsDrained, IsDraining, AreDrained};
 
+use crate::marks::{Linked, Marks};
+use crate::push;
 use crate::settle::settle;
 use crate::sources::sources_of;
 use crate::turns::search;
-use crate::{Label, push};
-use network_laws::{Links, NetEdge};
 use std::alloc::{AllocError, Global};
 
 /// What a node asks for more than it is given.
@@ -58,70 +58,69 @@ fn move_excess(excess: &mut [i64], source: u32, to: u32, amount: u64)
 /// Moves as much surplus as it can from the source over one way.
 fn augment(
     alloc: Global,
-    edges: &[NetEdge],
-    tails: &Links,
-    heads: &Links,
+    net: &Linked,
     source: u32,
     layer: &mut [i64],
     flow: &mut [u64],
     excess: &mut [i64],
-    reached: &mut [bool],
-    labels: &mut [Label],
-    dist: &mut [u64],
+    marks: &mut Marks,
 ) -> Result<(), AllocError>
     requires few { length layer.old ≤ 2 ^ 23 }
-    requires few_edges { length edges.now ≤ 2 ^ 24 }
-    requires least { all_least edges.now < 2 ^ 62 }
-    requires ends { EndsBelow (length layer.old) edges.now }
-    requires tails { AreLinks (length layer.old) edges.now Tail tails.now.first.items tails.now.next.items }
-    requires heads { AreLinks (length layer.old) edges.now Head heads.now.first.items heads.now.next.items }
-    requires between { IsBetween (length layer.old) edges.now layer.old flow.old excess.old reached.old labels.old dist.old }
+    requires few_edges { length net.now.edges.now ≤ 2 ^ 24 }
+    requires least { all_least net.now.edges.now < 2 ^ 62 }
+    requires ends { EndsBelow (length layer.old) net.now.edges.now }
+    requires tails { AreLinks (length layer.old) net.now.edges.now Tail net.now.tails.now.first.items net.now.tails.now.next.items }
+    requires heads { AreLinks (length layer.old) net.now.edges.now Head net.now.heads.now.first.items net.now.heads.now.next.items }
+    requires between { IsBetween (length layer.old) net.now.edges.now layer.old flow.old excess.old marks.old.reached.items
+        marks.old.labels.items marks.old.dist.items }
     requires source { source < length layer.old }
     requires more { pos 0 <ℤ layer_of excess.old source }
-    ensures { OnOk result (IsAugmented (length layer.old) edges.now source excess.old layer.new flow.new excess.new reached.new labels.new dist.new) }
+    ensures { OnOk result
+        (IsAugmented (length layer.old) net.now.edges.now source excess.old layer.new flow.new excess.new
+        marks.new.reached.items marks.new.labels.items marks.new.dist.items) }
 {
     let room = excess[source as usize] as u64;
-    let mut order: Vec<u32> = Vec::new(alloc);
-    let found = search(
-        alloc, edges, tails, heads, layer, flow, excess, source, room, reached, labels, dist,
-        &mut order,
-    )?;
+    let found = search(alloc, net, layer, flow, excess, source, marks)?;
     let lack = lack_of(excess[found.to as usize]);
-    let amount = room.min(labels[found.to as usize].room).min(lack);
-    push(edges, labels, flow, found.to, amount);
+    let amount = room.min(marks.room_at(found.to)).min(lack);
+    push(net.edges, &marks.labels, flow, found.to, amount);
     move_excess(excess, source, found.to, amount);
-    settle(order.as_slice(), found.now, dist, layer, reached, labels);
+    settle(
+        &marks.order,
+        found.now,
+        &marks.dist,
+        layer,
+        &mut marks.reached,
+        &mut marks.labels,
+    );
     Ok(())
 }
 
 /// Augments until the node has no surplus.
 fn drain(
     alloc: Global,
-    edges: &[NetEdge],
-    tails: &Links,
-    heads: &Links,
+    net: &Linked,
     source: u32,
     layer: &mut [i64],
     flow: &mut [u64],
     excess: &mut [i64],
-    reached: &mut [bool],
-    labels: &mut [Label],
-    dist: &mut [u64],
+    marks: &mut Marks,
 ) -> Result<(), AllocError>
     requires few { length layer.old ≤ 2 ^ 23 }
-    requires few_edges { length edges.now ≤ 2 ^ 24 }
-    requires least { all_least edges.now < 2 ^ 62 }
-    requires ends { EndsBelow (length layer.old) edges.now }
-    requires tails { AreLinks (length layer.old) edges.now Tail tails.now.first.items tails.now.next.items }
-    requires heads { AreLinks (length layer.old) edges.now Head heads.now.first.items heads.now.next.items }
-    requires between { IsBetween (length layer.old) edges.now layer.old flow.old excess.old reached.old labels.old dist.old }
+    requires few_edges { length net.now.edges.now ≤ 2 ^ 24 }
+    requires least { all_least net.now.edges.now < 2 ^ 62 }
+    requires ends { EndsBelow (length layer.old) net.now.edges.now }
+    requires tails { AreLinks (length layer.old) net.now.edges.now Tail net.now.tails.now.first.items net.now.tails.now.next.items }
+    requires heads { AreLinks (length layer.old) net.now.edges.now Head net.now.heads.now.first.items net.now.heads.now.next.items }
+    requires between { IsBetween (length layer.old) net.now.edges.now layer.old flow.old excess.old marks.old.reached.items
+        marks.old.labels.items marks.old.dist.items }
     requires source { source < length layer.old }
-    ensures { OnOk result (IsDrained (length layer.old) edges.now source excess.old layer.new flow.new excess.new reached.new labels.new dist.new) }
+    ensures { OnOk result
+        (IsDrained (length layer.old) net.now.edges.now source excess.old layer.new flow.new excess.new
+        marks.new.reached.items marks.new.labels.items marks.new.dist.items) }
 {
     while excess[source as usize] > 0 {
-        augment(
-            alloc, edges, tails, heads, source, layer, flow, excess, reached, labels, dist,
-        )?;
+        augment(alloc, net, source, layer, flow, excess, marks)?;
     }
     Ok(())
 }
@@ -130,40 +129,27 @@ fn drain(
 /// searches end sooner. A surplus never comes back, so no node is looked at again.
 pub fn drain_all(
     alloc: Global,
-    edges: &[NetEdge],
-    tails: &Links,
-    heads: &Links,
+    net: &Linked,
     layer: &mut [i64],
     flow: &mut [u64],
     excess: &mut [i64],
-    reached: &mut [bool],
-    labels: &mut [Label],
-    dist: &mut [u64],
+    marks: &mut Marks,
 ) -> Result<(), AllocError>
     requires few { length layer.old ≤ 2 ^ 23 }
-    requires few_edges { length edges.now ≤ 2 ^ 24 }
-    requires least { all_least edges.now < 2 ^ 62 }
-    requires ends { EndsBelow (length layer.old) edges.now }
-    requires tails { AreLinks (length layer.old) edges.now Tail tails.now.first.items tails.now.next.items }
-    requires heads { AreLinks (length layer.old) edges.now Head heads.now.first.items heads.now.next.items }
-    requires between { IsBetween (length layer.old) edges.now layer.old flow.old excess.old reached.old labels.old dist.old }
-    ensures { OnOk result (AreDrained (length layer.old) edges.now layer.new flow.new excess.new reached.new labels.new dist.new) }
+    requires few_edges { length net.now.edges.now ≤ 2 ^ 24 }
+    requires least { all_least net.now.edges.now < 2 ^ 62 }
+    requires ends { EndsBelow (length layer.old) net.now.edges.now }
+    requires tails { AreLinks (length layer.old) net.now.edges.now Tail net.now.tails.now.first.items net.now.tails.now.next.items }
+    requires heads { AreLinks (length layer.old) net.now.edges.now Head net.now.heads.now.first.items net.now.heads.now.next.items }
+    requires between { IsBetween (length layer.old) net.now.edges.now layer.old flow.old excess.old marks.old.reached.items
+        marks.old.labels.items marks.old.dist.items }
+    ensures { OnOk result
+        (AreDrained (length layer.old) net.now.edges.now layer.new flow.new excess.new marks.new.reached.items
+        marks.new.labels.items marks.new.dist.items) }
 {
     let mut sources = sources_of(alloc, layer, excess)?;
     'sources: while let Some(source) = sources.pop() {
-        drain(
-            alloc,
-            edges,
-            tails,
-            heads,
-            source.node,
-            layer,
-            flow,
-            excess,
-            reached,
-            labels,
-            dist,
-        )?;
+        drain(alloc, net, source.node, layer, flow, excess, marks)?;
     }
     Ok(())
 }

@@ -8,6 +8,7 @@ ghost use Rattle.network_laws.specs.Tight.{IsDone};
 ghost use Rattle.flow_dual.specs.Labels.{PushesOver, IsLabelled, IsPushed};
 
 mod augment;
+mod marks;
 mod queue;
 mod settle;
 mod solving;

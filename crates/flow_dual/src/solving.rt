@@ -9,8 +9,9 @@ ghost use Rattle.flow_dual.specs.Searching.{IsBetween, IsCleared};
 ghost use Rattle.flow_dual.specs.Augmented.{AreDrained};
 
 use crate::augment::drain_all;
+use crate::finish;
+use crate::marks::{Linked, Marks, no_marks};
 use crate::start::{as_layers, begin};
-use crate::{Label, finish};
 use network_laws::{
     End, NetEdge, Network, Solution, begin_at_zero, greatest_sums, link_edges, part_numbers,
 };
@@ -31,9 +32,7 @@ fn run(
     layer: &mut [i64],
     flow: &mut [u64],
     excess: &mut [i64],
-    reached: &mut [bool],
-    labels: &mut [Label],
-    dist: &mut [u64],
+    marks: &mut Marks,
 ) -> Result<(), AllocError>
     requires network { IsNetwork (length layer.old) edges.now }
     requires layering { IsLayering edges.now layer.old }
@@ -43,16 +42,19 @@ fn run(
     requires no_flow { (k : ℕ) → slice_index flow.old k ≡ 0 }
     requires excess { length excess.old ≡ length layer.old }
     requires no_excess { (v : ℕ) → layer_of excess.old v ≡ pos 0 }
-    requires cleared { IsCleared (length layer.old) reached.old labels.old }
-    requires dist { length dist.old ≡ length layer.old }
+    requires cleared { IsCleared (length layer.old) marks.old.reached.items marks.old.labels.items }
+    requires dist { length marks.old.dist.items ≡ length layer.old }
     ensures { OnOk result (IsDone (length layer.old) edges.now layer.new flow.new) }
 {
     let tails = link_edges(alloc, layer.len() as u32, edges, End::Tail)?;
     let heads = link_edges(alloc, layer.len() as u32, edges, End::Head)?;
     begin(edges, layer, flow, excess);
-    drain_all(
-        alloc, edges, &tails, &heads, layer, flow, excess, reached, labels, dist,
-    )?;
+    let net = Linked {
+        edges,
+        tails: &tails,
+        heads: &heads,
+    };
+    drain_all(alloc, &net, layer, flow, excess, marks)?;
     begin_at_zero(alloc, layer.len() as u32, edges, layer)?;
     Ok(())
 }
@@ -73,25 +75,9 @@ fn run_from(
     ensures { OnOk result (IsDone (length layer.old) edges.now layer.new flow.new) }
 {
     let nodes = layer.len();
-    let blank = Label {
-        parent: 0,
-        depth: 0,
-        room: 0,
-    };
     let mut excess: Vec<i64> = vec![in alloc; 0; nodes]?;
-    let mut reached: Vec<bool> = vec![in alloc; false; nodes]?;
-    let mut labels: Vec<Label> = vec![in alloc; blank; nodes]?;
-    let mut dist: Vec<u64> = vec![in alloc; 0; nodes]?;
-    run(
-        alloc,
-        edges,
-        layer,
-        flow,
-        excess.as_mut_slice(),
-        reached.as_mut_slice(),
-        labels.as_mut_slice(),
-        dist.as_mut_slice(),
-    )
+    let mut marks = no_marks(alloc, nodes)?;
+    run(alloc, edges, layer, flow, excess.as_mut_slice(), &mut marks)
 }
 
 /// A layering of least cost, and a flow that proves it, found from a layering whose layers are from 0 on: each head

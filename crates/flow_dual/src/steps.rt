@@ -7,29 +7,30 @@ ghost use Rattle.network_laws.specs.Layering.{IsLayering, layer_of};
 ghost use Rattle.network_laws.specs.Links.{AreLinks, end_of};
 ghost use Rattle.network_laws.specs.declared.links.End.TheVariants.{Head};
 ghost use Rattle.flow_dual.specs.State.{marked};
-ghost use Rattle.flow_dual.specs.Queue.{nearness, waiting, AreInOrder, Crosses, IsOpen, IsStepFrom, Offers, TakesStep, HasNoStep, IsBack};
+ghost use Rattle.flow_dual.specs.Queue.{nearness, waiting, AreInOrder, Crosses, IsOpen, IsStepFrom, Offers, links_at, TakesStep, HasNoStep, IsBack};
 
+use crate::marks::{Linked, Marks};
 use crate::queue::{Step, Steps, add_step, take_nearest};
-use network_laws::{End, Links, NetEdge, first_of, next_of};
+use network_laws::{End, NetEdge, first_of, next_of};
 use std::alloc::AllocError;
 
 /// Whether a node that is not reached may be reached over the edge from this end.
-fn is_open(reached: &[bool], e: NetEdge, amount: u64, end: End) -> bool
-    requires tail { e.tail < length reached.now }
-    requires head { e.head < length reached.now }
-    ensures { IsTrue result ↔ IsOpen (marked reached.now) end e amount }
+fn is_open(marks: &Marks, e: NetEdge, amount: u64, end: End) -> bool
+    requires tail { e.tail < length marks.now.reached.items }
+    requires head { e.head < length marks.now.reached.items }
+    ensures { IsTrue result ↔ IsOpen (marked marks.now.reached.items) end e amount }
 {
     match end {
-        End::Tail => !reached[e.head as usize],
-        End::Head => is_open_back(reached, e, amount),
+        End::Tail => !marks.reached[e.head as usize],
+        End::Head => is_open_back(marks, e, amount),
     }
 }
 
-fn is_open_back(reached: &[bool], e: NetEdge, amount: u64) -> bool
-    requires tail { e.tail < length reached.now }
-    ensures { IsTrue result ↔ IsOpen (marked reached.now) Head e amount }
+fn is_open_back(marks: &Marks, e: NetEdge, amount: u64) -> bool
+    requires tail { e.tail < length marks.now.reached.items }
+    ensures { IsTrue result ↔ IsOpen (marked marks.now.reached.items) Head e amount }
 {
-    if reached[e.tail as usize] {
+    if marks.reached[e.tail as usize] {
         return false;
     }
     amount > 0
@@ -75,35 +76,40 @@ fn step_near(layer: &[i64], e: NetEdge, amount: u64, end: End, near: u64) -> u64
 
 /// Adds the steps from v over its edges at one end to nodes that are not reached.
 pub fn offer(
-    edges: &[NetEdge],
-    links: &Links,
+    net: &Linked,
     end: End,
     layer: &[i64],
     flow: &[u64],
-    reached: &[bool],
+    marks: &Marks,
     v: u32,
     steps: &mut Steps,
 ) -> Result<(), AllocError>
-    requires few { length edges.now ≤ 2 ^ 24 }
-    requires ends { EndsBelow (length layer.now) edges.now }
-    requires links { AreLinks (length layer.now) edges.now end links.now.first.items links.now.next.items }
-    requires layering { IsLayering edges.now layer.now }
+    requires few { length net.now.edges.now ≤ 2 ^ 24 }
+    requires ends { EndsBelow (length layer.now) net.now.edges.now }
+    requires links { AreLinks (length layer.now) net.now.edges.now end
+        (links_at end net.now.tails.now net.now.heads.now).first.items
+        (links_at end net.now.tails.now net.now.heads.now).next.items }
+    requires layering { IsLayering net.now.edges.now layer.now }
     requires from_zero { (v : ℕ) → v < length layer.now → pos 0 ≤ℤ layer_of layer.now v }
-    requires flow { length flow.now ≡ length edges.now }
-    requires marks { length reached.now ≡ length layer.now }
+    requires flow { length flow.now ≡ length net.now.edges.now }
+    requires marks { length marks.now.reached.items ≡ length layer.now }
     requires there { v < length layer.now }
     requires low { pos steps.old.now ≤ℤ (layer_of layer.now v +ℤ pos (2 ^ 62)) }
     requires order { AreInOrder steps.old }
     ensures order { OnOk result (AreInOrder steps.new) }
     ensures now { OnOk result (steps.new.now ≡ steps.old.now) }
-    ensures offers { OnOk result (Offers edges.now layer.now flow.now (marked reached.now) end v steps.old.now (length edges.now) (waiting steps.old) (waiting steps.new)) }
+    ensures offers { OnOk result
+        (Offers net.now.edges.now layer.now flow.now (marked marks.now.reached.items) end v steps.old.now
+        (length net.now.edges.now) (waiting steps.old) (waiting steps.new)) }
 {
+    let edges = net.edges;
+    let links = net.links_at(end);
     let near = steps.now;
     let mut k = first_of(links, v);
     while (k as usize) < edges.len() {
         let e = edges[k as usize];
         let amount = flow[k as usize];
-        if is_open(reached, e, amount, end) {
+        if is_open(marks, e, amount, end) {
             add_step(steps, step_near(layer, e, amount, end, near), k)?;
         }
         k = next_of(links, k);
@@ -111,26 +117,26 @@ pub fn offer(
     Ok(())
 }
 
-fn crosses(reached: &[bool], e: NetEdge) -> bool
-    requires tail { e.tail < length reached.now }
-    requires head { e.head < length reached.now }
-    ensures { IsTrue result ↔ Crosses (marked reached.now) e }
+fn crosses(marks: &Marks, e: NetEdge) -> bool
+    requires tail { e.tail < length marks.now.reached.items }
+    requires head { e.head < length marks.now.reached.items }
+    ensures { IsTrue result ↔ Crosses (marked marks.now.reached.items) e }
 {
-    reached[e.tail as usize] != reached[e.head as usize]
+    marks.reached[e.tail as usize] != marks.reached[e.head as usize]
 }
 
 /// Takes out the nearest step over an edge of which one end is reached.
-pub fn next_step(edges: &[NetEdge], reached: &[bool], steps: &mut Steps) -> Option<Step>
-    requires ends { EndsBelow (length reached.now) edges.now }
+pub fn next_step(edges: &[NetEdge], marks: &Marks, steps: &mut Steps) -> Option<Step>
+    requires ends { EndsBelow (length marks.now.reached.items) edges.now }
     requires in_range { All (λ t. t.edge < length edges.now) (waiting steps.old) }
     requires order { AreInOrder steps.old }
     ensures order { IfSome result (λ s. AreInOrder steps.new) }
-    ensures some { IfSome result (λ s. TakesStep edges.now (marked reached.now) (waiting steps.old) s (waiting steps.new)) }
+    ensures some { IfSome result (λ s. TakesStep edges.now (marked marks.now.reached.items) (waiting steps.old) s (waiting steps.new)) }
     ensures now { IfSome result (λ s. steps.new.now ≡ nearness s) }
-    ensures none { IfNone result (HasNoStep edges.now (marked reached.now) (waiting steps.old)) }
+    ensures none { IfNone result (HasNoStep edges.now (marked marks.now.reached.items) (waiting steps.old)) }
 {
     while let Some(step) = take_nearest(steps) {
-        if crosses(reached, edges[step.edge as usize]) {
+        if crosses(marks, edges[step.edge as usize]) {
             return Some(step);
         }
     }

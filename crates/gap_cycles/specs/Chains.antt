@@ -15,7 +15,8 @@ pub record AreFirsts (nodes : ℕ) (links : List Link) (low : ℕ) (first : List
 pub record AreNexts (links : List Link) (low : ℕ) (next : List ℕ) : Type 0 where
   pub as_many : length next ≡ length links
   pub after : (k : ℕ) → low ≤ k → k < length links → k < number_at next k
-  pub tails : (k : ℕ) → low ≤ k → k < length links → number_at next k < length links → (link_at links (number_at next k)).tail ≡ (link_at links k).tail
+  pub tails : (k : ℕ) → low ≤ k → k < length links → number_at next k < length links
+      → (link_at links (number_at next k)).tail ≡ (link_at links k).tail
   pub least : (k j : ℕ) → low ≤ k → k < j → j < length links → (link_at links j).tail ≡ (link_at links k).tail → number_at next k ≤ j
 
 -- a link is put before the others that leave its tail

@@ -32,7 +32,9 @@ CutsOnCycles links marks = (k : ℕ) → k < length links → is_marked marks k 
 
 -- each link that is not marked leads to a node that lies less deep
 abbrev pub LeadsLessDeep : List Link → List Bool → List ℕ → Type 0
-LeadsLessDeep links marks depths = (k : ℕ) → k < length links → is_marked marks k ≡ false → number_at depths (link_at links k).head < number_at depths (link_at links k).tail
+LeadsLessDeep links marks depths =
+    (k : ℕ) → k < length links → is_marked marks k ≡ false
+    → number_at depths (link_at links k).head < number_at depths (link_at links k).tail
 
 -- a link that is not marked leads from the node to one that lies one less deep
 pub record IsHeld (links : List Link) (marks : List Bool) (depths : List ℕ) (v : ℕ) : Type 0 where

@@ -1,5 +1,6 @@
 -- A search in depth.
-use Rattle.std.specs.Prelude.{◌≡◌, ◌≢◌, ◌⊎◌, ℕ, ◌+◌, ◌-◌, ◌<◌, ◌≤◌, max, Bool, true, List, [], ◌∷◌, ◌++◌, length, take, slice_set, slice_index_or}
+use Rattle.std.specs.Prelude.{◌≡◌, ◌≢◌, ◌⊎◌, ℕ, ◌+◌, ◌-◌, ◌<◌, ◌≤◌, max, Bool, true, List, [], ◌∷◌, ◌++◌, length, take, slice_set}
+use Rattle.std.specs.Prelude.{slice_index_or}
 use Rattle.std.specs.List.{sum_by}
 use Rattle.gap_cycles.specs.declared.Link.{Link}
 use Rattle.gap_cycles.specs.declared.walking.Walk.{Walk}
@@ -32,14 +33,16 @@ pub record IsSettled (places : List Place) (depths : List ℕ) (link : Link) : T
   pub less : number_at depths link.head < number_at depths link.tail
 
 -- a link that was looked at holds the node at its depth
-pub record IsHeldSoFar (links : List Link) (ahead : List ℕ) (places : List Place) (depths : List ℕ) (marks : List Bool) (v : ℕ) : Type 0 where
+pub record IsHeldSoFar (links : List Link) (ahead : List ℕ) (places : List Place) (depths : List ℕ) (marks : List Bool)
+    (v : ℕ) : Type 0 where
   pub link : IsHeld links marks depths v
   pub before : link.number < number_at ahead v
   pub done : place_in places (link_at links link.number).head ≡ Done
 
 -- The nodes on the way are open, and follow each other by links. Links before the next one of their tail are cut, or their
 -- heads lie less deep than their tails. A link that is cut closes a cycle. A node lies at depth 0 or is held by a link.
-pub record IsSearch (links : List Link) (ahead : List ℕ) (places : List Place) (depths : List ℕ) (marks : List Bool) (way : List ℕ) : Type 0 where
+pub record IsSearch (links : List Link) (ahead : List ℕ) (places : List Place) (depths : List ℕ) (marks : List Bool)
+    (way : List ℕ) : Type 0 where
   pub places_len : length places ≡ length ahead
   pub depths_len : length depths ≡ length ahead
   pub marks_len : length marks ≡ length links
@@ -49,7 +52,8 @@ pub record IsSearch (links : List Link) (ahead : List ℕ) (places : List Place)
   pub once : (i j : ℕ) → i < j → j < length way → number_at way i ≢ number_at way j
   pub listed : (v : ℕ) → v < length ahead → place_in places v ≡ Open → (i : ℕ) × (i < length way) × (number_at way i ≡ v)
   pub linked : (i : ℕ) → i + 1 < length way → HasLink links (number_at way i) (number_at way (i + 1))
-  pub passed : (k : ℕ) → k < length links → k < number_at ahead (link_at links k).tail → (is_marked marks k ≡ true) ⊎ IsSettled places depths (link_at links k)
+  pub passed : (k : ℕ) → k < length links → k < number_at ahead (link_at links k).tail
+      → (is_marked marks k ≡ true) ⊎ IsSettled places depths (link_at links k)
   pub over : (v : ℕ) → v < length ahead → place_in places v ≡ Done → length links ≤ number_at ahead v
   pub cycles : (k : ℕ) → k < length links → is_marked marks k ≡ true → ClosesCycle links k
   pub shallow : (v : ℕ) → v < length ahead → number_at depths v ≤ done_count places

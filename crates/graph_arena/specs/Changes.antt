@@ -1,5 +1,6 @@
 -- What each call changes, and that all else stays, in order.
-use Rattle.std.specs.Prelude.{◌⊎◌, ◌≡◌, ◌≢◌, ◌↔◌, ◌≤◌, ℕ, ◌+◌, ◌==◌, ◌||◌, cond, not, Bool, true, false, List, [], ◌∷◌, ◌++◌, map, filter, Option, Some, None}
+use Rattle.std.specs.Prelude.{◌⊎◌, ◌≡◌, ◌≢◌, ◌↔◌, ◌≤◌, ℕ, ◌+◌, ◌==◌, ◌||◌, cond, not, Bool, true, false, List, [], ◌∷◌, ◌++◌, map, filter}
+use Rattle.std.specs.Prelude.{Option, Some, None}
 use Rattle.graph_arena.specs.Graph.{Graph, Ends, lists_at, ends_at, IsNode, out_list, in_list}
 
 -- nothing changed
@@ -83,8 +84,10 @@ touches (Some x) v = (x.tail == v) || (x.head == v)
 -- only edges at the node went, and the others keep their order
 pub record Peels (old new : Graph) (v : ℕ) : Type 0 where
   pub edges : (e : ℕ) → (ends_at new e ≡ ends_at old e) ⊎ ((ends_at new e ≡ None) × (touches (ends_at old e) v ≡ true))
-  pub outs : (u : ℕ) → filter (λ e. not (touches (ends_at old e) v)) (out_list new u) ≡ filter (λ e. not (touches (ends_at old e) v)) (out_list old u)
-  pub ins : (u : ℕ) → filter (λ e. not (touches (ends_at old e) v)) (in_list new u) ≡ filter (λ e. not (touches (ends_at old e) v)) (in_list old u)
+  pub outs : (u : ℕ)
+      → filter (λ e. not (touches (ends_at old e) v)) (out_list new u) ≡ filter (λ e. not (touches (ends_at old e) v)) (out_list old u)
+  pub ins : (u : ℕ)
+      → filter (λ e. not (touches (ends_at old e) v)) (in_list new u) ≡ filter (λ e. not (touches (ends_at old e) v)) (in_list old u)
   pub same_nodes : (u : ℕ) → IsNode new u ↔ IsNode old u
 
 -- a node went, with all its edges

@@ -141,7 +141,8 @@ pushed_row r e = record { first = pushed r.first e; last = Some e; count = r.cou
 -- ---- one side after an edge moved; the other side is as it was
 
 -- the edge's owner is o now, the list of v was changed by f, and no other list
-pub record Moved (s : Side) (v e : ℕ) (f : List ℕ → List ℕ) (o : Option ℕ) (nodes : Slab NodeSlot) (edges : Slab EdgeSlot) (nodes' : Slab NodeSlot) (edges' : Slab EdgeSlot) : Type 0 where
+pub record Moved (s : Side) (v e : ℕ) (f : List ℕ → List ℕ) (o : Option ℕ) (nodes : Slab NodeSlot) (edges : Slab EdgeSlot)
+    (nodes' : Slab NodeSlot) (edges' : Slab EdgeSlot) : Type 0 where
   pub sound : IsSideOf s nodes' edges'
   pub list : keys s nodes' edges' v ≡ f (keys s nodes edges v)
   pub other_lists : (u : ℕ) → u ≢ v → keys s nodes' edges' u ≡ keys s nodes edges u
@@ -151,7 +152,8 @@ pub record Moved (s : Side) (v e : ℕ) (f : List ℕ → List ℕ) (o : Option 
   pub edges_kept : Kept place_in s edges edges'
 
 -- a loose edge stands in the place of e, which is loose now
-pub record HandedOver (s : Side) (v e by : ℕ) (nodes : Slab NodeSlot) (edges : Slab EdgeSlot) (nodes' : Slab NodeSlot) (edges' : Slab EdgeSlot) : Type 0 where
+pub record HandedOver (s : Side) (v e by : ℕ) (nodes : Slab NodeSlot) (edges : Slab EdgeSlot) (nodes' : Slab NodeSlot)
+    (edges' : Slab EdgeSlot) : Type 0 where
   pub sound : IsSideOf s nodes' edges'
   pub list : keys s nodes' edges' v ≡ map (renamed e by) (keys s nodes edges v)
   pub other_lists : (u : ℕ) → u ≢ v → keys s nodes' edges' u ≡ keys s nodes edges u
@@ -174,7 +176,8 @@ pub record Unmoved {T : Type 0} (old new : Slab T) : Type 0 where
   pub capacity : new.capacity ≡ old.capacity
 
 -- the edge moved on both sides
-pub record MovedBoth (e tail head : ℕ) (f : List ℕ → List ℕ) (t h : Option ℕ) (nodes : Slab NodeSlot) (edges : Slab EdgeSlot) (nodes' : Slab NodeSlot) (edges' : Slab EdgeSlot) : Type 0 where
+pub record MovedBoth (e tail head : ℕ) (f : List ℕ → List ℕ) (t h : Option ℕ) (nodes : Slab NodeSlot) (edges : Slab EdgeSlot)
+    (nodes' : Slab NodeSlot) (edges' : Slab EdgeSlot) : Type 0 where
   pub sides : (s : Side) → IsSideOf s nodes' edges'
   pub at_tail : keys Outward nodes' edges' tail ≡ f (keys Outward nodes edges tail)
   pub at_head : keys Inward nodes' edges' head ≡ f (keys Inward nodes edges head)
@@ -187,6 +190,7 @@ pub record MovedBoth (e tail head : ℕ) (f : List ℕ → List ℕ) (t h : Opti
   pub edges_kept : Unmoved edges edges'
 
 -- the edge stands in no list
-pub record Loosened (nodes : Slab NodeSlot) (edges : Slab EdgeSlot) (nodes' : Slab NodeSlot) (edges' : Slab EdgeSlot) (e tail head : ℕ) : Type 0 where
+pub record Loosened (nodes : Slab NodeSlot) (edges : Slab EdgeSlot) (nodes' : Slab NodeSlot) (edges' : Slab EdgeSlot)
+    (e tail head : ℕ) : Type 0 where
   pub moved : MovedBoth e tail head (without e) None None nodes edges nodes' edges'
   pub loose : (s : Side) → place_in s (get edges' e) ≡ Some no_place

@@ -93,7 +93,8 @@ impl Arena {
     /// edge's place in the head's list.
     pub fn split(&mut self, edge: EdgeKey) -> Result<(NodeKey, EdgeKey), AllocError>
         requires { IsEdge self.old edge.at }
-        ensures parted { IfOk result (λ keys. (x : Ends) → ends_at self.old edge.at ≡ Some x → Splits self.old self.new edge.at keys.0.at keys.1.at x.tail x.head) }
+        ensures parted { IfOk result
+            (λ keys. (x : Ends) → ends_at self.old edge.at ≡ Some x → Splits self.old self.new edge.at keys.0.at keys.1.at x.tail x.head) }
         ensures err { OnErr result (IsSame self.old self.new) }
         ensures room { LeavesRoom self.old self.new 1 1 }
         ensures succeeds { 0 < self.old.node_room → 0 < self.old.edge_room → IsOk result }

@@ -150,7 +150,8 @@ pub(crate) fn take_edge(nodes: &mut Slab<NodeSlot>, edges: &mut Slab<EdgeSlot>, 
     requires sound { IsSound nodes.old edges.old }
     requires edge { ContainsKey edges.old edge }
     ensures sound { IsSound nodes.new edges.new }
-    ensures removed { (x : Ends) → ends_at (graph_of nodes.old edges.old) edge ≡ Some x → RemovesEdge (graph_of nodes.old edges.old) (graph_of nodes.new edges.new) edge x.tail x.head }
+    ensures removed { (x : Ends) → ends_at (graph_of nodes.old edges.old) edge ≡ Some x
+        → RemovesEdge (graph_of nodes.old edges.old) (graph_of nodes.new edges.new) edge x.tail x.head }
     ensures room { LeavesRoom (graph_of nodes.old edges.old) (graph_of nodes.new edges.new) 0 0 }
 {
     let tail = end_at(edges, Side::Outward, edge);
@@ -164,7 +165,8 @@ pub(crate) fn turn_edge(nodes: &mut Slab<NodeSlot>, edges: &mut Slab<EdgeSlot>, 
     requires sound { IsSound nodes.old edges.old }
     requires edge { ContainsKey edges.old edge }
     ensures sound { IsSound nodes.new edges.new }
-    ensures turned { (x : Ends) → ends_at (graph_of nodes.old edges.old) edge ≡ Some x → Reverses (graph_of nodes.old edges.old) (graph_of nodes.new edges.new) edge x.tail x.head }
+    ensures turned { (x : Ends) → ends_at (graph_of nodes.old edges.old) edge ≡ Some x
+        → Reverses (graph_of nodes.old edges.old) (graph_of nodes.new edges.new) edge x.tail x.head }
     ensures room { LeavesRoom (graph_of nodes.old edges.old) (graph_of nodes.new edges.new) 0 0 }
 {
     let tail = end_at(edges, Side::Outward, edge);
@@ -185,7 +187,8 @@ fn split_reserved(
     requires node_room { HasRoomFor nodes.old 1 }
     requires edge_room { HasEdgeRoom edges.old 1 }
     ensures sound { IsSound nodes.new edges.new }
-    ensures parted { (x : Ends) → ends_at (graph_of nodes.old edges.old) edge ≡ Some x → Splits (graph_of nodes.old edges.old) (graph_of nodes.new edges.new) edge result.0 result.1 x.tail x.head }
+    ensures parted { (x : Ends) → ends_at (graph_of nodes.old edges.old) edge ≡ Some x
+        → Splits (graph_of nodes.old edges.old) (graph_of nodes.new edges.new) edge result.0 result.1 x.tail x.head }
     ensures room { LeavesRoom (graph_of nodes.old edges.old) (graph_of nodes.new edges.new) 1 1 }
 {
     let head = end_at(edges, Side::Inward, edge);
@@ -206,7 +209,9 @@ pub(crate) fn split_edge(
     requires sound { IsSound nodes.old edges.old }
     requires edge { ContainsKey edges.old edge }
     ensures sound { IsSound nodes.new edges.new }
-    ensures parted { IfOk result (λ r. (x : Ends) → ends_at (graph_of nodes.old edges.old) edge ≡ Some x → Splits (graph_of nodes.old edges.old) (graph_of nodes.new edges.new) edge r.0 r.1 x.tail x.head) }
+    ensures parted { IfOk result
+        (λ r. (x : Ends) → ends_at (graph_of nodes.old edges.old) edge ≡ Some x
+        → Splits (graph_of nodes.old edges.old) (graph_of nodes.new edges.new) edge r.0 r.1 x.tail x.head) }
     ensures err { OnErr result (IsSame (graph_of nodes.old edges.old) (graph_of nodes.new edges.new)) }
     ensures room { LeavesRoom (graph_of nodes.old edges.old) (graph_of nodes.new edges.new) 1 1 }
     ensures succeeds { HasRoomFor nodes.old 1 → HasEdgeRoom edges.old 1 → IsOk result }

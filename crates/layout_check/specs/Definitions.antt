@@ -22,7 +22,8 @@ use Rattle.check_ports.specs.FirstPorts.{FirstPorts}
 use Rattle.check_routes.specs.FirstRoutes.{FirstRoute, FirstClear, FirstSharing}
 use Rattle.check_levels.specs.FirstLevels.{FirstReversed, FirstLayering, FirstFlow}
 use Rattle.layout_check.specs.declared.definition.Definition.{Definition}
-use Rattle.layout_check.specs.declared.definition.Definition.TheVariants.{Apart, Inside, PortsKept, Route, Clear, Sharing, Reversed, Layering, FlowProof}
+use Rattle.layout_check.specs.declared.definition.Definition.TheVariants.{Apart, Inside, PortsKept, Route, Clear, Sharing, Reversed}
+use Rattle.layout_check.specs.declared.definition.Definition.TheVariants.{Layering, FlowProof}
 
 -- the definitions in the order of their numbers, which begin at 6
 abbrev pub definitions : List Definition

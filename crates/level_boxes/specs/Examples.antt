@@ -12,4 +12,10 @@ box_of way width height =
     record { size = record { width = pos width; height = pos height }; compound = false; rule = Free; direction = way; ports = [] }
 
 abbrev pub four_boxes : Direction → PlainLevel
-four_boxes way = record { children = box_of way 100 20 ∷ box_of way 30 30 ∷ box_of way 30 30 ∷ box_of way 40 10 ∷ []; edges = []; spacing = spacing; choices = default_choices }
+four_boxes way =
+    record {
+      children = box_of way 100 20 ∷ box_of way 30 30 ∷ box_of way 30 30 ∷ box_of way 40 10 ∷ [];
+      edges = [];
+      spacing = spacing;
+      choices = default_choices;
+    }

@@ -22,7 +22,11 @@ pub record AreJoinable (gaps : List Gap) (traces : List Trace) : Type 0 where
   pub points : (e : ℕ) → e < length traces → All IsNear (points_through (plain_gaps gaps) (trace_in (plain_traces traces) e))
 
 abbrev pub section_in : List Section → ℕ → Section
-section_in sections e = slice_index_or sections e (record { start = record { x = pos 0; y = pos 0 }; bends = []; end = record { x = pos 0; y = pos 0 } })
+section_in sections e = slice_index_or sections e (record {
+  start = record { x = pos 0; y = pos 0 };
+  bends = [];
+  end = record { x = pos 0; y = pos 0 };
+})
 
 -- the sections of the first n traces
 pub record AreJoined (gaps : List Gap) (traces : List Trace) (n : ℕ) (sections : List Section) : Type 0 where

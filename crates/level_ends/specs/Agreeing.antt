@@ -7,4 +7,6 @@ use Rattle.level_plan.specs.Units.{AreOrders}
 
 -- A table for some orders of the level's sides is one for any orders of them, whatever these are beyond the level's children.
 abbrev pub NeedNoOrders : Type 0
-NeedNoOrders = (l : PlainLevel) (p : PlainPlan) (o q : Orders) (t : Table) → IsLevel l → AreOrders l p o → AreOrders l p q → IsTable l p o t → IsTable l p q t
+NeedNoOrders =
+    (l : PlainLevel) (p : PlainPlan) (o q : Orders) (t : Table) → IsLevel l → AreOrders l p o → AreOrders l p q
+    → IsTable l p o t → IsTable l p q t

@@ -1,5 +1,6 @@
 -- The docks of edges' ends as a list, the lanes of self-loops, and the units of children.
-use Rattle.std.specs.Prelude.{◌≡◌, ℕ, ◌+◌, ◌*◌, ◌<◌, ◌≤◌, ◌^◌, ◌==◌, cond, Bool, true, false, ◌&&◌, List, length, Option, None, Some, slice_index, slice_set}
+use Rattle.std.specs.Prelude.{◌≡◌, ℕ, ◌+◌, ◌*◌, ◌<◌, ◌≤◌, ◌^◌, ◌==◌, cond, Bool, true, false, ◌&&◌, List, length, Option, None, Some}
+use Rattle.std.specs.Prelude.{slice_index, slice_set}
 use Rattle.std.specs.List.{filter, range_with_len}
 use Rattle.elk_doc.specs.declared.shape.Side.{Side}
 use Rattle.elk_doc.specs.declared.shape.Side.TheVariants.{North, South}
@@ -23,7 +24,8 @@ upright north = cond north North South
 
 -- an edge is a self-loop of a child with a lane on a side
 abbrev pub loop_on : PlainLevel → List Dock → Side → ℕ → ℕ → Bool
-loop_on l ends side c e = (is_loop l e && ((edge_at l e).source.child == c)) && loop_lane_on (dock_in ends (2 * e)) (dock_in ends (2 * e + 1)) side
+loop_on l ends side c e =
+    (is_loop l e && ((edge_at l e).source.child == c)) && loop_lane_on (dock_in ends (2 * e)) (dock_in ends (2 * e + 1)) side
 
 abbrev pub loops_to : PlainLevel → List Dock → Side → ℕ → ℕ → ℕ
 loops_to l ends side c e = length (filter (loop_on l ends side c) (range_with_len 0 e))
@@ -39,7 +41,8 @@ pub record AreLoopLanes (l : PlainLevel) (ends : List Dock) (side : Side) (count
   pub child_count : length v.counts.items ≡ length l.children
   pub edge_count : length v.places.items ≡ length l.edges
   pub count_is : (c : ℕ) → c < length l.children → slice_index v.counts.items c ≡ loops_to l ends side c count
-  pub place_is : (e : ℕ) → e < count → loop_on l ends side (edge_at l e).source.child e ≡ true → slice_index v.places.items e ≡ loops_to l ends side (edge_at l e).source.child e
+  pub place_is : (e : ℕ) → e < count → loop_on l ends side (edge_at l e).source.child e ≡ true
+      → slice_index v.places.items e ≡ loops_to l ends side (edge_at l e).source.child e
   pub few : (e : ℕ) → slice_index v.places.items e ≤ 2 ^ 16
 
 -- a list of units by child, with one more unit noted

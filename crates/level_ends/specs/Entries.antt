@@ -40,9 +40,12 @@ pub record HaveSpots (l : PlainLevel) (lists : List (List Dock)) (rows : List (L
   pub few : (c : ℕ) → c < length l.children → length (docks_at lists c) ≤ 2 ^ 16
 
 -- the lanes of the first children
-pub record AreLanesOf (l : PlainLevel) (rows : List (List Spot)) (lists : List (List Dock)) (north south : List ℕ) (count : ℕ) (ws : List PlainLanes) : Type 0 where
+pub record AreLanesOf (l : PlainLevel) (rows : List (List Spot)) (lists : List (List Dock)) (north south : List ℕ) (count : ℕ)
+    (ws : List PlainLanes) : Type 0 where
   pub as_many : length ws ≡ count
-  pub lanes : (c : ℕ) → c < count → AreDockLanes (child_at l c).size.height (docks_at lists c) (row_at rows c) (slice_index north c) (slice_index south c) (lanes_at ws c)
+  pub lanes : (c : ℕ) → c < count
+      → AreDockLanes (child_at l c).size.height (docks_at lists c) (row_at rows c) (slice_index north c) (slice_index south c)
+      (lanes_at ws c)
 
 -- a child, by its unit, the docks of its spots and their lanes
 pub record IsEntry (c : Child) (unit : ℕ) (docks : List Dock) (w : PlainLanes) (v : ChildAt) : Type 0 where
@@ -50,16 +53,19 @@ pub record IsEntry (c : Child) (unit : ℕ) (docks : List Dock) (w : PlainLanes)
   pub outline_is : v.outline ≡ outline_by c docks (range_with_len 0 (length c.ports))
   pub near : IsNearRect v.outline
   pub as_many : length v.ports ≡ length c.ports
-  pub ports : (k : ℕ) → k < length c.ports → slice_index_or v.ports k (record { x = pos 0; y = pos 0 }) ≡ place_of_port c (dock_in docks k).side k (dock_in docks k).offset
+  pub ports : (k : ℕ) → k < length c.ports
+      → slice_index_or v.ports k (record { x = pos 0; y = pos 0 }) ≡ place_of_port c (dock_in docks k).side k (dock_in docks k).offset
   pub north : v.north ≡ w.north
   pub south : v.south ≡ w.south
 
-pub record AreEntries (l : PlainLevel) (units : List ℕ) (lists : List (List Dock)) (ws : List PlainLanes) (count : ℕ) (entries : List ChildAt) : Type 0 where
+pub record AreEntries (l : PlainLevel) (units : List ℕ) (lists : List (List Dock)) (ws : List PlainLanes) (count : ℕ)
+    (entries : List ChildAt) : Type 0 where
   pub as_many : length entries ≡ count
   pub entry : (c : ℕ) → c < count → IsEntry (child_at l c) (slice_index units c) (docks_at lists c) (lanes_at ws c) (child_in entries c)
 
 -- children, lanes and numbers that ends can be read from
-pub record AreReady (l : PlainLevel) (numbers : List ℕ) (lists : List (List Dock)) (ends : List Dock) (ws : List PlainLanes) (entries : List ChildAt) : Type 0 where
+pub record AreReady (l : PlainLevel) (numbers : List ℕ) (lists : List (List Dock)) (ends : List Dock) (ws : List PlainLanes)
+    (entries : List ChildAt) : Type 0 where
   pub level : IsLevel l
   pub lane_count : length ws ≡ length l.children
   pub entry_count : length entries ≡ length l.children
@@ -85,22 +91,32 @@ pub record HavePlaces (count : ℕ) (places : List ℕ) : Type 0 where
   pub few : (e : ℕ) → slice_index places e ≤ 2 ^ 16
 
 -- an end at a spoke, with its dock and the number of its spot
-pub record IsEndEntry (l : PlainLevel) (ws : List PlainLanes) (entries : List ChildAt) (s : Spoke) (dock : Dock) (number : ℕ) (v : EndAt) : Type 0 where
+pub record IsEndEntry (l : PlainLevel) (ws : List PlainLanes) (entries : List ChildAt) (s : Spoke) (dock : Dock) (number : ℕ)
+    (v : EndAt) : Type 0 where
   pub dock_is : v.dock ≡ dock
   pub anchor_is : v.anchor ≡ anchor_at (child_at l s.child) dock.side s.port dock.offset
-  pub lane_is : v.lane ≡ height_or l.spacing (child_in entries s.child).north (child_in entries s.child).outline.height (lane_side_in (lanes_at ws s.child) number) (lane_place_in (lanes_at ws s.child) number)
+  pub lane_is : v.lane
+      ≡ height_or l.spacing (child_in entries s.child).north (child_in entries s.child).outline.height
+      (lane_side_in (lanes_at ws s.child) number) (lane_place_in (lanes_at ws s.child) number)
   pub near : IsEndIn v
 
 -- the ends of the first edges
-pub record AreEndEntries (l : PlainLevel) (numbers : List ℕ) (ends : List Dock) (ws : List PlainLanes) (entries : List ChildAt) (count : ℕ) (table : List EndAt) : Type 0 where
+pub record AreEndEntries (l : PlainLevel) (numbers : List ℕ) (ends : List Dock) (ws : List PlainLanes) (entries : List ChildAt)
+    (count : ℕ) (table : List EndAt) : Type 0 where
   pub as_many : length table ≡ 2 * count
-  pub sources : (e : ℕ) → e < count → IsEndEntry l ws entries (edge_at l e).source (dock_in ends (2 * e)) (slice_index numbers (2 * e)) (end_in table (2 * e))
-  pub targets : (e : ℕ) → e < count → IsEndEntry l ws entries (edge_at l e).target (dock_in ends (2 * e + 1)) (slice_index numbers (2 * e + 1)) (end_in table (2 * e + 1))
+  pub sources : (e : ℕ) → e < count
+      → IsEndEntry l ws entries (edge_at l e).source (dock_in ends (2 * e)) (slice_index numbers (2 * e)) (end_in table (2 * e))
+  pub targets : (e : ℕ) → e < count
+      → IsEndEntry l ws entries (edge_at l e).target (dock_in ends (2 * e + 1)) (slice_index numbers (2 * e + 1)) (end_in table (2 * e + 1))
 
 -- the heights of an edge's lanes by their places
 pub record IsLoopEntry (l : PlainLevel) (entries : List ChildAt) (e north south : ℕ) (v : LoopAt) : Type 0 where
-  pub north_is : v.north ≡ height_by l.spacing (child_in entries (edge_at l e).source.child).north (child_in entries (edge_at l e).source.child).outline.height North north
-  pub south_is : v.south ≡ height_by l.spacing (child_in entries (edge_at l e).source.child).north (child_in entries (edge_at l e).source.child).outline.height South south
+  pub north_is : v.north
+      ≡ height_by l.spacing (child_in entries (edge_at l e).source.child).north
+      (child_in entries (edge_at l e).source.child).outline.height North north
+  pub south_is : v.south
+      ≡ height_by l.spacing (child_in entries (edge_at l e).source.child).north
+      (child_in entries (edge_at l e).source.child).outline.height South south
   pub near : IsLoopIn v
 
 pub record AreLoopEntries (l : PlainLevel) (entries : List ChildAt) (north south : List ℕ) (count : ℕ) (table : List LoopAt) : Type 0 where
@@ -108,7 +124,8 @@ pub record AreLoopEntries (l : PlainLevel) (entries : List ChildAt) (north south
   pub entry : (e : ℕ) → e < count → IsLoopEntry l entries e (slice_index north e) (slice_index south e) (loop_in table e)
 
 -- the spots and docks of a level under a plan of its layered drawing and the orders of its sides
-pub record IsPlannedTable (l : PlainLevel) (layered : Plain) (v : Spots) (lists : List (List Dock)) (p : PlainPlan) (vs : List FourOrders) : Type 0 where
+pub record IsPlannedTable (l : PlainLevel) (layered : Plain) (v : Spots) (lists : List (List Dock)) (p : PlainPlan)
+    (vs : List FourOrders) : Type 0 where
   pub layered_is : p.layered ≡ layered
   pub spots_are : AreSpotsOf l p v
   pub orders_are : AreOrdersTo l (row_lists v.rows) (length l.children) vs

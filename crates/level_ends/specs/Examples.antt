@@ -8,7 +8,14 @@ west = worked.west
 
 -- its plan, before tops are known
 abbrev pub west_plan : PlainPlan
-west_plan = record { layers = worked.west_plan.layers; layered = worked.west_plan.layered; rows = worked.west_plan.rows; tops = []; reversed = [] }
+west_plan =
+    record {
+      layers = worked.west_plan.layers;
+      layered = worked.west_plan.layered;
+      rows = worked.west_plan.rows;
+      tops = [];
+      reversed = [];
+    }
 
 -- the layers of its children
 abbrev pub west_layers : List ℕ

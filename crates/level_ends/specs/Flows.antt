@@ -1,5 +1,6 @@
 -- What the ends of an edge need to know of it: whether it is turned round, and the places of the units that its links join.
-use Rattle.std.specs.Prelude.{◌≡◌, ℕ, ◌-◌, ◌<◌, ◌≤◌, ◌^◌, ◌==◌, cond, Bool, true, false, ◌&&◌, List, length, slice_index, slice_index_or, IsFalse}
+use Rattle.std.specs.Prelude.{◌≡◌, ℕ, ◌-◌, ◌<◌, ◌≤◌, ◌^◌, ◌==◌, cond, Bool, true, false, ◌&&◌, List, length, slice_index, slice_index_or}
+use Rattle.std.specs.Prelude.{IsFalse}
 use Rattle.std.specs.List.{filter, range_with_len}
 use Rattle.elk_layers.specs.declared.units.Link.{Link}
 use Rattle.elk_layers.specs.Layered.{Plain, link_at, is_child, place_of}

@@ -1,5 +1,6 @@
 -- The lanes of a child's docks, by the numbers of its spots.
-use Rattle.std.specs.Prelude.{◌≡◌, ◌≢◌, ℕ, ◌+◌, ◌<◌, ◌≤◌, ◌^◌, ◌==◌, cond, Bool, true, false, ◌&&◌, List, [], ◌∷◌, ℤ, pos, ◌+ℤ◌, ◌-ℤ◌, ◌*ℤ◌, ◌-◌, Option, None, Some, length, int_lt, slice_index, slice_index_or, slice_set, unwrap_or}
+use Rattle.std.specs.Prelude.{◌≡◌, ◌≢◌, ℕ, ◌+◌, ◌<◌, ◌≤◌, ◌^◌, ◌==◌, cond, Bool, true, false, ◌&&◌, List, [], ◌∷◌, ℤ, pos, ◌+ℤ◌, ◌-ℤ◌, ◌*ℤ◌}
+use Rattle.std.specs.Prelude.{◌-◌, Option, None, Some, length, int_lt, slice_index, slice_index_or, slice_set, unwrap_or}
 use Rattle.std.specs.List.{filter, list_any, range_with_len}
 use Rattle.std.specs.Ordering.{int_eq}
 use Rattle.elk_doc.specs.declared.shape.Side.{Side}
@@ -46,7 +47,10 @@ pub record AreFirstSpots (docks : List Dock) (firsts : List ℕ) : Type 0 where
 -- one of the first spots asks for a lane at the dock of a spot
 abbrev pub asked : List Dock → List Spot → ℕ → ℕ → Bool
 asked docks spots bound j =
-    list_any (λ m. same_dock (dock_in docks m) (dock_in docks j) && asks_lane (dock_in docks j).side (spot_at spots m).leaves (spot_at spots m).enters) (range_with_len 0 bound)
+    list_any
+    (λ m. same_dock (dock_in docks m) (dock_in docks j)
+    && asks_lane (dock_in docks j).side (spot_at spots m).leaves (spot_at spots m).enters)
+    (range_with_len 0 bound)
 
 -- by first spot, whether one of the first spots asks for a lane at its dock
 pub record AreAsked (docks : List Dock) (spots : List Spot) (bound : ℕ) (marks : List Bool) : Type 0 where
@@ -63,7 +67,8 @@ side_by height West offset = cond (int_lt height (offset +ℤ offset)) South Nor
 -- the side of the lane of the dock that stands first at a spot, where it has one
 abbrev pub lane_at : ℤ → List Dock → List Spot → ℕ → Option Side
 lane_at height docks spots j =
-    cond ((first_same docks j == j) && asked docks spots (length docks) j) (Some (side_by height (dock_in docks j).side (dock_in docks j).offset)) None
+    cond ((first_same docks j == j) && asked docks spots (length docks) j)
+    (Some (side_by height (dock_in docks j).side (dock_in docks j).offset)) None
 
 abbrev pub lane_in : List (Option Side) → ℕ → Option Side
 lane_in sides j = slice_index_or sides j None

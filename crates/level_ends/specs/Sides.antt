@@ -1,5 +1,6 @@
 -- The orders of the sides of children as lists, and the docks of spots under them.
-use Rattle.std.specs.Prelude.{◌≡◌, ℕ, ◌<◌, ◌≤◌, ◌^◌, Bool, true, false, List, [], map, ℤ, ◌+ℤ◌, Option, None, Some, length, slice_index, slice_index_or, IsFalse}
+use Rattle.std.specs.Prelude.{◌≡◌, ℕ, ◌<◌, ◌≤◌, ◌^◌, Bool, true, false, List, [], map, ℤ, ◌+ℤ◌, Option, None, Some, length, slice_index}
+use Rattle.std.specs.Prelude.{slice_index_or, IsFalse}
 use Rattle.elk_doc.specs.declared.shape.Side.{Side}
 use Rattle.elk_doc.specs.declared.shape.Side.TheVariants.{North, East, South, West}
 use Rattle.elk_doc.specs.declared.shape.Dock.{Dock}
@@ -46,7 +47,8 @@ AreFour c spots v = (side : Side) → IsOrderOfSide c side spots (order_on v sid
 -- by number, the places of spread spots in the orders of their sides
 pub record HavePlaces (c : Child) (spots : List Spot) (v : FourOrders) (place : List ℕ) : Type 0 where
   pub as_long : length place ≡ length spots
-  pub place_is : (k : ℕ) → k < length spots → IsFalse (is_pinned_spot c (spot_at spots k)) → slice_index place k ≡ places.place_in (order_on v (side_of c (spot_at spots k))) k
+  pub place_is : (k : ℕ) → k < length spots → IsFalse (is_pinned_spot c (spot_at spots k))
+      → slice_index place k ≡ places.place_in (order_on v (side_of c (spot_at spots k))) k
 
 -- the offset of a spot by its place in the order of its side, which has so many spots
 abbrev pub offset_by : Child → Side → Bool → Option ℕ → ℕ → ℕ → ℤ

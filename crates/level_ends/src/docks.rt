@@ -179,8 +179,10 @@ fn dock_at(child: &Child, node: u32, spot: &Spot, orders: &SideOrders, place: u3
     requires child { IsNarrow child.now }
     requires spot { IsSpot child.now spot.now }
     requires few { length (order_on (four_of orders.now) (sides.side_of child.now spot.now)) ≤ 2 ^ 16 }
-    requires once { IsFalse (ports.is_pinned_spot child.now spot.now) → places.HoldsOnce (order_on (four_of orders.now) (sides.side_of child.now spot.now)) spot.now.number }
-    requires place { IsFalse (ports.is_pinned_spot child.now spot.now) → place ≡ places.place_in (order_on (four_of orders.now) (sides.side_of child.now spot.now)) spot.now.number }
+    requires once { IsFalse (ports.is_pinned_spot child.now spot.now)
+        → places.HoldsOnce (order_on (four_of orders.now) (sides.side_of child.now spot.now)) spot.now.number }
+    requires place { IsFalse (ports.is_pinned_spot child.now spot.now)
+        → place ≡ places.place_in (order_on (four_of orders.now) (sides.side_of child.now spot.now)) spot.now.number }
     ensures value { result ≡ dock_by child.now node (four_of orders.now) spot.now }
     ensures offset { IsOffset result.offset }
 {
@@ -239,7 +241,9 @@ pub(crate) fn docks_of(
 ) -> Result<Docks, AllocError>
     requires level { IsLevel (plain_level level.now) }
     requires rows { HaveOrders (plain_level level.now) (row_lists rows.now) (map four_of orders.now) }
-    ensures { IfOk result (λ docks. AreDocks (plain_level level.now) (row_lists rows.now) (map four_of orders.now) (length level.now.children) (dock_lists docks)) }
+    ensures { IfOk result
+        (λ docks. AreDocks (plain_level level.now) (row_lists rows.now) (map four_of orders.now) (length level.now.children)
+        (dock_lists docks)) }
 {
     let mut lists: Vec<Vec<Dock>> = Vec::with_capacity(alloc, level.children.len())?;
     for (c, child) in level.children.as_slice().iter().enumerate() {

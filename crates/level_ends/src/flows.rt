@@ -33,7 +33,9 @@ fn note_link(firsts: &mut [u32], layered: &Layered, link: u32, at_head: bool)
     requires sound { IsSound (plain layered.now) }
     requires link { link < length (plain layered.now).links }
     requires edges { HaveEdges (plain layered.now) (length firsts.old) }
-    ensures { firsts.new ≡ cond (is_child (plain layered.now) (spec.near_unit (link_at (plain layered.now).links link) at_head)) (slice_set firsts.old (link_at (plain layered.now).links link).edge link) firsts.old }
+    ensures { firsts.new
+        ≡ cond (is_child (plain layered.now) (spec.near_unit (link_at (plain layered.now).links link) at_head))
+        (slice_set firsts.old (link_at (plain layered.now).links link).edge link) firsts.old }
 {
     let found = layered.links.as_slice()[link as usize];
     let unit = layered.units.as_slice()[near_unit(found, at_head) as usize];

@@ -40,9 +40,13 @@ pub(crate) fn end_docks(
 ) -> Result<Vec<Dock>, AllocError>
     requires level { IsLevel (plain_level level.now) }
     requires spots { (p : PlainPlan) × AreSpotsOf (plain_level level.now) p spots.now }
-    requires docks { (vs : List FourOrders) × AreDocks (plain_level level.now) (row_lists spots.now.rows) vs (length level.now.children) (dock_lists docks.now) }
+    requires docks { (vs : List FourOrders)
+        × AreDocks (plain_level level.now) (row_lists spots.now.rows) vs (length level.now.children) (dock_lists docks.now) }
     ensures offsets { IfOk result (λ ends. All (λ (d : ADock). IsOffset d.offset) ends.items) }
-    ensures docks { IfOk result (λ ends. (p : PlainPlan) (vs : List FourOrders) → AreSpotsOf (plain_level level.now) p spots.now → AreDocks (plain_level level.now) (row_lists spots.now.rows) vs (length level.now.children) (dock_lists docks.now) → AreEndDocks (plain_level level.now) p (orders_in vs) (length level.now.edges) ends.items) }
+    ensures docks { IfOk result
+        (λ ends. (p : PlainPlan) (vs : List FourOrders) → AreSpotsOf (plain_level level.now) p spots.now
+        → AreDocks (plain_level level.now) (row_lists spots.now.rows) vs (length level.now.children) (dock_lists docks.now)
+        → AreEndDocks (plain_level level.now) p (orders_in vs) (length level.now.edges) ends.items) }
 {
     let mut ends: Vec<Dock> = Vec::with_capacity(alloc, 2 * level.edges.len())?;
     let edges = level.edges.as_slice();

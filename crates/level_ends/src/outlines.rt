@@ -242,7 +242,10 @@ pub(crate) fn ports_of(
     requires docks { length child.now.ports ≤ length docks.now }
     requires offsets { All (λ (d : ADock). IsOffset d.offset) docks.now }
     ensures as_many { IfOk result (λ ports. length ports.items ≡ length child.now.ports) }
-    ensures ports { IfOk result (λ ports. (k : ℕ) → k < length child.now.ports → slice_index_or ports.items k (record { x = pos 0; y = pos 0 }) ≡ places.place_of_port child.now (dock_in docks.now k).side k (dock_in docks.now k).offset) }
+    ensures ports { IfOk result
+        (λ ports. (k : ℕ) → k < length child.now.ports
+        → slice_index_or ports.items k (record { x = pos 0; y = pos 0 })
+        ≡ places.place_of_port child.now (dock_in docks.now k).side k (dock_in docks.now k).offset) }
 {
     let mut ports: Vec<Point> = Vec::with_capacity(alloc, child.ports.len())?;
     for port in 0..child.ports.len() {

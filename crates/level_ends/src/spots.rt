@@ -135,7 +135,9 @@ fn add_to_row(row: &mut Vec<Spot>, port: Option<u32>, told: Told) -> Result<u32,
 fn add_end(rows: &mut Rows, spoke: Spoke, told: Told) -> Result<u32, AllocError>
     requires child { spoke.child < length (row_lists rows.old) }
     requires place { HasPlace spoke.port (row_at (row_lists rows.old) spoke.child) }
-    ensures rows { OnOk result (row_lists rows.new ≡ slice_set (row_lists rows.old) spoke.child (row_with spoke.port told (row_at (row_lists rows.old) spoke.child))) }
+    ensures rows { OnOk result
+        (row_lists rows.new
+        ≡ slice_set (row_lists rows.old) spoke.child (row_with spoke.port told (row_at (row_lists rows.old) spoke.child))) }
     ensures number { IfOk result (λ n. n ≡ number_in spoke.port (row_at (row_lists rows.old) spoke.child)) }
 {
     let number = add_to_row(&mut rows.lists[spoke.child as usize], spoke.port, told)?;
@@ -194,7 +196,9 @@ fn add_edge(
 pub(crate) fn spots_of(alloc: Global, level: &LevelIn, flows: &[Flow]) -> Result<Spots, AllocError>
     requires level { IsLevel (plain_level level.now) }
     requires flows { (p : PlainPlan) × AreFlows (plain_level level.now) p (length level.now.edges) flows.now }
-    ensures { IfOk result (λ spots. (p : PlainPlan) → AreFlows (plain_level level.now) p (length level.now.edges) flows.now → AreSpotsOf (plain_level level.now) p spots) }
+    ensures { IfOk result
+        (λ spots. (p : PlainPlan) → AreFlows (plain_level level.now) p (length level.now.edges) flows.now
+        → AreSpotsOf (plain_level level.now) p spots) }
 {
     let count = level.edges.len();
     let mut spots = Spots {

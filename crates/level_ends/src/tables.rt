@@ -48,7 +48,9 @@ fn lanes_of(
     requires spots { HaveSpots (plain_level level.now) (dock_lists docks.now) (row_lists spots.now.rows) }
     requires north { HaveFew (length level.now.children) north.now.counts.items }
     requires south { HaveFew (length level.now.children) south.now.counts.items }
-    ensures { IfOk result (λ v. AreLanesOf (plain_level level.now) (row_lists spots.now.rows) (dock_lists docks.now) north.now.counts.items south.now.counts.items (length level.now.children) (map plain_lanes v.items)) }
+    ensures { IfOk result
+        (λ v. AreLanesOf (plain_level level.now) (row_lists spots.now.rows) (dock_lists docks.now) north.now.counts.items
+        south.now.counts.items (length level.now.children) (map plain_lanes v.items)) }
 {
     let children = level.children.as_slice();
     let mut all: Vec<DockLanes> = Vec::with_capacity(alloc, children.len())?;
@@ -106,7 +108,9 @@ fn child_entries(
     requires units { length units.now ≡ length level.now.children }
     requires docks { HaveDocks (plain_level level.now) (dock_lists docks.now) }
     requires lanes { length (map plain_lanes lanes.now) ≡ length level.now.children }
-    ensures { IfOk result (λ entries. AreEntries (plain_level level.now) units.now (dock_lists docks.now) (map plain_lanes lanes.now) (length level.now.children) entries.items) }
+    ensures { IfOk result
+        (λ entries. AreEntries (plain_level level.now) units.now (dock_lists docks.now) (map plain_lanes lanes.now)
+        (length level.now.children) entries.items) }
 {
     let children = level.children.as_slice();
     let mut entries: Vec<ChildAt> = Vec::with_capacity(alloc, children.len())?;
@@ -125,7 +129,9 @@ fn end_lane(spacing: &Spacing, entry: &ChildAt, lanes: &DockLanes, number: u32) 
     requires near { IsNearRect entry.now.outline }
     requires few { entry.now.north ≤ 2 ^ 17 }
     requires lanes { (count : ℕ) × AreReadable (plain_lanes lanes.now) count × (number < count) }
-    ensures value { result ≡ height_or spacing.now entry.now.north entry.now.outline.height (lane_side_in (plain_lanes lanes.now) number) (lane_place_in (plain_lanes lanes.now) number) }
+    ensures value { result
+        ≡ height_or spacing.now entry.now.north entry.now.outline.height (lane_side_in (plain_lanes lanes.now) number)
+        (lane_place_in (plain_lanes lanes.now) number) }
     ensures near { IsIn result }
 {
     let place = lanes.place_of(number);
@@ -170,7 +176,9 @@ fn end_entries(
     numbers: &[u32],
 ) -> Result<Vec<EndAt>, AllocError>
     requires { (lists : List (List ADock)) × AreReady (plain_level level.now) numbers.now lists ends.now (map plain_lanes lanes.now) entries.now }
-    ensures { IfOk result (λ table. AreEndEntries (plain_level level.now) numbers.now ends.now (map plain_lanes lanes.now) entries.now (length level.now.edges) table.items) }
+    ensures { IfOk result
+        (λ table. AreEndEntries (plain_level level.now) numbers.now ends.now (map plain_lanes lanes.now) entries.now
+        (length level.now.edges) table.items) }
 {
     let edges = level.edges.as_slice();
     let mut table: Vec<EndAt> = Vec::with_capacity(alloc, ends.len())?;
@@ -232,7 +240,9 @@ fn loop_entries(
     requires entries { HaveBodies (plain_level level.now) entries.now }
     requires north { HavePlaces (length level.now.edges) north.now.places.items }
     requires south { HavePlaces (length level.now.edges) south.now.places.items }
-    ensures { IfOk result (λ table. AreLoopEntries (plain_level level.now) entries.now north.now.places.items south.now.places.items (length level.now.edges) table.items) }
+    ensures { IfOk result
+        (λ table. AreLoopEntries (plain_level level.now) entries.now north.now.places.items south.now.places.items
+        (length level.now.edges) table.items) }
 {
     let edges = level.edges.as_slice();
     let mut table: Vec<LoopAt> = Vec::with_capacity(alloc, edges.len())?;
@@ -258,8 +268,12 @@ fn table_from(
     requires few { length (plain layered.now).units ≤ 2 ^ 24 }
     requires children { HaveChildren (plain layered.now) (length level.now.children) }
     requires spots { (p : PlainPlan) × AreSpotsOf (plain_level level.now) p spots.now }
-    requires docks { (vs : List FourOrders) × AreDocks (plain_level level.now) (row_lists spots.now.rows) vs (length level.now.children) (dock_lists docks.now) }
-    ensures table { IfOk result (λ t. (p : PlainPlan) (vs : List FourOrders) → IsPlannedTable (plain_level level.now) (plain layered.now) spots.now (dock_lists docks.now) p vs → IsTable (plain_level level.now) p (orders_in vs) t) }
+    requires docks { (vs : List FourOrders)
+        × AreDocks (plain_level level.now) (row_lists spots.now.rows) vs (length level.now.children) (dock_lists docks.now) }
+    ensures table { IfOk result
+        (λ t. (p : PlainPlan) (vs : List FourOrders)
+        → IsPlannedTable (plain_level level.now) (plain layered.now) spots.now (dock_lists docks.now) p vs
+        → IsTable (plain_level level.now) p (orders_in vs) t) }
     ensures numbers { IfOk result AreNumbersIn }
 {
     let ends = end_docks(alloc, level, spots, docks)?;
@@ -301,7 +315,9 @@ pub fn table_of(
     requires rows { AreRows (plain layered.now) (rows_of order.now) }
     requires linked { (layers : List ℕ) × AreLinked (plain_level level.now) (plain_plan layered.now order.now [] reversed.now) layers }
     requires marked { AreMarks reversed.now (length level.now.edges) turned.now }
-    ensures table { IfOk result (λ t. (o : Orders) × AreOrders (plain_level level.now) (plain_plan layered.now order.now [] reversed.now) o × IsTable (plain_level level.now) (plain_plan layered.now order.now [] reversed.now) o t) }
+    ensures table { IfOk result
+        (λ t. (o : Orders) × AreOrders (plain_level level.now) (plain_plan layered.now order.now [] reversed.now) o
+        × IsTable (plain_level level.now) (plain_plan layered.now order.now [] reversed.now) o t) }
     ensures numbers { IfOk result AreNumbersIn }
 {
     let flows = flows_of(alloc, level, layered, order, reversed, turned)?;

@@ -21,7 +21,14 @@ abbrev pub document_in : Direction → Document
 document_in way =
     record {
       nodes = root way ∷ leaf 1 FixedSide (size 30 50) ∷ leaf 2 Free (size 20 40) ∷ [];
-      ports = record { id = Whole (pos 3); node = 1; size = size 10 7; place = point (pos 1) (pos 2); side = Some West; index = pos 5 } ∷ [];
+      ports = record {
+        id = Whole (pos 3);
+        node = 1;
+        size = size 10 7;
+        place = point (pos 1) (pos 2);
+        side = Some West;
+        index = pos 5;
+      } ∷ [];
       edges = record { id = Whole (pos 4); source = AtPort 0; target = AtNode 2; weight = 3 } ∷ [];
     }
 

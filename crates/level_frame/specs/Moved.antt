@@ -59,4 +59,5 @@ pub record HasPlaces (l : PlainLevel) (p : PlainPlan) : Type 0 where
 -- what is drawn from a plan and moved is drawn from it
 abbrev pub DrawingsMove : Type 0
 DrawingsMove =
-    (l : PlainLevel) (p : PlainPlan) (o : Orders) (d : LevelDrawing) (x y : ℤ) → HasPlaces l p → IsDrawnFrom l p o d → IsDrawnFrom l p o (moved x y d)
+    (l : PlainLevel) (p : PlainPlan) (o : Orders) (d : LevelDrawing) (x y : ℤ) → HasPlaces l p → IsDrawnFrom l p o d
+    → IsDrawnFrom l p o (moved x y d)

@@ -4,11 +4,13 @@ use Rattle.elk_doc.specs.declared.document.End.{End}
 use Rattle.elk_doc.specs.declared.document.LevelOptions.{LevelOptions}
 use Rattle.elk_doc.specs.declared.drawing.Placed.{Placed}
 use Rattle.elk_doc.specs.Document.{Document, node_of_port}
-use Rattle.elk_doc.specs.Level.{children, edges_of, IsChild, IsEdge, place_of_child, place_of_edge, node_of_end, source_node, target_node, is_loop}
+use Rattle.elk_doc.specs.Level.{children, edges_of, IsChild, IsEdge, place_of_child, place_of_edge, node_of_end, source_node, target_node}
+use Rattle.elk_doc.specs.Level.{is_loop}
 use Rattle.elk_doc.specs.Sound.{IsSound}
 use Rattle.port_order.specs.Child as laid
 use Rattle.level_plan.specs.Level as plan
-use Rattle.level_frame.specs.Turned.{child_number, edge_number, ports_of, port_number, place_of_port, box_size, level_port, level_child, level_edge, level_of, spoke_of}
+use Rattle.level_frame.specs.Turned.{child_number, edge_number, ports_of, port_number, place_of_port, box_size, level_port, level_child}
+use Rattle.level_frame.specs.Turned.{level_edge, level_of, spoke_of}
 
 -- A list of numbers with a place for each: the numbers are those that are meant, each once, and each stands at its place.
 pub record AreNumbersOf (Meant : ℕ → Type 0) (place : ℕ → ℕ) (numbers : List ℕ) : Type 0 where
@@ -35,9 +37,11 @@ NumbersAlwaysMatch = (d : Document) (n : ℕ) → NumbersMatch d n
 pub record IsListed (d : Document) (p : Placed) (n : ℕ) (o : LevelOptions) : Type 0 where
   pub child_count : length (level_of d p n o).children ≡ length (children d n)
   pub child : (i : ℕ) → i < length (children d n) → plan.child_at (level_of d p n o) i ≡ level_child d p o.direction (child_number d n i)
-  pub port_count : (i : ℕ) → i < length (children d n) → length (plan.child_at (level_of d p n o) i).ports ≡ length (ports_of d (child_number d n i))
+  pub port_count : (i : ℕ) → i < length (children d n)
+      → length (plan.child_at (level_of d p n o) i).ports ≡ length (ports_of d (child_number d n i))
   pub port : (i j : ℕ) → i < length (children d n) → j < length (ports_of d (child_number d n i))
-      → laid.port_at (plan.child_at (level_of d p n o) i) j ≡ level_port d o.direction (box_size p (child_number d n i)) (port_number d (child_number d n i) j)
+      → laid.port_at (plan.child_at (level_of d p n o) i) j
+      ≡ level_port d o.direction (box_size p (child_number d n i)) (port_number d (child_number d n i) j)
   pub edge_count : length (level_of d p n o).edges ≡ length (edges_of d n)
   pub edge : (i : ℕ) → i < length (edges_of d n) → plan.edge_at (level_of d p n o) i ≡ level_edge d n (edge_number d n i)
   pub loop : (i : ℕ) → IsSound d → i < length (edges_of d n) → plan.is_loop (level_of d p n o) i ≡ is_loop d (edge_number d n i)

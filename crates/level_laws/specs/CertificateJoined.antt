@@ -25,9 +25,11 @@ turns l numbers own e = holds (own (slice_index (edge_keys l numbers) e)).revers
 -- in ascending order; the spans add up; and the numbers of the parts are written.
 pub record IsJoined (l : PlainLevel) (numbers : List ℕ) (count : ℕ) (own : ℕ → Certificate) (c : Certificate) : Type 0 where
   pub layer_for_each : length c.layers ≡ length l.children
-  pub layers : (a : ℕ) → a < length l.children → slice_index c.layers a ≡ slice_index (own (slice_index numbers a)).layers (place_of numbers a)
+  pub layers : (a : ℕ) → a < length l.children
+      → slice_index c.layers a ≡ slice_index (own (slice_index numbers a)).layers (place_of numbers a)
   pub flow_for_each : length c.flow ≡ length l.edges
-  pub flow : (e : ℕ) → e < length l.edges → slice_index c.flow e ≡ slice_index (own (slice_index (edge_keys l numbers) e)).flow (place_of (edge_keys l numbers) e)
+  pub flow : (e : ℕ) → e < length l.edges
+      → slice_index c.flow e ≡ slice_index (own (slice_index (edge_keys l numbers) e)).flow (place_of (edge_keys l numbers) e)
   pub reversed : c.reversed ≡ filter (turns l numbers own) (range_with_len 0 (length l.edges))
   pub span : c.span ≡ spans_to own count
   pub parts : c.parts ≡ numbers
@@ -42,4 +44,5 @@ pub record AreCertificates (l : PlainLevel) (numbers : List ℕ) (count : ℕ) (
 -- So they are a certificate of the whole.
 abbrev pub CertificatesJoin : Type 0
 CertificatesJoin =
-    (l : PlainLevel) (numbers : List ℕ) (count : ℕ) (own : ℕ → Certificate) (c : Certificate) → AreCertificates l numbers count own → IsJoined l numbers count own c → IsProofOf l c
+    (l : PlainLevel) (numbers : List ℕ) (count : ℕ) (own : ℕ → Certificate) (c : Certificate)
+    → AreCertificates l numbers count own → IsJoined l numbers count own c → IsProofOf l c

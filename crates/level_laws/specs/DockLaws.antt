@@ -22,7 +22,8 @@ use Rattle.level_frame.specs.Drawing.{IsTurnedDrawing, plus}
 
 -- A document's drawing at the level of n, which has these options, comes from a drawing of that level: leaves keep their
 -- sizes, and the edges of the level that the certificate lists are those that the plan turns round.
-pub record IsFromLevel (d : Document) (p : Placed) (n : ℕ) (o : LevelOptions) (plan : PlainPlan) (v : LevelDrawing) (by : Point) : Type 0 where
+pub record IsFromLevel (d : Document) (p : Placed) (n : ℕ) (o : LevelOptions) (plan : PlainPlan) (v : LevelDrawing)
+    (by : Point) : Type 0 where
   pub sound : IsSound d
   pub options : (node_at d n).level ≡ Some o
   pub leaves : LeavesKept d p
@@ -50,11 +51,14 @@ EndSideTurns d p n o plan orders i t =
 
 -- the sides of ports and ends, and which edges are turned round
 pub record SidesTurnBack : Type 0 where
-  pub listed : (d : Document) (p : Placed) (n : ℕ) (o : LevelOptions) (plan : PlainPlan) (v : LevelDrawing) (by : Point) → IsFromLevel d p n o plan v by
+  pub listed : (d : Document) (p : Placed) (n : ℕ) (o : LevelOptions) (plan : PlainPlan) (v : LevelDrawing) (by : Point)
+      → IsFromLevel d p n o plan v by
       → (i : ℕ) → i < length (edges_of d n) → is_listed d p (edge_number d n i) ≡ holds plan.reversed i
-  pub port : (d : Document) (p : Placed) (n : ℕ) (o : LevelOptions) (plan : PlainPlan) (v : LevelDrawing) (by : Point) → IsFromLevel d p n o plan v by
+  pub port : (d : Document) (p : Placed) (n : ℕ) (o : LevelOptions) (plan : PlainPlan) (v : LevelDrawing) (by : Point)
+      → IsFromLevel d p n o plan v by
       → (i j : ℕ) → i < length (children d n) → j < length (ports_of d (child_number d n i)) → PortSideTurns d p n o plan i j
-  pub end : (d : Document) (p : Placed) (n : ℕ) (o : LevelOptions) (plan : PlainPlan) (v : LevelDrawing) (by : Point) → IsFromLevel d p n o plan v by
+  pub end : (d : Document) (p : Placed) (n : ℕ) (o : LevelOptions) (plan : PlainPlan) (v : LevelDrawing) (by : Point)
+      → IsFromLevel d p n o plan v by
       → (orders : Orders) (i : ℕ) (t : Bool) → i < length (edges_of d n) → EndSideTurns d p n o plan orders i t
 
 -- a dock of the level, at the document's number of its child
@@ -69,12 +73,14 @@ AnchorTurns d p n o plan orders v by i t =
 -- its dock in the document is the level's, in the frame
 abbrev pub DockTurns : Document → Placed → ℕ → LevelOptions → PlainPlan → Orders → ℕ → Bool → Type 0
 DockTurns d p n o plan orders i t =
-    turned_dock o.direction (box_of p (end_node d (edge_number d n i) t)) (document_dock d p (edge_number d n i) t) ≡ numbered_dock d n (dock_of (level_of d p n o) plan orders (end_at i t))
+    turned_dock o.direction (box_of p (end_node d (edge_number d n i) t)) (document_dock d p (edge_number d n i) t)
+    ≡ numbered_dock d n (dock_of (level_of d p n o) plan orders (end_at i t))
 
 -- two ends have one dock in the document exactly where they have one in the level
 abbrev pub DocksAgree : Document → Placed → ℕ → LevelOptions → PlainPlan → Orders → ℕ → Bool → ℕ → Bool → Type 0
 DocksAgree d p n o plan orders i s j t =
-    (document_dock d p (edge_number d n i) s ≡ document_dock d p (edge_number d n j) t) ↔ (dock_of (level_of d p n o) plan orders (end_at i s) ≡ dock_of (level_of d p n o) plan orders (end_at j t))
+    (document_dock d p (edge_number d n i) s ≡ document_dock d p (edge_number d n j) t)
+    ↔ (dock_of (level_of d p n o) plan orders (end_at i s) ≡ dock_of (level_of d p n o) plan orders (end_at j t))
 
 -- anchors and docks
 pub record DocksTurnBack : Type 0 where

@@ -28,7 +28,8 @@ pub record IsBounded (l : PlainLevel) (d : LevelDrawing) : Type 0 where
 
 -- So it is with each level that is laid out, however far its drawing was moved.
 abbrev pub ExtentsAreBounded : Type 0
-ExtentsAreBounded = (level : LevelIn) (v : LevelOut) (left top : ℤ) → IsLaidOut level v → IsBounded (plain_level level) (drawn_in v left top)
+ExtentsAreBounded =
+    (level : LevelIn) (v : LevelOut) (left top : ℤ) → IsLaidOut level v → IsBounded (plain_level level) (drawn_in v left top)
 
 -- The sides of every level that is laid out are from 0 to 2^48.
 pub record IsSmall (v : LevelOut) : Type 0 where

@@ -27,7 +27,8 @@ use Rattle.level_frame.specs.Drawing.{IsTurnedDrawing}
 -- the outlines and routes of a level's drawing reach from 0 to its extent
 abbrev pub FillsExtent : PlainLevel → LevelDrawing → Type 0
 FillsExtent l v =
-    IsReach (reached (map (drawn_outline l v) (range_with_len 0 (length l.children))) v.sections) (record { low = origin; high = record { x = v.extent.width; y = v.extent.height } })
+    IsReach (reached (map (drawn_outline l v) (range_with_len 0 (length l.children))) v.sections)
+    (record { low = origin; high = record { x = v.extent.width; y = v.extent.height } })
 
 -- How far the drawing of a level with this extent is moved in the frame, so that in the document it begins at the padding.
 abbrev pub start_of : Direction → Padding → Size → Point
@@ -40,11 +41,13 @@ start_of Up m e = record { x = neg_ℤ (m.top +ℤ e.width); y = m.left }
 -- pinned port on North or South. Likewise a height.
 abbrev pub AsksWidth : Document → Placed → ℕ → LevelOptions → Size → ℤ → Type 0
 AsksWidth d p n o content w =
-    (w ≡ (o.padding.left +ℤ content.width) +ℤ o.padding.right) ⊎ ((k : ℕ) × IsPinnedOn d p n North South k × (w ≡ (port_place p k).x +ℤ (port_at d k).size.width))
+    (w ≡ (o.padding.left +ℤ content.width) +ℤ o.padding.right)
+    ⊎ ((k : ℕ) × IsPinnedOn d p n North South k × (w ≡ (port_place p k).x +ℤ (port_at d k).size.width))
 
 abbrev pub AsksHeight : Document → Placed → ℕ → LevelOptions → Size → ℤ → Type 0
 AsksHeight d p n o content h =
-    (h ≡ (o.padding.top +ℤ content.height) +ℤ o.padding.bottom) ⊎ ((k : ℕ) × IsPinnedOn d p n East West k × (h ≡ (port_place p k).y +ℤ (port_at d k).size.height))
+    (h ≡ (o.padding.top +ℤ content.height) +ℤ o.padding.bottom)
+    ⊎ ((k : ℕ) × IsPinnedOn d p n East West k × (h ≡ (port_place p k).y +ℤ (port_at d k).size.height))
 
 -- The box of n is framed round a drawing of its level: the drawing has a section for each edge, is moved to begin at the
 -- padding, and the box has the greatest of the widths and heights that are needed. The boxes of the children have no negative

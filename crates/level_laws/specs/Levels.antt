@@ -20,7 +20,8 @@ use Rattle.level_laws.specs.DockLaws.{IsFromLevel}
 -- The level of n comes from the drawing v of that level, which comes from a plan: v is turned back and moved by `by`, the
 -- node's box is framed round it, and its certificate is written with the document's numbers. The level is neither split nor one
 -- of boxes.
-pub record IsFromDrawing (d : Document) (p : Placed) (n : ℕ) (o : LevelOptions) (plan : PlainPlan) (orders : Orders) (v : LevelDrawing) (by : Point) (made written : Certificate) : Type 0 where
+pub record IsFromDrawing (d : Document) (p : Placed) (n : ℕ) (o : LevelOptions) (plan : PlainPlan) (orders : Orders)
+    (v : LevelDrawing) (by : Point) (made written : Certificate) : Type 0 where
   pub from_level : IsFromLevel d p n o plan v by
   pub ready : IsReady (level_of d p n o) plan orders written.layers
   pub drawing : IsDrawing (level_of d p n o) plan written.layers v
@@ -37,5 +38,6 @@ pub record IsWellDrawn (d : Document) (p : Placed) (n : ℕ) (o : LevelOptions) 
 -- Such a level keeps every rule; the ports of the root are kept where they are by themselves.
 abbrev pub LevelsAreDrawn : Type 0
 LevelsAreDrawn =
-    (d : Document) (p : Placed) (n : ℕ) (o : LevelOptions) (plan : PlainPlan) (orders : Orders) (v : LevelDrawing) (by : Point) (made written : Certificate)
+    (d : Document) (p : Placed) (n : ℕ) (o : LevelOptions) (plan : PlainPlan) (orders : Orders) (v : LevelDrawing) (by : Point)
+    (made written : Certificate)
     → IsFromDrawing d p n o plan orders v by made written → (n ≡ 0 → KeepsPorts d p 0) → IsWellDrawn d p n o written

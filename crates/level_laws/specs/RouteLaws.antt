@@ -24,4 +24,5 @@ pub record RoutesDrawn (d : Document) (p : Placed) (n : ℕ) : Type 0 where
 abbrev pub RoutesTurnBack : Type 0
 RoutesTurnBack =
     (d : Document) (p : Placed) (n : ℕ) (o : LevelOptions) (plan : PlainPlan) (orders : Orders) (v : LevelDrawing) (by : Point)
-    → IsFromLevel d p n o plan v by → ArePortsPlaced (level_of d p n o) plan orders v → RoutesKept (level_of d p n o) plan orders v → RoutesDrawn d p n
+    → IsFromLevel d p n o plan v by → ArePortsPlaced (level_of d p n o) plan orders v
+    → RoutesKept (level_of d p n o) plan orders v → RoutesDrawn d p n

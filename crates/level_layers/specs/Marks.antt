@@ -32,7 +32,10 @@ pub record AreNodes (g : Graph) (n : ℕ) (nodes : List NodeKey) : Type 0 where
 -- the first n edges of the level lead from the nodes of their sources to those of their targets, and there is no other edge
 pub record AreEdges (l : PlainLevel) (nodes : List NodeKey) (g : Graph) (n : ℕ) (keys : List EdgeKey) : Type 0 where
   pub as_many : length keys ≡ n
-  pub ends : (e : ℕ) → e < n → ends_at g (key_of keys e) ≡ Some (record { tail = node_of nodes (source_of l e); head = node_of nodes (target_of l e) })
+  pub ends : (e : ℕ) → e < n → ends_at g (key_of keys e) ≡ Some (record {
+    tail = node_of nodes (source_of l e);
+    head = node_of nodes (target_of l e);
+  })
   pub only : (k : ℕ) (x : Ends) → ends_at g k ≡ Some x → (e : ℕ) × (e < n) × (key_of keys e ≡ k)
 
 -- a graph for the level
@@ -41,6 +44,8 @@ pub record IsGraphOf (l : PlainLevel) (nodes : List NodeKey) (keys : List EdgeKe
   pub edges_are : AreEdges l nodes g (length l.edges) keys
 
 -- the first n edges are marked where they leave another node than that of their source
-pub record AreMarkedEdges (l : PlainLevel) (nodes : List NodeKey) (keys : List EdgeKey) (g : Graph) (n : ℕ) (marks : List Bool) : Type 0 where
+pub record AreMarkedEdges (l : PlainLevel) (nodes : List NodeKey) (keys : List EdgeKey) (g : Graph) (n : ℕ)
+    (marks : List Bool) : Type 0 where
   pub as_many : length marks ≡ n
-  pub marked : (e : ℕ) (x : Ends) → e < n → ends_at g (key_of keys e) ≡ Some x → is_marked marks e ≡ not (x.tail == node_of nodes (source_of l e))
+  pub marked : (e : ℕ) (x : Ends) → e < n → ends_at g (key_of keys e) ≡ Some x
+      → is_marked marks e ≡ not (x.tail == node_of nodes (source_of l e))

@@ -66,7 +66,8 @@ fn certificate_from(
 ) -> Result<Certificate, AllocError>
     requires level { IsLevel (plain_level level.now) }
     requires reversed { AreReversed (plain_level level.now) reversed.items }
-    requires solution { IsSolution (length level.now.children) (network (plain_level level.now) reversed.items) solution.layer.items solution.flow.items solution.cost }
+    requires solution { IsSolution (length level.now.children) (network (plain_level level.now) reversed.items)
+        solution.layer.items solution.flow.items solution.cost }
     requires by_parts { IsSolvedByParts (length level.now.children) (network (plain_level level.now) reversed.items) solution.layer.items solution.flow.items }
     ensures { IfOk result (IsCertificateOf (plain_level level.now)) }
 {

@@ -25,5 +25,6 @@ LinksAreFew =
 abbrev pub PinsAreLow : Type 0
 PinsAreLow =
     (l : PlainLevel) (reversed layers : List ℕ) (blank v : Plain)
-    → IsLevel l → AreNumberedUnits (layering l reversed layers) blank → AreAlike blank v → IsSound v → total_height v.units ≤ℤ pos (3 * 2 ^ 47)
+    → IsLevel l → AreNumberedUnits (layering l reversed layers) blank → AreAlike blank v → IsSound v
+    → total_height v.units ≤ℤ pos (3 * 2 ^ 47)
     → (total_height v.units +ℤ pins_together v.links) <ℤ pos (2 ^ 60)

@@ -19,7 +19,8 @@ use Rattle.level_layout.specs.Phases.{AreNumberedAs, IsStart}
 -- the greatest of these; each row begins with its units in the order of their numbers; the order of the plan is that start or reduces
 -- its crossings, as the level asks, and its lines are placed.
 -- The drawing comes from all of these, and keeps the rules.
-pub record IsLayout (level : LevelIn) (c : Certificate) (layered : Layered) (start order : Order) (lines : Lines) (v : LevelOut) : Type 0 where
+pub record IsLayout (level : LevelIn) (c : Certificate) (layered : Layered) (start order : Order) (lines : Lines)
+    (v : LevelOut) : Type 0 where
   pub certificate : IsCertificateOf (plain_level level) c
   pub numbered : AreNumberedAs (plain_level level) c (plain layered)
   pub layers : IsLayerCount c.layers layered.layers

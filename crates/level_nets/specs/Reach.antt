@@ -56,7 +56,8 @@ pub record AreInReach (s : Parts) : Type 0 where
   pub few_layers : s.layered.layers ≤ 2048
   pub children : (c : ℕ) → c < length s.level.children → (child_in s.table.children c).unit < length s.layered.units
   pub ends : (e : ℕ) (at_source : Bool) → e < length s.level.edges → IsEndIn s (end_at e at_source)
-  pub loops : (e : ℕ) (side : Side) (at_source : Bool) → e < length s.level.edges → IsTrue (passes_on s e side) → IsPassing s e side (dock_at s (end_at e at_source))
+  pub loops : (e : ℕ) (side : Side) (at_source : Bool) → e < length s.level.edges → IsTrue (passes_on s e side)
+      → IsPassing s e side (dock_at s (end_at e at_source))
 
 -- All nets of a gap have two different pins in range, and there are few of them; and the columns left of each gap are not
 -- wide.

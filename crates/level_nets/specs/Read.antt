@@ -1,5 +1,6 @@
 -- The nets of a level and their gaps, read off the table of the level.
-use Rattle.std.specs.Prelude.{◌≡◌, ℕ, zero, suc, pos, ◌+◌, ◌*◌, ◌<◌, ◌==◌, cond, Bool, true, false, not, ◌&&◌, List, [], ◌∷◌, ◌++◌, map, ℤ, ◌+ℤ◌, ◌-ℤ◌, length}
+use Rattle.std.specs.Prelude.{◌≡◌, ℕ, zero, suc, pos, ◌+◌, ◌*◌, ◌<◌, ◌==◌, cond, Bool, true, false, not, ◌&&◌, List, [], ◌∷◌, ◌++◌, map, ℤ}
+use Rattle.std.specs.Prelude.{◌+ℤ◌, ◌-ℤ◌, length}
 use Rattle.std.specs.List.{filter, range_with_len}
 use Rattle.std.specs.Ordering.{int_eq}
 use Rattle.std.specs.Int.{int_max}
@@ -45,7 +46,8 @@ is_turned_back s n = not (is_loop s.level n.edge) && inverts (dock_at s n).side 
 -- whether the two ends of a self-loop have one dock, and whether an edge passes a gap as a self-loop
 abbrev pub is_one_dock : Parts → ℕ → Bool
 is_one_dock s e =
-    is_side (dock_at s (end_at e true)).side (dock_at s (end_at e false)).side && int_eq (dock_at s (end_at e true)).offset (dock_at s (end_at e false)).offset
+    is_side (dock_at s (end_at e true)).side (dock_at s (end_at e false)).side
+    && int_eq (dock_at s (end_at e true)).offset (dock_at s (end_at e false)).offset
 
 abbrev pub passes_west : Parts → ℕ → Bool
 passes_west s e =
@@ -148,7 +150,8 @@ leg_behind s names n = length (in_gap s names (gap_named s n))
 abbrev pub widest_of : Parts → ℕ → List ℕ → ℤ
 widest_of s r [] = pos 0
 widest_of s r (c ∷ cs) =
-    cond (layer_of s.layered (child_in s.table.children c).unit == r) (int_max (child_in s.table.children c).outline.width (widest_of s r cs)) (widest_of s r cs)
+    cond (layer_of s.layered (child_in s.table.children c).unit == r)
+    (int_max (child_in s.table.children c).outline.width (widest_of s r cs)) (widest_of s r cs)
 
 unfoldable pub width_of : Parts → ℕ → ℤ
 width_of s r = widest_of s r (range_with_len 0 (length s.level.children))

@@ -72,8 +72,10 @@ pub record AreLegs (l : PlainLevel) (p : PlainPlan) (o : Orders) (r : Routing) :
   pub links : (k : ℕ) → k < length p.layered.links → slice_index r.links k ≡ place_in_gap l p o (of_link k)
   pub docks : (e : ℕ) (at_source : Bool) → e < length l.edges → IsTrue (is_inverted l p o (end_at e at_source))
       → slice_index r.docks (end_number (end_at e at_source)) ≡ place_in_gap l p o (of_dock (end_at e at_source))
-  pub west : (e : ℕ) → e < length l.edges → IsTrue (is_passing_left l p o e) → (legs_at r.loops e).west ≡ place_in_gap l p o (of_loop e West)
-  pub east : (e : ℕ) → e < length l.edges → IsTrue (is_passing_right l p o e) → (legs_at r.loops e).east ≡ place_in_gap l p o (of_loop e East)
+  pub west : (e : ℕ) → e < length l.edges → IsTrue (is_passing_left l p o e)
+      → (legs_at r.loops e).west ≡ place_in_gap l p o (of_loop e West)
+  pub east : (e : ℕ) → e < length l.edges → IsTrue (is_passing_right l p o e)
+      → (legs_at r.loops e).east ≡ place_in_gap l p o (of_loop e East)
 
 abbrev pub AreLegsOf : Parts → Routing → Type 0
 AreLegsOf s r =

@@ -13,7 +13,8 @@ join e = record { tail = e.source.child; head = e.target.child; least = 1; weigh
 abbrev pub IsJoined : PlainLevel → ℕ → ℕ → Type 0
 IsJoined l a b =
     (e : ℕ) × (e < length l.edges)
-    × ((((edge_at l e).source.child ≡ a) × ((edge_at l e).target.child ≡ b)) ⊎ (((edge_at l e).source.child ≡ b) × ((edge_at l e).target.child ≡ a)))
+    × ((((edge_at l e).source.child ≡ a) × ((edge_at l e).target.child ≡ b))
+    ⊎ (((edge_at l e).source.child ≡ b) × ((edge_at l e).target.child ≡ a)))
 
 -- a and b lie in one part: edges lead from the one to the other, in whatever direction
 abbrev pub InOnePart : PlainLevel → ℕ → ℕ → Type 0

@@ -18,7 +18,14 @@ no_level =
     record {
       children = [];
       edges = [];
-      spacing = record { node_node = pos 1; edge_node = pos 1; edge_edge = pos 1; node_layers = pos 1; edge_node_layers = pos 1; edge_edge_layers = pos 1 };
+      spacing = record {
+        node_node = pos 1;
+        edge_node = pos 1;
+        edge_edge = pos 1;
+        node_layers = pos 1;
+        edge_node_layers = pos 1;
+        edge_edge_layers = pos 1;
+      };
       fixed = None;
       placing = BrandesKoepf;
       choices = default_choices;

@@ -25,7 +25,16 @@ abbrev pub lane_unit : ℕ → LayerUnit
 lane_unit layer = record { layer = layer; child = None; height = pos 0; body_top = pos 0; body_height = pos 0; north = 0; south = 0 }
 
 abbrev pub joined : ℕ → ℕ → ℕ → ℕ → ℕ → Link
-joined e tail head tail_at head_at = record { edge = e; tail = tail; head = head; tail_rank = 0; head_rank = 0; tail_at = pos tail_at; head_at = pos head_at }
+joined e tail head tail_at head_at =
+    record {
+      edge = e;
+      tail = tail;
+      head = head;
+      tail_rank = 0;
+      head_rank = 0;
+      tail_at = pos tail_at;
+      head_at = pos head_at;
+    }
 
 -- the long edge runs on a lane below the second child
 abbrev pub chained_plan : PlainPlan

@@ -30,4 +30,5 @@ LinksCrossAsInRows =
     (l : PlainLevel) (p : PlainPlan) (o : Orders) (d : LevelDrawing) (g i j a b : ℕ) → IsSound p.layered → IsGap l p o d g
     → CrossAsAsked (gap_in d.gaps g).nets (gap_in d.gaps g).routes → i ≢ j → IsNetOfLink l p o g i a → IsNetOfLink l p o g j b
     → StandAsInRows l p o a b → StandAsInRows l p o b a
-    → crossed (gap_in d.gaps g).nets (gap_in d.gaps g).routes i j ≡ one (cross p.layered p.rows (link_at p.layered.links a) (link_at p.layered.links b))
+    → crossed (gap_in d.gaps g).nets (gap_in d.gaps g).routes i j
+    ≡ one (cross p.layered p.rows (link_at p.layered.links a) (link_at p.layered.links b))

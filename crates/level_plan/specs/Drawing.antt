@@ -17,7 +17,8 @@ use Rattle.level_plan.specs.FromPlan.{LevelDrawing, anchor, box_place}
 -- the edge of a lane of a long edge: that of the link that enters it
 abbrev pub lane_edge : PlainPlan → ℕ → ℕ
 lane_edge p u =
-    (link_at p.layered.links (first_or (filter (λ k. (link_at p.layered.links k).head == u) (range_with_len 0 (length p.layered.links))) 0)).edge
+    (link_at p.layered.links
+    (first_or (filter (λ k. (link_at p.layered.links k).head == u) (range_with_len 0 (length p.layered.links))) 0)).edge
 
 -- the line of an anchor on the east or west side
 abbrev pub is_anchor_line : Dock → Line → Bool
@@ -27,7 +28,8 @@ is_anchor_line d m = not (is_upright d.side) && line_eq (anchor_line d) m
 abbrev pub is_in_use : PlainLevel → PlainPlan → Orders → ℕ → Line → Bool
 is_in_use l p o e m =
     list_any (λ n. (edge_of p n == e) && (line_eq (a_line l p o n) m || line_eq (b_line l p o n) m)) (all_names l p o)
-    || (nat_lt e (length l.edges) && (is_anchor_line (dock_of l p o (end_at e true)) m || is_anchor_line (dock_of l p o (end_at e false)) m))
+    || (nat_lt e (length l.edges)
+    && (is_anchor_line (dock_of l p o (end_at e true)) m || is_anchor_line (dock_of l p o (end_at e false)) m))
     || (nat_lt e (length l.edges) && is_loop l e && list_any (λ side. line_eq (loop_lane e side) m) (loop_sides l p o e))
 
 abbrev pub name_at : List Name → ℕ → Name

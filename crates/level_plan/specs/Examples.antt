@@ -28,7 +28,15 @@ use Rattle.level_plan.specs.Law.{IsPart}
 use Rattle.route_lines.specs.Tidied.{EachSegment}
 
 abbrev pub spacing : Spacing
-spacing = record { node_node = pos 20; edge_node = pos 10; edge_edge = pos 10; node_layers = pos 20; edge_node_layers = pos 10; edge_edge_layers = pos 10 }
+spacing =
+    record {
+      node_node = pos 20;
+      edge_node = pos 10;
+      edge_edge = pos 10;
+      node_layers = pos 20;
+      edge_node_layers = pos 10;
+      edge_edge_layers = pos 10;
+    }
 
 abbrev pub square : List ChildPort → PortRule → Child
 square ports rule =
@@ -38,20 +46,42 @@ abbrev pub edge : ℕ → Option ℕ → ℕ → LevelEdge
 edge a port b = record { source = record { child = a; port = port }; target = record { child = b; port = None }; weight = 1 }
 
 abbrev pub unit : ℕ → ℕ → ℤ → ℤ → ℕ → LayerUnit
-unit c layer height top north = record { layer = layer; child = Some c; height = height; body_top = top; body_height = pos 30; north = north; south = 0 }
+unit c layer height top north =
+    record {
+      layer = layer;
+      child = Some c;
+      height = height;
+      body_top = top;
+      body_height = pos 30;
+      north = north;
+      south = 0;
+    }
 
 abbrev pub link : ℕ → ℤ → ℤ → Link
 link e a b = record { edge = e; tail = 0; head = 1; tail_rank = 0; head_rank = 0; tail_at = a; head_at = b }
 
 -- two parallel edges
 abbrev pub parallel : PlainLevel
-parallel = record { children = square [] Free ∷ square [] Free ∷ []; edges = edge 0 None 1 ∷ edge 0 None 1 ∷ []; spacing = spacing; choices = default_choices }
+parallel =
+    record {
+      children = square [] Free ∷ square [] Free ∷ [];
+      edges = edge 0 None 1 ∷ edge 0 None 1 ∷ [];
+      spacing = spacing;
+      choices = default_choices;
+    }
 
 abbrev pub parallel_plan : PlainPlan
 parallel_plan =
     record {
       layers = 2;
-      layered = record { layers = 2; units = unit 0 0 (pos 30) (pos 0) 0 ∷ unit 1 1 (pos 30) (pos 0) 0 ∷ []; links = link 0 (pos 10) (pos 10) ∷ link 1 (pos 20) (pos 20) ∷ []; node_node = pos 20; edge_node = pos 10; edge_edge = pos 10 };
+      layered = record {
+        layers = 2;
+        units = unit 0 0 (pos 30) (pos 0) 0 ∷ unit 1 1 (pos 30) (pos 0) 0 ∷ [];
+        links = link 0 (pos 10) (pos 10) ∷ link 1 (pos 20) (pos 20) ∷ [];
+        node_node = pos 20;
+        edge_node = pos 10;
+        edge_edge = pos 10;
+      };
       rows = (0 ∷ []) ∷ (1 ∷ []) ∷ [];
       tops = pos 0 ∷ pos 0 ∷ [];
       reversed = [];
@@ -69,7 +99,8 @@ abbrev pub net : Pin → Pin → Net
 net a b = record { a = a; b = b }
 
 pub record ParallelEdges : Type 0 where
-  pub nets : nets_in parallel parallel_plan parallel_orders (pos 0) 1 ≡ net (pin true 10) (pin false 10) ∷ net (pin true 20) (pin false 20) ∷ []
+  pub nets : nets_in parallel parallel_plan parallel_orders (pos 0) 1
+      ≡ net (pin true 10) (pin false 10) ∷ net (pin true 20) (pin false 20) ∷ []
   pub first : steps_of parallel parallel_plan parallel_orders (pos 0) 0 ≡ Leg 1 0 true ∷ []
   pub second : steps_of parallel parallel_plan parallel_orders (pos 0) 1 ≡ Leg 1 1 true ∷ []
   pub width : column_width parallel parallel_plan parallel_orders 0 ≡ pos 30
@@ -82,7 +113,13 @@ abbrev pub west : PlainLevel
 west =
     record {
       children =
-          square ((record { size = record { width = pos 10; height = pos 10 }; place = record { x = pos 0; y = pos 0 }; half = pos 5; side = Some West; index = pos 0 }) ∷ []) FixedSide
+          square ((record {
+            size = record { width = pos 10; height = pos 10 };
+            place = record { x = pos 0; y = pos 0 };
+            half = pos 5;
+            side = Some West;
+            index = pos 0;
+          }) ∷ []) FixedSide
           ∷ square [] Free ∷ [];
       edges = edge 0 (Some 0) 1 ∷ [];
       spacing = spacing;
@@ -93,7 +130,14 @@ abbrev pub west_plan : PlainPlan
 west_plan =
     record {
       layers = 2;
-      layered = record { layers = 2; units = unit 0 0 (pos 40) (pos 10) 1 ∷ unit 1 1 (pos 30) (pos 0) 0 ∷ []; links = link 0 (pos 0) (pos 15) ∷ []; node_node = pos 20; edge_node = pos 10; edge_edge = pos 10 };
+      layered = record {
+        layers = 2;
+        units = unit 0 0 (pos 40) (pos 10) 1 ∷ unit 1 1 (pos 30) (pos 0) 0 ∷ [];
+        links = link 0 (pos 0) (pos 15) ∷ [];
+        node_node = pos 20;
+        edge_node = pos 10;
+        edge_edge = pos 10;
+      };
       rows = (0 ∷ []) ∷ (1 ∷ []) ∷ [];
       tops = pos 15 ∷ pos 0 ∷ [];
       reversed = [];
@@ -107,7 +151,16 @@ abbrev pub gap : ℤ → ℤ → ℤ → List Net → PlainGap
 gap left first right nets = record { left = left; first = first; step = pos 10; right = right; nets = nets; count = 1; routes = One 0 ∷ [] }
 
 abbrev pub straight_gap : PlainGap
-straight_gap = record { left = pos 50; first = pos 60; step = pos 10; right = pos 70; nets = net (pin true 15) (pin false 15) ∷ []; count = 0; routes = Straight ∷ [] }
+straight_gap =
+    record {
+      left = pos 50;
+      first = pos 60;
+      step = pos 10;
+      right = pos 70;
+      nets = net (pin true 15) (pin false 15) ∷ [];
+      count = 0;
+      routes = Straight ∷ [];
+    }
 
 abbrev pub last_gap : PlainGap
 last_gap = record { left = pos 100; first = pos 110; step = pos 10; right = pos 100; nets = []; count = 0; routes = [] }
@@ -128,7 +181,8 @@ pub record WestPort : Type 0 where
   pub points :
       trace_points west_gaps
       (record { x = pos 10; y = pos 40 }) (Leg 0 0 false ∷ Lane (pos 15) ∷ Leg 1 0 true ∷ []) (record { x = pos 70; y = pos 15 })
-      ≡ (record { x = pos 10; y = pos 40 }) ∷ (record { x = pos 0; y = pos 40 }) ∷ (record { x = pos 0; y = pos 15 }) ∷ (record { x = pos 70; y = pos 15 }) ∷ []
+      ≡ (record { x = pos 10; y = pos 40 }) ∷ (record { x = pos 0; y = pos 40 }) ∷ (record { x = pos 0; y = pos 15 })
+      ∷ (record { x = pos 70; y = pos 15 }) ∷ []
   pub fine :
       fine_points west_gaps (at 10 40) (Leg 0 0 false ∷ Lane (pos 15) ∷ Leg 1 0 true ∷ []) (at 70 15)
       ≡ at 10 40 ∷ at 10 40 ∷ at 0 40 ∷ at 0 15 ∷ at 10 15 ∷ at 50 15 ∷ at 70 15 ∷ at 70 15 ∷ []

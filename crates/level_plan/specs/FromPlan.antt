@@ -13,7 +13,8 @@ use Rattle.route_slots.specs.Promised.{AreFewest, AreUncrossed}
 use Rattle.route_lines.specs.declared.Step.{Step}
 use Rattle.route_lines.specs.Points.{PlainGap, gap_in, trace_points}
 use Rattle.route_lines.specs.Tidied.{IsTidied, IsSectionOf}
-use Rattle.level_plan.specs.Level.{PlainLevel, PlainPlan, Orders, End, end_at, spoke, spot_of, child_at, anchor_of_spot, port_place, outline}
+use Rattle.level_plan.specs.Level.{PlainLevel, PlainPlan, Orders, End, end_at, spoke, spot_of, child_at, anchor_of_spot, port_place}
+use Rattle.level_plan.specs.Level.{outline}
 use Rattle.level_plan.specs.Nets.{nets_in, gap_left, gap_width, first_slot, layer_of_child, box_top}
 use Rattle.level_plan.specs.Traces.{steps_of}
 
@@ -66,10 +67,18 @@ abbrev pub point_or : List Point → ℕ → Point
 point_or ps i = slice_index_or ps i (record { x = pos 0; y = pos 0 })
 
 abbrev pub trace_at : LevelDrawing → ℕ → PlainTrace
-trace_at d e = slice_index_or d.traces e (record { start = record { x = pos 0; y = pos 0 }; steps = []; end = record { x = pos 0; y = pos 0 } })
+trace_at d e = slice_index_or d.traces e (record {
+  start = record { x = pos 0; y = pos 0 };
+  steps = [];
+  end = record { x = pos 0; y = pos 0 };
+})
 
 abbrev pub section_at : LevelDrawing → ℕ → Section
-section_at d e = slice_index_or d.sections e (record { start = record { x = pos 0; y = pos 0 }; bends = []; end = record { x = pos 0; y = pos 0 } })
+section_at d e = slice_index_or d.sections e (record {
+  start = record { x = pos 0; y = pos 0 };
+  bends = [];
+  end = record { x = pos 0; y = pos 0 };
+})
 
 -- a trace from the source's anchor to the target's, and a section with its tidied points
 pub record IsRoute (l : PlainLevel) (p : PlainPlan) (o : Orders) (d : LevelDrawing) (e : ℕ) : Type 0 where

@@ -22,11 +22,13 @@ StepsAlternate =
 -- Each leg of each edge names a net of a gap.
 abbrev pub LegsAreThere : Type 0
 LegsAreThere =
-    (l : PlainLevel) (p : PlainPlan) (o : Orders) (shift : ℤ) (layers : List ℕ) (gaps : List PlainGap) → IsReady l p o layers → HoldNets l p o shift gaps
+    (l : PlainLevel) (p : PlainPlan) (o : Orders) (shift : ℤ) (layers : List ℕ) (gaps : List PlainGap) → IsReady l p o layers
+    → HoldNets l p o shift gaps
     → (e : ℕ) → e < length l.edges → All (IsStepIn gaps) (steps_of l p o shift e)
 
 -- The steps of each edge make a trace.
 abbrev pub TracesJoin : Type 0
 TracesJoin =
-    (l : PlainLevel) (p : PlainPlan) (o : Orders) (shift : ℤ) (layers : List ℕ) (gaps : List PlainGap) → IsReady l p o layers → HoldNets l p o shift gaps
+    (l : PlainLevel) (p : PlainPlan) (o : Orders) (shift : ℤ) (layers : List ℕ) (gaps : List PlainGap) → IsReady l p o layers
+    → HoldNets l p o shift gaps
     → (e : ℕ) → e < length l.edges → IsTrace gaps (steps_of l p o shift e)

@@ -17,5 +17,6 @@ HasLawfulRoutes l p o d =
 -- Where all that is drawn stands as it should, all routes are lawful.
 abbrev pub RoutesAreLawful : Type 0
 RoutesAreLawful =
-    (l : PlainLevel) (p : PlainPlan) (o : Orders) (d : LevelDrawing) (layers : List ℕ) → IsReady l p o layers → IsDrawnFrom l p o d → Stands (stage l p o d)
+    (l : PlainLevel) (p : PlainPlan) (o : Orders) (d : LevelDrawing) (layers : List ℕ) → IsReady l p o layers
+    → IsDrawnFrom l p o d → Stands (stage l p o d)
     → HasLawfulRoutes l p o d

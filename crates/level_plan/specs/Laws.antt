@@ -13,12 +13,15 @@ pub record HasColumns (l : PlainLevel) (p : PlainPlan) (o : Orders) (d : LevelDr
   pub inner : (g : ℕ) → g < length d.gaps → IsInner (stage l p o d) g
 
 abbrev pub ColumnsStand : Type 0
-ColumnsStand = (l : PlainLevel) (p : PlainPlan) (o : Orders) (d : LevelDrawing) (layers : List ℕ) → IsReady l p o layers → IsDrawnFrom l p o d → HasColumns l p o d
+ColumnsStand =
+    (l : PlainLevel) (p : PlainPlan) (o : Orders) (d : LevelDrawing) (layers : List ℕ) → IsReady l p o layers
+    → IsDrawnFrom l p o d → HasColumns l p o d
 
 -- the units of one layer stand one above the other, and no unit is that of two children
 pub record HasUnits (l : PlainLevel) (p : PlainPlan) (o : Orders) (d : LevelDrawing) : Type 0 where
   pub column : InColumn (stage l p o d)
-  pub one_child : (b c : ℕ) → ChildStands (stage l p o d) b → ChildStands (stage l p o d) c → (stage l p o d).unit_of b ≡ (stage l p o d).unit_of c → b ≡ c
+  pub one_child : (b c : ℕ) → ChildStands (stage l p o d) b → ChildStands (stage l p o d) c
+      → (stage l p o d).unit_of b ≡ (stage l p o d).unit_of c → b ≡ c
 
 abbrev pub UnitsStand : Type 0
 UnitsStand = (l : PlainLevel) (p : PlainPlan) (o : Orders) (d : LevelDrawing) (layers : List ℕ) → IsReady l p o layers → HasUnits l p o d
@@ -29,11 +32,14 @@ pub record HasEnds (l : PlainLevel) (p : PlainPlan) (o : Orders) (d : LevelDrawi
   pub ends : (e : ℕ) (t : Bool) → e < length l.edges → EndStands (stage l p o d) e t
 
 abbrev pub EndsStand : Type 0
-EndsStand = (l : PlainLevel) (p : PlainPlan) (o : Orders) (d : LevelDrawing) (layers : List ℕ) → IsReady l p o layers → IsDrawnFrom l p o d → HasEnds l p o d
+EndsStand =
+    (l : PlainLevel) (p : PlainPlan) (o : Orders) (d : LevelDrawing) (layers : List ℕ) → IsReady l p o layers
+    → IsDrawnFrom l p o d → HasEnds l p o d
 
 -- lines lie in their units, clear of outlines, no two at one place
 abbrev pub DrawnLinesStand : Type 0
-DrawnLinesStand = (l : PlainLevel) (p : PlainPlan) (o : Orders) (d : LevelDrawing) (layers : List ℕ) → IsReady l p o layers → LinesStand (stage l p o d)
+DrawnLinesStand =
+    (l : PlainLevel) (p : PlainPlan) (o : Orders) (d : LevelDrawing) (layers : List ℕ) → IsReady l p o layers → LinesStand (stage l p o d)
 
 -- the nets of each gap keep apart, and each pin is the end of a line of the net's edge
 abbrev pub DrawnNetsStand : Type 0
@@ -43,4 +49,6 @@ DrawnNetsStand =
 
 -- everything stands where it should
 abbrev pub StageStands : Type 0
-StageStands = (l : PlainLevel) (p : PlainPlan) (o : Orders) (d : LevelDrawing) (layers : List ℕ) → IsReady l p o layers → IsDrawnFrom l p o d → Stands (stage l p o d)
+StageStands =
+    (l : PlainLevel) (p : PlainPlan) (o : Orders) (d : LevelDrawing) (layers : List ℕ) → IsReady l p o layers
+    → IsDrawnFrom l p o d → Stands (stage l p o d)

@@ -1,5 +1,6 @@
 -- A level, its oriented ends, its spots and its docks, under the orders of its sides.
-use Rattle.std.specs.Prelude.{ℕ, ◌+◌, ◌==◌, cond, Bool, true, false, not, ◌&&◌, List, [], ◌∷◌, ◌++◌, map, ℤ, pos, Option, None, Some, length, slice_index_or, is_none}
+use Rattle.std.specs.Prelude.{ℕ, ◌+◌, ◌==◌, cond, Bool, true, false, not, ◌&&◌, List, [], ◌∷◌, ◌++◌, map, ℤ, pos, Option, None, Some}
+use Rattle.std.specs.Prelude.{length, slice_index_or, is_none}
 use Rattle.std.specs.List.{filter, list_any, range_with_len}
 use Rattle.elk_doc.specs.declared.shape.Point.{Point}
 use Rattle.elk_doc.specs.declared.shape.Rect.{Rect}
@@ -43,7 +44,11 @@ abbrev pub child_at : PlainLevel → ℕ → Child
 child_at l c = slice_index_or l.children c (record { size = no_size; compound = false; rule = Free; direction = Right; ports = [] })
 
 abbrev pub edge_at : PlainLevel → ℕ → LevelEdge
-edge_at l e = slice_index_or l.edges e (record { source = record { child = 0; port = None }; target = record { child = 0; port = None }; weight = 1 })
+edge_at l e = slice_index_or l.edges e (record {
+  source = record { child = 0; port = None };
+  target = record { child = 0; port = None };
+  weight = 1;
+})
 
 abbrev pub holds : List ℕ → ℕ → Bool
 holds ns n = list_any (λ m. m == n) ns
@@ -99,7 +104,8 @@ linked l ns = filter (λ n. not (is_loop l n.edge)) ns
 -- the number of an end's link: that of its edge which has a child at the end's side
 abbrev pub is_link_of : PlainPlan → End → ℕ → Bool
 is_link_of p n k =
-    ((link_at p.layered.links k).edge == n.edge) && is_child p.layered (cond (enters p n) (link_at p.layered.links k).head (link_at p.layered.links k).tail)
+    ((link_at p.layered.links k).edge == n.edge)
+    && is_child p.layered (cond (enters p n) (link_at p.layered.links k).head (link_at p.layered.links k).tail)
 
 abbrev pub first_or : List ℕ → ℕ → ℕ
 first_or [] d = d

@@ -20,7 +20,14 @@ use Rattle.level_plan.specs.Examples.{spacing, square, unit, pin, net, straight_
 
 -- a port of 10 by 10 on this side
 abbrev pub port_on : Side → ChildPort
-port_on side = record { size = record { width = pos 10; height = pos 10 }; place = record { x = pos 0; y = pos 0 }; half = pos 5; side = Some side; index = pos 0 }
+port_on side =
+    record {
+      size = record { width = pos 10; height = pos 10 };
+      place = record { x = pos 0; y = pos 0 };
+      half = pos 5;
+      side = Some side;
+      index = pos 0;
+    }
 
 -- ---- a port on the north side of the middle one of three children: an edge comes to it from the left, and one leaves it to
 -- the right, both along the one lane of their dock
@@ -102,7 +109,8 @@ looped =
     record {
       children = looped_child ∷ [];
       edges =
-          loop_between 0 1 ∷ loop_between 2 5 ∷ loop_between 3 10 ∷ loop_between 4 15 ∷ loop_between 6 7 ∷ loop_between 8 11 ∷ loop_between 9 16 ∷ loop_between 12 13 ∷ loop_between 14 17 ∷ loop_between 18 19 ∷ [];
+          loop_between 0 1 ∷ loop_between 2 5 ∷ loop_between 3 10 ∷ loop_between 4 15 ∷ loop_between 6 7 ∷ loop_between 8 11
+          ∷ loop_between 9 16 ∷ loop_between 12 13 ∷ loop_between 14 17 ∷ loop_between 18 19 ∷ [];
       spacing = spacing;
       choices = default_choices;
     }
@@ -111,7 +119,14 @@ abbrev pub looped_plan : PlainPlan
 looped_plan =
     record {
       layers = 1;
-      layered = record { layers = 1; units = unit 0 0 (pos 210) (pos 50) 5 ∷ []; links = []; node_node = pos 20; edge_node = pos 10; edge_edge = pos 10 };
+      layered = record {
+        layers = 1;
+        units = unit 0 0 (pos 210) (pos 50) 5 ∷ [];
+        links = [];
+        node_node = pos 20;
+        edge_node = pos 10;
+        edge_edge = pos 10;
+      };
       rows = (0 ∷ []) ∷ [];
       tops = pos 0 ∷ [];
       reversed = [];
@@ -124,12 +139,15 @@ looped_orders c South = 10 ∷ 11 ∷ 12 ∷ 13 ∷ 14 ∷ []
 looped_orders c West = 15 ∷ 16 ∷ 17 ∷ 18 ∷ 19 ∷ []
 
 pub record AllLoops : Type 0 where
-  pub north_lanes : lanes looped looped_plan looped_orders 0 North ≡ loop_lane 0 North ∷ loop_lane 1 North ∷ loop_lane 2 North ∷ loop_lane 3 North ∷ loop_lane 6 North ∷ []
-  pub south_lanes : lanes looped looped_plan looped_orders 0 South ≡ loop_lane 2 South ∷ loop_lane 5 South ∷ loop_lane 7 South ∷ loop_lane 8 South ∷ []
+  pub north_lanes : lanes looped looped_plan looped_orders 0 North
+      ≡ loop_lane 0 North ∷ loop_lane 1 North ∷ loop_lane 2 North ∷ loop_lane 3 North ∷ loop_lane 6 North ∷ []
+  pub south_lanes : lanes looped looped_plan looped_orders 0 South
+      ≡ loop_lane 2 South ∷ loop_lane 5 South ∷ loop_lane 7 South ∷ loop_lane 8 South ∷ []
   pub body : body_top looped looped_plan looped_orders 0 ≡ pos 50
   pub height : unit_height looped looped_plan looped_orders 0 ≡ pos 210
   pub left_gap : names_in looped looped_plan looped_orders 0 ≡ of_loop 3 West ∷ of_loop 6 West ∷ of_loop 8 West ∷ of_loop 9 West ∷ []
-  pub right_gap : names_in looped looped_plan looped_orders 1 ≡ of_loop 1 East ∷ of_loop 2 East ∷ of_loop 4 East ∷ of_loop 5 East ∷ of_loop 6 East ∷ []
+  pub right_gap : names_in looped looped_plan looped_orders 1
+      ≡ of_loop 1 East ∷ of_loop 2 East ∷ of_loop 4 East ∷ of_loop 5 East ∷ of_loop 6 East ∷ []
   pub north_north : steps_of looped looped_plan looped_orders (pos 0) 0 ≡ Lane (pos 40) ∷ []
   pub north_east : steps_of looped looped_plan looped_orders (pos 0) 1 ≡ Lane (pos 30) ∷ Leg 1 0 true ∷ []
   pub north_south : steps_of looped looped_plan looped_orders (pos 0) 2 ≡ Lane (pos 20) ∷ Leg 1 1 true ∷ Lane (pos 180) ∷ []

@@ -40,5 +40,6 @@ IsNearStep (Leg g n from_a) = Unit {0}
 -- Where the ends, the gaps and the steps of a trace are near, its points are coordinates of a drawing.
 abbrev pub PointsAreNear : Type 0
 PointsAreNear =
-    (gaps : List PlainGap) (start end : Point) (steps : List Step) → IsTrace gaps steps → AreNearGaps gaps → All IsNearStep steps → IsNearEnd start → IsNearEnd end
+    (gaps : List PlainGap) (start end : Point) (steps : List Step) → IsTrace gaps steps → AreNearGaps gaps
+    → All IsNearStep steps → IsNearEnd start → IsNearEnd end
     → All IsNear (trace_points gaps start steps end)

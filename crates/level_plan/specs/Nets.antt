@@ -1,5 +1,6 @@
 -- The heights of lines, the nets of gaps, and the columns.
-use Rattle.std.specs.Prelude.{ℕ, zero, suc, ◌+◌, ◌-◌, ◌==◌, cond, Bool, true, false, not, ◌&&◌, ◌||◌, List, [], ◌∷◌, ◌++◌, map, ℤ, pos, ◌+ℤ◌, ◌-ℤ◌, ◌*ℤ◌, Option, None, Some, length}
+use Rattle.std.specs.Prelude.{ℕ, zero, suc, ◌+◌, ◌-◌, ◌==◌, cond, Bool, true, false, not, ◌&&◌, ◌||◌, List, [], ◌∷◌, ◌++◌, map, ℤ, pos}
+use Rattle.std.specs.Prelude.{◌+ℤ◌, ◌-ℤ◌, ◌*ℤ◌, Option, None, Some, length}
 use Rattle.std.specs.List.{filter, range_with_len}
 use Rattle.std.specs.Int.{int_max}
 use Rattle.elk_doc.specs.declared.shape.Side.{Side}
@@ -12,7 +13,8 @@ use Rattle.route_slots.specs.declared.Pin.{Pin}
 use Rattle.route_slots.specs.declared.Net.{Net}
 use Rattle.self_loops.specs.Loops.{passes_left, passes_right, is_upright}
 use Rattle.level_plan.specs.Stage.{Line, anchor_line, dock_lane, loop_lane, long_lane}
-use Rattle.level_plan.specs.Level.{PlainLevel, PlainPlan, Orders, End, end_at, edge_at, all_ends, end_eq, spoke, enters, tail_end, head_end, is_loop, dock_of, outline, first_or}
+use Rattle.level_plan.specs.Level.{PlainLevel, PlainPlan, Orders, End, end_at, edge_at, all_ends, end_eq, spoke, enters, tail_end, head_end}
+use Rattle.level_plan.specs.Level.{is_loop, dock_of, outline, first_or}
 use Rattle.level_plan.specs.Lanes.{lane_side, loop_lane_height, body_top, has_one_dock}
 
 -- the unit of a child
@@ -69,11 +71,13 @@ line_of_end l p o n =
 -- the line of a link's tail and head: that of the edge's end at a child, and the lane of a long edge elsewhere
 abbrev pub tail_line : PlainLevel → PlainPlan → Orders → ℕ → Line
 tail_line l p o k =
-    cond (is_child p.layered (link_at p.layered.links k).tail) (line_of_end l p o (tail_end p (link_at p.layered.links k).edge)) (long_lane (link_at p.layered.links k).tail)
+    cond (is_child p.layered (link_at p.layered.links k).tail) (line_of_end l p o (tail_end p (link_at p.layered.links k).edge))
+    (long_lane (link_at p.layered.links k).tail)
 
 abbrev pub head_line : PlainLevel → PlainPlan → Orders → ℕ → Line
 head_line l p o k =
-    cond (is_child p.layered (link_at p.layered.links k).head) (line_of_end l p o (head_end p (link_at p.layered.links k).edge)) (long_lane (link_at p.layered.links k).head)
+    cond (is_child p.layered (link_at p.layered.links k).head) (line_of_end l p o (head_end p (link_at p.layered.links k).edge))
+    (long_lane (link_at p.layered.links k).head)
 
 -- The name of a net: a link, an inverted dock of an edge's end, or the passage of a self-loop through the gap on one side.
 pub data Name : Type 0 where
@@ -95,8 +99,12 @@ if_passed false e side = []
 abbrev pub loop_names : PlainLevel → PlainPlan → Orders → List ℕ → List Name
 loop_names l p o [] = []
 loop_names l p o (e ∷ es) =
-    if_passed (is_loop l e && passes_left (dock_of l p o (end_at e true)).side (dock_of l p o (end_at e false)).side (has_one_dock l p o e)) e West
-    ++ if_passed (is_loop l e && passes_right (dock_of l p o (end_at e true)).side (dock_of l p o (end_at e false)).side (has_one_dock l p o e)) e East
+    if_passed
+    (is_loop l e && passes_left (dock_of l p o (end_at e true)).side (dock_of l p o (end_at e false)).side (has_one_dock l p o e))
+    e West
+    ++ if_passed
+    (is_loop l e && passes_right (dock_of l p o (end_at e true)).side (dock_of l p o (end_at e false)).side (has_one_dock l p o e))
+    e East
     ++ loop_names l p o es
 
 -- All nets of the level, each once: those of links, those of inverted docks by end, those of self-loops by edge.
@@ -187,7 +195,8 @@ outer_width l count = cond (count == 0) (pos 0) (l.spacing.edge_node_layers +ℤ
 abbrev pub inner_width : PlainLevel → ℕ → ℤ
 inner_width l count =
     cond (count == 0) l.spacing.node_layers
-    (int_max l.spacing.node_layers (l.spacing.edge_node_layers +ℤ l.spacing.edge_node_layers +ℤ (pos (count - 1) *ℤ l.spacing.edge_edge_layers)))
+    (int_max l.spacing.node_layers
+    (l.spacing.edge_node_layers +ℤ l.spacing.edge_node_layers +ℤ (pos (count - 1) *ℤ l.spacing.edge_edge_layers)))
 
 -- the width of a gap with this many slots, and where its slots begin, from its left border
 abbrev pub gap_width : PlainLevel → PlainPlan → ℕ → ℕ → ℤ

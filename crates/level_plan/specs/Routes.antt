@@ -31,7 +31,8 @@ end_dock l p o e at_source = dock_of l p o (end_at e at_source)
 -- the route of an edge leads from anchor to anchor
 abbrev pub KeepsRoute : PlainLevel → PlainPlan → Orders → LevelDrawing → ℕ → Type 0
 KeepsRoute l p o d e =
-    IsRoute (section_at d e) (anchor l p o d (end_at e true)) (anchor l p o d (end_at e false)) (dock_of l p o (end_at e true)) (dock_of l p o (end_at e false))
+    IsRoute (section_at d e) (anchor l p o d (end_at e true)) (anchor l p o d (end_at e false)) (dock_of l p o (end_at e true))
+    (dock_of l p o (end_at e false))
 
 -- the route of an edge keeps clear of a child
 abbrev pub KeepsClear : PlainLevel → LevelDrawing → ℕ → ℕ → Type 0
@@ -49,4 +50,5 @@ pub record RoutesKept (l : PlainLevel) (p : PlainPlan) (o : Orders) (d : LevelDr
 -- what is drawn from a plan keeps the rules
 abbrev pub RoutesAreKept : Type 0
 RoutesAreKept =
-    (l : PlainLevel) (p : PlainPlan) (o : Orders) (d : LevelDrawing) (layers : List ℕ) → IsReady l p o layers → IsDrawnFrom l p o d → RoutesKept l p o d
+    (l : PlainLevel) (p : PlainPlan) (o : Orders) (d : LevelDrawing) (layers : List ℕ) → IsReady l p o layers
+    → IsDrawnFrom l p o d → RoutesKept l p o d

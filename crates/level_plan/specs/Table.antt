@@ -8,13 +8,18 @@ use Rattle.level_plan.specs.declared.table.EndAt.{EndAt}
 use Rattle.level_plan.specs.declared.table.LoopAt.{LoopAt}
 use Rattle.level_plan.specs.declared.table.ChildAt.{ChildAt}
 use Rattle.level_plan.specs.declared.table.Table.{Table}
-use Rattle.level_plan.specs.Level.{PlainLevel, PlainPlan, Orders, End, end_at, child_at, is_loop, spoke, spot_of, dock_of, anchor_of_spot, port_place, outline}
+use Rattle.level_plan.specs.Level.{PlainLevel, PlainPlan, Orders, End, end_at, child_at, is_loop, spoke, spot_of, dock_of, anchor_of_spot}
+use Rattle.level_plan.specs.Level.{port_place, outline}
 use Rattle.level_plan.specs.Lanes.{lanes, has_lane, loop_sides}
 use Rattle.level_plan.specs.Nets.{unit_of, below_top}
 
 abbrev pub end_in : List EndAt → ℕ → EndAt
 end_in ends i =
-    slice_index_or ends i (record { dock = record { node = 0; side = East; offset = pos 0 }; anchor = record { x = pos 0; y = pos 0 }; lane = pos 0 })
+    slice_index_or ends i (record {
+      dock = record { node = 0; side = East; offset = pos 0 };
+      anchor = record { x = pos 0; y = pos 0 };
+      lane = pos 0;
+    })
 
 abbrev pub loop_in : List LoopAt → ℕ → LoopAt
 loop_in loops e = slice_index_or loops e (record { north = pos 0; south = pos 0 })

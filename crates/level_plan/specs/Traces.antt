@@ -35,7 +35,8 @@ entering l p o shift n false false = []
 -- the links of an edge, from its tail to its head
 abbrev pub links_at : PlainPlan → ℕ → ℕ → List ℕ
 links_at p e r =
-    filter (λ k. ((link_at p.layered.links k).edge == e) && (layer_of p.layered (link_at p.layered.links k).tail == r)) (range_with_len 0 (length p.layered.links))
+    filter (λ k. ((link_at p.layered.links k).edge == e) && (layer_of p.layered (link_at p.layered.links k).tail == r))
+    (range_with_len 0 (length p.layered.links))
 
 abbrev pub links_from : PlainPlan → ℕ → List ℕ → List ℕ
 links_from p e [] = []

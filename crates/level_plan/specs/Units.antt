@@ -1,5 +1,6 @@
 -- Units and links come from the level: a unit for each child, lanes for long edges, a chain of links for each edge.
-use Rattle.std.specs.Prelude.{◌≡◌, ◌⊎◌, ℕ, ◌+◌, ◌-◌, ◌<◌, cond, Bool, true, false, not, ◌&&◌, ◌||◌, List, pos, Option, None, Some, length, slice_index_or, int_lt, IsFalse}
+use Rattle.std.specs.Prelude.{◌≡◌, ◌⊎◌, ℕ, ◌+◌, ◌-◌, ◌<◌, cond, Bool, true, false, not, ◌&&◌, ◌||◌, List, pos, Option, None, Some, length}
+use Rattle.std.specs.Prelude.{slice_index_or, int_lt, IsFalse}
 use Rattle.std.specs.Ordering.{int_eq}
 use Rattle.std.specs.List.{filter, range_with_len}
 use Rattle.elk_doc.specs.declared.shape.Side.{Side}
@@ -14,7 +15,8 @@ use Rattle.port_order.specs.Sides.{side_of}
 use Rattle.port_order.specs.Order.{IsOrderOfSide}
 use Rattle.port_order.specs.Places.{place_in}
 use Rattle.self_loops.specs.Loops.{is_upright}
-use Rattle.level_plan.specs.Level.{PlainLevel, PlainPlan, Orders, End, child_at, spoke, spots, port_spot, enters, tail_end, head_end, is_loop, dock_of, dock_of_spot, outline}
+use Rattle.level_plan.specs.Level.{PlainLevel, PlainPlan, Orders, End, child_at, spoke, spots, port_spot, enters, tail_end, head_end}
+use Rattle.level_plan.specs.Level.{is_loop, dock_of, dock_of_spot, outline}
 use Rattle.level_plan.specs.Lanes.{lanes, body_top, unit_height, lane_side}
 use Rattle.level_plan.specs.Nets.{is_inverted, unit_of, layer_of_child, tail_line, head_line, below_top}
 use Rattle.level_plan.specs.Traces.{chain}
@@ -44,7 +46,8 @@ pub record IsLaneUnit (p : PlainPlan) (u : ℕ) : Type 0 where
   pub no_child : (unit_at p.layered.units u).child ≡ None
   pub flat : (unit_at p.layered.units u).height ≡ pos 0
   pub entered : (k : ℕ) × (k < length p.layered.links) × ((link_at p.layered.links k).head ≡ u)
-  pub once : (j k : ℕ) → j < length p.layered.links → k < length p.layered.links → (link_at p.layered.links j).head ≡ u → (link_at p.layered.links k).head ≡ u → j ≡ k
+  pub once : (j k : ℕ) → j < length p.layered.links → k < length p.layered.links → (link_at p.layered.links j).head ≡ u
+      → (link_at p.layered.links k).head ≡ u → j ≡ k
 
 abbrev pub chain_at : PlainPlan → ℕ → ℕ → ℕ
 chain_at p e i = slice_index_or (chain p e) i 0
@@ -55,7 +58,8 @@ pub record HasChain (l : PlainLevel) (p : PlainPlan) (e : ℕ) : Type 0 where
   pub some : 0 < length (chain p e)
   pub from : (link_at p.layered.links (chain_at p e 0)).tail ≡ unit_of p (spoke l (tail_end p e)).child
   pub to : (link_at p.layered.links (chain_at p e (length (chain p e) - 1))).head ≡ unit_of p (spoke l (head_end p e)).child
-  pub joined : (i : ℕ) → i + 1 < length (chain p e) → (link_at p.layered.links (chain_at p e i)).head ≡ (link_at p.layered.links (chain_at p e (i + 1))).tail
+  pub joined : (i : ℕ) → i + 1 < length (chain p e)
+      → (link_at p.layered.links (chain_at p e i)).head ≡ (link_at p.layered.links (chain_at p e (i + 1))).tail
   pub lanes : (i : ℕ) → i + 1 < length (chain p e) → IsLaneUnit p (link_at p.layered.links (chain_at p e i)).head
 
 -- each link is one of the chain of an edge that is no self-loop
@@ -76,7 +80,8 @@ abbrev pub link_side : PlainPlan → End → Side
 link_side p n = cond (enters p n) West East
 
 abbrev pub ports_on : PlainLevel → PlainPlan → ℕ → Side → List ℕ
-ports_on l p c side = filter (λ k. is_side (side_of (child_at l c) (port_spot l p c k)) side) (range_with_len 0 (length (child_at l c).ports))
+ports_on l p c side =
+    filter (λ k. is_side (side_of (child_at l c) (port_spot l p c k)) side) (range_with_len 0 (length (child_at l c).ports))
 
 abbrev pub pinned_on : PlainLevel → PlainPlan → ℕ → Side → List ℕ
 pinned_on l p c side = filter (is_pinned (child_at l c)) (ports_on l p c side)
@@ -131,10 +136,12 @@ rank_of_end l p o n =
     (port_rank l p o c (link_side p n) rule port pinned)))
 
 abbrev pub tail_rank : PlainLevel → PlainPlan → Orders → ℕ → ℕ
-tail_rank l p o k = cond (is_child p.layered (link_at p.layered.links k).tail) (rank_of_end l p o (tail_end p (link_at p.layered.links k).edge)) 0
+tail_rank l p o k =
+    cond (is_child p.layered (link_at p.layered.links k).tail) (rank_of_end l p o (tail_end p (link_at p.layered.links k).edge)) 0
 
 abbrev pub head_rank : PlainLevel → PlainPlan → Orders → ℕ → ℕ
-head_rank l p o k = cond (is_child p.layered (link_at p.layered.links k).head) (rank_of_end l p o (head_end p (link_at p.layered.links k).edge)) 0
+head_rank l p o k =
+    cond (is_child p.layered (link_at p.layered.links k).head) (rank_of_end l p o (head_end p (link_at p.layered.links k).edge)) 0
 
 -- the pins and ranks of a link's ends
 pub record HasPins (l : PlainLevel) (p : PlainPlan) (o : Orders) (k : ℕ) : Type 0 where

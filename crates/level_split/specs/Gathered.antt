@@ -74,18 +74,27 @@ pub record ArePartDrawings (outs : List LevelOut) (at : List Point) : Type 0 whe
 -- the boxes, the ports and the sections of the first n things
 pub record AreBoxes (outs : List LevelOut) (at : List Point) (parts places : List ℕ) (n : ℕ) (boxes : List Point) : Type 0 where
   pub as_many : length boxes ≡ n
-  pub each : (i : ℕ) → i < n → point_or boxes i ≡ plus (point_at at (slice_index parts i)) (point_or (drawing_at outs (slice_index parts i)).boxes (slice_index places i))
+  pub each : (i : ℕ) → i < n
+      → point_or boxes i
+      ≡ plus (point_at at (slice_index parts i)) (point_or (drawing_at outs (slice_index parts i)).boxes (slice_index places i))
 
 pub record ArePorts (outs : List LevelOut) (parts places : List ℕ) (n : ℕ) (ports : List (List Point)) : Type 0 where
   pub as_many : length ports ≡ n
-  pub each : (i : ℕ) → i < n → slice_index_or ports i [] ≡ slice_index_or (drawing_at outs (slice_index parts i)).ports (slice_index places i) []
+  pub each : (i : ℕ) → i < n
+      → slice_index_or ports i [] ≡ slice_index_or (drawing_at outs (slice_index parts i)).ports (slice_index places i) []
 
 abbrev pub section_in : List Section → ℕ → Section
-section_in sections i = slice_index_or sections i (record { start = record { x = pos 0; y = pos 0 }; bends = []; end = record { x = pos 0; y = pos 0 } })
+section_in sections i = slice_index_or sections i (record {
+  start = record { x = pos 0; y = pos 0 };
+  bends = [];
+  end = record { x = pos 0; y = pos 0 };
+})
 
 pub record AreSections (outs : List LevelOut) (at : List Point) (parts places : List ℕ) (n : ℕ) (sections : List Section) : Type 0 where
   pub as_many : length sections ≡ n
-  pub each : (i : ℕ) → i < n → section_in sections i ≡ moved_section (point_at at (slice_index parts i)) (section_at (drawing_at outs (slice_index parts i)) (slice_index places i))
+  pub each : (i : ℕ) → i < n
+      → section_in sections i
+      ≡ moved_section (point_at at (slice_index parts i)) (section_at (drawing_at outs (slice_index parts i)) (slice_index places i))
 
 -- the layers of the first n children, and the flows of the first n edges
 pub record AreLayers (outs : List LevelOut) (parts places : List ℕ) (n : ℕ) (layers : List ℕ) : Type 0 where

@@ -17,7 +17,8 @@ use Rattle.level_laws.specs.Certified.{IsProofOf}
 use Rattle.level_split.specs.declared.layout.PartsOut.{PartsOut}
 use Rattle.level_split.specs.Parts.{IsPartsLayout, whole_drawing}
 
--- The drawing has a place for each port, keeps the rules of ports and routes, begins at 0 and has a tight extent. What belongs to a part lies in a rectangle of
+-- The drawing has a place for each port, keeps the rules of ports and routes, begins at 0 and has a tight extent. What
+-- belongs to a part lies in a rectangle of
 -- its own, and these stand clear of one another by the gap `component`; within a part children keep their distances. The certificate
 -- proves of the whole what those of the parts prove of them.
 pub record IsPartedDrawing (l : PlainLevel) (component : ℤ) (v : PartsOut) : Type 0 where
@@ -25,16 +26,21 @@ pub record IsPartedDrawing (l : PlainLevel) (component : ℤ) (v : PartsOut) : T
   pub rules : KeepsRules l v.certificate.reversed (whole_drawing v)
   pub rect : ℕ → Rect
   pub outlines : (c : ℕ) → c < length l.children → Holds (rect (slice_index v.parts c)) (drawn_outline l (whole_drawing v) c)
-  pub points : (e i : ℕ) → e < length l.edges → i < route_count (whole_drawing v) e → Holds (rect (slice_index (edge_keys l v.parts) e)) (point_rect (route_point (whole_drawing v) e i))
+  pub points : (e i : ℕ) → e < length l.edges → i < route_count (whole_drawing v) e
+      → Holds (rect (slice_index (edge_keys l v.parts) e)) (point_rect (route_point (whole_drawing v) e i))
   pub clear : (b c : ℕ) → b < length l.children → c < length l.children → slice_index v.parts b ≢ slice_index v.parts c
-      → StandsClear component (rect (slice_index v.parts b)) (rect (slice_index v.parts c)) ⊎ StandsClear component (rect (slice_index v.parts c)) (rect (slice_index v.parts b))
-  pub children : (b c : ℕ) → b < length l.children → c < length l.children → b ≢ c → slice_index v.parts b ≡ slice_index v.parts c → ChildrenApart l (whole_drawing v) v.certificate.layers b c
+      → StandsClear component (rect (slice_index v.parts b)) (rect (slice_index v.parts c))
+      ⊎ StandsClear component (rect (slice_index v.parts c)) (rect (slice_index v.parts b))
+  pub children : (b c : ℕ) → b < length l.children → c < length l.children → b ≢ c
+      → slice_index v.parts b ≡ slice_index v.parts c → ChildrenApart l (whole_drawing v) v.certificate.layers b c
   pub ports : (c : ℕ) → c < length l.children → length (slice_index_or v.ports c []) ≡ length (child_at l c).ports
   pub proof : IsProofOf l v.certificate
   pub parts : v.certificate.parts ≡ v.parts
 
 abbrev pub PartsAreDrawn : Type 0
-PartsAreDrawn = (level : LevelIn) (component : ℤ) (v : PartsOut) → pos 1 ≤ℤ component → IsPartsLayout level component v → IsPartedDrawing (plain_level level) component v
+PartsAreDrawn =
+    (level : LevelIn) (component : ℤ) (v : PartsOut) → pos 1 ≤ℤ component → IsPartsLayout level component v
+    → IsPartedDrawing (plain_level level) component v
 
 -- the room for all distances, slots and lanes, and between parts: 2^22 for each child three times, each edge, each child with each
 -- edge, and once more
@@ -50,4 +56,6 @@ pub record IsBoundedApart (l : PlainLevel) (v : PartsOut) : Type 0 where
   pub height : v.extent.height ≤ℤ (outline_heights l (whole_drawing v) +ℤ pos (room_apart l))
 
 abbrev pub PartsAreBounded : Type 0
-PartsAreBounded = (level : LevelIn) (component : ℤ) (v : PartsOut) → IsDistance component → IsPartsLayout level component v → IsBoundedApart (plain_level level) v
+PartsAreBounded =
+    (level : LevelIn) (component : ℤ) (v : PartsOut) → IsDistance component → IsPartsLayout level component v
+    → IsBoundedApart (plain_level level) v

@@ -33,13 +33,16 @@ pub record CanCertify (split : PartLevels) (outs : List LevelOut) : Type 0 where
   pub layers : AreSeated split.children.parts split.children.places (length outs) (λ k. length (certificate_at outs k).layers)
   pub flow : AreSeated split.edges.parts split.edges.places (length outs) (λ k. length (certificate_at outs k).flow)
   pub edges : AreSeated split.edges.parts split.edges.places (length outs) (λ k. length (part_at split.parts k).edges)
-  pub listed : (k i : ℕ) → k < length outs → i < length (certificate_at outs k).reversed → slice_index (certificate_at outs k).reversed i < length (part_at split.parts k).edges
+  pub listed : (k i : ℕ) → k < length outs → i < length (certificate_at outs k).reversed
+      → slice_index (certificate_at outs k).reversed i < length (part_at split.parts k).edges
   pub spans : spans_to (certificate_at outs) (length outs) < 2 ^ 64
 
 -- the certificate of the whole: edges are turned round where their parts' certificates say so
 pub record IsCertificateIn (split : PartLevels) (outs : List LevelOut) (c : Certificate) : Type 0 where
   pub layers : AreLayers outs split.children.parts split.children.places (length split.children.parts) c.layers
   pub flow : AreFlows outs split.edges.parts split.edges.places (length split.edges.parts) c.flow
-  pub reversed : c.reversed ≡ filter (λ e. holds (certificate_at outs (slice_index split.edges.parts e)).reversed (slice_index split.edges.places e)) (range_with_len 0 (length split.edges.parts))
+  pub reversed : c.reversed
+      ≡ filter (λ e. holds (certificate_at outs (slice_index split.edges.parts e)).reversed (slice_index split.edges.places e))
+      (range_with_len 0 (length split.edges.parts))
   pub span : c.span ≡ spans_to (certificate_at outs) (length outs)
   pub parts : c.parts ≡ split.children.parts

@@ -80,7 +80,8 @@ pub(crate) fn turned_of(
     outs: &[LevelOut],
 ) -> Result<Vec<Vec<bool>>, AllocError>
     requires same { length outs.now ≡ length parts.now }
-    requires listed { (k i : ℕ) → k < length outs.now → i < length (certificate_at outs.now k).reversed → slice_index (certificate_at outs.now k).reversed i < length (part_at parts.now k).edges }
+    requires listed { (k i : ℕ) → k < length outs.now → i < length (certificate_at outs.now k).reversed
+        → slice_index (certificate_at outs.now k).reversed i < length (part_at parts.now k).edges }
     ensures { IfOk result (λ marks. AreTurned outs.now (λ k. length (part_at parts.now k).edges) (length parts.now) (marks_in marks.items)) }
 {
     let mut marks = Vec::with_capacity(alloc, parts.len())?;

@@ -50,7 +50,11 @@ figure x y =
     record {
       boxes = point (pos 3) (pos 4) ∷ [];
       ports = (point (pos x) (pos y) ∷ []) ∷ [];
-      sections = record { start = point (pos 1) (pos 2); bends = point (pos 5) (pos 2) ∷ point (pos 5) (pos 9) ∷ []; end = point (pos 8) (pos 9) } ∷ [];
+      sections = record {
+        start = point (pos 1) (pos 2);
+        bends = point (pos 5) (pos 2) ∷ point (pos 5) (pos 9) ∷ [];
+        end = point (pos 8) (pos 9);
+      } ∷ [];
       certificate = record { layers = 0 ∷ []; reversed = []; flow = 0 ∷ []; span = 0; parts = [] };
       extent = size 65 31;
     }

@@ -39,5 +39,6 @@ pub record IsChain (s : Parts) (e : ℕ) (tail head : End) (ks : List ℕ) : Typ
   pub there : (i : ℕ) → i < length ks → slice_index ks i < length s.layered.links
   pub first_edge : (link_at s.layered.links (slice_index ks 0)).edge ≡ e
   pub first_leaves : leaves_child s (slice_index ks 0) ≡ true
-  pub joined : (i : ℕ) → i + 1 < length ks → (link_at s.layered.links (slice_index ks i)).head ≡ (link_at s.layered.links (slice_index ks (i + 1))).tail
+  pub joined : (i : ℕ) → i + 1 < length ks
+      → (link_at s.layered.links (slice_index ks i)).head ≡ (link_at s.layered.links (slice_index ks (i + 1))).tail
   pub lanes : (i : ℕ) → i + 1 < length ks → leaves_child s (slice_index ks (i + 1)) ≡ false

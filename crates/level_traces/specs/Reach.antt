@@ -43,4 +43,5 @@ pub record IsLinked (s : Parts) : Type 0 where
   pub chains : (e : ℕ) → e < length s.level.edges → IsFalse (is_loop s.level e) → IsChain s e (tail_of s e) (head_of s e) (links_of s e)
   pub ends : (e : ℕ) (at_source : Bool) → e < length s.level.edges → (spoke s.level (end_at e at_source)).child < length s.level.children
   pub few : length s.level.children ≤ 2048
-  pub bodies : (c : ℕ) → c < length s.level.children → IsFromZero (unit_at s.layered.units (child_in s.table.children c).unit).body_top (pos (2 ^ 49))
+  pub bodies : (c : ℕ) → c < length s.level.children
+      → IsFromZero (unit_at s.layered.units (child_in s.table.children c).unit).body_top (pos (2 ^ 49))

@@ -41,7 +41,8 @@ pub record AreRead (s : Parts) (r : Routing) (v : Routes) : Type 0 where
   pub traces : AreTraces s r v.boxes.items (length s.level.edges) (plain_traces v.traces.items)
 
 -- The boxes and traces are those of the plan, before the level is moved, under all rows and orders from which its units come.
-pub record ArePlannedRoutes (l : PlainLevel) (p : PlainPlan) (o : Orders) (gaps : List PlainGap) (boxes : List Point) (ts : List PlainTrace) : Type 0 where
+pub record ArePlannedRoutes (l : PlainLevel) (p : PlainPlan) (o : Orders) (gaps : List PlainGap) (boxes : List Point)
+    (ts : List PlainTrace) : Type 0 where
   pub box_count : length boxes ≡ length l.children
   pub trace_count : length ts ≡ length l.edges
   pub places : (c : ℕ) → c < length l.children → point_or boxes c ≡ box_place l p o (drawn_with gaps (pos 0) (pos 0)) c

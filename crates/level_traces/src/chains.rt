@@ -29,8 +29,13 @@ fn note_link(next: &mut Next, sheet: &Sheet<'_>, number: u32)
     requires link { number < length sheet.now.layered.now.links.items }
     requires single { AreSingle (parts_in sheet.now) }
     requires room { HaveRoom (parts_in sheet.now) next.old.firsts.items next.old.outs.items }
-    ensures firsts { next.new.firsts.items ≡ cond (leaves_child (parts_in sheet.now) number) (slice_set next.old.firsts.items (link_at (parts_in sheet.now).layered.links number).edge number) next.old.firsts.items }
-    ensures outs { next.new.outs.items ≡ cond (leaves_child (parts_in sheet.now) number) next.old.outs.items (slice_set next.old.outs.items (link_at (parts_in sheet.now).layered.links number).tail number) }
+    ensures firsts { next.new.firsts.items
+        ≡ cond (leaves_child (parts_in sheet.now) number)
+        (slice_set next.old.firsts.items (link_at (parts_in sheet.now).layered.links number).edge number)
+        next.old.firsts.items }
+    ensures outs { next.new.outs.items
+        ≡ cond (leaves_child (parts_in sheet.now) number) next.old.outs.items
+        (slice_set next.old.outs.items (link_at (parts_in sheet.now).layered.links number).tail number) }
 {
     let link = link_at(sheet, number);
     if leaves(sheet, number) {

@@ -279,7 +279,11 @@ pub(crate) fn push_steps(
     requires next { AreNext (parts_in sheet.now) (length sheet.now.layered.now.links.items) next.now.firsts.items next.now.outs.items }
     requires edge { edge < length sheet.now.level.now.edges }
     requires no_loop { IsFalse (is_loop (parts_in sheet.now).level edge) }
-    ensures { OnOk result (steps.new.items ≡ cond (holds sheet.now.reversed.now edge) (turned_steps (read.oriented_steps (parts_in sheet.now) routing.now edge)) (read.oriented_steps (parts_in sheet.now) routing.now edge)) }
+    ensures { OnOk result
+        (steps.new.items
+        ≡ cond (holds sheet.now.reversed.now edge)
+        (turned_steps (read.oriented_steps (parts_in sheet.now) routing.now edge))
+        (read.oriented_steps (parts_in sheet.now) routing.now edge)) }
 {
     push_oriented(steps, sheet, routing, next, edge)?;
     if is_turned(sheet, edge) {

@@ -31,9 +31,14 @@ with_layered p v tops = record { layers = v.layers; layered = v; rows = p.rows; 
 
 -- orders, tables, ranks and the way in which units are linked are the same for all plans with the same units and links
 pub record ReadNoHeights : Type 0 where
-  pub orders : (l : PlainLevel) (p : PlainPlan) (v : Plain) (tops : List ℤ) (o : Orders) → AreAlike p.layered v → AreOrders l p o → AreOrders l (with_layered p v tops) o
-  pub table : (l : PlainLevel) (p : PlainPlan) (v : Plain) (tops : List ℤ) (o : Orders) (t : Table) → AreAlike p.layered v → IsTable l p o t → IsTable l (with_layered p v tops) o t
-  pub linked : (l : PlainLevel) (p : PlainPlan) (v : Plain) (tops : List ℤ) (layers : List ℕ) → AreAlike p.layered v → p.layers ≡ p.layered.layers → AreFlat v
+  pub orders : (l : PlainLevel) (p : PlainPlan) (v : Plain) (tops : List ℤ) (o : Orders) → AreAlike p.layered v
+      → AreOrders l p o → AreOrders l (with_layered p v tops) o
+  pub table : (l : PlainLevel) (p : PlainPlan) (v : Plain) (tops : List ℤ) (o : Orders) (t : Table) → AreAlike p.layered v
+      → IsTable l p o t → IsTable l (with_layered p v tops) o t
+  pub linked : (l : PlainLevel) (p : PlainPlan) (v : Plain) (tops : List ℤ) (layers : List ℕ) → AreAlike p.layered v
+      → p.layers ≡ p.layered.layers → AreFlat v
       → AreLinked l p layers → AreLinked l (with_layered p v tops) layers
-  pub tail_rank_is : (l : PlainLevel) (p : PlainPlan) (v : Plain) (tops : List ℤ) (o : Orders) (k : ℕ) → AreAlike p.layered v → tail_rank l (with_layered p v tops) o k ≡ tail_rank l p o k
-  pub head_rank_is : (l : PlainLevel) (p : PlainPlan) (v : Plain) (tops : List ℤ) (o : Orders) (k : ℕ) → AreAlike p.layered v → head_rank l (with_layered p v tops) o k ≡ head_rank l p o k
+  pub tail_rank_is : (l : PlainLevel) (p : PlainPlan) (v : Plain) (tops : List ℤ) (o : Orders) (k : ℕ) → AreAlike p.layered v
+      → tail_rank l (with_layered p v tops) o k ≡ tail_rank l p o k
+  pub head_rank_is : (l : PlainLevel) (p : PlainPlan) (v : Plain) (tops : List ℤ) (o : Orders) (k : ℕ) → AreAlike p.layered v
+      → head_rank l (with_layered p v tops) o k ≡ head_rank l p o k

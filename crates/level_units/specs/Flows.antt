@@ -17,14 +17,20 @@ as_asked entering enters = cond enters entering (not entering)
 -- an edge that enters a port, or leaves it
 unfoldable pub passes : LevelEdge → Bool → ℕ → ℕ → Bool → Bool
 passes e turned c k enters =
-    meets e.source (e.source.child == e.target.child) (as_asked turned enters) c k || meets e.target (e.source.child == e.target.child) (as_asked (not turned) enters) c k
+    meets e.source (e.source.child == e.target.child) (as_asked turned enters) c k
+    || meets e.target (e.source.child == e.target.child) (as_asked (not turned) enters) c k
 
 abbrev pub level_edge : List LevelEdge → ℕ → LevelEdge
-level_edge edges e = slice_index_or edges e (record { source = record { child = 0; port = None }; target = record { child = 0; port = None }; weight = 0 })
+level_edge edges e = slice_index_or edges e (record {
+  source = record { child = 0; port = None };
+  target = record { child = 0; port = None };
+  weight = 0;
+})
 
 -- some edge does
 abbrev pub is_passed : List LevelEdge → List Bool → ℕ → ℕ → Bool → Bool
-is_passed edges marks c k enters = list_any (λ e. passes (level_edge edges e) (mark_at marks e) c k enters) (range_with_len 0 (length edges))
+is_passed edges marks c k enters =
+    list_any (λ e. passes (level_edge edges e) (mark_at marks e) c k enters) (range_with_len 0 (length edges))
 
 -- the spot of a port, without a mean
 abbrev pub seen_spot : List LevelEdge → List Bool → ℕ → ℕ → Spot

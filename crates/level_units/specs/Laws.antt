@@ -16,4 +16,5 @@ NeedNoRows =
 -- Ranks hold after heights and pins are known, and then all is known that a drawing asks of units and links.
 pub record MakeUnits : Type 0 where
   pub kept : (l : PlainLevel) (a b : Plain) (reversed : List ℕ) → AreKept a b → AreRanked l a reversed → AreRanked l b reversed
-  pub units : (l : PlainLevel) (p : PlainPlan) (o : Orders) (layers : List ℕ) → AreFitted l p o layers → AreRanked l p.layered p.reversed → AreUnits l p o layers
+  pub units : (l : PlainLevel) (p : PlainPlan) (o : Orders) (layers : List ℕ) → AreFitted l p o layers
+      → AreRanked l p.layered p.reversed → AreUnits l p o layers

@@ -65,7 +65,15 @@ lane_on run i = lane_unit (run.layer + 1 + i)
 
 abbrev pub link_on : Run → ℕ → Link
 link_on run i =
-    record { edge = run.edge; tail = stop_of run i; head = stop_of run (i + 1); tail_rank = 0; head_rank = 0; tail_at = pos 0; head_at = pos 0 }
+    record {
+      edge = run.edge;
+      tail = stop_of run i;
+      head = stop_of run (i + 1);
+      tail_rank = 0;
+      head_rank = 0;
+      tail_at = pos 0;
+      head_at = pos 0;
+    }
 
 -- Units and links are numbered so.
 pub record AreNumberedUnits (s : Layering) (p : Plain) : Type 0 where

@@ -60,7 +60,8 @@ IsBeside side = (side ≡ West) ⊎ (side ≡ East)
 -- the west or the east.
 pub record AreOrdered (c : Child) (spots : List Spot) (before : List ℕ) : Type 0 where
   pub as_many : length before ≡ length spots
-  pub place_is : c.rule ≡ FixedOrder → (k : ℕ) → k < length spots → IsBeside (side_of c (spot_at spots k)) → (also : List Spot) (order : List ℕ) → HavePorts c also → SamePorts c spots also
+  pub place_is : c.rule ≡ FixedOrder → (k : ℕ) → k < length spots → IsBeside (side_of c (spot_at spots k))
+      → (also : List Spot) (order : List ℕ) → HavePorts c also → SamePorts c spots also
       → IsOrderOfSide c (side_of c (spot_at spots k)) also order → slice_index before k ≡ place_in order k
   pub few : (k : ℕ) → slice_index before k ≤ length spots
 
@@ -68,7 +69,8 @@ pub record AreOrdered (c : Child) (spots : List Spot) (before : List ℕ) : Type
 pub record AreBefore (c : Child) (spots : List Spot) (before : List ℕ) : Type 0 where
   pub as_many : length before ≡ length spots
   pub ordered : c.rule ≡ FixedOrder → AreOrdered c spots before
-  pub placed : c.rule ≡ FixedPos → (k : ℕ) → k < length spots → slice_index before k ≡ length (filter (comes_before (port_at c (spot_at spots k))) (map (port_at c) spots))
+  pub placed : c.rule ≡ FixedPos → (k : ℕ) → k < length spots
+      → slice_index before k ≡ length (filter (comes_before (port_at c (spot_at spots k))) (map (port_at c) spots))
   pub few : (k : ℕ) → slice_index before k ≤ length spots
 
 pub record AreRanksOf (c : Child) (spots : List Spot) (v : PlainRanks) : Type 0 where

@@ -1,5 +1,6 @@
 -- The ranks of links' ends, read off a table and off the ranks of children's ports.
-use Rattle.std.specs.Prelude.{◌≡◌, ℕ, ◌+◌, ◌*◌, ◌<◌, ◌≤◌, cond, Bool, true, false, not, List, [], Option, None, Some, is_some, length, slice_index, slice_index_or}
+use Rattle.std.specs.Prelude.{◌≡◌, ℕ, ◌+◌, ◌*◌, ◌<◌, ◌≤◌, cond, Bool, true, false, not, List, [], Option, None, Some, is_some, length}
+use Rattle.std.specs.Prelude.{slice_index, slice_index_or}
 use Rattle.port_order.specs.declared.children.Child.{Child}
 use Rattle.port_order.specs.Child.{is_pinned}
 use Rattle.elk_layers.specs.declared.units.Unit.{Unit as LayerUnit}
@@ -24,7 +25,8 @@ last_in v enters = cond enters v.west v.east
 abbrev pub port_rank : Child → PlainRanks → EndAt → ℕ → Bool → ℕ
 port_rank c v end k enters =
     cond (is_spread_fixed c.rule (Some k) (is_pinned c k)) (last_in v enters + 1)
-    (cond (is_on_lane end.dock.side enters) (lane_rank (last_in v enters) (side_by c.size.height end.dock.side end.anchor.y)) (slice_index v.before k + 1))
+    (cond (is_on_lane end.dock.side enters) (lane_rank (last_in v enters) (side_by c.size.height end.dock.side end.anchor.y))
+    (slice_index v.before k + 1))
 
 abbrev pub end_rank : Child → PlainRanks → EndAt → Option ℕ → Bool → ℕ
 end_rank c v end None enters = last_in v enters + 1
@@ -40,7 +42,8 @@ ranks_at vs c = slice_index_or vs c (record { before = []; west = 0; east = 0 })
 -- the rank of an edge's end, and of a link's end at a unit
 unfoldable pub edge_rank : PlainLevel → Table → List PlainRanks → ℕ → Bool → Bool → ℕ
 edge_rank l t vs e at_source enters =
-    child_rank (child_at l (spoke l (end_at e at_source)).child) (ranks_at vs (spoke l (end_at e at_source)).child) (end_of t e at_source) (spoke l (end_at e at_source)).port enters
+    child_rank (child_at l (spoke l (end_at e at_source)).child) (ranks_at vs (spoke l (end_at e at_source)).child)
+    (end_of t e at_source) (spoke l (end_at e at_source)).port enters
 
 unfoldable pub unit_rank : PlainLevel → Table → List PlainRanks → LayerUnit → ℕ → Bool → Bool → ℕ
 unit_rank l t vs u e at_source enters = cond (is_some u.child) (edge_rank l t vs e at_source enters) 0
@@ -75,7 +78,8 @@ pub record IsReadable (l : PlainLevel) (t : Table) (vs : List PlainRanks) (marks
   pub ranks : (c : ℕ) → c < length l.children → is_fixed (child_at l c).rule ≡ true → HasRanksIn (child_at l c) (ranks_at vs c)
 
 -- of some links the first n have their ranks, and the others are as they were
-pub record AreRankedLinks (l : PlainLevel) (t : Table) (vs : List PlainRanks) (units : List LayerUnit) (marks : List Bool) (links : List Link) (n : ℕ) (ranked : List Link) : Type 0 where
+pub record AreRankedLinks (l : PlainLevel) (t : Table) (vs : List PlainRanks) (units : List LayerUnit) (marks : List Bool)
+    (links : List Link) (n : ℕ) (ranked : List Link) : Type 0 where
   pub as_many : length ranked ≡ length links
   pub each : (k : ℕ) → k < n → link_at ranked k ≡ link_with l t vs units marks (link_at links k)
   pub few : (k : ℕ) → k < n → ((link_at ranked k).tail_rank < 65536) × ((link_at ranked k).head_rank < 65536)

@@ -20,7 +20,8 @@ pub record HasRanks (l : PlainLevel) (p : PlainPlan) (o : Orders) (k : ℕ) : Ty
 -- So they do whatever the order of the rows, whatever the orders of the sides that follow from it, and wherever units stand.
 abbrev pub AreRanked : PlainLevel → Plain → List ℕ → Type 0
 AreRanked l a reversed =
-    (rows : List (List ℕ)) (tops : List ℤ) (o : Orders) (k : ℕ) → AreOrders l (plan_of a rows tops reversed) o → k < length a.links → HasRanks l (plan_of a rows tops reversed) o k
+    (rows : List (List ℕ)) (tops : List ℤ) (o : Orders) (k : ℕ) → AreOrders l (plan_of a rows tops reversed) o
+    → k < length a.links → HasRanks l (plan_of a rows tops reversed) o k
 
 -- what is not ranks stays: units, the heights of links' ends, and the distances
 pub record AreReranked (a b : Plain) : Type 0 where

@@ -1,5 +1,6 @@
 -- Heights and pins, read off a table.
-use Rattle.std.specs.Prelude.{◌≡◌, ℕ, ◌+◌, ◌*◌, ◌<◌, ◌≤◌, ◌^◌, cond, Bool, false, true, not, ◌||◌, List, ℤ, pos, ◌+ℤ◌, ◌-ℤ◌, Option, None, Some, IfSome, is_some, length, slice_index_or}
+use Rattle.std.specs.Prelude.{◌≡◌, ℕ, ◌+◌, ◌*◌, ◌<◌, ◌≤◌, ◌^◌, cond, Bool, false, true, not, ◌||◌, List, ℤ, pos, ◌+ℤ◌, ◌-ℤ◌, Option, None}
+use Rattle.std.specs.Prelude.{Some, IfSome, is_some, length, slice_index_or}
 use Rattle.elk_doc.specs.declared.document.Spacing.{Spacing}
 use Rattle.elk_doc.specs.declared.shape.Side.{Side}
 use Rattle.elk_doc.specs.Sound.{IsSoundSpacing}
@@ -97,7 +98,8 @@ pub record AreFittedUnits (s : Spacing) (children : List ChildAt) (units : List 
   pub each : (u : ℕ) → u < n → unit_at fitted u ≡ unit_with s children (unit_at units u)
   pub rest : (u : ℕ) → n ≤ u → unit_at fitted u ≡ unit_at units u
 
-pub record AreFittedLinks (s : Spacing) (t : Table) (units : List LayerUnit) (marks : List Bool) (links : List Link) (n : ℕ) (fitted : List Link) : Type 0 where
+pub record AreFittedLinks (s : Spacing) (t : Table) (units : List LayerUnit) (marks : List Bool) (links : List Link) (n : ℕ)
+    (fitted : List Link) : Type 0 where
   pub as_many : length fitted ≡ length links
   pub each : (k : ℕ) → k < n → link_at fitted k ≡ link_with s t units marks (link_at links k)
   pub rest : (k : ℕ) → n ≤ k → link_at fitted k ≡ link_at links k

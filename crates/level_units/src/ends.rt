@@ -160,7 +160,9 @@ fn end_of(ranking: &Ranking<'_>, edge: u32, at_source: bool) -> EndAt
 fn edge_rank(ranking: &Ranking<'_>, edge: u32, at_source: bool, enters: bool) -> u32
     requires ranking { IsReadable (plain_level ranking.now.level.now) ranking.now.table.now (map plain_ranks ranking.now.ranks.now) ranking.now.marks.now }
     requires edge { edge < length ranking.now.level.now.edges }
-    ensures value { result ≡ spec.edge_rank (plain_level ranking.now.level.now) ranking.now.table.now (map plain_ranks ranking.now.ranks.now) edge at_source enters }
+    ensures value { result
+        ≡ spec.edge_rank (plain_level ranking.now.level.now) ranking.now.table.now (map plain_ranks ranking.now.ranks.now) edge
+        at_source enters }
     ensures few { result ≤ 4098 }
 {
     let spoke = spoke_of(ranking.level, edge, at_source);
@@ -174,7 +176,9 @@ fn edge_rank(ranking: &Ranking<'_>, edge: u32, at_source: bool, enters: bool) ->
 fn unit_rank(ranking: &Ranking<'_>, unit: Unit, edge: u32, at_source: bool, enters: bool) -> u32
     requires ranking { IsReadable (plain_level ranking.now.level.now) ranking.now.table.now (map plain_ranks ranking.now.ranks.now) ranking.now.marks.now }
     requires edge { edge < length ranking.now.level.now.edges }
-    ensures value { result ≡ spec.unit_rank (plain_level ranking.now.level.now) ranking.now.table.now (map plain_ranks ranking.now.ranks.now) unit edge at_source enters }
+    ensures value { result
+        ≡ spec.unit_rank (plain_level ranking.now.level.now) ranking.now.table.now (map plain_ranks ranking.now.ranks.now) unit
+        edge at_source enters }
     ensures few { result ≤ 4098 }
 {
     match unit.child {
@@ -187,7 +191,9 @@ fn unit_rank(ranking: &Ranking<'_>, unit: Unit, edge: u32, at_source: bool, ente
 fn ranked_link(ranking: &Ranking<'_>, units: &[Unit], link: Link) -> Link
     requires ranking { IsReadable (plain_level ranking.now.level.now) ranking.now.table.now (map plain_ranks ranking.now.ranks.now) ranking.now.marks.now }
     requires link { IsLinkIn (plain_level ranking.now.level.now) units.now link }
-    ensures value { result ≡ spec.link_with (plain_level ranking.now.level.now) ranking.now.table.now (map plain_ranks ranking.now.ranks.now) units.now ranking.now.marks.now link }
+    ensures value { result
+        ≡ spec.link_with (plain_level ranking.now.level.now) ranking.now.table.now (map plain_ranks ranking.now.ranks.now)
+        units.now ranking.now.marks.now link }
     ensures tail { result.tail_rank ≤ 4098 }
     ensures head { result.head_rank ≤ 4098 }
 {
@@ -204,7 +210,8 @@ fn ranked_link(ranking: &Ranking<'_>, units: &[Unit], link: Link) -> Link
 pub(crate) fn rank_links(ranking: &Ranking<'_>, units: &[Unit], links: &mut [Link])
     requires ranking { IsReadable (plain_level ranking.now.level.now) ranking.now.table.now (map plain_ranks ranking.now.ranks.now) ranking.now.marks.now }
     requires links { (k : ℕ) → k < length links.old → IsLinkIn (plain_level ranking.now.level.now) units.now (link_at links.old k) }
-    ensures { AreRankedLinks (plain_level ranking.now.level.now) ranking.now.table.now (map plain_ranks ranking.now.ranks.now) units.now ranking.now.marks.now links.old (length links.old) links.new }
+    ensures { AreRankedLinks (plain_level ranking.now.level.now) ranking.now.table.now (map plain_ranks ranking.now.ranks.now)
+        units.now ranking.now.marks.now links.old (length links.old) links.new }
 {
     for k in 0..links.len() {
         links[k] = ranked_link(ranking, units, links[k]);

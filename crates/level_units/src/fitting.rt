@@ -45,7 +45,11 @@ pub fn pinned(
     requires edge_edge { layered.edge_edge ≡ level.now.spacing.edge_edge }
     requires linked { (layers : List ℕ) × AreLinked (plain_level level.now) (plain_plan layered order.now [] reversed.now) layers }
     requires marked { AreMarks reversed.now (length level.now.edges) turned.now }
-    ensures fitted { IfOk result (λ v. (o : Orders) × ((layers : List ℕ) (tops : List ℤ) → AreLinked (plain_level level.now) (plain_plan layered order.now [] reversed.now) layers → AreFitted (plain_level level.now) (plain_plan v.layered order.now tops reversed.now) o layers)) }
+    ensures fitted { IfOk result
+        (λ v. (o : Orders)
+        × ((layers : List ℕ) (tops : List ℤ)
+        → AreLinked (plain_level level.now) (plain_plan layered order.now [] reversed.now) layers
+        → AreFitted (plain_level level.now) (plain_plan v.layered order.now tops reversed.now) o layers)) }
     ensures table { IfOk result (λ v. (tops : List ℤ) → IsTableOf (plain_level level.now) (plain_plan v.layered order.now tops reversed.now) v.table) }
     ensures sound { IfOk result (λ v. IsSound (plain v.layered)) }
     ensures low { IfOk result (λ v. total_height (plain v.layered).units ≤ℤ pos (3 * 2 ^ 47)) }

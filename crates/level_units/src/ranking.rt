@@ -116,7 +116,10 @@ pub fn ranked(
     ensures ranks { IfOk result (λ v. AreRanked (plain_level level.now) (plain v) reversed.now) }
     ensures sound { IfOk result (λ v. IsSound (plain v)) }
     ensures rows { IfOk result (λ v. (rows : List (List ℕ)) → AreRows (plain layered) rows → AreRows (plain v) rows) }
-    ensures linked { IfOk result (λ v. (rows : List (List ℕ)) (tops : List ℤ) (layers : List ℕ) → AreLinked (plain_level level.now) (plain_plan layered order.now [] reversed.now) layers → AreLinked (plain_level level.now) (plan_of (plain v) rows tops reversed.now) layers) }
+    ensures linked { IfOk result
+        (λ v. (rows : List (List ℕ)) (tops : List ℤ) (layers : List ℕ)
+        → AreLinked (plain_level level.now) (plain_plan layered order.now [] reversed.now) layers
+        → AreLinked (plain_level level.now) (plan_of (plain v) rows tops reversed.now) layers) }
     ensures kept { IfOk result (λ v. AreReranked (plain layered) (plain v)) }
 {
     if has_ranks(level.children.as_slice()) {

@@ -39,7 +39,8 @@ pub(crate) fn run_of(level: &LevelIn, layers: &[u32], turned: bool, edge: u32, f
     requires edge { edge < length level.now.edges }
     requires tail { tail_child (plain_level level.now) turned edge < length layers.now }
     requires head { head_child (plain_level level.now) turned edge < length layers.now }
-    requires onward { layer_in layers.now (tail_child (plain_level level.now) turned edge) ≤ layer_in layers.now (head_child (plain_level level.now) turned edge) }
+    requires onward { layer_in layers.now (tail_child (plain_level level.now) turned edge)
+        ≤ layer_in layers.now (head_child (plain_level level.now) turned edge) }
     ensures { result ≡ run_at (plain_level level.now) layers.now turned edge first }
 {
     let tail = spoke_of(level, edge, !turned).child;

@@ -1,5 +1,6 @@
 -- Long edges as chains of edges that climb one layer each. (Sugiyama, Tagawa, Toda 1981: dummy vertices.)
-use Rattle.std.specs.Prelude.{◌≡◌, ◌≢◌, ℕ, ◌+◌, ◌==◌, cond, List, [], ◌∷◌, map, filter, Option, Some, None, is_some, slice_index, slice_index_or}
+use Rattle.std.specs.Prelude.{◌≡◌, ◌≢◌, ℕ, ◌+◌, ◌==◌, cond, List, [], ◌∷◌, map, filter, Option, Some, None, is_some, slice_index}
+use Rattle.std.specs.Prelude.{slice_index_or}
 use Rattle.graph_arena.specs.Graph.{Graph, Ends, lists_at, ends_at, IsNode, IsEdge, out_list, in_list, occurs, tail_in, head_in}
 use Rattle.graph_arena.specs.declared.keys.EdgeKey.{EdgeKey}
 use Rattle.long_edges.specs.declared.chains.Lane.{Lane}

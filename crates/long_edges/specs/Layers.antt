@@ -9,7 +9,8 @@ pub record IsLayered (g : Graph) (layer : List ℕ) : Type 0 where
 
 -- for each key as far as they are listed how many layers the edge spans, or 0
 pub record AreHeightsTo (g : Graph) (layer heights : List ℕ) : Type 0 where
-  pub live : (e : ℕ) (x : Ends) → e < length heights → ends_at g e ≡ Some x → slice_index layer x.tail + slice_index heights e ≡ slice_index layer x.head
+  pub live : (e : ℕ) (x : Ends) → e < length heights → ends_at g e ≡ Some x
+      → slice_index layer x.tail + slice_index heights e ≡ slice_index layer x.head
   pub dead : (e : ℕ) → ends_at g e ≡ None → slice_index heights e ≡ 0
 
 -- how many layers each edge spans, by key

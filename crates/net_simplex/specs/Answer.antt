@@ -13,7 +13,8 @@ use Rattle.net_simplex.specs.Pivots.{Growing, is_in, grown_once, first_state, pi
 abbrev pub LastIsBest : Type 0
 LastIsBest =
     (nodes : ℕ) (edges : List NetEdge) (s : State)
-    → EndsBelow nodes edges → IsState nodes edges s → NoneNegative nodes edges s → IsDone nodes edges (lowered s.layers) (flow_of nodes edges s)
+    → EndsBelow nodes edges → IsState nodes edges s → NoneNegative nodes edges s
+    → IsDone nodes edges (lowered s.layers) (flow_of nodes edges s)
 
 -- from the first tree over the layering of greatest path sums at most `budget` pivots lead to a state without a negative
 -- cut value, and this state is the answer
@@ -62,11 +63,13 @@ pub record IsGrowing (nodes : ℕ) (edges : List NetEdge) (g : Growing) : Type 0
   pub reach_for_each : length g.reached ≡ nodes
   pub layering : IsLayering edges g.layers
   pub tight : (k : ℕ) → k < length edges → is_marked g.tree k ≡ true → IsTightEdge g.layers (edge_at edges k)
-  pub ends_in : (k : ℕ) → k < length edges → is_marked g.tree k ≡ true → (is_in g.reached (edge_at edges k).tail ≡ true) × (is_in g.reached (edge_at edges k).head ≡ true)
+  pub ends_in : (k : ℕ) → k < length edges → is_marked g.tree k ≡ true
+      → (is_in g.reached (edge_at edges k).tail ≡ true) × (is_in g.reached (edge_at edges k).head ≡ true)
   pub spans : (v : ℕ) → is_in g.reached v ≡ true → Linked edges g.tree 0 v
   pub cuts : (k : ℕ) → k < length edges → is_marked g.tree k ≡ true → (inside : ℕ → Bool) × IsCut edges g.tree k inside
 
 -- one more edge keeps it
 abbrev pub GrowthKeeps : Type 0
 GrowthKeeps =
-    (nodes : ℕ) (edges : List NetEdge) (g : Growing) → EndsBelow nodes edges → IsGrowing nodes edges g → IsGrowing nodes edges (grown_once edges g)
+    (nodes : ℕ) (edges : List NetEdge) (g : Growing) → EndsBelow nodes edges → IsGrowing nodes edges g
+    → IsGrowing nodes edges (grown_once edges g)

@@ -25,16 +25,22 @@ passed edges parent v by cut =
 -- of two nodes the later one goes up
 abbrev pub PassesLater : List NetEdge → List ℕ → List ℕ → ℤ → ℕ → ℕ → List ℤ → ℕ → ℕ → List ℤ → Type 0
 PassesLater edges place parent by from to cut from' to' cut' =
-    ((slice_index place to < slice_index place from) × (from' ≡ above edges parent from) × (to' ≡ to) × (cut' ≡ passed edges parent from by cut))
-    ⊎ ((slice_index place from ≤ slice_index place to) × (from' ≡ from) × (to' ≡ above edges parent to) × (cut' ≡ passed edges parent to (pos 0 -ℤ by) cut))
+    ((slice_index place to < slice_index place from) × (from' ≡ above edges parent from) × (to' ≡ to)
+    × (cut' ≡ passed edges parent from by cut))
+    ⊎ ((slice_index place from ≤ slice_index place to) × (from' ≡ from) × (to' ≡ above edges parent to)
+    × (cut' ≡ passed edges parent to (pos 0 -ℤ by) cut))
 
 -- on the way between a and b the edges from a to `from` and from b to `to` are passed
-pub record ArePassed (nodes : ℕ) (edges : List NetEdge) (tree : List Bool) (place parent : List ℕ) (a b : ℕ) (by : ℤ) (cut : List ℤ) (from to : ℕ) (cut' : List ℤ) : Type 0 where
+pub record ArePassed (nodes : ℕ) (edges : List NetEdge) (tree : List Bool) (place parent : List ℕ) (a b : ℕ) (by : ℤ)
+    (cut : List ℤ) (from to : ℕ) (cut' : List ℤ) : Type 0 where
   pub cut_each : length cut' ≡ length edges
   pub from_there : from < nodes
   pub to_there : to < nodes
-  pub changed : (k : ℕ) → k < length edges → is_marked tree k ≡ true → layer_of cut' k +ℤ gained (tail_part nodes edges tree k) from to by ≡ layer_of cut k +ℤ gained (tail_part nodes edges tree k) a b by
-  pub still : (v : ℕ) → v < nodes → 0 < slice_index place v → ((slice_index place v ≤ slice_index place from) ⊎ (slice_index place v ≤ slice_index place to)) → layer_of cut' (slice_index parent v) ≡ layer_of cut (slice_index parent v)
+  pub changed : (k : ℕ) → k < length edges → is_marked tree k ≡ true
+      → layer_of cut' k +ℤ gained (tail_part nodes edges tree k) from to by ≡ layer_of cut k +ℤ gained (tail_part nodes edges tree k) a b by
+  pub still : (v : ℕ) → v < nodes → 0 < slice_index place v
+      → ((slice_index place v ≤ slice_index place from) ⊎ (slice_index place v ≤ slice_index place to))
+      → layer_of cut' (slice_index parent v) ≡ layer_of cut (slice_index parent v)
 
 -- the edge on which v hangs can be passed: the sum fits
 abbrev pub CanPass : List NetEdge → List ℕ → ℕ → ℤ → List ℤ → Type 0

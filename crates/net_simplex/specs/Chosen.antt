@@ -1,5 +1,6 @@
 -- Of the edges looked at so far the one of least slack.
-use Rattle.std.specs.Prelude.{◌≡◌, ℕ, ◌<◌, ◌≤◌, ℤ, pos, List, length, slice_index, Bool, true, false, Option, Some, None, ⊤, cond, int_lt, nat_lt}
+use Rattle.std.specs.Prelude.{◌≡◌, ℕ, ◌<◌, ◌≤◌, ℤ, pos, List, length, slice_index, Bool, true, false, Option, Some, None, ⊤, cond, int_lt}
+use Rattle.std.specs.Prelude.{nat_lt}
 use Rattle.network_laws.specs.Layering.{layer_of}
 use Rattle.network_laws.specs.Linked.{is_marked}
 use Rattle.net_simplex.specs.declared.choice.Choice.{Choice}

@@ -1,5 +1,6 @@
 -- Cut values as sums over the nodes of a part.
-use Rattle.std.specs.Prelude.{◌≡◌, ℕ, suc, ◌+◌, ◌*◌, ◌<◌, ◌≤◌, cond, Bool, true, ◌==◌, ℤ, pos, negsuc, ◌+ℤ◌, ◌-ℤ◌, List, [], ◌∷◌, length, set, take, slice_index}
+use Rattle.std.specs.Prelude.{◌≡◌, ℕ, suc, ◌+◌, ◌*◌, ◌<◌, ◌≤◌, cond, Bool, true, ◌==◌, ℤ, pos, negsuc, ◌+ℤ◌, ◌-ℤ◌, List, [], ◌∷◌, length}
+use Rattle.std.specs.Prelude.{set, take, slice_index}
 use Rattle.std.specs.List.{sum_by}
 use Rattle.network_laws.specs.declared.network.NetEdge.{NetEdge}
 use Rattle.network_laws.specs.Layering.{layer_of}
@@ -28,7 +29,8 @@ TellsWeights edges excess = (inside : ℕ → Bool) → sum_in inside excess ≡
 -- an edge's weight leaves its tail and comes in at its head
 abbrev pub tallied : List ℤ → NetEdge → List ℤ
 tallied excess e =
-    set (set excess e.tail (layer_of excess e.tail +ℤ pos e.weight)) e.head (layer_of (set excess e.tail (layer_of excess e.tail +ℤ pos e.weight)) e.head +ℤ (pos 0 -ℤ pos e.weight))
+    set (set excess e.tail (layer_of excess e.tail +ℤ pos e.weight)) e.head
+    (layer_of (set excess e.tail (layer_of excess e.tail +ℤ pos e.weight)) e.head +ℤ (pos 0 -ℤ pos e.weight))
 
 -- the weights of the first edges
 pub record IsTallied (nodes : ℕ) (edges : List NetEdge) (i : ℕ) (excess : List ℤ) : Type 0 where
@@ -42,12 +44,16 @@ pub record Lifts (e : NetEdge) (k v u : ℕ) (excess cut excess' cut' : List ℤ
   pub cut_is : cut' ≡ set cut k (cond (e.tail == v) (layer_of excess v) (pos 0 -ℤ layer_of excess v))
 
 -- the nodes from place p on are lifted: their edges have their cut values
-pub record AreLifted (nodes : ℕ) (edges : List NetEdge) (tree : List Bool) (order place parent : List ℕ) (p : ℕ) (excess cut : List ℤ) : Type 0 where
+pub record AreLifted (nodes : ℕ) (edges : List NetEdge) (tree : List Bool) (order place parent : List ℕ) (p : ℕ)
+    (excess cut : List ℤ) : Type 0 where
   pub number_each : length excess ≡ nodes
   pub cut_each : length cut ≡ length edges
-  pub conserved : (inside : ℕ → Bool) → ((v : ℕ) → v < nodes → p ≤ slice_index place v → inside v ≡ inside (above edges parent v)) → sum_in inside excess ≡ cut_of edges inside
+  pub conserved : (inside : ℕ → Bool)
+      → ((v : ℕ) → v < nodes → p ≤ slice_index place v → inside v ≡ inside (above edges parent v))
+      → sum_in inside excess ≡ cut_of edges inside
   pub none_left : (v : ℕ) → v < nodes → p ≤ slice_index place v → layer_of excess v ≡ pos 0
-  pub cuts : (v : ℕ) → v < nodes → p ≤ slice_index place v → layer_of cut (slice_index parent v) ≡ cut_value nodes edges tree (slice_index parent v)
+  pub cuts : (v : ℕ) → v < nodes → p ≤ slice_index place v
+      → layer_of cut (slice_index parent v) ≡ cut_value nodes edges tree (slice_index parent v)
   pub small : sizes excess ≤ 2 * sum_by (λ (e : NetEdge). e.weight) edges
 
 -- the cut value of each tree edge

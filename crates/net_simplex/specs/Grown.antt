@@ -1,6 +1,7 @@
 -- The first tree while it grows, as the code keeps it: the nodes of the tree stand at layers counted from node 0, and a
 -- number tells how much higher they stand.
-use Rattle.std.specs.Prelude.{◌≡◌, ◌≢◌, slice_index, ℕ, ◌<◌, Bool, true, false, ℤ, pos, ◌+ℤ◌, ◌-ℤ◌, ◌≤ℤ◌, ◌<ℤ◌, ◌^◌, List, length, replicate, set}
+use Rattle.std.specs.Prelude.{◌≡◌, ◌≢◌, slice_index, ℕ, ◌<◌, Bool, true, false, ℤ, pos, ◌+ℤ◌, ◌-ℤ◌, ◌≤ℤ◌, ◌<ℤ◌, ◌^◌, List, length}
+use Rattle.std.specs.Prelude.{replicate, set}
 use Rattle.network_laws.specs.declared.network.NetEdge.{NetEdge}
 use Rattle.network_laws.specs.Network.{InOnePart}
 use Rattle.network_laws.specs.Layering.{layer_of}
@@ -21,7 +22,8 @@ growing_of tree reached by layers = record { tree = tree; reached = reached; lay
 
 -- what the code keeps; no node of the tree is farther from node 0 than the tree's edges are long, and none outside is
 -- higher than all edges together
-pub record IsGrown (nodes : ℕ) (edges : List NetEdge) (count : ℕ) (tree reached : List Bool) (by : ℤ) (layers : List ℤ) (order place parent : List ℕ) : Type 0 where
+pub record IsGrown (nodes : ℕ) (edges : List NetEdge) (count : ℕ) (tree reached : List Bool) (by : ℤ) (layers : List ℤ)
+    (order place parent : List ℕ) : Type 0 where
   pub layer_each : length layers ≡ nodes
   pub growing : IsGrowing nodes edges (growing_of tree reached by layers)
   pub planted : IsPlanted nodes edges tree (is_in reached) count order place parent
@@ -33,7 +35,8 @@ pub record IsGrown (nodes : ℕ) (edges : List NetEdge) (count : ℕ) (tree reac
 
 -- the same of a `Tree`
 abbrev pub Grows : ℕ → List NetEdge → ℕ → Tree → List Bool → ℤ → List ℤ → Type 0
-Grows nodes edges count t reached by layers = IsGrown nodes edges count t.marks.items reached by layers t.order.items t.place.items t.parent.items
+Grows nodes edges count t reached by layers =
+    IsGrown nodes edges count t.marks.items reached by layers t.order.items t.place.items t.parent.items
 
 -- a tree of no edges yet
 pub record IsBare (nodes edges : ℕ) (t : Tree) : Type 0 where
@@ -48,7 +51,8 @@ pub record IsSmall (z : ℤ) : Type 0 where
   pub to : z <ℤ pos (2 ^ 62)
 
 -- node v joins the tree by edge k, at this layer
-pub record Joins (v k : ℕ) (at : ℤ) (filled : ℕ) (layers : List ℤ) (order place parent : List ℕ) (layers' : List ℤ) (order' place' parent' : List ℕ) (by : ℤ) : Type 0 where
+pub record Joins (v k : ℕ) (at : ℤ) (filled : ℕ) (layers : List ℤ) (order place parent : List ℕ) (layers' : List ℤ)
+    (order' place' parent' : List ℕ) (by : ℤ) : Type 0 where
   pub layers_are : layers' ≡ set layers v at
   pub order_is : order' ≡ set order filled v
   pub place_is : place' ≡ set place v filled
@@ -56,15 +60,20 @@ pub record Joins (v k : ℕ) (at : ℤ) (filled : ℕ) (layers : List ℤ) (orde
   pub by_is : by ≡ layer_of layers v -ℤ at
 
 -- the outer end of edge k joins the tree
-pub record Attaches (e : NetEdge) (k filled : ℕ) (tree reached : List Bool) (layers : List ℤ) (order place parent : List ℕ) (tree' reached' : List Bool) (layers' : List ℤ) (order' place' parent' : List ℕ) (by : ℤ) : Type 0 where
+pub record Attaches (e : NetEdge) (k filled : ℕ) (tree reached : List Bool) (layers : List ℤ) (order place parent : List ℕ)
+    (tree' reached' : List Bool) (layers' : List ℤ) (order' place' parent' : List ℕ) (by : ℤ) : Type 0 where
   pub tree_is : tree' ≡ set tree k true
   pub reached_is : reached' ≡ set (set reached e.tail true) e.head true
-  pub from_tail : is_in reached e.tail ≡ true → Joins e.head k (layer_of layers e.tail +ℤ pos e.least) filled layers order place parent layers' order' place' parent' by
-  pub from_head : is_in reached e.tail ≡ false → Joins e.tail k (layer_of layers e.head -ℤ pos e.least) filled layers order place parent layers' order' place' parent' by
+  pub from_tail : is_in reached e.tail ≡ true
+      → Joins e.head k (layer_of layers e.tail +ℤ pos e.least) filled layers order place parent layers' order' place' parent' by
+  pub from_head : is_in reached e.tail ≡ false
+      → Joins e.tail k (layer_of layers e.head -ℤ pos e.least) filled layers order place parent layers' order' place' parent' by
 
 -- one node is reached more, the one that stands last in the order; the layers of the others stay
-pub record IsJoined (nodes filled : ℕ) (reached : List Bool) (layers : List ℤ) (order' : List ℕ) (reached' : List Bool) (layers' : List ℤ) : Type 0 where
+pub record IsJoined (nodes filled : ℕ) (reached : List Bool) (layers : List ℤ) (order' : List ℕ) (reached' : List Bool)
+    (layers' : List ℤ) : Type 0 where
   pub node : slice_index order' filled < nodes
   pub was_out : is_in reached (slice_index order' filled) ≡ false
   pub is_held : is_in reached' (slice_index order' filled) ≡ true
-  pub others : (v : ℕ) → v < nodes → v ≢ slice_index order' filled → (is_in reached' v ≡ is_in reached v) × (layer_of layers' v ≡ layer_of layers v)
+  pub others : (v : ℕ) → v < nodes → v ≢ slice_index order' filled
+      → (is_in reached' v ≡ is_in reached v) × (layer_of layers' v ≡ layer_of layers v)

@@ -16,7 +16,8 @@ Reaches nodes edges n tree layers tree' layers' =
 -- the chain ends within the budget, or a cut value is negative after it
 abbrev pub Leads : ℕ → List NetEdge → ℕ → Option ℕ → List Bool → List ℤ → List Bool → List ℤ → List ℤ → Type 0
 Leads nodes edges budget (Some n) tree layers tree' layers' cut =
-    (n ≤ budget) × Reaches nodes edges n tree layers tree' layers' × AreCutValues nodes edges tree' cut × NoneNegative nodes edges (kept_state tree' layers')
+    (n ≤ budget) × Reaches nodes edges n tree layers tree' layers' × AreCutValues nodes edges tree' cut
+    × NoneNegative nodes edges (kept_state tree' layers')
 Leads nodes edges budget None tree layers tree' layers' cut =
     Reaches nodes edges budget tree layers tree' layers' × HasNegative nodes edges (kept_state tree' layers')
 

@@ -1,5 +1,6 @@
 -- The edges that lead out of a tree while it grows, in a queue from which the one that rises least is taken.
-use Rattle.std.specs.Prelude.{◌≡◌, ℕ, ◌<◌, ◌≤◌, Bool, true, false, ◌⊎◌, ℤ, pos, ◌-ℤ◌, ◌<ℤ◌, List, [], ◌∷◌, length, Option, Some, None, cond, int_lt, nat_lt}
+use Rattle.std.specs.Prelude.{◌≡◌, ℕ, ◌<◌, ◌≤◌, Bool, true, false, ◌⊎◌, ℤ, pos, ◌-ℤ◌, ◌<ℤ◌, List, [], ◌∷◌, length, Option, Some, None, cond}
+use Rattle.std.specs.Prelude.{int_lt, nat_lt}
 use Rattle.std.specs.declared.cmp.Ordering.{Ordering}
 use Rattle.std.specs.Ordering.{ordering_then, nat_cmp, int_cmp}
 use Rattle.std.specs.List.{Contains}
@@ -50,11 +51,14 @@ abbrev pub LeadsOut : End → List Bool → NetEdge → Type 0
 LeadsOut end reached e = (is_in reached (end_of end e) ≡ true) × (is_in reached (far_of end e) ≡ false)
 
 -- the edges that lead out wait, but for those of v from number i on; those whose far end is reached may wait too
-pub record AreWaiting (edges : List NetEdge) (end : End) (reached : List Bool) (layers : List ℤ) (v i : ℕ) (queue : List Waiting) : Type 0 where
+pub record AreWaiting (edges : List NetEdge) (end : End) (reached : List Bool) (layers : List ℤ) (v i : ℕ)
+    (queue : List Waiting) : Type 0 where
   pub there : (t : Waiting) → Contains queue t → t.edge.0 < length edges
   pub held : (t : Waiting) → Contains queue t → is_in reached (end_of end (edge_at edges t.edge.0)) ≡ true
-  pub rises : (t : Waiting) → Contains queue t → is_in reached (far_of end (edge_at edges t.edge.0)) ≡ false → t.rise.0 ≡ rise_of layers (edge_at edges t.edge.0)
-  pub waits : (k : ℕ) → k < length edges → LeadsOut end reached (edge_at edges k) → (end_of end (edge_at edges k) ≡ v → k < i) → (t : Waiting) × Contains queue t × (t.edge.0 ≡ k)
+  pub rises : (t : Waiting) → Contains queue t → is_in reached (far_of end (edge_at edges t.edge.0)) ≡ false
+      → t.rise.0 ≡ rise_of layers (edge_at edges t.edge.0)
+  pub waits : (k : ℕ) → k < length edges → LeadsOut end reached (edge_at edges k) → (end_of end (edge_at edges k) ≡ v → k < i)
+      → (t : Waiting) × Contains queue t × (t.edge.0 ≡ k)
 
 -- of the edges that lead out from this end the one that rises least, ties by the number
 abbrev pub IsNearest : List NetEdge → End → List Bool → List ℤ → Option ℕ → Type 0
@@ -62,7 +66,8 @@ IsNearest edges end reached layers None = (i : ℕ) → i < length edges → Lea
 IsNearest edges end reached layers (Some k) =
     (k < length edges)
     × LeadsOut end reached (edge_at edges k)
-    × ((i : ℕ) → i < length edges → LeadsOut end reached (edge_at edges i) → ComesFirst (rise_of layers (edge_at edges k)) k (rise_of layers (edge_at edges i)) i)
+    × ((i : ℕ) → i < length edges → LeadsOut end reached (edge_at edges i)
+    → ComesFirst (rise_of layers (edge_at edges k)) k (rise_of layers (edge_at edges i)) i)
 
 -- a queue of the edges that lead out from this end
 pub record IsQueue (edges : List NetEdge) (end : End) (reached : List Bool) (layers : List ℤ) (queue : List Waiting) : Type 0 where
@@ -80,7 +85,8 @@ AreQueues edges reached layers q =
     IsQueue edges Tail reached layers (heap_items q.rising) × IsQueue edges Head reached layers (heap_items q.falling)
 
 -- a queue that lacks the edges of v
-pub record IsQueueBut (edges : List NetEdge) (end : End) (reached : List Bool) (layers : List ℤ) (v : ℕ) (queue : List Waiting) : Type 0 where
+pub record IsQueueBut (edges : List NetEdge) (end : End) (reached : List Bool) (layers : List ℤ) (v : ℕ)
+    (queue : List Waiting) : Type 0 where
   pub heap : IsHeap waiting_order queue
   pub waiting : AreWaiting edges end reached layers v 0 queue
 

@@ -27,7 +27,8 @@ pub record HangsBy (edges : List NetEdge) (tree : List Bool) (held : ℕ → Boo
   pub earlier : slice_index place (beyond (edge_at edges k) v) < slice_index place v
 
 -- the held nodes hang from node 0, in an order of which the first `count` places are taken
-pub record IsPlanted (nodes : ℕ) (edges : List NetEdge) (tree : List Bool) (held : ℕ → Bool) (count : ℕ) (order place parent : List ℕ) : Type 0 where
+pub record IsPlanted (nodes : ℕ) (edges : List NetEdge) (tree : List Bool) (held : ℕ → Bool) (count : ℕ)
+    (order place parent : List ℕ) : Type 0 where
   pub order_each : length order ≡ nodes
   pub place_each : length place ≡ nodes
   pub parent_each : length parent ≡ nodes
@@ -35,7 +36,8 @@ pub record IsPlanted (nodes : ℕ) (edges : List NetEdge) (tree : List Bool) (he
   pub begun : 0 < count
   pub root_first : slice_index order 0 ≡ 0
   pub no_parent : slice_index parent 0 ≡ length edges
-  pub in_order : (p : ℕ) → p < count → (slice_index order p < nodes) × (slice_index place (slice_index order p) ≡ p) × (held (slice_index order p) ≡ true)
+  pub in_order : (p : ℕ) → p < count
+      → (slice_index order p < nodes) × (slice_index place (slice_index order p) ≡ p) × (held (slice_index order p) ≡ true)
   pub placed : (v : ℕ) → v < nodes → held v ≡ true → (slice_index place v < count) × (slice_index order (slice_index place v) ≡ v)
   pub hangs : (v : ℕ) → v < nodes → held v ≡ true → 0 < slice_index place v → HangsBy edges tree held place v (slice_index parent v)
 

@@ -1,6 +1,7 @@
 -- A walk over a tree: each node takes the next place, then what hangs on it, so that the part of a node is an interval of
 -- places. (Gansner, Koutsofios, North, Vo 1993: the numbers `low` and `lim`.)
-use Rattle.std.specs.Prelude.{◌≡◌, ◌≢◌, ℕ, zero, suc, ◌+◌, ◌-◌, ◌<◌, ◌≤◌, ◌==◌, cond, not, ◌&&◌, nat_lt, Bool, true, List, length, set, slice_index}
+use Rattle.std.specs.Prelude.{◌≡◌, ◌≢◌, ℕ, zero, suc, ◌+◌, ◌-◌, ◌<◌, ◌≤◌, ◌==◌, cond, not, ◌&&◌, nat_lt, Bool, true, List, length, set}
+use Rattle.std.specs.Prelude.{slice_index}
 use Rattle.network_laws.specs.declared.network.NetEdge.{NetEdge}
 use Rattle.net_simplex.specs.declared.tree.Tree.{Tree}
 use Rattle.net_simplex.specs.declared.tree.Walk.{Walk}
@@ -43,7 +44,8 @@ first_place start many after = cond (nat_lt start after) (after - many) after
 -- the sum of the sizes of those that hang on v at `count` places from i on
 abbrev pub hung_size : List ℕ → (ℕ → ℕ) → List ℕ → ℕ → ℕ → ℕ → ℕ
 hung_size order up size v i zero = 0
-hung_size order up size v i (suc count) = cond (up (slice_index order i) == v) (slice_index size (slice_index order i)) 0 + hung_size order up size v (suc i) count
+hung_size order up size v i (suc count) =
+    cond (up (slice_index order i) == v) (slice_index size (slice_index order i)) 0 + hung_size order up size v (suc i) count
 
 abbrev pub sum_to : (ℕ → ℕ) → ℕ → ℕ
 sum_to f zero = 0
@@ -67,9 +69,13 @@ pub record ArePlacedTo (nodes : ℕ) (order old : List ℕ) (up : ℕ → ℕ) (
   pub next_each : length next ≡ nodes
   pub root : slice_index place 0 ≡ 0
   pub begins : (v : ℕ) → v < nodes → slice_index old v < i → slice_index place v < slice_index next v
-  pub room : (v : ℕ) → v < nodes → slice_index old v < i → slice_index next v + hung_size order up size v i count ≡ slice_index place v + slice_index size v
-  pub nested : (p v : ℕ) → p < nodes → v < nodes → slice_index old p < i → slice_index old v < i → p ≢ v → part place size p v ≡ true → (slice_index place p < slice_index place v) × (slice_index place v + slice_index size v ≤ slice_index next p)
-  pub climbs : (v u : ℕ) → v < nodes → u < nodes → slice_index old v < i → slice_index old u < i → 0 < slice_index old u → u ≢ v → part place size v u ≡ part place size v (up u)
+  pub room : (v : ℕ) → v < nodes → slice_index old v < i
+      → slice_index next v + hung_size order up size v i count ≡ slice_index place v + slice_index size v
+  pub nested : (p v : ℕ) → p < nodes → v < nodes → slice_index old p < i → slice_index old v < i → p ≢ v
+      → part place size p v ≡ true
+      → (slice_index place p < slice_index place v) × (slice_index place v + slice_index size v ≤ slice_index next p)
+  pub climbs : (v u : ℕ) → v < nodes → u < nodes → slice_index old v < i → slice_index old u < i → 0 < slice_index old u → u ≢ v
+      → part place size v u ≡ part place size v (up u)
   pub fits : (v : ℕ) → v < nodes → slice_index old v < i → slice_index place v + slice_index size v ≤ nodes
 
 -- each node has its place in the walk

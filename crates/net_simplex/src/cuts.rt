@@ -95,7 +95,8 @@ fn lift(edges: &[NetEdge], tree: &Tree, v: u32, excess: &mut [i64], cut: &mut [i
     requires cut { length cut.old ≡ length edges.now }
     requires other { beyond (edge_at edges.now (slice_index tree.now.parent.items v)) v ≢ v }
     requires small { sizes excess.old < 2 ^ 63 }
-    ensures { Lifts (edge_at edges.now (slice_index tree.now.parent.items v)) (slice_index tree.now.parent.items v) v (beyond (edge_at edges.now (slice_index tree.now.parent.items v)) v) excess.old cut.old excess.new cut.new }
+    ensures { Lifts (edge_at edges.now (slice_index tree.now.parent.items v)) (slice_index tree.now.parent.items v) v
+        (beyond (edge_at edges.now (slice_index tree.now.parent.items v)) v) excess.old cut.old excess.new cut.new }
 {
     let k = tree.parent_of(v);
     let e = edges[k as usize];

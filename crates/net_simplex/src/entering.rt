@@ -60,7 +60,9 @@ pub fn entering(
     requires fits { slice_index tree.now.place.items child + slice_index walk.now.size.items child < 2 ^ 32 }
     requires ends { EndsBelow (length layers.now) edges.now }
     requires layering { IsLayering edges.now layers.now }
-    ensures { Tells (λ k. slack layers.now (edge_at edges.now k)) (least_slack_edge edges.now layers.now (leads_back (part_from root_in (part tree.now.place.items walk.now.size.items child)))) result }
+    ensures { Tells (λ k. slack layers.now (edge_at edges.now k))
+        (least_slack_edge edges.now layers.now (leads_back (part_from root_in (part tree.now.place.items walk.now.size.items child))))
+        result }
 {
     let first = tree.place_of(child);
     let many = walk.size_of(child);

@@ -52,7 +52,8 @@ fn join(v: u32, k: u32, at: i64, filled: u32, tree: &mut Tree, layers: &mut [i64
     requires order { filled < length tree.old.order.items }
     requires place { v < length tree.old.place.items }
     requires parent { v < length tree.old.parent.items }
-    ensures joins { Joins v k at filled layers.old tree.old.order.items tree.old.place.items tree.old.parent.items layers.new tree.new.order.items tree.new.place.items tree.new.parent.items result }
+    ensures joins { Joins v k at filled layers.old tree.old.order.items tree.old.place.items tree.old.parent.items layers.new
+        tree.new.order.items tree.new.place.items tree.new.parent.items result }
     ensures marks { tree.new.marks.items ≡ tree.old.marks.items }
 {
     let start = number_at(layers, v);
@@ -82,7 +83,9 @@ fn attach(
     requires small { (v : ℕ) → v < length layers.old → IsSmall (layer_of layers.old v) }
     requires above { is_in reached.old e.tail ≡ true → IsSmall (layer_of layers.old e.tail +ℤ pos e.least) }
     requires below { is_in reached.old e.tail ≡ false → IsSmall (layer_of layers.old e.head -ℤ pos e.least) }
-    ensures { Attaches e k filled tree.old.marks.items reached.old layers.old tree.old.order.items tree.old.place.items tree.old.parent.items tree.new.marks.items reached.new layers.new tree.new.order.items tree.new.place.items tree.new.parent.items result }
+    ensures { Attaches e k filled tree.old.marks.items reached.old layers.old tree.old.order.items tree.old.place.items
+        tree.old.parent.items tree.new.marks.items reached.new layers.new tree.new.order.items tree.new.place.items
+        tree.new.parent.items result }
 {
     let inside = reached[e.tail as usize];
     tree.marks[k as usize] = true;
@@ -160,12 +163,18 @@ fn add_both(
     Ok(())
 }
 
+/// How far the first tree has grown: how many nodes it has, and how much higher they stand than their layers say.
+#[derive(Clone, Copy)]
+struct Extent {
+    filled: u32,
+    by: i64,
+}
+
 /// One more edge joins the tree. The answer tells how much higher its nodes stand then.
 fn grow_once(
     edges: &[NetEdge],
     links: &BothLinks,
-    filled: u32,
-    by: i64,
+    grown: Extent,
     tree: &mut Tree,
     reached: &mut [bool],
     layers: &mut [i64],
@@ -174,15 +183,18 @@ fn grow_once(
     requires network { IsNetwork (length layers.old) edges.now }
     requires connected { IsConnected (length layers.old) edges.now }
     requires links { AreBothLinks (length layers.old) edges.now links.now }
-    requires room { filled < length layers.old }
-    requires grown { Grows (length layers.old) edges.now filled tree.old reached.old by layers.old }
+    requires room { grown.filled < length layers.old }
+    requires grown { Grows (length layers.old) edges.now grown.filled tree.old reached.old grown.by layers.old }
     requires queues { AreQueues edges.now reached.old layers.old queues.old }
-    ensures grown { IfOk result (λ now. Grows (length layers.old) edges.now (filled + 1) tree.new reached.new now layers.new) }
-    ensures once { IfOk result (λ now. growing_of tree.new.marks.items reached.new now layers.new ≡ once edges.now (growing_of tree.old.marks.items reached.old by layers.old)) }
+    ensures grown { IfOk result (λ now. Grows (length layers.old) edges.now (grown.filled + 1) tree.new reached.new now layers.new) }
+    ensures once { IfOk result
+        (λ now. growing_of tree.new.marks.items reached.new now layers.new
+        ≡ once edges.now (growing_of tree.old.marks.items reached.old grown.by layers.old)) }
     ensures queues { OnOk result (AreQueues edges.now reached.new layers.new queues.new) }
 {
-    let choice = joining(edges, layers, reached, by, queues);
-    let now = grow_by(edges, choice, filled, by, tree, reached, layers);
+    let filled = grown.filled;
+    let choice = joining(edges, layers, reached, grown.by, queues);
+    let now = grow_by(edges, choice, filled, grown.by, tree, reached, layers);
     add_both(edges, links, layers, reached, tree.node_at(filled), queues)?;
     Ok(now)
 }
@@ -216,7 +228,11 @@ fn grow_from(
     plant(0, 0, &mut tree.order, &mut tree.place);
     add_both(edges, links, layers, reached, 0, queues)?;
     for i in 1..layers.len() {
-        by = grow_once(edges, links, i as u32, by, tree, reached, layers, queues)?;
+        let grown = Extent {
+            filled: i as u32,
+            by,
+        };
+        by = grow_once(edges, links, grown, tree, reached, layers, queues)?;
     }
     Ok(())
 }

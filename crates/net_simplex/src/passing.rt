@@ -55,8 +55,10 @@ fn pass_later(
     requires place { length tree.now.place.items ≡ length tree.now.parent.items }
     requires cut { length cut.old ≡ length edges.now }
     requires small { size_of by < 2 ^ 63 }
-    requires from_hangs { slice_index tree.now.place.items to < slice_index tree.now.place.items from → CanPass edges.now tree.now.parent.items from by cut.old }
-    requires to_hangs { slice_index tree.now.place.items from ≤ slice_index tree.now.place.items to → CanPass edges.now tree.now.parent.items to (pos 0 -ℤ by) cut.old }
+    requires from_hangs { slice_index tree.now.place.items to < slice_index tree.now.place.items from
+        → CanPass edges.now tree.now.parent.items from by cut.old }
+    requires to_hangs { slice_index tree.now.place.items from ≤ slice_index tree.now.place.items to
+        → CanPass edges.now tree.now.parent.items to (pos 0 -ℤ by) cut.old }
     ensures { PassesLater edges.now tree.now.place.items tree.now.parent.items by from to cut.old result.0 result.1 cut.new }
 {
     if tree.place_of(to) < tree.place_of(from) {
@@ -76,7 +78,9 @@ fn pass_way(edges: &[NetEdge], tree: &Tree, begin: u32, end: u32, by: i64, cut: 
     requires small { size_of by < 2 ^ 63 }
     requires fits { (k : ℕ) → k < length edges.now → is_marked tree.now.marks.items k ≡ true → size_of (layer_of cut.old k) + size_of by < 2 ^ 63 }
     ensures same { length cut.new ≡ length edges.now }
-    ensures gained { (k : ℕ) → k < length edges.now → is_marked tree.now.marks.items k ≡ true → layer_of cut.new k ≡ layer_of cut.old k +ℤ gained (tail_part (length tree.now.order.items) edges.now tree.now.marks.items k) begin end by }
+    ensures gained { (k : ℕ) → k < length edges.now → is_marked tree.now.marks.items k ≡ true
+        → layer_of cut.new k
+        ≡ layer_of cut.old k +ℤ gained (tail_part (length tree.now.order.items) edges.now tree.now.marks.items k) begin end by }
 {
     let mut from = begin;
     let mut to = end;

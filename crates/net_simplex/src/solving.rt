@@ -178,7 +178,8 @@ pub fn solve(alloc: Global, net: &Network, budget: u64) -> Result<Solved, AllocE
     requires some { 0 < net.now.nodes }
     requires connected { IsConnected net.now.nodes net.now.edges.items }
     ensures solution { IfOk result (λ s. IsSolution net.now.nodes net.now.edges.items s.solution.layer.items s.solution.flow.items s.solution.cost) }
-    ensures by_pivots { IfOk result (λ s. s.way ≡ Simplex → EndsInTime net.now.nodes net.now.edges.items budget s.pivots s.solution.layer.items s.solution.flow.items) }
+    ensures by_pivots { IfOk result
+        (λ s. s.way ≡ Simplex → EndsInTime net.now.nodes net.now.edges.items budget s.pivots s.solution.layer.items s.solution.flow.items) }
     ensures by_flow { IfOk result (λ s. (s.way ≡ Flow) ↔ RunsOut net.now.nodes net.now.edges.items budget) }
     ensures spent { IfOk result (λ s. s.way ≡ Flow → s.pivots ≡ budget) }
 {

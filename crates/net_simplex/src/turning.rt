@@ -25,9 +25,11 @@ fn resize_later(
     requires high { high < length tree.now.parent.items }
     requires place { length tree.now.place.items ≡ length tree.now.parent.items }
     requires size { length size.old ≡ length tree.now.parent.items }
-    requires low_hangs { slice_index tree.now.place.items high < slice_index tree.now.place.items low → slice_index tree.now.parent.items low < length edges.now }
+    requires low_hangs { slice_index tree.now.place.items high < slice_index tree.now.place.items low
+        → slice_index tree.now.parent.items low < length edges.now }
     requires loses { slice_index tree.now.place.items high < slice_index tree.now.place.items low → many ≤ slice_index size.old low }
-    requires high_hangs { slice_index tree.now.place.items low ≤ slice_index tree.now.place.items high → slice_index tree.now.parent.items high < length edges.now }
+    requires high_hangs { slice_index tree.now.place.items low ≤ slice_index tree.now.place.items high
+        → slice_index tree.now.parent.items high < length edges.now }
     requires gains { slice_index tree.now.place.items low ≤ slice_index tree.now.place.items high → slice_index size.old high + many < 2 ^ 32 }
     ensures { ResizesLater edges.now tree.now.place.items tree.now.parent.items many low high size.old result.0 result.1 size.new }
 {
@@ -46,7 +48,8 @@ fn resize(edges: &[NetEdge], tree: &Tree, from: u32, to: u32, many: u32, size: &
     requires block { many ≤ length tree.now.order.items }
     requires parent { length tree.now.parent.items ≡ length tree.now.order.items }
     requires walk { IsWalk (length tree.now.order.items) tree.now.order.items tree.now.place.items size.old (above edges.now tree.now.parent.items) }
-    requires edges { (v : ℕ) → v < length tree.now.order.items → 0 < slice_index tree.now.place.items v → slice_index tree.now.parent.items v < length edges.now }
+    requires edges { (v : ℕ) → v < length tree.now.order.items → 0 < slice_index tree.now.place.items v
+        → slice_index tree.now.parent.items v < length edges.now }
     requires from { from < length tree.now.order.items }
     requires to { to < length tree.now.order.items }
     requires held { (v : ℕ) → v < length tree.now.order.items → part tree.now.place.items size.old v from ≡ true → many ≤ slice_index size.old v }
@@ -163,7 +166,9 @@ fn turn_next(tree: &mut Tree, walk: &mut Walk, v: u32, before: Part, base: u32, 
     requires room { base + slice_index walk.old.size.items v ≤ length tree.old.order.items }
     requires block { before.held ≤ many }
     requires nodes { (was : List ℕ) × AreDistinct (length tree.old.place.items) tree.old.order.items was }
-    ensures turned { TurnsNext tree.old.order.items v before.link before.low before.held base many tree.old.place.items walk.old.size.items tree.old.parent.items walk.old.next.items tree.new.place.items walk.new.size.items tree.new.parent.items walk.new.next.items }
+    ensures turned { TurnsNext tree.old.order.items v before.link before.low before.held base many tree.old.place.items
+        walk.old.size.items tree.old.parent.items walk.old.next.items tree.new.place.items walk.new.size.items
+        tree.new.parent.items walk.new.next.items }
     ensures marks { tree.new.marks.items ≡ tree.old.marks.items }
     ensures order { tree.new.order.items ≡ tree.old.order.items }
     ensures link { result.link ≡ slice_index tree.old.parent.items v }
@@ -207,8 +212,15 @@ fn turn_path(
     requires few { length tree.old.order.items ≤ 2 ^ 23 }
     requires next { length walk.old.next.items ≡ length tree.old.order.items }
     requires room { base + slice_index walk.old.size.items child ≤ length tree.old.order.items }
-    requires way { (was : List ℕ) × IsWayUp (length tree.old.order.items) edges.now tree.old.order.items tree.old.place.items was tree.old.parent.items child from walk.old.size.items }
-    ensures turned { (was : List ℕ) → IsWayUp (length tree.old.order.items) edges.now tree.old.order.items tree.old.place.items was tree.old.parent.items child from walk.old.size.items → IsTurnedTo (length tree.old.order.items) tree.old.place.items was tree.old.parent.items (above edges.now tree.old.parent.items) child from base by child walk.old.size.items tree.new.place.items walk.new.size.items tree.new.parent.items walk.new.next.items }
+    requires way { (was : List ℕ)
+        × IsWayUp (length tree.old.order.items) edges.now tree.old.order.items tree.old.place.items was tree.old.parent.items
+        child from walk.old.size.items }
+    ensures turned { (was : List ℕ)
+        → IsWayUp (length tree.old.order.items) edges.now tree.old.order.items tree.old.place.items was tree.old.parent.items
+        child from walk.old.size.items
+        → IsTurnedTo (length tree.old.order.items) tree.old.place.items was tree.old.parent.items
+        (above edges.now tree.old.parent.items) child from base by child walk.old.size.items tree.new.place.items
+        walk.new.size.items tree.new.parent.items walk.new.next.items }
     ensures marks { tree.new.marks.items ≡ tree.old.marks.items }
     ensures order { tree.new.order.items ≡ tree.old.order.items }
 {
@@ -239,7 +251,9 @@ pub fn turn(edges: &[NetEdge], tree: &mut Tree, walk: &mut Walk, child: u32, fro
     requires few { length tree.old.order.items ≤ 2 ^ 23 }
     requires ends { EndsBelow (length tree.old.order.items) edges.now }
     requires next { length walk.old.next.items ≡ length tree.old.order.items }
-    requires exchanges { (old : List Bool) × Exchanges (length tree.old.order.items) edges.now old tree.old.marks.items tree.old.order.items tree.old.place.items walk.old.size.items tree.old.parent.items child from by }
+    requires exchanges { (old : List Bool)
+        × Exchanges (length tree.old.order.items) edges.now old tree.old.marks.items tree.old.order.items tree.old.place.items
+        walk.old.size.items tree.old.parent.items child from by }
     ensures marks { tree.new.marks.items ≡ tree.old.marks.items }
     ensures rooted { Hangs (length tree.old.order.items) edges.now tree.new }
     ensures walk { HasWalk (length tree.old.order.items) edges.now tree.new walk.new }

@@ -8,13 +8,15 @@ use Rattle.network_laws.specs.Layering.{layer_of}
 abbrev pub KeepsRises : List NetEdge → List ℤ → List ℤ → Type 0
 KeepsRises edges old new =
     (k : ℕ) → k < length edges
-    → layer_of new (edge_at edges k).head -ℤ layer_of new (edge_at edges k).tail ≡ layer_of old (edge_at edges k).head -ℤ layer_of old (edge_at edges k).tail
+    → layer_of new (edge_at edges k).head -ℤ layer_of new (edge_at edges k).tail
+    ≡ layer_of old (edge_at edges k).head -ℤ layer_of old (edge_at edges k).tail
 
 -- the least layer of the first nodes by their part, and the greatest number of all where a part has none of them
 pub record AreLeast (parts : List ℕ) (layers : List ℤ) (i : ℕ) (least : List ℤ) : Type 0 where
   pub as_long : length least ≡ length parts
   pub no_more : (v : ℕ) → v < i → layer_of least (slice_index parts v) ≤ℤ layer_of layers v
-  pub attained : (p : ℕ) → p < length parts → (layer_of least p ≡ pos (2 ^ 63 - 1)) ⊎ ((u : ℕ) × (u < i) × (slice_index parts u ≡ p) × (layer_of layers u ≡ layer_of least p))
+  pub attained : (p : ℕ) → p < length parts
+      → (layer_of least p ≡ pos (2 ^ 63 - 1)) ⊎ ((u : ℕ) × (u < i) × (slice_index parts u ≡ p) × (layer_of layers u ≡ layer_of least p))
 
 -- the first nodes are lowered by the least layer of their part
 pub record AreLowered (parts : List ℕ) (least : List ℤ) (i : ℕ) (old new : List ℤ) : Type 0 where

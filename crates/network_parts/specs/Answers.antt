@@ -31,10 +31,12 @@ AreWhole sizes rows = (k : ℕ) → k < length sizes → IsWhole (slice_index si
 -- the first n networks are solved
 pub record AreSolved (sizes : List ℕ) (rows : List (List NetEdge)) (n : ℕ) (solutions : List Solution) : Type 0 where
   pub as_many : length solutions ≡ n
-  pub each : (k : ℕ) → k < n → IsSolved (slice_index sizes k) (row_at rows k) (layers_in solutions k) (flow_in solutions k) (slice_index (costs_of solutions) k)
+  pub each : (k : ℕ) → k < n
+      → IsSolved (slice_index sizes k) (row_at rows k) (layers_in solutions k) (flow_in solutions k) (slice_index (costs_of solutions) k)
 
 -- the parts of a network are solved
 abbrev pub ArePartsSolved : List ℕ → List NetEdge → List Solution → Type 0
 ArePartsSolved numbers edges solutions =
     (k : ℕ) → k < length solutions
-    → IsSolved (part_nodes numbers k) (part_edges numbers edges k) (layers_in solutions k) (flow_in solutions k) (slice_index (costs_of solutions) k)
+    → IsSolved (part_nodes numbers k) (part_edges numbers edges k) (layers_in solutions k) (flow_in solutions k)
+    (slice_index (costs_of solutions) k)

@@ -18,7 +18,8 @@ pub record IsSolved (nodes : ℕ) (edges : List NetEdge) (layers : List ℤ) (fl
 -- part k is solved as a network of its own
 abbrev pub IsPartSolved : List ℕ → List NetEdge → List ℤ → List ℕ → ℕ → Type 0
 IsPartSolved numbers edges layers flow k =
-    (total : ℕ) × IsSolved (part_nodes numbers k) (part_edges numbers edges k) (part_layers numbers layers k) (part_flow numbers edges flow k) total
+    (total : ℕ)
+    × IsSolved (part_nodes numbers k) (part_edges numbers edges k) (part_layers numbers layers k) (part_flow numbers edges flow k) total
 
 -- so is each connected part, that of each node, where the parts have their numbers
 pub record IsSolvedByParts (nodes : ℕ) (edges : List NetEdge) (layers : List ℤ) (flow : List ℕ) : Type 0 where
@@ -29,4 +30,5 @@ pub record IsSolvedByParts (nodes : ℕ) (edges : List NetEdge) (layers : List �
 -- a network has one numbering of its parts
 abbrev pub OneNumbering : Type 0
 OneNumbering =
-    (nodes : ℕ) (edges : List NetEdge) (numbers others : List ℕ) → ArePartNumbers nodes edges numbers → ArePartNumbers nodes edges others → numbers ≡ others
+    (nodes : ℕ) (edges : List NetEdge) (numbers others : List ℕ) → ArePartNumbers nodes edges numbers
+    → ArePartNumbers nodes edges others → numbers ≡ others

@@ -32,7 +32,9 @@ pub(crate) fn join_layers(
     requires parts { (v : ℕ) → v < length numbers.now → slice_index numbers.now v < length solutions.now }
     requires there { (v : ℕ) → v < length numbers.now → slice_index places.now v < length (layers_in solutions.now (slice_index numbers.now v)) }
     ensures as_many { IfOk result (λ layers. length layers.items ≡ length numbers.now) }
-    ensures each { IfOk result (λ layers. (v : ℕ) → v < length numbers.now → layer_of layers.items v ≡ layer_of (layers_in solutions.now (slice_index numbers.now v)) (slice_index places.now v)) }
+    ensures each { IfOk result
+        (λ layers. (v : ℕ) → v < length numbers.now
+        → layer_of layers.items v ≡ layer_of (layers_in solutions.now (slice_index numbers.now v)) (slice_index places.now v)) }
     ensures small { IfOk result (λ layers. (v : ℕ) → v < length numbers.now → layer_of layers.items v <ℤ pos (2 ^ 63)) }
 {
     let mut layers = Vec::with_capacity(alloc, numbers.len())?;
@@ -78,7 +80,11 @@ fn flows_from(
     requires counts { length next.old ≡ length solutions.now }
     requires none { (k : ℕ) → slice_index next.old k ≡ 0 }
     ensures as_many { IfOk result (λ flow. length flow.items ≡ length edges.now) }
-    ensures each { IfOk result (λ flow. (e : ℕ) → e < length edges.now → slice_index flow.items e ≡ slice_index (flow_in solutions.now (slice_index numbers.now (edge_at edges.now e).tail)) (length (links_to numbers.now edges.now (slice_index numbers.now (edge_at edges.now e).tail) e))) }
+    ensures each { IfOk result
+        (λ flow. (e : ℕ) → e < length edges.now
+        → slice_index flow.items e
+        ≡ slice_index (flow_in solutions.now (slice_index numbers.now (edge_at edges.now e).tail))
+        (length (links_to numbers.now edges.now (slice_index numbers.now (edge_at edges.now e).tail) e))) }
 {
     let mut flow = Vec::with_capacity(alloc, edges.len())?;
     for edge in edges {
@@ -101,7 +107,11 @@ pub(crate) fn join_flows(
     requires parts { (v : ℕ) → v < length numbers.now → slice_index numbers.now v < length solutions.now }
     requires there { (k : ℕ) → k < length solutions.now → length (flow_in solutions.now k) ≡ length (links_of numbers.now edges.now k) }
     ensures as_many { IfOk result (λ flow. length flow.items ≡ length edges.now) }
-    ensures each { IfOk result (λ flow. (e : ℕ) → e < length edges.now → slice_index flow.items e ≡ slice_index (flow_in solutions.now (slice_index numbers.now (edge_at edges.now e).tail)) (length (links_to numbers.now edges.now (slice_index numbers.now (edge_at edges.now e).tail) e))) }
+    ensures each { IfOk result
+        (λ flow. (e : ℕ) → e < length edges.now
+        → slice_index flow.items e
+        ≡ slice_index (flow_in solutions.now (slice_index numbers.now (edge_at edges.now e).tail))
+        (length (links_to numbers.now edges.now (slice_index numbers.now (edge_at edges.now e).tail) e))) }
 {
     let mut next: Vec<u32> = vec![in alloc; 0; solutions.len()]?;
     flows_from(alloc, numbers, edges, solutions, next.as_mut_slice())

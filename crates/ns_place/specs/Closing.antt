@@ -28,7 +28,8 @@ pub record IsClosedTo (all : List Standing) (i last shift reach : ℕ) (closed :
   pub held : (j : ℕ) → j < i
       → (closed_at all closed j + shift ≤ (standing_at all j).top) ⊎ (closed_at all closed j + (standing_at all j).span + shift ≤ last)
   pub apart : (j k : ℕ) → j ≤ k → k < i
-      → StaysApart (standing_at all j).top (standing_at all j).span (standing_at all k).top (closed_at all closed j) (closed_at all closed k)
+      → StaysApart (standing_at all j).top (standing_at all j).span (standing_at all k).top (closed_at all closed j)
+      (closed_at all closed k)
   pub shift_small : shift ≤ last
   pub reach_small : reach ≤ sum_by (λ (s : Standing). s.span) (take i all)
 

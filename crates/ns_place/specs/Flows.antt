@@ -17,5 +17,10 @@ pub record TellFlows (flow : List ℕ) (links : ℕ) (fs : List ℤ) : Type 0 wh
 pub record WritesFlows (flow : List ℕ) (first : ℕ) (old : List PairFlow) (count : ℕ) (new : List PairFlow) : Type 0 where
   pub as_many : length new ≡ length old
   pub written : (i : ℕ) → i < count
-      → pair_at new i ≡ record { upper = (pair_at old i).upper; lower = (pair_at old i).lower; body = (pair_at old i).body; flow = slice_index flow (first + i) }
+      → pair_at new i ≡ record {
+        upper = (pair_at old i).upper;
+        lower = (pair_at old i).lower;
+        body = (pair_at old i).body;
+        flow = slice_index flow (first + i);
+      }
   pub kept : (i : ℕ) → count ≤ i → pair_at new i ≡ pair_at old i

@@ -1,5 +1,6 @@
 -- The heights of links, tops at which they are least together, and the flow that shows it.
-use Rattle.std.specs.Prelude.{◌≡◌, ℕ, ◌+◌, ◌<◌, ◌≤◌, ◌==◌, ◌^◌, cond, ℤ, pos, negsuc, ◌+ℤ◌, ◌-ℤ◌, ◌*ℤ◌, ◌≤ℤ◌, ◌<ℤ◌, List, [], ◌∷◌, length, map}
+use Rattle.std.specs.Prelude.{◌≡◌, ℕ, ◌+◌, ◌<◌, ◌≤◌, ◌==◌, ◌^◌, cond, ℤ, pos, negsuc, ◌+ℤ◌, ◌-ℤ◌, ◌*ℤ◌, ◌≤ℤ◌, ◌<ℤ◌, List, [], ◌∷◌, length}
+use Rattle.std.specs.Prelude.{map}
 use Rattle.std.specs.List.{All, filter}
 use Rattle.elk_layers.specs.declared.units.Link.{Link}
 use Rattle.elk_layers.specs.Layered.{Plain, row_at, is_child, IsFromZero}
@@ -88,7 +89,8 @@ IsLeastHeight l rows height =
     (other : List ℤ) → KeepDistances l rows other → height ≤ heights_together other l.links
 
 -- a placing of least height, with its proof
-pub record IsLeastPlacing (l : Plain) (rows : List (List ℕ)) (tops : List ℤ) (height : ℕ) (link_flow : List ℤ) (pairs : List PairFlow) : Type 0 where
+pub record IsLeastPlacing (l : Plain) (rows : List (List ℕ)) (tops : List ℤ) (height : ℕ) (link_flow : List ℤ)
+    (pairs : List PairFlow) : Type 0 where
   pub apart : AreApart l rows tops
   pub height_is : height ≡ heights_together tops l.links
   pub least : IsLeastHeight l rows height

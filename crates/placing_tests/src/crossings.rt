@@ -52,7 +52,10 @@ fn drawing(units: Vec<Unit>, links: Vec<Link>) -> Layered
 
 // Two units beside two, with the heads of the two links.
 fn two_by_two(alloc: Global, first: u32, second: u32) -> Result<Layered, AllocError>
-    ensures { IfOk result (λ l. plain l ≡ example.drawing (example.child 0 ∷ example.child 0 ∷ example.child 1 ∷ example.child 1 ∷ []) (example.joins 0 first ∷ example.joins 1 second ∷ [])) }
+    ensures { IfOk result
+        (λ l. plain l
+        ≡ example.drawing (example.child 0 ∷ example.child 0 ∷ example.child 1 ∷ example.child 1 ∷ [])
+        (example.joins 0 first ∷ example.joins 1 second ∷ [])) }
 {
     let units = vec![in alloc; child(0), child(0), child(1), child(1)]?;
     let links = vec![in alloc; joins(0, first), joins(1, second)]?;

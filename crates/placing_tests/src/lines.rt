@@ -48,7 +48,9 @@ struct Borders {
 
 // A gap with slots 10 apart and one net.
 fn gap_of(alloc: Global, at: Borders, net: Net, route: NetRoute) -> Result<Gap, AllocError>
-    ensures { IfOk result (λ g. plain_gap g ≡ record { left = at.left; first = at.first; step = pos 10; right = at.right; nets = net ∷ []; count = 2; routes = route ∷ [] }) }
+    ensures { IfOk result
+        (λ g. plain_gap g
+        ≡ record { left = at.left; first = at.first; step = pos 10; right = at.right; nets = net ∷ []; count = 2; routes = route ∷ [] }) }
 {
     Ok(Gap {
         left: at.left,

@@ -20,7 +20,8 @@ pub record IsChildPort (c : Child) (k : ℕ) : Type 0 where
   pub size : IsSmall (port_at c k).size
   pub place : IsPlaceWithin (2 ^ 54) (port_at c k).place
   pub half : IsWithin (pos 0) (size_along (side_else (given_side c k) false) (port_at c k).size) (port_at c k).half
-  pub outside : IsFalse c.compound → c.rule ≡ FixedPos → IsSomeAnd (given_side c k) (IsOutside c.size (port_at c k).place (port_at c k).size)
+  pub outside : IsFalse c.compound → c.rule ≡ FixedPos
+      → IsSomeAnd (given_side c k) (IsOutside c.size (port_at c k).place (port_at c k).size)
 
 pub record IsChild (c : Child) : Type 0 where
   pub size : IsSmall c.size

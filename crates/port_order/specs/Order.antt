@@ -72,7 +72,8 @@ ComesFirst FixedPos c side s t = FreeFirst side s t
 
 -- The order holds the number of each spread spot of the side once, and nothing else, each before those that it precedes.
 pub record IsOrderOfSide (c : Child) (side : Side) (spots : List Spot) (order : List ℕ) : Type 0 where
-  pub spread : (i : ℕ) → i < length order → (k : ℕ) × (k < length spots) × ((spot_at spots k).number ≡ slice_index order i) × IsSpreadOn c side (spot_at spots k)
+  pub spread : (i : ℕ) → i < length order
+      → (k : ℕ) × (k < length spots) × ((spot_at spots k).number ≡ slice_index order i) × IsSpreadOn c side (spot_at spots k)
   pub once : (k : ℕ) → k < length spots → IsSpreadOn c side (spot_at spots k) → HoldsOnce order (spot_at spots k).number
   pub sorted : (i j k l : ℕ) → i < j → j < length order → k < length spots → l < length spots
       → (spot_at spots k).number ≡ slice_index order i → (spot_at spots l).number ≡ slice_index order j

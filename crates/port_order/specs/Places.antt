@@ -1,5 +1,6 @@
 -- Offsets of docks, places of ports, and anchors, relative to the child's box in the working frame.
-use Rattle.std.specs.Prelude.{◌≡◌, ℕ, ◌+◌, ◌-◌, ◌*◌, ◌/◌, ◌<◌, ◌==◌, cond, Bool, true, false, ◌&&◌, not, List, [], ◌∷◌, ℤ, pos, negsuc, neg_ℤ, ◌+ℤ◌, ◌-ℤ◌, ◌<ℤ◌, ◌≤ℤ◌, Option, None, Some, length, slice_index, slice_index_or}
+use Rattle.std.specs.Prelude.{◌≡◌, ℕ, ◌+◌, ◌-◌, ◌*◌, ◌/◌, ◌<◌, ◌==◌, cond, Bool, true, false, ◌&&◌, not, List, [], ◌∷◌, ℤ, pos, negsuc}
+use Rattle.std.specs.Prelude.{neg_ℤ, ◌+ℤ◌, ◌-ℤ◌, ◌<ℤ◌, ◌≤ℤ◌, Option, None, Some, length, slice_index, slice_index_or}
 use Rattle.elk_doc.specs.declared.shape.Point.{Point}
 use Rattle.elk_doc.specs.declared.shape.Size.{Size}
 use Rattle.elk_doc.specs.declared.shape.Side.{Side}
@@ -71,7 +72,8 @@ given_face West place size = place.x
 -- where the outer face stands: a pinned port of a leaf keeps its place, every other port is flush
 abbrev pub face_of : Child → Side → ℕ → ℤ
 face_of c side k =
-    cond (is_pinned c k && not c.compound) (given_face side (port_at c k).place (port_at c k).size) (outer_face side c.size (port_at c k).size)
+    cond (is_pinned c k && not c.compound) (given_face side (port_at c k).place (port_at c k).size)
+    (outer_face side c.size (port_at c k).size)
 
 -- the point with this coordinate across a side and this offset along it
 abbrev pub on_side : Side → ℤ → ℤ → Point

@@ -43,9 +43,14 @@ turned_place false k i = i
 -- The side that a port's place tells is the document's, turned; clockwise in the document is counted by `is_forward`; and
 -- the document's spread offsets are the working ones, counted and rounded from the other end where a side is mirrored.
 pub record DirectionsTurn : Type 0 where
-  pub side : (d : Direction) (box : Size) (place : Point) (size : Size) → side_of_place d (framed_size d box) (framed_place d box place size) (framed_size d size) ≡ option_map (turned_side d) (side_by_place box place size)
+  pub side : (d : Direction) (box : Size) (place : Point) (size : Size)
+      → side_of_place d (framed_size d box) (framed_place d box place size) (framed_size d size)
+      ≡ option_map (turned_side d) (side_by_place box place size)
   pub clockwise : (d : Direction) (side : Side) (box : Size) (p q : Point)
       → (clockwise side (along side p) <ℤ clockwise side (along side q))
-      ↔ (counted (is_forward d (turned_side d side)) (along (turned_side d side) (framed_point d box p)) <ℤ counted (is_forward d (turned_side d side)) (along (turned_side d side) (framed_point d box q)))
+      ↔ (counted (is_forward d (turned_side d side)) (along (turned_side d side) (framed_point d box p))
+      <ℤ counted (is_forward d (turned_side d side)) (along (turned_side d side) (framed_point d box q)))
   pub spread : (d : Direction) (side : Side) (box : Size) (k i : ℕ) (p : Point) → i < k → along side p ≡ spread_at (size_along side box) k i
-      → along (turned_side d side) (framed_point d box p) ≡ turned_spread (is_mirrored d (turned_side d side)) (size_along (turned_side d side) (framed_size d box)) k (turned_place (is_mirrored d (turned_side d side)) k i)
+      → along (turned_side d side) (framed_point d box p)
+      ≡ turned_spread (is_mirrored d (turned_side d side)) (size_along (turned_side d side) (framed_size d box)) k
+      (turned_place (is_mirrored d (turned_side d side)) k i)

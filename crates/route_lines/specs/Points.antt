@@ -1,5 +1,6 @@
 -- The points of a trace.
-use Rattle.std.specs.Prelude.{◌≡◌, ℕ, ◌<◌, Bool, true, false, List, [], ◌∷◌, ◌++◌, ◌^◌, ℤ, pos, neg_ℤ, ◌+ℤ◌, ◌*ℤ◌, length, reverse, slice_index_or}
+use Rattle.std.specs.Prelude.{◌≡◌, ℕ, ◌<◌, Bool, true, false, List, [], ◌∷◌, ◌++◌, ◌^◌, ℤ, pos, neg_ℤ, ◌+ℤ◌, ◌*ℤ◌, length, reverse}
+use Rattle.std.specs.Prelude.{slice_index_or}
 use Rattle.std.specs.List.{All}
 use Rattle.elk_doc.specs.declared.shape.Point.{Point}
 use Rattle.route_slots.specs.declared.Net.{Net}
@@ -53,9 +54,11 @@ abbrev pub leg_points : PlainGap → NetRoute → Bool → ℤ → ℤ → List 
 leg_points g Straight from_a before after = []
 leg_points g (One s) from_a before after = point_at (stand g (slot s)) before ∷ point_at (stand g (slot s)) after ∷ []
 leg_points g (Two s h t) true before after =
-    point_at (stand g (slot s)) before ∷ point_at (stand g (slot s)) h ∷ point_at (stand g (slot t)) h ∷ point_at (stand g (slot t)) after ∷ []
+    point_at (stand g (slot s)) before ∷ point_at (stand g (slot s)) h ∷ point_at (stand g (slot t)) h
+    ∷ point_at (stand g (slot t)) after ∷ []
 leg_points g (Two s h t) false before after =
-    point_at (stand g (slot t)) before ∷ point_at (stand g (slot t)) h ∷ point_at (stand g (slot s)) h ∷ point_at (stand g (slot s)) after ∷ []
+    point_at (stand g (slot t)) before ∷ point_at (stand g (slot t)) h ∷ point_at (stand g (slot s)) h
+    ∷ point_at (stand g (slot s)) after ∷ []
 
 -- the points of a leg along a net, by its gap and its place there
 abbrev pub net_leg : List PlainGap → ℕ → ℕ → Bool → ℤ → ℤ → List Point
@@ -92,13 +95,16 @@ trace_points gaps start steps end = start ∷ (step_points gaps start steps end 
 pub data Alternates : List Step → Type 0 where
   none : Alternates []
   one : (s : Step) → Alternates (s ∷ [])
-  lane_leg : (h : ℤ) (g n : ℕ) (from_a : Bool) (steps : List Step) → Alternates (Leg g n from_a ∷ steps) → Alternates (Lane h ∷ Leg g n from_a ∷ steps)
-  leg_lane : (h : ℤ) (g n : ℕ) (from_a : Bool) (steps : List Step) → Alternates (Lane h ∷ steps) → Alternates (Leg g n from_a ∷ Lane h ∷ steps)
+  lane_leg : (h : ℤ) (g n : ℕ) (from_a : Bool) (steps : List Step) → Alternates (Leg g n from_a ∷ steps)
+      → Alternates (Lane h ∷ Leg g n from_a ∷ steps)
+  leg_lane : (h : ℤ) (g n : ℕ) (from_a : Bool) (steps : List Step) → Alternates (Lane h ∷ steps)
+      → Alternates (Leg g n from_a ∷ Lane h ∷ steps)
 
 -- each leg names a net of a gap
 abbrev pub IsStepIn : List PlainGap → Step → Type 0
 IsStepIn gaps (Lane h) = Unit {0}
-IsStepIn gaps (Leg g n from_a) = (g < length gaps) × (n < length (gap_in gaps g).nets) × (length (gap_in gaps g).routes ≡ length (gap_in gaps g).nets)
+IsStepIn gaps (Leg g n from_a) =
+    (g < length gaps) × (n < length (gap_in gaps g).nets) × (length (gap_in gaps g).routes ≡ length (gap_in gaps g).nets)
 
 pub record IsTrace (gaps : List PlainGap) (steps : List Step) : Type 0 where
   pub alternates : Alternates steps

@@ -75,7 +75,9 @@ fn push_both(points: &mut Waypoints, near: Point, far: Point) -> Result<(), Allo
 
 // Goes along one slot to the point `near`, and along another from the point `far`.
 fn push_two(points: &mut Waypoints, near: Point, far: Point, rise: Rise) -> Result<(), AllocError>
-    ensures { OnOk result (points_in points.new.items ≡ points_in points.old.items ++ point_at near.x rise.before ∷ near ∷ far ∷ point_at far.x rise.after ∷ []) }
+    ensures { OnOk result
+        (points_in points.new.items
+        ≡ points_in points.old.items ++ point_at near.x rise.before ∷ near ∷ far ∷ point_at far.x rise.after ∷ []) }
 {
     push_both(
         points,
@@ -177,7 +179,10 @@ fn tidied(alloc: Global, mut points: Waypoints) -> Result<Path, AllocError>
 
 // A lane that is the first step gives a point at the start.
 fn push_first(points: &mut Waypoints, start: Point, steps: &[Step]) -> Result<(), AllocError>
-    ensures { OnOk result ((gs : List PlainGap) (end : Point) → points_in points.new.items ++ points_on gs end start.y steps.now ≡ points_in points.old.items ++ step_points gs start steps.now end) }
+    ensures { OnOk result
+        ((gs : List PlainGap) (end : Point)
+        → points_in points.new.items ++ points_on gs end start.y steps.now
+        ≡ points_in points.old.items ++ step_points gs start steps.now end) }
 {
     if let Some(Step::Lane(height)) = steps.first() {
         push_point(
@@ -246,7 +251,9 @@ fn push_step(
     requires steps { All (IsStepIn (map plain_gap gaps.now)) steps.now }
     requires gaps { All IsGapInRange gaps.now }
     requires points { All IsNear (points_on (map plain_gap gaps.now) end before (drop number steps.now)) }
-    ensures { IfOk result (λ after. points_in points.new.items ++ points_on (map plain_gap gaps.now) end after (drop (number + 1) steps.now) ≡ points_in points.old.items ++ points_on (map plain_gap gaps.now) end before (drop number steps.now)) }
+    ensures { IfOk result
+        (λ after. points_in points.new.items ++ points_on (map plain_gap gaps.now) end after (drop (number + 1) steps.now)
+        ≡ points_in points.old.items ++ points_on (map plain_gap gaps.now) end before (drop number steps.now)) }
 {
     match steps[number] {
         Step::Lane(height) => {

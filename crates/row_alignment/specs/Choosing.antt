@@ -1,5 +1,6 @@
 -- The visits, where the place of the last far end is kept for each layer.
-use Rattle.std.specs.Prelude.{◌≡◌, ℕ, ◌==◌, List, [], ◌∷◌, ◌++◌, length, slice_index, slice_index_or, slice_set, Bool, true, false, not, ◌&&◌, ◌||◌, Option, Some, None}
+use Rattle.std.specs.Prelude.{◌≡◌, ℕ, ◌==◌, List, [], ◌∷◌, ◌++◌, length, slice_index, slice_index_or, slice_set, Bool, true, false, not}
+use Rattle.std.specs.Prelude.{◌&&◌, ◌||◌, Option, Some, None}
 use Rattle.std.specs.List.{list_all}
 use Rattle.elk_doc.specs.declared.document.Sweep.{Sweep}
 use Rattle.elk_layers.specs.declared.units.Link.{Link}
@@ -46,7 +47,8 @@ pub record IsMarked (l : Plain) (rows : List (List ℕ)) (place : List ℕ) (mar
   pub marks : AreMarkedLinks l rows marked
 
 -- what the visits need
-pub record CanVisit (l : Plain) (rows : List (List ℕ)) (sweep : Sweep) (place : List ℕ) (marked : List Bool) (spokes : List Spoke) : Type 0 where
+pub record CanVisit (l : Plain) (rows : List (List ℕ)) (sweep : Sweep) (place : List ℕ) (marked : List Bool)
+    (spokes : List Spoke) : Type 0 where
   pub sound : IsSound l
   pub are_rows : AreRows l rows
   pub places : ArePlaces l rows place
@@ -54,7 +56,8 @@ pub record CanVisit (l : Plain) (rows : List (List ℕ)) (sweep : Sweep) (place 
   pub spokes_are : AreSpokes l sweep place spokes
 
 -- the list of chosen links and the last places after a visit of a unit with this fan
-pub record VisitsTo (l : Plain) (sweep : Sweep) (place : List ℕ) (marked : List Bool) (fan : List ℕ) (layer : ℕ) (chosen chosen' : List ℕ) (last last' : List (Option ℕ)) : Type 0 where
+pub record VisitsTo (l : Plain) (sweep : Sweep) (place : List ℕ) (marked : List Bool) (fan : List ℕ) (layer : ℕ)
+    (chosen chosen' : List ℕ) (last last' : List (Option ℕ)) : Type 0 where
   pub found : Option ℕ
   pub choice_is : as_list found ≡ choice sweep l.links place marked (last_at last layer) fan
   pub chosen_is : chosen' ≡ chosen ++ as_list found

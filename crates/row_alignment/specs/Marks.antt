@@ -1,5 +1,6 @@
 -- Links as points: where they begin and where they end, and which of them overtake one another.
-use Rattle.std.specs.Prelude.{◌≡◌, ℕ, ◌+◌, ◌*◌, ◌-◌, ◌^◌, ◌<◌, ◌≤◌, List, map, length, slice_index, slice_index_or, Bool, false, not, ◌&&◌, ◌||◌, nat_lt, ◌⊎◌}
+use Rattle.std.specs.Prelude.{◌≡◌, ℕ, ◌+◌, ◌*◌, ◌-◌, ◌^◌, ◌<◌, ◌≤◌, List, map, length, slice_index, slice_index_or, Bool, false, not, ◌&&◌}
+use Rattle.std.specs.Prelude.{◌||◌, nat_lt, ◌⊎◌}
 use Rattle.std.specs.List.{All, filter, list_any}
 use Rattle.std.specs.List.Sorted.{IsNonDecreasingBy, IsPermutation}
 use Rattle.elk_layers.specs.declared.units.Link.{Link}
@@ -53,7 +54,8 @@ pub record HoldBoth (inner above below : List Pin) : Type 0 where
 -- a link that is not inner and overtakes an inner one, or is overtaken by one
 abbrev pub is_crossed : Plain → List ℕ → Link → Bool
 is_crossed l place link =
-    not (is_inner l link) && list_any (λ other. overtakes other (pin_of l place link) || overtakes (pin_of l place link) other) (inner_pins l place)
+    not (is_inner l link)
+    && list_any (λ other. overtakes other (pin_of l place link) || overtakes (pin_of l place link) other) (inner_pins l place)
 
 -- the list says of each link whether it is marked
 pub record AreMarkedLinks (l : Plain) (rows : List (List ℕ)) (marked : List Bool) : Type 0 where

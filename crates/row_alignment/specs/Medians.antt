@@ -1,5 +1,6 @@
 -- By unit, the medians that the sweeps try.
-use Rattle.std.specs.Prelude.{◌≡◌, ℕ, ◌-◌, ◌/◌, cond, List, [], ◌∷◌, ◌++◌, map, length, slice_index, slice_index_or, slice_set, Bool, false, Option, Some, None}
+use Rattle.std.specs.Prelude.{◌≡◌, ℕ, ◌-◌, ◌/◌, cond, List, [], ◌∷◌, ◌++◌, map, length, slice_index, slice_index_or, slice_set, Bool, false}
+use Rattle.std.specs.Prelude.{Option, Some, None}
 use Rattle.std.specs.List.{filter, range_with_len}
 use Rattle.elk_doc.specs.declared.document.Sweep.{Sweep}
 use Rattle.elk_layers.specs.declared.units.Link.{Link}

@@ -70,7 +70,13 @@ fn is_crossed(layered: &Layered, place: &[u32], link: Link, above: &Reach, below
     requires places { length place.now ≡ length (plain layered.now).units }
     requires above { IsReach above.now.pins.items above.now.highest.items }
     requires below { IsReach below.now.pins.items below.now.highest.items }
-    ensures { (inner : List Pin) → HoldBoth inner above.now.pins.items below.now.pins.items → result ≡ (not (spec.is_inner (plain layered.now) link) && list_any (λ other. overtakes other (pin_of (plain layered.now) place.now link) || overtakes (pin_of (plain layered.now) place.now link) other) inner) }
+    ensures { (inner : List Pin) → HoldBoth inner above.now.pins.items below.now.pins.items
+        → result
+        ≡ (not (spec.is_inner (plain layered.now) link)
+        && list_any
+        (λ other. overtakes other (pin_of (plain layered.now) place.now link)
+        || overtakes (pin_of (plain layered.now) place.now link) other)
+        inner) }
 {
     if is_inner(layered, link) {
         return false;
@@ -112,7 +118,9 @@ pub(crate) fn marks(
 ) -> Result<Vec<bool>, AllocError>
     requires sound { IsSound (plain layered.now) }
     requires places { length place.now ≡ length (plain layered.now).units }
-    ensures { IfOk result (λ v. (rows : List (List ℕ)) → AreRows (plain layered.now) rows → ArePlaces (plain layered.now) rows place.now → AreMarkedLinks (plain layered.now) rows v.items) }
+    ensures { IfOk result
+        (λ v. (rows : List (List ℕ)) → AreRows (plain layered.now) rows → ArePlaces (plain layered.now) rows place.now
+        → AreMarkedLinks (plain layered.now) rows v.items) }
 {
     let inner = inner_pins(alloc, layered, place)?;
     let above = reach_of(alloc, inner)?;

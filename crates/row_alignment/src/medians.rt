@@ -93,7 +93,10 @@ fn medians_in(
 ) -> Result<Vec<Medians>, AllocError>
     requires can { (rows : List (List ℕ)) × CanVisit (plain layered.now) rows sweep known.now.place.items known.now.marked.items spokes.now }
     requires firsts { AreFirsts spokes.now (length (plain layered.now).units) firsts.now }
-    ensures { IfOk result (λ v. v.items ≡ map (medians_at (plain layered.now) sweep known.now.place.items known.now.marked.items spokes.now) (range_with_len 0 (length (plain layered.now).units))) }
+    ensures { IfOk result
+        (λ v. v.items
+        ≡ map (medians_at (plain layered.now) sweep known.now.place.items known.now.marked.items spokes.now)
+        (range_with_len 0 (length (plain layered.now).units))) }
 {
     let units = layered.units.as_slice();
     let links = layered.links.as_slice();
@@ -118,8 +121,12 @@ pub fn medians_by_unit(
     sweep: Sweep,
 ) -> Result<Vec<Medians>, AllocError>
     requires sound { IsSound (plain layered.now) }
-    requires known { (rows : List (List ℕ)) × AreRows (plain layered.now) rows × IsMarked (plain layered.now) rows known.now.place.items known.now.marked.items }
-    ensures { IfOk result (λ v. (rows : List (List ℕ)) → AreRows (plain layered.now) rows → IsMarked (plain layered.now) rows known.now.place.items known.now.marked.items → ServesSide (plain layered.now) rows sweep v.items) }
+    requires known { (rows : List (List ℕ)) × AreRows (plain layered.now) rows
+        × IsMarked (plain layered.now) rows known.now.place.items known.now.marked.items }
+    ensures { IfOk result
+        (λ v. (rows : List (List ℕ)) → AreRows (plain layered.now) rows
+        → IsMarked (plain layered.now) rows known.now.place.items known.now.marked.items
+        → ServesSide (plain layered.now) rows sweep v.items) }
 {
     let spokes = spokes_of(alloc, layered, sweep, known.place.as_slice())?;
     let firsts = firsts_of(alloc, spokes.as_slice(), layered.units.as_slice().len())?;

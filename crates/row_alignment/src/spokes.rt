@@ -69,7 +69,11 @@ fn push_spoke(
     requires sound { IsSound (plain layered.now) }
     requires places { length place.now ≡ length (plain layered.now).units }
     requires number { number < length (plain layered.now).links }
-    ensures { IfOk result (λ _. spokes.new.items ≡ spokes.old.items ++ cond (is_at (plain layered.now) sweep lanes (spoke_of (plain layered.now) sweep place.now number)) (spoke_of (plain layered.now) sweep place.now number ∷ []) []) }
+    ensures { IfOk result
+        (λ _. spokes.new.items
+        ≡ spokes.old.items
+        ++ cond (is_at (plain layered.now) sweep lanes (spoke_of (plain layered.now) sweep place.now number))
+        (spoke_of (plain layered.now) sweep place.now number ∷ []) []) }
 {
     if matches(lanes, is_at_lane(layered, sweep, number)) {
         spokes.push(spoke_for(layered, sweep, place, number))?;
@@ -87,7 +91,9 @@ fn push_spokes(
 ) -> Result<(), AllocError>
     requires sound { IsSound (plain layered.now) }
     requires places { length place.now ≡ length (plain layered.now).units }
-    ensures { IfOk result (λ _. spokes.new.items ≡ spokes.old.items ++ filter (is_at (plain layered.now) sweep lanes) (all_spokes (plain layered.now) sweep place.now)) }
+    ensures { IfOk result
+        (λ _. spokes.new.items
+        ≡ spokes.old.items ++ filter (is_at (plain layered.now) sweep lanes) (all_spokes (plain layered.now) sweep place.now)) }
 {
     let count = layered.links.as_slice().len();
     for k in 0..count {

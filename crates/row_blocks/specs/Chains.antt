@@ -1,5 +1,6 @@
 -- A list kept by links from each element to the next, which begins and ends at one marker.
-use Rattle.std.specs.Prelude.{◌≡◌, ◌≢◌, ℕ, ◌<◌, ◌≤◌, List, [], ◌∷◌, ◌++◌, length, slice_index, slice_index_or, slice_set, drop, take, Bool, true, false, Option, None, is_some, ◌⊎◌}
+use Rattle.std.specs.Prelude.{◌≡◌, ◌≢◌, ℕ, ◌<◌, ◌≤◌, List, [], ◌∷◌, ◌++◌, length, slice_index, slice_index_or, slice_set, drop, take, Bool}
+use Rattle.std.specs.Prelude.{true, false, Option, None, is_some, ◌⊎◌}
 use Rattle.row_blocks.specs.Weaving.{woven, CanWeave}
 use Rattle.elk_layers.specs.Layered.{Plain, IsSound, AreRows}
 use Rattle.row_blocks.specs.Blocks.{name_at, names_of, AreNames, IsEntered, IsWovenTo, woven_rows, block_order}

@@ -1,5 +1,6 @@
 -- The blocks as places under floors and bounds.
-use Rattle.std.specs.Prelude.{◌≡◌, ℕ, ◌+◌, ◌<◌, ◌≤◌, ◌^◌, ℤ, pos, ◌+ℤ◌, ◌-ℤ◌, ◌≤ℤ◌, List, [], ◌∷◌, ◌++◌, length, slice_index, slice_index_or, ◌⊎◌, Option}
+use Rattle.std.specs.Prelude.{◌≡◌, ℕ, ◌+◌, ◌<◌, ◌≤◌, ◌^◌, ℤ, pos, ◌+ℤ◌, ◌-ℤ◌, ◌≤ℤ◌, List, [], ◌∷◌, ◌++◌, length, slice_index}
+use Rattle.std.specs.Prelude.{slice_index_or, ◌⊎◌, Option}
 use Rattle.std.specs.List.{filter}
 use Rattle.std.specs.Int.{int_max}
 use Rattle.elk_layers.specs.declared.units.Unit.{Unit as LayerUnit}
@@ -30,7 +31,8 @@ pub record AreBlocks (l : Plain) (rows : List (List ℕ)) (chosen blocks roots :
   pub leftmost : (u : ℕ) → u < length l.units → layer_of l (slice_index roots (block_at blocks u)) ≤ layer_of l u
   pub first : (u : ℕ) → u < length l.units → (slice_index roots (block_at blocks u) ≡ u) ⊎ IsEntered l chosen u
   pub joined : (j : ℕ) → j < length chosen → block_at blocks (chosen_link l chosen j).tail ≡ block_at blocks (chosen_link l chosen j).head
-  pub one_in_layer : (u v : ℕ) → u < length l.units → v < length l.units → layer_of l u ≡ layer_of l v → block_at blocks u ≡ block_at blocks v → u ≡ v
+  pub one_in_layer : (u v : ℕ) → u < length l.units → v < length l.units → layer_of l u ≡ layer_of l v
+      → block_at blocks u ≡ block_at blocks v → u ≡ v
   pub rising : (r : ℕ) → r < length rows → Rises blocks (row_at rows r)
   pub children_rising : (r : ℕ) → r < length rows → Rises blocks (filter (is_child l) (row_at rows r))
 
@@ -75,7 +77,8 @@ all_bounds l blocks offsets [] = []
 all_bounds l blocks offsets (row ∷ rows) = row_bounds l blocks offsets row ++ all_bounds l blocks offsets rows
 
 -- the least lines of chosen links, as a question about blocks
-pub record IsPosed (l : Plain) (rows : List (List ℕ)) (chosen blocks roots : List ℕ) (offsets floor : List ℤ) (bounds : List Bound) : Type 0 where
+pub record IsPosed (l : Plain) (rows : List (List ℕ)) (chosen blocks roots : List ℕ) (offsets floor : List ℤ)
+    (bounds : List Bound) : Type 0 where
   pub blocks_are : AreBlocks l rows chosen blocks roots
   pub offsets_are : AreOffsets l chosen roots offsets
   pub floors_are : AreFloors l blocks roots offsets floor
@@ -108,7 +111,8 @@ EndsWithinStack l tops =
 -- least values of the blocks are least lines of the units
 abbrev pub LeastValuesGiveLeastLines : Type 0
 LeastValuesGiveLeastLines =
-    (l : Plain) (rows : List (List ℕ)) (chosen blocks roots : List ℕ) (offsets floor values tops : List ℤ) (bounds : List Bound) (holds : List (Option ℕ))
+    (l : Plain) (rows : List (List ℕ)) (chosen blocks roots : List ℕ) (offsets floor values tops : List ℤ) (bounds : List Bound)
+    (holds : List (Option ℕ))
     → IsSound l → AreRows l rows → AreStraight l rows chosen → IsPosed l rows chosen blocks roots offsets floor bounds
     → Settled floor bounds values holds → AreTops l blocks offsets values tops → AreLeast l rows chosen tops
 
@@ -120,7 +124,8 @@ pub record Counts (order : List ℕ) (count : ℕ) : Type 0 where
 -- the question about the blocks has an answer, and the lines that it gives end within the stack
 pub record CanBePlaced (l : Plain) (blocks : List ℕ) (offsets floor : List ℤ) (bounds : List Bound) (order : List ℕ) : Type 0 where
   pub solvable : IsSolvable order floor bounds
-  pub within : (values tops : List ℤ) (holds : List (Option ℕ)) → Settled floor bounds values holds → AreTops l blocks offsets values tops → EndsWithinStack l tops
+  pub within : (values tops : List ℤ) (holds : List (Option ℕ)) → Settled floor bounds values holds
+      → AreTops l blocks offsets values tops → EndsWithinStack l tops
 
 abbrev pub BlocksCanBePlaced : Type 0
 BlocksCanBePlaced =

@@ -13,7 +13,8 @@ pub record HaveOwnHeads (l : Plain) (chosen : List ℕ) : Type 0 where
 pub record AreLinksInto (l : Plain) (chosen : List ℕ) (done : ℕ) (into : List (Option ℕ)) : Type 0 where
   pub as_many : length into ≡ length l.units
   pub there : (j : ℕ) → j < done → slice_index_or into (chosen_link l chosen j).head None ≡ Some (slice_index chosen j)
-  pub only : (u k : ℕ) → slice_index_or into u None ≡ Some k → (j : ℕ) × (j < done) × (slice_index chosen j ≡ k) × ((chosen_link l chosen j).head ≡ u)
+  pub only : (u k : ℕ) → slice_index_or into u None ≡ Some k
+      → (j : ℕ) × (j < done) × (slice_index chosen j ≡ k) × ((chosen_link l chosen j).head ≡ u)
 
 -- the list says of each number whether it is among the first chosen links
 pub record AreChosenMarks (chosen : List ℕ) (done count : ℕ) (marks : List Bool) : Type 0 where
@@ -24,5 +25,7 @@ pub record AreChosenMarks (chosen : List ℕ) (done count : ℕ) (marks : List B
 -- those chosen links that have numbers below a bound stand at the units that they end at, and nothing else stands anywhere
 pub record AreLinksBelow (l : Plain) (chosen : List ℕ) (bound : ℕ) (into : List (Option ℕ)) : Type 0 where
   pub as_many : length into ≡ length l.units
-  pub there : (j : ℕ) → j < length chosen → slice_index chosen j < bound → slice_index_or into (chosen_link l chosen j).head None ≡ Some (slice_index chosen j)
-  pub only : (u k : ℕ) → slice_index_or into u None ≡ Some k → (j : ℕ) × (j < length chosen) × (slice_index chosen j ≡ k) × ((chosen_link l chosen j).head ≡ u)
+  pub there : (j : ℕ) → j < length chosen → slice_index chosen j < bound
+      → slice_index_or into (chosen_link l chosen j).head None ≡ Some (slice_index chosen j)
+  pub only : (u k : ℕ) → slice_index_or into u None ≡ Some k
+      → (j : ℕ) × (j < length chosen) × (slice_index chosen j ≡ k) × ((chosen_link l chosen j).head ≡ u)

@@ -1,5 +1,6 @@
 -- Names and offsets of units, given from left to right.
-use Rattle.std.specs.Prelude.{◌≡◌, ℕ, ◌<◌, ◌^◌, ℤ, pos, ◌+ℤ◌, ◌-ℤ◌, ◌≤ℤ◌, cond, nat_le, zero, suc, ◌⊎◌, List, length, slice_index_or, slice_set, Option, Some, None}
+use Rattle.std.specs.Prelude.{◌≡◌, ℕ, ◌<◌, ◌^◌, ℤ, pos, ◌+ℤ◌, ◌-ℤ◌, ◌≤ℤ◌, cond, nat_le, zero, suc, ◌⊎◌, List, length, slice_index_or}
+use Rattle.std.specs.Prelude.{slice_set, Option, Some, None}
 use Rattle.std.specs.List.{All}
 use Rattle.elk_layers.specs.Layered.{Plain, IsSound, link_at, layer_of, unit_at, place_of}
 use Rattle.row_blocks.specs.Blocks.{name_at, AreNames}
@@ -77,7 +78,8 @@ abbrev pub ComesBefore : Plain → List (List ℕ) → ℕ → ℕ → ℕ → T
 ComesBefore l rows r i u = (layer_of l u < r) ⊎ ((layer_of l u ≡ r) × (place_of l rows u < i))
 
 -- the units of the first layers, and the first of this row, are joined
-pub record AreJoinedUpTo (l : Plain) (rows : List (List ℕ)) (into : List (Option ℕ)) (r i : ℕ) (names : List ℕ) (offsets : List ℤ) : Type 0 where
+pub record AreJoinedUpTo (l : Plain) (rows : List (List ℕ)) (into : List (Option ℕ)) (r i : ℕ) (names : List ℕ)
+    (offsets : List ℤ) : Type 0 where
   pub names_long : length names ≡ length l.units
   pub offsets_long : length offsets ≡ length l.units
   pub in_range : All (λ n. n < length l.units) names

@@ -32,14 +32,16 @@ IsLowered floor b offset floor' =
 pub record AreFloorsSoFar (blocks : List ℕ) (offsets : List ℤ) (count done : ℕ) (floor : List ℤ) : Type 0 where
   pub as_many : length floor ≡ count
   pub from_zero : (u : ℕ) → u < done → pos 0 ≤ℤ (value_at floor (block_at blocks u) +ℤ offset_at offsets u)
-  pub held : (b : ℕ) → b < count → (value_at floor b ≡ pos 0) ⊎ ((u : ℕ) × (u < done) × (block_at blocks u ≡ b) × (value_at floor b +ℤ offset_at offsets u ≡ pos 0))
+  pub held : (b : ℕ) → b < count
+      → (value_at floor b ≡ pos 0) ⊎ ((u : ℕ) × (u < done) × (block_at blocks u ≡ b) × (value_at floor b +ℤ offset_at offsets u ≡ pos 0))
 
 -- the number of each root
 pub record AreRootNumbers (roots : List ℕ) (done : ℕ) (numbers : List ℕ) : Type 0 where
   pub number_is : (b : ℕ) → b < done → slice_index numbers (slice_index roots b) ≡ b
 
 -- the constraints on blocks whose numbers go forward
-pub record AreConstraints (l : Plain) (rows : List (List ℕ)) (blocks roots : List ℕ) (offsets : List ℤ) (order : List ℕ) (floor : List ℤ) (bounds : List Bound) : Type 0 where
+pub record AreConstraints (l : Plain) (rows : List (List ℕ)) (blocks roots : List ℕ) (offsets : List ℤ) (order : List ℕ)
+    (floor : List ℤ) (bounds : List Bound) : Type 0 where
   pub counts : Counts order (length roots)
   pub floors : AreFloorsSoFar blocks offsets (length roots) (length l.units) floor
   pub bounds_are : bounds ≡ all_bounds l blocks offsets rows

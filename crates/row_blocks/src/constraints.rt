@@ -59,7 +59,9 @@ fn push_bounds(
     requires in_blocks { length offsets.now ≡ length blocks.now }
     requires as_many { length blocks.now ≡ length (plain layered.now).units }
     requires small { AreSmall offsets.now }
-    ensures { IfOk result (λ _. bounds.new.items ≡ bounds.old.items ++ bounds_along (distance_of (plain layered.now) outlines) blocks.now offsets.now units.now) }
+    ensures { IfOk result
+        (λ _. bounds.new.items
+        ≡ bounds.old.items ++ bounds_along (distance_of (plain layered.now) outlines) blocks.now offsets.now units.now) }
 {
     for i in 1..units.len() {
         let upper = units[i - 1];

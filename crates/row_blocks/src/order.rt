@@ -53,7 +53,8 @@ fn weave_row(row: &[u32], into: &[Option<u32>], names: &[u32], end: u32, next: &
     requires as_many { length names.now ≡ end }
     requires long { length next.old ≡ end + 1 }
     ensures long { length next.new ≡ end + 1 }
-    ensures woven { (known : ℕ → Bool) (order : List ℕ) → IsWeavable known order row.now into.now names.now end → IsChain next.old end order end → IsChain next.new end (woven known order (names_of names.now row.now)) end }
+    ensures woven { (known : ℕ → Bool) (order : List ℕ) → IsWeavable known order row.now into.now names.now end
+        → IsChain next.old end order end → IsChain next.new end (woven known order (names_of names.now row.now)) end }
 {
     let mut cursor = end;
     for unit in row {

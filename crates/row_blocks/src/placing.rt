@@ -80,7 +80,9 @@ fn constraints_of(
     requires offsets { length blocks.now.offset.items ≡ length (plain layered.now).units }
     requires small { AreSmall blocks.now.offset.items }
     requires few { length blocks.now.roots.items ≤ 2 ^ 24 }
-    ensures { IfOk result (λ c. AreConstraints (plain layered.now) (rows_of order.now) blocks.now.block.items blocks.now.roots.items blocks.now.offset.items c.order.items c.floor.items c.bounds.items) }
+    ensures { IfOk result
+        (λ c. AreConstraints (plain layered.now) (rows_of order.now) blocks.now.block.items blocks.now.roots.items
+        blocks.now.offset.items c.order.items c.floor.items c.bounds.items) }
 {
     let block = blocks.block.as_slice();
     let offset = blocks.offset.as_slice();

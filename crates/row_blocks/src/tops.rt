@@ -98,7 +98,9 @@ pub(crate) fn tops(
     requires values_low { (b : ℕ) → b < length values.now → pos 0 ≤ℤ (value_at values.now b +ℤ pos (2 ^ 61)) }
     requires values_high { (b : ℕ) → b < length values.now → value_at values.now b ≤ℤ pos (2 ^ 61) }
     ensures long { IfOk result (λ v. length v.items ≡ length blocks.now) }
-    ensures tops { IfOk result (λ v. (u : ℕ) → u < length blocks.now → value_at v.items u ≡ value_at values.now (block_at blocks.now u) +ℤ offset_at offsets.now u) }
+    ensures tops { IfOk result
+        (λ v. (u : ℕ) → u < length blocks.now
+        → value_at v.items u ≡ value_at values.now (block_at blocks.now u) +ℤ offset_at offsets.now u) }
 {
     let mut top = Vec::with_capacity(alloc, blocks.len())?;
     for (u, block) in blocks.iter().enumerate() {

@@ -14,6 +14,6 @@ drain-requires-clause-source c =
 
 pub sources-preserved : goal.sources-preserved
 sources-preserved c =
-    all_more (length c.args.layer.now) c.args.edges.now c.sources.sources.items c.pop.new.self.items c.in-Some.source c.sources.excess c.drain.new.excess c.drain.new.layer c.drain.new.flow c.drain.new.reached c.drain.new.labels c.drain.new.dist
+    all_more (length c.args.layer.now) c.args.net.now.edges.now c.sources.sources.items c.pop.new.self.items c.in-Some.source c.sources.excess c.drain.new.excess c.drain.new.layer c.drain.new.flow c.drain.new.marks.reached.items c.drain.new.marks.labels.items c.drain.new.marks.dist.items
     c.in-Some.ensures.items c.sources.invariant.waiting
-    (subst (λ n. IsDrained n c.args.edges.now c.in-Some.source.node c.sources.excess c.drain.new.layer c.drain.new.flow c.drain.new.excess c.drain.new.reached c.drain.new.labels c.drain.new.dist) c.sources.auto.layer c.in_ok-drain.ensures)
+    (subst (λ n. IsDrained n c.args.net.now.edges.now c.in-Some.source.node c.sources.excess c.drain.new.layer c.drain.new.flow c.drain.new.excess c.drain.new.marks.reached.items c.drain.new.marks.labels.items c.drain.new.marks.dist.items) c.sources.auto.layer c.in_ok-drain.ensures)

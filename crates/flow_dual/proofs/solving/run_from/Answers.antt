@@ -1,15 +1,12 @@
 use Rattle.std.proofs.Common.{pos, length, ◌∙◌, ap}
 use Rattle.std.proofs.lemmas.List.{length-replicate}
-use Rattle.flow_dual.proofs.Finishing.{same_everywhere, all_clear}
+use Rattle.flow_dual.proofs.Finishing.{same_everywhere}
 use Rattle.flow_dual.proofs.solving.run_from.Goals as goal
 
 pub run-requires : goal.run-requires
 run-requires c =
     let n = length c.args.layer.now in
     let e = c.as_mut_slice.ensures.value ∙ c.in_ok-excess.ensures.items_if_clones_equal (λ y e. e) in
-    let r = c.as_mut_slice-2.ensures.value ∙ c.in_ok-reached.ensures.items_if_clones_equal (λ y e. e) in
-    let l = c.as_mut_slice-3.ensures.value ∙ c.in_ok-labels.ensures.items_if_clones_equal (λ y e. e) in
-    let d = c.as_mut_slice-4.ensures.value ∙ c.in_ok-dist.ensures.items_if_clones_equal (λ y e. e) in
     record {
       network = c.requires.network;
       layering = c.requires.layering;
@@ -19,6 +16,6 @@ run-requires c =
       no_flow = c.requires.no_flow;
       excess = ap length e ∙ length-replicate n (pos 0);
       no_excess = λ v. same_everywhere n v (pos 0) c.as_mut_slice.result.now e;
-      cleared = all_clear n c.as_mut_slice-2.result.now c.as_mut_slice-3.result.now r l;
-      dist = ap length d ∙ length-replicate n 0;
+      cleared = c.in_ok-marks.ensures.cleared;
+      dist = c.in_ok-marks.ensures.dist;
     }

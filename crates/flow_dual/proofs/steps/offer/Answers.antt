@@ -1,23 +1,24 @@
-use Rattle.std.proofs.Common.{◌≡◌, suc, length, get_or, arith, refl, sym, subst, ◌∙◌}
+use Rattle.std.proofs.Common.{◌≡◌, suc, length, get_or, arith, refl, sym, subst, ◌∙◌, ap}
+use Rattle.network_laws.specs.declared.links.Links.{Links}
 use Rattle.network_laws.specs.Network.{edge_at}
 use Rattle.network_laws.specs.Links.{IsNextAt}
 use Rattle.flow_dual.specs.State.{marked}
-use Rattle.flow_dual.specs.Queue.{waiting, AreInOrder, Offers}
+use Rattle.flow_dual.specs.Queue.{waiting, AreInOrder, Offers, links_at}
 use Rattle.flow_dual.proofs.Offering.{offers_none, offers_past, offers_more, back_used}
 use Rattle.flow_dual.proofs.steps.offer.Goals as goal
 use Rattle.flow_dual.proofs.steps.offer.Goals.{then-is_open+in_ok-add_step, else-is_open}
 
 pub loop-k-init : goal.loop-k-init
 loop-k-init c =
-    let n : IsNextAt c.args.edges.now c.args.end c.args.v 0 c.first_of-k.result = subst (λ x. IsNextAt c.args.edges.now c.args.end c.args.v 0 x) (sym c.first_of-k.ensures) (c.requires.links.begins c.args.v c.requires.there) in
-    (n.in_range, n.here, c.requires.order, refl, offers_none c.args.edges.now c.args.layer.now c.args.flow.now (marked c.args.reached.now) c.args.end c.args.v c.args.steps.now.now c.first_of-k.result (waiting c.args.steps.now) n)
+    let n : IsNextAt c.args.net.now.edges.now c.args.end c.args.v 0 c.first_of-k.result = subst (λ x. IsNextAt c.args.net.now.edges.now c.args.end c.args.v 0 x) (sym (c.first_of-k.ensures ∙ ap (λ (ls : Links). get_or ls.first.items c.args.v 0) c.links_at-links.ensures)) (c.requires.links.begins c.args.v c.requires.there) in
+    (n.in_range, n.here, c.requires.order, refl, offers_none c.args.net.now.edges.now c.args.layer.now c.args.flow.now (marked c.args.marks.now.reached.items) c.args.end c.args.v c.args.steps.now.now c.first_of-k.result (waiting c.args.steps.now) n)
 
 pub loop-k-preserved : goal.loop-k-preserved
 loop-k-preserved c =
-    let edges = c.args.edges.now in
+    let edges = c.args.net.now.edges.now in
     let layer = c.args.layer.now in
     let flow = c.args.flow.now in
-    let set = marked c.args.reached.now in
+    let set = marked c.args.marks.now.reached.items in
     let end = c.args.end in
     let v = c.args.v in
     let k = c.loop-k.k in
@@ -27,7 +28,7 @@ loop-k-preserved c =
     let there = c.loop-k-test.true in
     let is = c.loop-k.invariant.1 there in
     let n : IsNextAt edges end v (suc k) k' =
-    subst (λ x. IsNextAt edges end v (suc k) x) (sym c.next_of-k.ensures) (subst (λ x. IsNextAt edges end x (suc k) (get_or c.args.links.now.next.items k 0)) is (c.requires.links.goes_on k there))
+    subst (λ x. IsNextAt edges end v (suc k) x) (sym (c.next_of-k.ensures ∙ ap (λ (ls : Links). get_or ls.next.items k 0) c.links_at-links.ensures)) (subst (λ x. IsNextAt edges end x (suc k) (get_or (links_at end c.args.net.now.tails.now c.args.net.now.heads.now).next.items k 0)) is (c.requires.links.goes_on k there))
     in
     elim c.if-is_open.branch [
       | then-is_open+in_ok-add_step w ↦
@@ -57,5 +58,5 @@ returns c =
     record {
       order = c.loop-k.invariant.2;
       now = c.loop-k.invariant.3;
-      offers = subst (λ i. Offers c.args.edges.now c.args.layer.now c.args.flow.now (marked c.args.reached.now) c.args.end c.args.v c.args.steps.now.now i (waiting c.args.steps.now) (waiting c.loop-k.steps)) (let e : c.loop-k.k ≡ length c.args.edges.now = omega (arith, l, m) in e) c.loop-k.invariant.4;
+      offers = subst (λ i. Offers c.args.net.now.edges.now c.args.layer.now c.args.flow.now (marked c.args.marks.now.reached.items) c.args.end c.args.v c.args.steps.now.now i (waiting c.args.steps.now) (waiting c.loop-k.steps)) (let e : c.loop-k.k ≡ length c.args.net.now.edges.now = omega (arith, l, m) in e) c.loop-k.invariant.4;
     }

@@ -7,11 +7,11 @@ use Rattle.flow_dual.proofs.steps.offer.Given as goal
 
 abbrev pub invariant-loop-k : goal.invariant-loop-k
 invariant-loop-k l =
-    (l.k ≤ length l.edges)
-    × (l.k < length l.edges → end_of l.end (edge_at l.edges l.k) ≡ l.v)
+    (l.k ≤ length l.net.edges.now)
+    × (l.k < length l.net.edges.now → end_of l.end (edge_at l.net.edges.now l.k) ≡ l.v)
     × AreInOrder l.steps
     × (l.steps.now ≡ l.initial.steps.now)
-    × Offers l.edges l.layer l.flow (marked l.reached) l.end l.v l.initial.steps.now l.k (waiting l.initial.steps) (waiting l.steps)
+    × Offers l.net.edges.now l.layer l.flow (marked l.marks.reached.items) l.end l.v l.initial.steps.now l.k (waiting l.initial.steps) (waiting l.steps)
 
 abbrev pub decreases-loop-k : goal.decreases-loop-k
-decreases-loop-k l = length l.edges - l.k
+decreases-loop-k l = length l.net.edges.now - l.k

@@ -11,6 +11,6 @@ add_both-requires-clause-queues c =
     let q = c.joining-choice.ensures.queues in
     let j = c.grow_by-now.ensures.joined in
     rw c.node_at.ensures (
-      queue_joined n edges c.requires.network.ends Tail c.args.filled c.args.reached.now c.args.layers.now c.grow_by-now.new.tree.order.items c.grow_by-now.new.reached c.grow_by-now.new.layers j (heap_items c.joining-choice.new.queues.rising) q.0,
-      queue_joined n edges c.requires.network.ends Head c.args.filled c.args.reached.now c.args.layers.now c.grow_by-now.new.tree.order.items c.grow_by-now.new.reached c.grow_by-now.new.layers j (heap_items c.joining-choice.new.queues.falling) q.1,
+      queue_joined n edges c.requires.network.ends Tail c.args.grown.filled c.args.reached.now c.args.layers.now c.grow_by-now.new.tree.order.items c.grow_by-now.new.reached c.grow_by-now.new.layers j (heap_items c.joining-choice.new.queues.rising) q.0,
+      queue_joined n edges c.requires.network.ends Head c.args.grown.filled c.args.reached.now c.args.layers.now c.grow_by-now.new.tree.order.items c.grow_by-now.new.reached c.grow_by-now.new.layers j (heap_items c.joining-choice.new.queues.falling) q.1,
     )
