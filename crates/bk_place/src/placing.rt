@@ -10,7 +10,7 @@ ghost use Rattle.bk_place.specs.Placement.{AreLinesOf, IsFirstLowest, IsFirstAmo
 use crate::heights::extent;
 use elk_doc::document::Sweep;
 use elk_layers::{Layered, Lines, Order};
-use row_alignment::{Marked, Medians, align_by, marked_order, medians_by_unit};
+use row_alignment::{Marked, Medians, align, align_by, marked_order, medians_by_unit};
 use row_blocks::place_links;
 use std::alloc::{AllocError, Global};
 
@@ -49,9 +49,8 @@ fn place_sweep(
     ensures least { IfOk result (λ lines. AreLeastLines (plain layered.now) (rows_of order.now) sweep lines.top.items) }
     ensures within { IfOk result (λ lines. EndsWithinStack (plain layered.now) lines.top.items) }
 {
-    let known = marked_order(alloc, layered, order)?;
-    let table = medians_by_unit(alloc, layered, &known, sweep)?;
-    place_by(alloc, layered, order, table.as_slice(), sweep)
+    let chosen = align(alloc, layered, order, sweep)?;
+    place_links(alloc, layered, order, chosen.links.as_slice())
 }
 
 /// The lines of a sweep with their height, where the medians to its side are known.

@@ -1,8 +1,14 @@
-use Rattle.elk_layers.specs.Layered.{rows_of}
+use Rattle.std.proofs.Common.{◌∙◌}
+use Rattle.std.proofs.lemmas.Result.{IfOk-weaker}
+use Rattle.elk_layers.specs.Layered.{plain, rows_of}
+use Rattle.bk_place.proofs.HeightLemmas.{least_from}
 use Rattle.bk_place.proofs.placing.place_sweep.Goals as goal
 
-pub medians_by_unit-requires-clause-known : goal.medians_by_unit-requires-clause-known
-medians_by_unit-requires-clause-known c = (rows_of c.args.order.now, c.requires.rows, c.in_ok-known.ensures)
+pub place_links-requires-clause-straight : goal.place_links-requires-clause-straight
+place_links-requires-clause-straight c = rw c.as_slice.ensures.value c.in_ok-chosen.ensures.straight
 
-pub place_by-requires : goal.place_by-requires
-place_by-requires c = record { can = rw c.as_slice.ensures.value (c.in_ok-table.ensures (rows_of c.args.order.now) c.requires.rows c.in_ok-known.ensures).0 }
+pub returns-clause-least : goal.returns-clause-least
+returns-clause-least c =
+    IfOk-weaker c.place_links.result _ _
+    (λ lines least. least_from (plain c.args.layered.now) (rows_of c.args.order.now) c.args.sweep c.as_slice.result.now lines.top.items (c.as_slice.ensures.value ∙ c.in_ok-chosen.ensures.chosen) least)
+    c.place_links.ensures.least
