@@ -1,14 +1,12 @@
 -- Nets in the slots of their levels, and the links from which the levels come.
-use Rattle.std.proofs.Common.{◌≡◌, ◌≢◌, ◌∙◌, ◌⊎◌, ⊎_elim, inl, inr, ℕ, ◌+◌, ◌<◌, ◌≤◌, Bool, true, false, ◌||◌, nat_lt, List, [], ◌∷◌, ◌++◌, length, ℤ, ◌<ℤ◌, ◌≤ℤ◌, pos, refl, sym, ap, subst, arith, if◌then◌else◌}
+use Rattle.std.proofs.Common.{◌≡◌, ◌≢◌, ◌∙◌, ◌⊎◌, ⊎_elim, inl, inr, ℕ, ◌+◌, ◌<◌, ◌≤◌, Bool, true, false, ◌||◌, nat_lt, List, [], ◌∷◌, length, ℤ, ◌<ℤ◌, ◌≤ℤ◌, pos, refl, sym, ap, subst, arith, if◌then◌else◌}
 use Rattle.std.proofs.lemmas.Bool.{cases_eq, cases_lt, lt-ltb, ltb-true, or_cases, or_left, or_right, false_from_ne_true}
 use Rattle.std.specs.Int.{int_min, int_max}
 use Rattle.std.proofs.lemmas.Int.{ints, clamps}
-use Rattle.std.proofs.lemmas.List.{get_or_append_left, get_or_push, length_push}
 use Rattle.std.specs.List.{All}
 use Rattle.std.proofs.lemmas.List.Elements.{All-get_or}
 use Rattle.gap_cycles.specs.declared.Link.{Link}
-use Rattle.gap_cycles.specs.Links.{link_at, is_marked, Leads, CutsOnCycles}
-use Rattle.gap_cycles.specs.Walks.{HasLink}
+use Rattle.gap_cycles.specs.Links.{link_at, Leads}
 use Rattle.route_slots.specs.declared.Pin.{Pin}
 use Rattle.route_slots.specs.declared.Net.{Net}
 use Rattle.route_slots.specs.declared.NetRoute.{NetRoute}
@@ -20,7 +18,7 @@ use Rattle.route_slots.specs.Standing.{IsUpright, AreApart}
 use Rattle.route_slots.specs.Exchanges.{meets}
 use Rattle.route_slots.specs.Marks.{mark_at, LevelAt, AreNetMarks, SplitsByMarks}
 use Rattle.route_slots.specs.Crossings.{is_over, one, cuts, cut}
-use Rattle.route_slots.specs.Uncrossed.{asked, in_order, Precedes, IsOrderable, crossed, CrossAsAsked, level_of, AreLevels, conflicts, stands_first, is_past, KeepApart, AreOrderLinks, Rise, IsLevelMark, AreLevelMarks, StandByLevels}
+use Rattle.route_slots.specs.Uncrossed.{asked, in_order, Precedes, crossed, CrossAsAsked, level_of, AreLevels, conflicts, stands_first, is_past, KeepApart, IsLevelMark, AreLevelMarks, StandByLevels}
 use Rattle.route_slots.proofs.Sides.{level_by}
 use Rattle.route_slots.proofs.Turns.{true_false, lt_less}
 use Rattle.route_slots.proofs.Blocking.{Meet, meet, meet_back}
@@ -156,83 +154,6 @@ not_apart nets j k keep p =
     (λ c. let more = c.more in let none = apart_count (net_at nets j) (net_at nets k) apart in omega arith)
     p
 
--- links, one more at a time
-has_still : (links : List Link) (x : Link) (u v : ℕ) → HasLink links u v → HasLink (links ++ x ∷ []) u v
-has_still links x u v h =
-    let old = get_or_append_left links (x ∷ []) (record { tail = 0; head = 0 }) h.number h.is_there in
-    let len = length_push links x in
-    let lt = h.is_there in
-    record {
-      number = h.number;
-      is_there = omega arith;
-      tail_is = ap (λ (l : Link). l.tail) old ∙ h.tail_is;
-      head_is = ap (λ (l : Link). l.head) old ∙ h.head_is;
-    }
-
-pub pushed : (nets : List Net) (links new : List Link) (x : Link) (k j : ℕ) → AreOrderLinks nets links k j → new ≡ links ++ x ∷ [] → x.tail ≡ k → x.head ≡ j → Precedes nets j k → AreOrderLinks nets new k (j + 1)
-pushed nets links new x k j is e t h w =
-    subst (λ ls. AreOrderLinks nets ls k (j + 1)) (sym e)
-    (record {
-      few = let f = is.few in let len = length_push links x in omega arith;
-      each = λ i l.
-          let len = length_push links x in
-          ⊎_elim
-          (λ (lt : i < length links). subst (λ (z : Link). Precedes nets z.head z.tail) (sym (get_or_append_left links (x ∷ []) (record { tail = 0; head = 0 }) i lt)) (is.each i lt))
-          (λ (ge : length links ≤ i). let last : length links ≡ i = omega arith in
-          subst (λ (z : Link). Precedes nets z.head z.tail) (sym (get_or_push links x (record { tail = 0; head = 0 }) i last))
-          (subst (λ z. Precedes nets z x.tail) (sym h) (subst (λ z. Precedes nets j z) (sym t) w)))
-          (cases_lt i (length links));
-      all = λ a b p c.
-          ⊎_elim
-          (λ (lt : b < k). has_still links x b a (is.all a b p (inl lt)))
-          (λ (at : (b ≡ k) × (a < j + 1)). ⊎_elim
-          (λ (lt : a < j). has_still links x b a (is.all a b p (inr (at.0, lt))))
-          (λ (ge : j ≤ a). let l = at.1 in
-          record {
-            number = length links;
-            is_there = let len = length_push links x in omega arith;
-            tail_is = ap (λ (z : Link). z.tail) (get_or_push links x (record { tail = 0; head = 0 }) (length links) refl) ∙ t ∙ sym at.0;
-            head_is = ap (λ (z : Link). z.head) (get_or_push links x (record { tail = 0; head = 0 }) (length links) refl) ∙ h ∙ (let same : j ≡ a = omega arith in same);
-          })
-          (cases_lt a j))
-          c;
-    })
-
-pub passed_by : (nets : List Net) (links : List Link) (k j : ℕ) → AreOrderLinks nets links k j → (Precedes nets j k → ⊥) → AreOrderLinks nets links k (j + 1)
-passed_by nets links k j is none =
-    record {
-      few = let f = is.few in omega arith;
-      each = is.each;
-      all = λ a b p c.
-          ⊎_elim
-          (λ (lt : b < k). is.all a b p (inl lt))
-          (λ (at : (b ≡ k) × (a < j + 1)). ⊎_elim
-          (λ (lt : a < j). is.all a b p (inr (at.0, lt)))
-          (λ (ge : j ≤ a). let l = at.1 in let same : a ≡ j = omega arith in absurd (none (subst (λ z. Precedes nets z k) same (subst (λ z. Precedes nets a z) at.0 p))))
-          (cases_lt a j))
-          c;
-    }
-
--- all links to one net
-pub row_done : (nets : List Net) (links : List Link) (k j : ℕ) → length nets ≤ 1024 → j ≤ length nets → length nets ≤ j → AreOrderLinks nets links k j → AreOrderLinks nets links (k + 1) 0
-row_done nets links k j few le ge is =
-    record {
-      few = let f = is.few in omega arith;
-      each = is.each;
-      all = λ a b p c.
-          let a_in = (two_bent nets a b p).0 in
-          ⊎_elim
-          (λ (lt : b < k + 1). ⊎_elim
-          (λ (l : b < k). is.all a b p (inl l))
-          (λ (g : k ≤ b). is.all a b p (inr (omega arith, omega arith)))
-          (cases_lt b k))
-          (λ (at : (b ≡ k + 1) × (a < 0)). absurd (let l = at.1 in omega arith))
-          c;
-    }
-
-pub ends_below : (nets : List Net) (links : List Link) (k j : ℕ) → AreOrderLinks nets links k j → (i : ℕ) → i < length links → ((link_at links i).tail < length nets) × ((link_at links i).head < length nets)
-ends_below nets links k j is i l = let w = two_bent nets (link_at links i).head (link_at links i).tail (is.each i l) in (w.1, w.0)
-
 -- where nets are ranked, no links lead round
 falls : (links : List Link) (rank : ℕ → ℕ) → ((i : ℕ) → i < length links → rank (link_at links i).head < rank (link_at links i).tail)
     → (u : ℕ) (way : List ℕ) (v : ℕ) → Leads links u way v → rank v ≤ rank u
@@ -242,23 +163,6 @@ falls links rank less u (i ∷ is) v w =
     let step = less i w.0 in
     let same : rank (link_at links i).tail ≡ rank u = ap rank w.1 in
     omega arith
-
-pub not_round : (nets : List Net) (links : List Link) (cut : List Bool) (k j : ℕ) → AreOrderLinks nets links k j → CutsOnCycles links cut → (i : ℕ) → i < length links → is_marked cut i ≡ true → IsOrderable nets → ⊥
-not_round nets links cut k j is cycles i l e o =
-    let c = cycles i l e in
-    let less : (n : ℕ) → n < length links → o.rank (link_at links n).head < o.rank (link_at links n).tail = λ n h. o.behind (link_at links n).head (link_at links n).tail (is.each n h) in
-    let back = falls links o.rank less (link_at links i).head c.way (link_at links i).tail c.back in
-    let here = less i l in
-    omega arith
-
-pub levels_are : (nets : List Net) (links : List Link) (levels : List ℕ) → AreOrderLinks nets links (length nets) 0 → length levels ≡ length nets → Rise links levels → AreLevels nets levels
-levels_are nets links levels is len rise =
-    record {
-      len = len;
-      rising = λ j k p.
-          let h = is.all j k p (inl (two_bent nets j k p).1) in
-          subst (λ z. level_of levels z < level_of levels k) h.head_is (subst (λ z. level_of levels (link_at links h.number).head < level_of levels z) h.tail_is (rise h.number h.is_there));
-    }
 
 -- the marks by levels
 pub are_marks : (nets : List Net) (levels : List ℕ) (ms : List Mark) → AreLevels nets levels → AreLevelMarks nets levels ms (length nets) → AreNetMarks nets ms

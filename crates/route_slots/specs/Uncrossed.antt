@@ -1,14 +1,11 @@
 -- How often two nets of a gap have to cross, and orders of the nets in which they cross no more.
-use Rattle.std.specs.Prelude.{◌≡◌, ◌≢◌, ◌↔◌, ◌⊎◌, ℕ, ◌+◌, ◌*◌, ◌<◌, ◌≤◌, nat_lt, Bool, true, false, List, ◌&&◌, ◌||◌, int_lt, length, slice_index_or, if◌then◌else◌}
+use Rattle.std.specs.Prelude.{◌≡◌, ◌≢◌, ◌↔◌, ◌⊎◌, ℕ, ◌+◌, ◌<◌, nat_lt, Bool, true, false, List, ◌&&◌, ◌||◌, int_lt, length, slice_index_or, if◌then◌else◌}
 use Rattle.std.specs.Int.{int_min, int_max}
 use Rattle.route_slots.specs.declared.Pin.{Pin}
 use Rattle.route_slots.specs.declared.Net.{Net}
 use Rattle.route_slots.specs.declared.NetRoute.{NetRoute}
 use Rattle.route_slots.specs.declared.NetRoute.TheVariants.{One}
 use Rattle.route_slots.specs.declared.marks.Mark.{Mark}
-use Rattle.gap_cycles.specs.declared.Link.{Link}
-use Rattle.gap_cycles.specs.Links.{link_at}
-use Rattle.gap_cycles.specs.Walks.{HasLink}
 use Rattle.route_slots.specs.Pieces.{net_at, route_at}
 use Rattle.route_slots.specs.Exchanges.{meets}
 use Rattle.route_slots.specs.Marks.{mark_at}
@@ -92,16 +89,6 @@ is_past m n = int_lt (int_max m.a.height m.b.height) (int_min n.a.height n.b.hei
 -- the stretches of the two nets have no height in common
 abbrev pub KeepApart : Net → Net → Type 0
 KeepApart m n = (is_past m n ≡ true) ⊎ (is_past n m ≡ true)
-
--- The links lead to nets from those that they precede. Before net k, and before j to k, all are there.
-pub record AreOrderLinks (nets : List Net) (links : List Link) (k j : ℕ) : Type 0 where
-  pub few : length links ≤ k * 1024 + j
-  pub each : (i : ℕ) → i < length links → Precedes nets (link_at links i).head (link_at links i).tail
-  pub all : (h t : ℕ) → Precedes nets h t → (t < k) ⊎ ((t ≡ k) × (h < j)) → HasLink links t h
-
--- each link leads from a net to one at a lower level
-abbrev pub Rise : List Link → List ℕ → Type 0
-Rise links levels = (i : ℕ) → i < length links → level_of levels (link_at links i).head < level_of levels (link_at links i).tail
 
 -- the mark of a net that is not split, at this level
 pub record IsLevelMark (n : Net) (level : ℕ) (m : Mark) : Type 0 where
