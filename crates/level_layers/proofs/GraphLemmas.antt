@@ -32,7 +32,7 @@ key_last : (keys : List EdgeKey) (key : EdgeKey) (e : ℕ) → length keys ≡ e
 key_last keys key e h = ap (λ (k : EdgeKey). k.at) (get_or_push keys key (record { at = 0 }) e h)
 
 -- what is there isn't free
-not_free : {T : Type 0} (o : Option T) → IsSome o → o ≡ None → ⊥
+pub not_free : {T : Type 0} (o : Option T) → IsSome o → o ≡ None → ⊥
 not_free None h is = true≢false (sym h)
 not_free (Some x) h is = absurd cc
 

@@ -1,3 +1,4 @@
+pub mod ChainLemmas
 pub mod FlowLemmas
 pub mod GraphLemmas
 pub mod ListLemmas

@@ -1,4 +1,5 @@
 pub mod Certificate
+pub mod Chained
 pub mod Flows
 pub mod Low
 pub mod Marks

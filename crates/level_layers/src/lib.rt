@@ -2,9 +2,11 @@
 #![tactic(auto)]
 
 mod certificates;
+mod chaining;
 mod laws;
 mod networks;
 mod orienting;
 
 pub use certificates::certificate_for;
+pub use chaining::{LevelChains, chains_of};
 pub use laws::layers_stay_low;

@@ -31,8 +31,8 @@ pub(crate) fn is_loop(edge: LevelEdge) -> bool
     source == edge.target.child
 }
 
-// The edge as one of a network, as given or turned round.
-fn net_edge(edge: LevelEdge, turned: bool) -> NetEdge
+/// The edge as one of a network, as given or turned round.
+pub(crate) fn net_edge(edge: LevelEdge, turned: bool) -> NetEdge
     ensures { result ≡ oriented turned edge }
 {
     let source = edge.source.child;

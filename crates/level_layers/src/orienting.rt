@@ -10,8 +10,12 @@ use graph_arena::{Arena, EdgeKey, NodeKey};
 use level_plan::{LevelEdge, LevelIn};
 use std::alloc::{AllocError, Global};
 
-// Adds so many nodes.
-fn add_nodes(alloc: Global, arena: &mut Arena, count: usize) -> Result<Vec<NodeKey>, AllocError>
+/// Adds so many nodes.
+pub(crate) fn add_nodes(
+    alloc: Global,
+    arena: &mut Arena,
+    count: usize,
+) -> Result<Vec<NodeKey>, AllocError>
     requires { (k : ℕ) → ends_at arena.old k ≡ None }
     ensures nodes { IfOk result (λ nodes. AreNodes arena.new count nodes.items) }
     ensures no_edges { OnOk result ((k : ℕ) → ends_at arena.new k ≡ None) }

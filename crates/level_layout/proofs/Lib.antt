@@ -1,3 +1,4 @@
+pub mod ChainLemmas
 pub mod KeptRows
 pub mod LayoutLemmas
 pub mod PlacedLemmas

@@ -6,6 +6,7 @@ mod bounds;
 mod layout;
 mod lines;
 mod phases;
+mod units;
 
 pub use bounds::{links_are_few, pins_are_low};
 pub use layout::layout_level;

@@ -7,12 +7,13 @@ ghost use Rattle.level_layers.specs.Certificate.{IsCertificateOf};
 ghost use Rattle.level_layout.specs.Chosen.{AreChosenRows, IsReduced};
 ghost use Rattle.level_layout.specs.Phases.{AreRankedUnits, IsStart};
 
+use crate::units::units_for;
 use cross_reduce::reduce_with_effort;
 use elk_doc::document::RowOrder;
 use elk_doc::drawing::Certificate;
 use elk_layers::{Layered, Order};
 use level_plan::LevelIn;
-use level_units::{ranked, start_of, units_of};
+use level_units::{ranked, start_of};
 use std::alloc::{AllocError, Global};
 
 /// The units and links of a level with the ranks of pins, and the rows to start with.
@@ -39,7 +40,7 @@ pub(crate) fn start_for(
 {
     let layers = certificate.layers.as_slice();
     let reversed = certificate.reversed.as_slice();
-    let blank = units_of(alloc, level, layers, reversed, turned)?;
+    let blank = units_for(alloc, level, layers, reversed, turned)?;
     let rows = start_of(alloc, &blank)?;
     let layered = ranked(alloc, level, blank, &rows, reversed, turned)?;
     Ok(Start { layered, rows })

@@ -3,6 +3,7 @@ pub mod Numbered
 pub mod Grown
 pub mod Started
 pub mod Alike
+pub mod Chained
 pub mod Fitted
 pub mod Reading
 pub mod Ranked

@@ -4,8 +4,8 @@ ghost use Rattle.elk_layers.specs.Layered.{unit_at};
 ghost use Rattle.level_plan.specs.Conditions.{plain_level};
 ghost use Rattle.level_plan.specs.Level.{end_at, spoke};
 ghost use Rattle.level_units.specs.Grown.{IsShort};
-ghost use Rattle.level_units.specs.Layering.{head_child, layer_in, tail_child};
-ghost use Rattle.level_units.specs.Numbered.{run_at, stop_of};
+ghost use Rattle.level_units.specs.Layering.{tail_child};
+ghost use Rattle.level_units.specs.Numbered.{gaps_at, run_at, stop_of};
 
 use level_plan::{LevelIn, Spoke};
 
@@ -34,24 +34,28 @@ pub(crate) fn spoke_of(level: &LevelIn, edge: u32, at_source: bool) -> Spoke
     }
 }
 
-/// The run of an edge, which may be turned round.
-pub(crate) fn run_of(level: &LevelIn, layers: &[u32], turned: bool, edge: u32, first: u32) -> Run
+/// The run of an edge, which may be turned round, through so many gaps.
+pub(crate) fn run_of(
+    level: &LevelIn,
+    layers: &[u32],
+    turned: bool,
+    edge: u32,
+    gaps: u32,
+    first: u32,
+) -> Run
     requires edge { edge < length level.now.edges }
     requires tail { tail_child (plain_level level.now) turned edge < length layers.now }
-    requires head { head_child (plain_level level.now) turned edge < length layers.now }
-    requires onward { layer_in layers.now (tail_child (plain_level level.now) turned edge)
-        ≤ layer_in layers.now (head_child (plain_level level.now) turned edge) }
+    requires gaps { gaps ≡ gaps_at (plain_level level.now) layers.now turned edge }
     ensures { result ≡ run_at (plain_level level.now) layers.now turned edge first }
 {
     let tail = spoke_of(level, edge, !turned).child;
     let head = spoke_of(level, edge, turned).child;
-    let layer = layers[tail as usize];
     Run {
         edge,
         tail,
         head,
-        layer,
-        gaps: layers[head as usize] - layer,
+        layer: layers[tail as usize],
+        gaps,
         first,
     }
 }

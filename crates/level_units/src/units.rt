@@ -1,16 +1,19 @@
 //! Units and links of a level: a unit for each child, lanes for long edges, and a link for each gap that an edge passes.
-ghost use Rattle.std.specs.Prelude.{◌≡◌, ◌⊎◌, ℕ, ℤ, ◌+◌, ◌-◌, ◌<◌, ◌≤◌, List, length, IfOk, OnOk};
+ghost use Rattle.std.specs.Prelude.{◌≡◌, ◌⊎◌, ℕ, ℤ, ◌+◌, ◌-◌, ◌<◌, ◌≤◌, ◌^◌, List, length, IfOk, OnOk};
 ghost use Rattle.elk_layers.specs.Layered.{IsSound, plain};
 ghost use Rattle.level_plan.specs.Conditions.{IsLevel, plain_level};
 ghost use Rattle.level_plan.specs.Marks.{AreMarks};
 ghost use Rattle.level_plan.specs.Units.{AreLinked};
+ghost use Rattle.level_units.specs.Chained.{AreChained, IsLength};
 ghost use Rattle.level_units.specs.Grown.{AreGrown, IsShort, child_units, grown};
 ghost use Rattle.level_units.specs.Layering.{layering, AreLayersOf, IsLayerCount, layer_in, plan_with};
 ghost use Rattle.level_units.specs.Numbered.{AreNumberedUnits, flat_unit, lane_on, link_on};
 
 use crate::runs::{Run, lanes, run_of, stop};
 use elk_layers::{Layered, Link, Unit};
+use graph_arena::EdgeKey;
 use level_plan::LevelIn;
+use long_edges::Chains;
 use std::alloc::{AllocError, Global};
 
 // A unit in a layer without heights: that of a child, or a lane.
@@ -104,6 +107,17 @@ fn layer_count(layers: &[u32]) -> u32
     count
 }
 
+// How many edges the chain under a key has, 0 without a key.
+fn links_at(chains: &Chains, key: Option<EdgeKey>) -> u32
+    requires few { (n : ℕ) × IsLength chains.now key n × (n < 2 ^ 32) }
+    ensures { (n : ℕ) → IsLength chains.now key n → result ≡ n }
+{
+    match key {
+        None => 0,
+        Some(key) => chains.chain_of(key).len() as u32,
+    }
+}
+
 // The units and links of a level.
 fn grow(
     alloc: Global,
@@ -111,20 +125,25 @@ fn grow(
     layers: &[u32],
     reversed: &[u32],
     turned: &[bool],
+    keys: &[Option<EdgeKey>],
+    chains: &Chains,
 ) -> Result<Layered, AllocError>
     requires level { IsLevel (plain_level level.now) }
     requires layering { AreLayersOf (plain_level level.now) reversed.now layers.now }
     requires marked { AreMarks reversed.now (length level.now.edges) turned.now }
+    requires chained { AreChained (layering (plain_level level.now) reversed.now layers.now) keys.now chains.now }
     ensures { IfOk result (λ v. AreGrown (layering (plain_level level.now) reversed.now layers.now) (plain v)) }
 {
     let mut units = units_of_children(alloc, layers)?;
     let mut links = Vec::new(alloc);
     for edge in 0..level.edges.len() as u32 {
+        let gaps = links_at(chains, keys[edge as usize]);
         let run = run_of(
             level,
             layers,
             turned[edge as usize],
             edge,
+            gaps,
             units.len() as u32,
         );
         push_lanes(&mut units, run)?;
@@ -141,7 +160,8 @@ fn grow(
 }
 
 /// The units and links of a level whose children lie in these layers, without heights, pins and ranks. `reversed` has the
-/// numbers of the edges that are turned round, and `turned` marks them.
+/// numbers of the edges that are turned round, and `turned` marks them. They are read off the chains that the edges were split
+/// into, which are found by the key of each edge: a link for each edge of a chain, and a lane between two of them.
 ///
 /// Unit c is that of child c. The lanes of long edges follow by edge, and those of an edge from its tail on; so do links.
 pub fn units_of(
@@ -150,10 +170,13 @@ pub fn units_of(
     layers: &[u32],
     reversed: &[u32],
     turned: &[bool],
+    keys: &[Option<EdgeKey>],
+    chains: &Chains,
 ) -> Result<Layered, AllocError>
     requires level { IsLevel (plain_level level.now) }
     requires layering { AreLayersOf (plain_level level.now) reversed.now layers.now }
     requires marked { AreMarks reversed.now (length level.now.edges) turned.now }
+    requires chained { AreChained (layering (plain_level level.now) reversed.now layers.now) keys.now chains.now }
     ensures linked { IfOk result
         (λ v. (rows : List (List ℕ)) (tops : List ℤ) → AreLinked (plain_level level.now) (plan_with v rows tops reversed.now) layers.now) }
     ensures sound { IfOk result (λ v. IsSound (plain v)) }
@@ -164,5 +187,5 @@ pub fn units_of(
     ensures edge_node { IfOk result (λ v. v.edge_node ≡ level.now.spacing.edge_node) }
     ensures edge_edge { IfOk result (λ v. v.edge_edge ≡ level.now.spacing.edge_edge) }
 {
-    grow(alloc, level, layers, reversed, turned)
+    grow(alloc, level, layers, reversed, turned, keys, chains)
 }

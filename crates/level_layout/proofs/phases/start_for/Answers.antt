@@ -6,8 +6,8 @@ use Rattle.level_layout.proofs.LayerLemmas.{layers_from}
 use Rattle.level_layout.proofs.UnitsLemmas.{started, units_ranked}
 use Rattle.level_layout.proofs.phases.start_for.Goals as goal
 
-pub units_of-requires-clause-layering : goal.units_of-requires-clause-layering
-units_of-requires-clause-layering c =
+pub units_for-requires-clause-layering : goal.units_for-requires-clause-layering
+units_for-requires-clause-layering c =
     rw (c.as_slice-reversed.ensures.value, c.as_slice-layers.ensures.value) (layers_from (plain_level c.args.level.now) c.args.certificate.now c.requires.level c.requires.certificate)
 
 pub ranked-requires-clause-linked : goal.ranked-requires-clause-linked
@@ -25,8 +25,8 @@ returns-clause-rows c = c.in_ok-layered.ensures.rows (rows_of c.in_ok-rows.rows)
 pub returns-clause-start : goal.returns-clause-start
 returns-clause-start c = started (plain c.in_ok-blank.blank) (plain c.in_ok-layered.layered) (rows_of c.in_ok-rows.rows) c.in_ok-layered.ensures.kept c.in_ok-rows.ensures.ascending
 
-pub units_of-requires-clause-marked : goal.units_of-requires-clause-marked
-units_of-requires-clause-marked c = subst (λ (ns : List ℕ). AreMarks ns (length c.args.level.now.edges) c.args.turned.now) (sym c.as_slice-reversed.ensures.value) c.requires.marked
+pub units_for-requires-clause-marked : goal.units_for-requires-clause-marked
+units_for-requires-clause-marked c = subst (λ (ns : List ℕ). AreMarks ns (length c.args.level.now.edges) c.args.turned.now) (sym c.as_slice-reversed.ensures.value) c.requires.marked
 
 pub ranked-requires-clause-marked : goal.ranked-requires-clause-marked
 ranked-requires-clause-marked c = subst (λ (ns : List ℕ). AreMarks ns (length c.args.level.now.edges) c.args.turned.now) (sym c.as_slice-reversed.ensures.value) c.requires.marked

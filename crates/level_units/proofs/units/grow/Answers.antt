@@ -2,12 +2,12 @@ use Rattle.std.proofs.Common.{◌≡◌, ◌∙◌, ◌<◌, ◌≤◌, [], fals
 use Rattle.std.proofs.lemmas.Int.{ints}
 use Rattle.level_plan.specs.Conditions.{plain_level}
 use Rattle.level_plan.specs.Level.{holds}
-use Rattle.level_units.specs.Layering.{layering, tail_child, head_child, layer_in}
-use Rattle.level_units.specs.Numbered.{lane_on, link_on, gaps_of, lanes_of, run_of}
+use Rattle.level_units.specs.Layering.{layering, tail_child}
+use Rattle.level_units.specs.Numbered.{lane_on, link_on, gaps_at, gaps_of, lanes_of, run_of}
 use Rattle.level_units.specs.Grown.{IsShort, child_units, units_to, links_to}
 use Rattle.level_units.proofs.GrownLemmas.{all_none}
 use Rattle.level_units.proofs.NumberLemmas.{lanes_begin}
-use Rattle.level_units.proofs.RunLemmas.{tail_in, head_in, rises, few_lanes, is_short}
+use Rattle.level_units.proofs.RunLemmas.{tail_in, few_gaps, few_lanes, is_short}
 use Rattle.level_units.proofs.GrowingLemmas.{run_here, units_more, links_more}
 use Rattle.level_units.proofs.units.grow.Goals as goal
 
@@ -18,6 +18,19 @@ loop-edge-init c =
       units_are = c.in_ok-units.ensures ∙ sym (all_none (λ d i. lane_on (run_of s d) i) (lanes_of s) (child_units c.args.layers.now (length c.args.layers.now)));
       links_are = c.new-links.ensures.items ∙ sym (all_none (λ d i. link_on (run_of s d) i) (gaps_of s) []);
     }
+
+pub bounds-keys-edge : goal.bounds-keys-edge
+bounds-keys-edge c =
+    let h : c.loop-edge.edge < length c.args.level.now.edges = omega (arith, c.len-edge-end.ensures, c.loop-edge-test.true) in
+    let many = c.requires.chained.as_many in
+    omega (arith, h, many)
+
+pub links_at-gaps-requires : goal.links_at-gaps-requires
+links_at-gaps-requires c =
+    let s = layering (plain_level c.args.level.now) c.args.reversed.now c.args.layers.now in
+    let h : c.loop-edge.edge < length c.args.level.now.edges = omega (arith, c.len-edge-end.ensures, c.loop-edge-test.true) in
+    let few = few_gaps s c.requires.level c.requires.layering c.loop-edge.edge h in
+    record { few = (gaps_of s c.loop-edge.edge, c.requires.chained.each c.loop-edge.edge h, omega (arith, few)) }
 
 pub run_of-run-requires : goal.run_of-run-requires
 run_of-run-requires c =
@@ -31,8 +44,7 @@ run_of-run-requires c =
     record {
       edge = h;
       tail = subst (λ t. tail_child l t e < length c.args.layers.now) (sym way) (tail_in s c.requires.level c.requires.layering e h);
-      head = subst (λ t. head_child l t e < length c.args.layers.now) (sym way) (head_in s c.requires.level c.requires.layering e h);
-      onward = subst (λ t. layer_in c.args.layers.now (tail_child l t e) ≤ layer_in c.args.layers.now (head_child l t e)) (sym way) (rises s c.requires.level c.requires.layering e h);
+      gaps = subst (λ t. c.links_at-gaps.result ≡ gaps_at l c.args.layers.now t e) (sym way) (c.links_at-gaps.ensures (gaps_of s e) (c.requires.chained.each e h));
     }
 
 pub overflow_cast-len : goal.overflow_cast-len

@@ -1,0 +1,16 @@
+use Rattle.std.proofs.Common.{List, Option, subst, sym}
+use Rattle.graph_arena.specs.declared.keys.EdgeKey.{EdgeKey}
+use Rattle.level_plan.specs.Conditions.{plain_level}
+use Rattle.level_units.specs.Layering.{layering}
+use Rattle.level_units.specs.Chained.{AreChained}
+use Rattle.level_layout.proofs.ChainLemmas.{lengths, onward}
+use Rattle.level_layout.proofs.units.units_for.Goals as goal
+
+pub chains_of-requires-clause-onward : goal.chains_of-requires-clause-onward
+chains_of-requires-clause-onward c = onward (plain_level c.args.level.now) c.args.reversed.now c.args.layers.now c.args.turned.now c.requires.level c.requires.layering c.requires.marked
+
+pub units_of-requires-clause-chained : goal.units_of-requires-clause-chained
+units_of-requires-clause-chained c =
+    subst (λ (ks : List (Option EdgeKey)). AreChained (layering (plain_level c.args.level.now) c.args.reversed.now c.args.layers.now) ks c.in_ok-split.split.chains) (sym c.as_slice-keys.ensures.value)
+    (lengths (plain_level c.args.level.now) c.args.reversed.now c.args.layers.now c.args.turned.now c.requires.level c.requires.layering c.requires.marked
+    c.in_ok-split.split.keys.items c.in_ok-split.split.chains c.in_ok-split.ensures)
