@@ -50,21 +50,13 @@ pub fn weights(alloc: Global, doc: &Doc) -> Result<Vec<u64>, AllocError>
 pub(crate) fn number_at(values: &[u32], place: usize) -> u32
     ensures { result ≡ slice_index values.now place }
 {
-    if place < values.len() {
-        values[place]
-    } else {
-        0
-    }
+    values.get(place).copied().unwrap_or(0)
 }
 
 pub(crate) fn flow_at(values: &[u64], place: usize) -> u64
     ensures { result ≡ slice_index values.now place }
 {
-    if place < values.len() {
-        values[place]
-    } else {
-        0
-    }
+    values.get(place).copied().unwrap_or(0)
 }
 
 // The numbers of a list that has one for each child of a node, by node: at a child its own.

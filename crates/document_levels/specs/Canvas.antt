@@ -1,10 +1,11 @@
 -- The drawing that a canvas holds.
-use Rattle.std.specs.Prelude.{◌≡◌, length, map, None}
+use Rattle.std.specs.Prelude.{map, None}
 use Rattle.elk_doc.specs.declared.shape.Rect.{Rect}
 use Rattle.elk_doc.specs.declared.document.Node.{Node}
 use Rattle.elk_doc.specs.declared.drawing.Placed.{Placed}
 use Rattle.elk_doc.specs.Document.{Document, origin}
 use Rattle.elk_doc.specs.Drawing.{no_section}
+use Rattle.elk_doc.specs.Fits.{HasCounts}
 use Rattle.elk_doc.specs.Shapes.{rect_at}
 use Rattle.document_levels.specs.declared.canvas.Canvas.{Canvas}
 
@@ -12,11 +13,8 @@ abbrev pub drawing_of : Canvas → Placed
 drawing_of c = record { boxes = c.boxes.items; ports = c.ports.items; sections = c.sections.items; levels = c.levels.items }
 
 -- a drawing has boxes and levels for all nodes, and places for all ports and edges
-pub record IsDrawingOf (d : Document) (p : Placed) : Type 0 where
-  pub boxes : length p.boxes ≡ length d.nodes
-  pub ports : length p.ports ≡ length d.ports
-  pub sections : length p.sections ≡ length d.edges
-  pub levels : length p.levels ≡ length d.nodes
+abbrev pub IsDrawingOf : Document → Placed → Type 0
+IsDrawingOf d p = HasCounts d p
 
 -- the box of a node that is not placed
 abbrev pub blank_box : Node → Rect

@@ -2,15 +2,16 @@
 ghost use Rattle.std.specs.Prelude.{◌≡◌, ◌^◌, ◌-ℤ◌, cond, false, Option, None, Some};
 ghost use Rattle.elk_doc.specs.Sound.{IsLength, IsPlaceWithin, IsSoundSize};
 ghost use Rattle.elk_doc.specs.declared.document.Direction.TheVariants.{Down, Left, Up};
-ghost use Rattle.elk_doc.specs.PortsKept.{size_along};
 ghost use Rattle.elk_doc.specs.Shapes.{half_of};
 ghost use Rattle.drawing_laws.specs.Turning.{turned_side};
 ghost use Rattle.port_order.specs.Conditions.{IsSmall};
-ghost use Rattle.port_order.specs.Sides.{is_mirrored, side_else};
+ghost use Rattle.port_order.specs.Sides.{side_else};
 ghost use Rattle.level_frame.specs.Turned.{half_along, turned_given, turned_place};
 
 use elk_doc::document::Direction;
 use elk_doc::shape::{Point, Side, Size};
+use elk_doc::sides::size_along;
+use port_order::is_mirrored;
 
 /// The place of something of this size within a box, from the box's corner in the frame.
 pub(crate) fn turned_place(way: Direction, outer: Size, size: Size, place: Point) -> Point
@@ -91,30 +92,6 @@ pub(crate) fn turned_given(way: Direction, side: Option<Side>) -> Option<Side>
     match side {
         None => None,
         Some(given) => Some(turned_side(way, given)),
-    }
-}
-
-// The size of a box along a side.
-fn size_along(side: Side, size: Size) -> i64
-    ensures { result ≡ size_along side size }
-{
-    match side {
-        Side::North => size.width,
-        Side::East => size.height,
-        Side::South => size.width,
-        Side::West => size.height,
-    }
-}
-
-// Whether the document's offsets along a side of the frame run from the right.
-fn is_mirrored(way: Direction, side: Side) -> bool
-    ensures { result ≡ is_mirrored way side }
-{
-    match way {
-        Direction::Right => false,
-        Direction::Left => side == Side::North || side == Side::South,
-        Direction::Down => false,
-        Direction::Up => side == Side::North || side == Side::South,
     }
 }
 

@@ -4,3 +4,4 @@ pub mod PlaceLemmas
 pub mod RowLemmas
 pub mod FillLemmas
 pub mod ForkLemmas
+pub mod CopyLemmas

@@ -8,11 +8,13 @@
 //! and Köpf 2002), and least lines.
 #![tactic(auto)]
 
+mod copying;
 mod distances;
 mod noting;
 mod rows;
 mod units;
 
+pub use copying::copy_of;
 pub use distances::{body_room, room};
 pub use noting::places;
 pub use rows::children_of;

@@ -1,39 +1,14 @@
 //! The outlines of children, by the places of their ports.
 ghost use Rattle.std.specs.Prelude.{◌≡◌, ◌<◌, length, IfOk};
-ghost use Rattle.elk_doc.specs.Shapes as shapes;
-ghost use Rattle.level_ends.specs.Narrow.{IsNearRect, IsNearSpan};
+ghost use Rattle.level_ends.specs.Narrow.{IsNearRect};
 ghost use Rattle.level_boxes.specs.Outlines as own;
 ghost use Rattle.level_boxes.specs.Outlines.{AreOutlines, ArePorted, IsPorted};
 
 use elk_doc::list::Items;
 use elk_doc::shape::{Point, Rect};
+use level_ends::hull;
 use port_order::Child;
 use std::alloc::{AllocError, Global};
-
-// The size of the least stretch that holds two.
-fn hull_size(a: i64, a_size: i64, b: i64, b_size: i64) -> i64
-    requires a_near { IsNearSpan a a_size }
-    requires b_near { IsNearSpan b b_size }
-    ensures { result ≡ shapes.hull_size a a_size b b_size }
-{
-    let high = (a + a_size).max(b + b_size);
-    high - a.min(b)
-}
-
-// The least rectangle that holds two.
-fn hull(a: Rect, b: Rect) -> Rect
-    requires a_near { IsNearRect a }
-    requires b_near { IsNearRect b }
-    ensures value { result ≡ shapes.hull a b }
-    ensures near { IsNearRect result }
-{
-    Rect {
-        x: a.x.min(b.x),
-        y: a.y.min(b.y),
-        width: hull_size(a.x, a.width, b.x, b.width),
-        height: hull_size(a.y, a.height, b.y, b.height),
-    }
-}
 
 // The box of a port.
 fn port_rect(child: &Child, ports: &[Point], port: usize) -> Rect

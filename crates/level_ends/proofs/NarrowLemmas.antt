@@ -10,6 +10,7 @@ use Rattle.elk_doc.specs.declared.shape.Side.TheVariants.{North, East, South, We
 use Rattle.elk_doc.specs.declared.document.PortRule.{PortRule}
 use Rattle.elk_doc.specs.declared.document.PortRule.TheVariants.{Free, FixedSide, FixedOrder, FixedPos}
 use Rattle.elk_doc.specs.Document.{no_size}
+use Rattle.elk_doc.specs.Fits.{IsBounded, IsBoundedSpan}
 use Rattle.elk_doc.specs.PortsKept.{pins, size_along}
 use Rattle.elk_doc.specs.Shapes.{hull, hull_size, rect_at}
 use Rattle.elk_doc.specs.Sides.{side_from}
@@ -281,6 +282,20 @@ hull_span a s b t x y =
       high_end = rw (back (int_min a b) (int_max (a +ℤ s) (b +ℤ t))) (max_within _ _ (a +ℤ s) (b +ℤ t) x.high_end y.high_end);
       solid = stretch a s b t x.solid;
     }
+
+span_bounded : (low size : ℤ) → IsNearSpan low size → IsBoundedSpan low size
+span_bounded low size x =
+    let a = x.low_end.above in
+    let b = x.low_end.below in
+    let m = x.high_end.above in
+    let n = x.high_end.below in
+    record {
+      low_end = record { above = omega (arith, ints, a); below = omega (arith, ints, b) };
+      high_end = record { above = omega (arith, ints, m); below = omega (arith, ints, n) };
+    }
+
+pub near_bounded : (r : Rect) → IsNearRect r → IsBounded r
+near_bounded r x = record { across = span_bounded _ _ x.across; along = span_bounded _ _ x.along }
 
 pub hull_near : (r s : Rect) → IsNearRect r → IsNearRect s → IsNearRect (hull r s)
 hull_near r s x y = record { across = hull_span r.x r.width s.x s.width x.across y.across; along = hull_span r.y r.height s.y s.height x.along y.along }

@@ -5,7 +5,7 @@ ghost use Rattle.elk_doc.specs.PortsKept as kept;
 ghost use Rattle.elk_doc.specs.Sound as sound;
 ghost use Rattle.elk_doc.specs.Sound.{IsWithin};
 ghost use Rattle.port_order.specs.Child as ports;
-ghost use Rattle.port_order.specs.Conditions.{AreSpots, IsSmall, IsSpot};
+ghost use Rattle.port_order.specs.Conditions.{AreSpots, IsSpot};
 ghost use Rattle.port_order.specs.Places as places;
 ghost use Rattle.port_order.specs.Sides as sides;
 ghost use Rattle.elk_layers.specs.Places.{IsOnce, NotesFirst};
@@ -17,10 +17,10 @@ ghost use Rattle.level_ends.specs.Sides.{AreDocks, AreFour, HavePlaces, HaveOrde
 
 use crate::orders::SideOrders;
 use crate::spots::Rows;
-use elk_doc::document::{Direction, PortRule};
-use elk_doc::shape::{Dock, Point, Side, Size};
+use elk_doc::shape::{Dock, Side};
+use elk_doc::sides::along;
 use level_plan::LevelIn;
-use port_order::{Child, Spot, side_of, spread_at};
+use port_order::{Child, Spot, is_mirrored, is_pinned, side_of, size_along, spread_at};
 use std::alloc::{AllocError, Global};
 
 // Notes the place of each number of an order.
@@ -64,55 +64,6 @@ fn note_sides(place: &mut [u32], child: &Child, spots: &[Spot], orders: &SideOrd
     note_places(place, orders.on(Side::East));
     note_places(place, orders.on(Side::South));
     note_places(place, orders.on(Side::West));
-}
-
-// The coordinate of a point along a side.
-fn along(side: Side, point: Point) -> i64
-    ensures { result ≡ sound.along side point }
-{
-    match side {
-        Side::North => point.x,
-        Side::East => point.y,
-        Side::South => point.x,
-        Side::West => point.y,
-    }
-}
-
-// The length of a box along a side.
-fn size_along(side: Side, size: Size) -> i64
-    requires { IsSmall size }
-    ensures value { result ≡ kept.size_along side size }
-    ensures small { IsWithin (pos 0) (pos (2 ^ 47)) result }
-{
-    match side {
-        Side::North => size.width,
-        Side::East => size.height,
-        Side::South => size.width,
-        Side::West => size.height,
-    }
-}
-
-// Whether the document's offsets along a working side run from the right.
-fn is_mirrored(direction: Direction, side: Side) -> bool
-    ensures { result ≡ sides.is_mirrored direction side }
-{
-    match direction {
-        Direction::Right => false,
-        Direction::Left => side == Side::North || side == Side::South,
-        Direction::Down => false,
-        Direction::Up => side == Side::North || side == Side::South,
-    }
-}
-
-/// Whether a port is pinned: it keeps its given place along its side.
-pub(crate) fn is_pinned(child: &Child, port: u32) -> bool
-    requires { port < length child.now.ports }
-    ensures { result ≡ ports.is_pinned child.now port }
-{
-    match child.rule {
-        PortRule::FixedPos => !child.compound || child.ports.at(port as usize).side.is_some(),
-        _ => false,
-    }
 }
 
 // The working offset of a spread spot by its place from the top or the left.

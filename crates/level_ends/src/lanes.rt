@@ -364,8 +364,8 @@ fn times(count: u32, distance: i64) -> i64
     count as i64 * distance
 }
 
-// The room of lanes beside an outline.
-fn room(spacing: &Spacing, count: u32) -> i64
+/// The room of lanes beside an outline.
+pub fn room(spacing: &Spacing, count: u32) -> i64
     requires spacing { IsSoundSpacing spacing.now }
     requires few { count ≤ 2 ^ 18 }
     ensures value { result ≡ spec.room spacing.now count }

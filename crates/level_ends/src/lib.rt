@@ -16,5 +16,7 @@ mod spots;
 mod tables;
 mod units;
 
+pub use lanes::room;
 pub use laws::{tables_need_no_orders, tables_read_no_tops};
+pub use outlines::hull;
 pub use tables::table_of;

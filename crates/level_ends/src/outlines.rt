@@ -8,11 +8,11 @@ ghost use Rattle.port_order.specs.Child as ports;
 ghost use Rattle.port_order.specs.Conditions.{IsSmall};
 ghost use Rattle.port_order.specs.Places as places;
 ghost use Rattle.level_ends.specs.Outlines.{dock_in, outline_by};
-ghost use Rattle.level_ends.specs.Narrow.{IsNarrow, IsNearRect, IsNearSpan, IsOffset};
+ghost use Rattle.level_ends.specs.Narrow.{IsNarrow, IsNearRect, IsOffset};
 
-use crate::docks::is_pinned;
+use elk_doc::places;
 use elk_doc::shape::{Dock, Point, Rect, Side, Size};
-use port_order::Child;
+use port_order::{Child, is_pinned};
 use std::alloc::{AllocError, Global};
 
 // How far the outer face of a port that is flush stands from the box's corner, across its side.
@@ -180,29 +180,14 @@ fn port_rect(child: &Child, side: Side, port: u32, offset: i64) -> Rect
     rect_at(place, size_of(child, port))
 }
 
-// The size of the least stretch that holds two.
-fn hull_size(a: i64, a_size: i64, b: i64, b_size: i64) -> i64
-    requires a_near { IsNearSpan a a_size }
-    requires b_near { IsNearSpan b b_size }
-    ensures { result ≡ shapes.hull_size a a_size b b_size }
-{
-    let high = (a + a_size).max(b + b_size);
-    high - a.min(b)
-}
-
-// The least rectangle that holds two.
-fn hull(a: Rect, b: Rect) -> Rect
+/// The least rectangle that holds two.
+pub fn hull(a: Rect, b: Rect) -> Rect
     requires a_near { IsNearRect a }
     requires b_near { IsNearRect b }
     ensures value { result ≡ shapes.hull a b }
     ensures near { IsNearRect result }
 {
-    Rect {
-        x: a.x.min(b.x),
-        y: a.y.min(b.y),
-        width: hull_size(a.x, a.width, b.x, b.width),
-        height: hull_size(a.y, a.height, b.y, b.height),
-    }
+    places::hull(a, b)
 }
 
 /// The outline of a child by the docks of its spots, of which those of ports come first: the least rectangle that holds its

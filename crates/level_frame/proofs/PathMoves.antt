@@ -1,5 +1,5 @@
 -- Paths and the points of traces that are moved.
-use Rattle.std.proofs.Common.{◌≡◌, ⊎_elim, inl, inr, ℕ, zero, suc, ◌<◌, Bool, true, false, List, [], ◌∷◌, ◌++◌, map, length, ℤ, pos, ◌+ℤ◌, ◌-ℤ◌, ◌*ℤ◌, ◌≤ℤ◌, neg_ℤ, arith, refl, sym, ◌∙◌, ap, ap₂, subst}
+use Rattle.std.proofs.Common.{◌≡◌, ⊎_elim, inl, inr, ℕ, ◌<◌, Bool, true, false, List, [], ◌∷◌, ◌++◌, map, length, ℤ, pos, ◌+ℤ◌, ◌-ℤ◌, ◌*ℤ◌, ◌≤ℤ◌, neg_ℤ, arith, refl, sym, ◌∙◌, ap, ap₂, subst}
 use Rattle.std.proofs.lemmas.Int.{ints, clamps}
 use Rattle.std.proofs.lemmas.Bool.{cases_lt}
 use Rattle.std.specs.Int.{int_max}
@@ -17,6 +17,7 @@ use Rattle.route_lines.specs.Points.{PlainGap, gap_in, stand, point_at, leg_poin
 use Rattle.route_lines.specs.Tidied.{IsMiddle, Drops, equal, middle, later, DropsSome, none, more, IsTidied, IsSectionOf, one, many}
 use Rattle.level_frame.specs.Moved.{moved_point, moved_route, moved_gap, moved_step, moved_section}
 use Rattle.route_slots.proofs.GapMoves.{less_min}
+use Rattle.route_slots.proofs.SlotMoves.{route_moves}
 
 -- dropping points
 
@@ -98,17 +99,11 @@ module _ (x y : ℤ) (gs : List PlainGap) where
   pub gap_is : (g : ℕ) → g < length gs → gap_in gs' g ≡ moved_gap x y (gap_in gs g)
   gap_is g h = get_or-map (moved_gap x y) gs g _ _ h
 
-  -- the route of a net that is moved
-  route_moves : (r : List NetRoute) (n : ℕ) → route_at (map (moved_route y) r) n ≡ moved_route y (route_at r n)
-  route_moves [] n = refl
-  route_moves (r ∷ rs) zero = refl
-  route_moves (r ∷ rs) (suc n) = route_moves rs n
-
   net_leg_moves : (g n : ℕ) (from_a : Bool) (before after : ℤ) → net_leg gs' g n from_a (before -ℤ y) (after -ℤ y) ≡ map (moved_point x y) (net_leg gs g n from_a before after)
   net_leg_moves g n from_a before after = elim (cases_lt g (length gs)) [
     | inl h ↦
         ap (λ k. leg_points k (route_at k.routes n) from_a (before -ℤ y) (after -ℤ y)) (gap_is g h)
-        ∙ ap (λ r. leg_points (moved_gap x y (gap_in gs g)) r from_a (before -ℤ y) (after -ℤ y)) (route_moves (gap_in gs g).routes n)
+        ∙ ap (λ r. leg_points (moved_gap x y (gap_in gs g)) r from_a (before -ℤ y) (after -ℤ y)) (route_moves y (gap_in gs g).routes n)
         ∙ leg_moves x y (gap_in gs g) (route_at (gap_in gs g).routes n) from_a before after
     | inr h ↦
         let m = length-map gs (moved_gap x y) in

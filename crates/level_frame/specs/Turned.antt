@@ -20,6 +20,7 @@ use Rattle.drawing_laws.specs.Turning.{turned_side}
 use Rattle.port_order.specs.declared.children.ChildPort.{ChildPort}
 use Rattle.port_order.specs.declared.children.Child.{Child}
 use Rattle.port_order.specs.Sides.{is_mirrored, side_else}
+use Rattle.port_order.specs.Turned.{framed_size}
 use Rattle.level_plan.specs.declared.level.Spoke.{Spoke}
 use Rattle.level_plan.specs.declared.level.LevelEdge.{LevelEdge}
 use Rattle.level_plan.specs.Level.{PlainLevel}
@@ -46,10 +47,7 @@ place_of_port d k = count_below (is_port_of d (node_of_port d k)) k
 
 -- a size in the frame of a direction
 abbrev pub turned_size : Direction → Size → Size
-turned_size Right s = s
-turned_size Left s = s
-turned_size Down s = record { width = s.height; height = s.width }
-turned_size Up s = record { width = s.height; height = s.width }
+turned_size way s = framed_size way s
 
 -- the place of something of this size within a box, measured in the frame from the box's corner there
 abbrev pub turned_place : Direction → Size → Size → Point → Point

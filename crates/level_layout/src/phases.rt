@@ -1,5 +1,5 @@
 //! The units of a level with the ranks of pins, and the order of its rows.
-ghost use Rattle.std.specs.Prelude.{◌≡◌, length, IfOk};
+ghost use Rattle.std.specs.Prelude.{length, IfOk};
 ghost use Rattle.elk_layers.specs.Layered.{plain, rows_of, AreRows, IsSound};
 ghost use Rattle.level_plan.specs.Conditions.{plain_level, IsLevel};
 ghost use Rattle.level_plan.specs.Marks.{AreMarks};
@@ -11,7 +11,7 @@ use crate::units::units_for;
 use cross_reduce::reduce_with_effort;
 use elk_doc::document::RowOrder;
 use elk_doc::drawing::Certificate;
-use elk_layers::{Layered, Order};
+use elk_layers::{Layered, Order, copy_of};
 use level_plan::LevelIn;
 use level_units::{ranked, start_of};
 use std::alloc::{AllocError, Global};
@@ -44,24 +44,6 @@ pub(crate) fn start_for(
     let rows = start_of(alloc, &blank)?;
     let layered = ranked(alloc, level, blank, &rows, reversed, turned)?;
     Ok(Start { layered, rows })
-}
-
-// A row once more.
-fn row_copy(alloc: Global, row: &[u32]) -> Result<Vec<u32>, AllocError>
-    ensures { IfOk result (λ v. v.items ≡ row.now) }
-{
-    Ok(row.to_vec(alloc)?)
-}
-
-// The same rows once more.
-fn copy_of(alloc: Global, order: &Order) -> Result<Order, AllocError>
-    ensures { IfOk result (λ v. rows_of v ≡ rows_of order.now) }
-{
-    let mut rows = Vec::with_capacity(alloc, order.rows.len())?;
-    for row in order.rows.as_slice() {
-        rows.push(row_copy(alloc, row.as_slice())?)?;
-    }
-    Ok(Order { rows })
 }
 
 /// The order of a start's rows with few crossings, by so much work.

@@ -125,19 +125,17 @@ fn chained_drawn(alloc: Global) -> Result<LevelOut, AllocError> {
 fn a_level_is_drawn_by_itself(rt: HostRuntime) -> Result<(), Fail> {
     let drawn = chained_drawn(rt.alloc())?;
     assert_eq!(rt; (drawn.extent.width, drawn.extent.height), (130, 40));
+    assert_eq!(rt; drawn.boxes.len(), 3);
     for (place, x) in drawn.boxes.as_slice().iter().zip([0, 50, 100].iter()) {
         assert_eq!(rt; (place.x, place.y), (*x, 0));
     }
     assert_eq!(rt; drawn.sections.len(), 3);
     let section = drawn.sections.at(2);
     assert_eq!(rt; section.start, Point { x: 30, y: 20 });
-    for (found, (x, y)) in section
-        .bends
-        .as_slice()
-        .iter()
-        .zip([(40, 20), (40, 40), (90, 40), (90, 20)].iter())
-    {
-        assert_eq!(rt; (found.x, found.y), (*x, *y));
+    let bends = [(40, 20), (40, 40), (90, 40), (90, 20)];
+    assert_eq!(rt; section.bends.len(), bends.len());
+    for (found, wanted) in section.bends.as_slice().iter().zip(&bends) {
+        assert_eq!(rt; (found.x, found.y), *wanted);
     }
     assert_eq!(rt; section.end, Point { x: 100, y: 20 });
     Ok(())

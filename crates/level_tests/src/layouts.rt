@@ -16,6 +16,7 @@ fn parallel_drawn(alloc: Global) -> Result<LevelOut, AllocError> {
 fn two_parallel_edges_are_laid_out(rt: HostRuntime) -> Result<(), Fail> {
     let drawn = parallel_drawn(rt.alloc())?;
     assert_eq!(rt; (drawn.extent.width, drawn.extent.height), (80, 30));
+    assert_eq!(rt; drawn.boxes.len(), 2);
     for (place, x) in drawn.boxes.as_slice().iter().zip([0, 50].iter()) {
         assert_eq!(rt; (place.x, place.y), (*x, 0));
     }
@@ -25,10 +26,7 @@ fn two_parallel_edges_are_laid_out(rt: HostRuntime) -> Result<(), Fail> {
         assert_eq!(rt; (section.end.x, section.end.y), (50, *y));
         assert_eq!(rt; section.bends.len(), 0);
     }
-    let flow = [2, 0];
-    for (found, wanted) in drawn.certificate.flow.as_slice().iter().zip(flow.iter()) {
-        assert_eq!(rt; *found, *wanted);
-    }
+    assert_eq!(rt; drawn.certificate.flow.as_slice(), [2, 0].as_slice());
     assert_eq!(rt; drawn.certificate.span, 2);
     Ok(())
 }

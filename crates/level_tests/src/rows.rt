@@ -19,12 +19,9 @@ fn parts_keep_their_edges(rt: HostRuntime) -> Result<(), Fail> {
     assert_eq!(rt; certificate.reversed.as_slice(), [0].as_slice());
     assert_eq!(rt; certificate.flow.as_slice(), [4, 1, 0, 0].as_slice());
     assert_eq!(rt; certificate.span, 5);
-    for (place, wanted) in drawn
-        .at
-        .as_slice()
-        .iter()
-        .zip([(0, 0), (0, 50), (0, 100)].iter())
-    {
+    let places = [(0, 0), (0, 50), (0, 100)];
+    assert_eq!(rt; drawn.at.len(), places.len());
+    for (place, wanted) in drawn.at.as_slice().iter().zip(&places) {
         assert_eq!(rt; (place.x, place.y), *wanted);
     }
     assert_eq!(rt; drawn.sections.len(), 4);

@@ -14,13 +14,13 @@ ghost use Rattle.level_units.specs.RankReading.{AreRankedLinks, HasRanksIn, IsRe
 
 use crate::children::is_fixed;
 use crate::pins::is_on_lane;
-use crate::ports::{PortRanks, is_pinned};
+use crate::ports::PortRanks;
 use crate::runs::spoke_of;
 use elk_doc::document::PortRule;
 use elk_doc::shape::Side;
 use elk_layers::{Link, Unit};
 use level_plan::{EndAt, LevelIn, Table};
-use port_order::Child;
+use port_order::{Child, is_pinned};
 
 /// A level, its table, the ranks of its children's ports, and by edge whether it is turned round.
 #[derive(Clone, Copy)]

@@ -1,52 +1,16 @@
 //! Units with room for outlines and lanes.
-ghost use Rattle.std.specs.Prelude.{◌≡◌, ℕ, ◌-◌, ◌<◌, ◌≤◌, ◌^◌, length, pos, ◌+ℤ◌, ◌*ℤ◌};
-ghost use Rattle.elk_doc.specs.Sound.{IsSoundSpacing, IsWithin};
+ghost use Rattle.std.specs.Prelude.{◌≡◌, ℕ, ◌<◌, ◌≤◌, ◌^◌, length};
+ghost use Rattle.elk_doc.specs.Sound.{IsSoundSpacing};
 ghost use Rattle.elk_layers.specs.Layered.{unit_at};
 ghost use Rattle.level_plan.specs.Conditions.{plain_level};
 ghost use Rattle.level_ends.specs.Bounds.{IsLengthIn};
-ghost use Rattle.level_ends.specs.Lanes as spec;
 ghost use Rattle.level_units.specs.Reading.{AreFittedUnits, HasChildIn, IsReadable, roomy, unit_with};
 
 use crate::pins::{Fitting, entry_at};
 use elk_doc::document::Spacing;
 use elk_layers::Unit;
+use level_ends::room;
 use level_plan::ChildAt;
-
-// A distance, so many times.
-fn times(count: u32, distance: i64) -> i64
-    requires few { count ≤ 2 ^ 18 }
-    requires distance { IsWithin (pos 1) (pos (2 ^ 20)) distance }
-    ensures value { result ≡ pos count *ℤ distance }
-    ensures small { IsWithin (pos 0) (pos (2 ^ 38)) result }
-{
-    count as i64 * distance
-}
-
-// The room of one lane or more beside an outline.
-fn room_of(spacing: &Spacing, count: u32) -> i64
-    requires spacing { IsSoundSpacing spacing.now }
-    requires some { 0 < count }
-    requires few { count ≤ 2 ^ 18 }
-    ensures value { result ≡ spacing.now.edge_node +ℤ (pos (count - 1) *ℤ spacing.now.edge_edge) }
-    ensures small { IsWithin (pos 0) (pos (2 ^ 40)) result }
-{
-    let more = times(count - 1, spacing.edge_edge);
-    spacing.edge_node + more
-}
-
-/// The room of lanes beside an outline.
-pub(crate) fn room(spacing: &Spacing, count: u32) -> i64
-    requires spacing { IsSoundSpacing spacing.now }
-    requires few { count ≤ 2 ^ 18 }
-    ensures value { result ≡ spec.room spacing.now count }
-    ensures small { IsWithin (pos 0) (pos (2 ^ 40)) result }
-{
-    if count == 0 {
-        0
-    } else {
-        room_of(spacing, count)
-    }
-}
 
 // A child's unit with room for its outline and its lanes.
 fn with_room(spacing: &Spacing, unit: Unit, child: &ChildAt) -> Unit

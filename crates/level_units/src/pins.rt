@@ -6,9 +6,9 @@ ghost use Rattle.level_plan.specs.Table.{child_in};
 ghost use Rattle.level_ends.specs.Bounds.{IsEndIn};
 ghost use Rattle.level_units.specs.Reading.{AreFittedLinks, IsLinkIn, IsReadable, end_of, is_on_lane, link_with, pin_at, pin_of};
 
-use crate::heights::room;
 use elk_doc::shape::Side;
 use elk_layers::{Link, Unit};
+use level_ends::room;
 use level_plan::{ChildAt, EndAt, LevelIn, Table};
 
 /// A level, its table, and by edge whether it is turned round.

@@ -11,7 +11,7 @@ ghost use Rattle.level_units.specs.Ports.{AreBefore, AreOrdered, ArePortSpots, A
 
 use elk_doc::document::PortRule;
 use elk_doc::shape::Side;
-use port_order::{Child, Spot, dock_of, order_side, side_of};
+use port_order::{Child, Spot, dock_of, is_pinned_spot, order_side, side_of};
 use std::alloc::{AllocError, Global};
 
 /// A port as it is counted: its number, whether it is ranked, its side, and where it is pinned the offset of its anchor there.
@@ -30,28 +30,6 @@ pub(crate) struct PortRanks {
     pub(crate) before: Vec<u32>,
     pub(crate) west: u32,
     pub(crate) east: u32,
-}
-
-/// Whether a port is pinned: it keeps its given place along its side.
-pub(crate) fn is_pinned(child: &Child, port: u32) -> bool
-    requires { port < length child.now.ports }
-    ensures { result ≡ own.is_pinned child.now port }
-{
-    match child.rule {
-        PortRule::FixedPos => !child.compound || child.ports.at(port as usize).side.is_some(),
-        _ => false,
-    }
-}
-
-// Whether the port of a spot is pinned.
-fn is_pinned_spot(child: &Child, spot: &Spot) -> bool
-    requires { IsSpot child.now spot.now }
-    ensures { result ≡ own.is_pinned_spot child.now spot.now }
-{
-    match spot.port {
-        Some(port) => is_pinned(child, port),
-        None => false,
-    }
 }
 
 // Whether a port is ranked.

@@ -31,12 +31,13 @@ pub fn turned(alloc: Global, arena: &mut Arena) -> Result<usize, AllocError> {
 }
 
 fn are_same(edges: &[EdgeKey], wanted: &[EdgeKey]) -> bool {
-    for (edge, other) in edges.iter().zip(wanted) {
-        if edge.at != other.at {
-            return false;
-        }
+    if edges.len() != wanted.len() {
+        return false;
     }
-    edges.len() == wanted.len()
+    edges
+        .iter()
+        .zip(wanted)
+        .all(|(edge, other)| edge.at == other.at)
 }
 
 /// Whether there is a way between two nodes, and it is by these edges, if any are given.

@@ -65,17 +65,21 @@ fn there_are_as_many_slots_as_pieces_meet(rt: HostRuntime) -> Result<(), Fail> {
     Ok(())
 }
 
+// The slot of a net that has one.
+fn slot_of(route: &NetRoute) -> Option<u32> {
+    match route {
+        NetRoute::One { slot } => Some(*slot),
+        _ => None,
+    }
+}
+
 #[test]
 fn a_chain_of_conflicts_is_not_cut(rt: HostRuntime) -> Result<(), Fail> {
     let slots = assigned(rt.alloc(), &[net(0, 10), net(10, 20)])?;
     assert_eq!(rt; slots.routes.len(), 2);
-    match slots.routes[0] {
-        NetRoute::One { slot: later } => match slots.routes[1] {
-            NetRoute::One { slot } => assert!(rt; slot <= later),
-            _ => assert!(rt; false),
-        },
-        _ => assert!(rt; false),
-    }
+    let later = slot_of(&slots.routes[0]).ok_or("the first net is not in one slot")?;
+    let slot = slot_of(&slots.routes[1]).ok_or("the second net is not in one slot")?;
+    assert!(rt; slot <= later, "{slot} lies behind {later}");
     Ok(())
 }
 

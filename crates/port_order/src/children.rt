@@ -8,6 +8,7 @@ use crate::spots::Spot;
 use elk_doc::document::{Direction, PortRule};
 use elk_doc::list::Items;
 use elk_doc::shape::{Point, Side, Size};
+use elk_doc::sides::along;
 
 /// A port of a child. `half` is the anchor's offset within the port along its side; `side` is the side that it asks for.
 #[derive(Clone, Copy)]
@@ -38,8 +39,8 @@ pub(crate) fn port_at(child: &Child, port: u32) -> ChildPort
     *child.ports.at(port as usize)
 }
 
-// Whether a port is pinned: it keeps its given place along its side.
-fn is_pinned(child: &Child, port: u32) -> bool
+/// Whether a port is pinned: it keeps its given place along its side.
+pub fn is_pinned(child: &Child, port: u32) -> bool
     requires { port < length child.now.ports }
     ensures { result ≡ is_pinned child.now port }
 {
@@ -50,7 +51,7 @@ fn is_pinned(child: &Child, port: u32) -> bool
 }
 
 /// Whether the port of a spot is pinned; every other spot is spread.
-pub(crate) fn is_pinned_spot(child: &Child, spot: &Spot) -> bool
+pub fn is_pinned_spot(child: &Child, spot: &Spot) -> bool
     requires { IsSpot child.now spot.now }
     ensures { result ≡ is_pinned_spot child.now spot.now }
 {
@@ -68,16 +69,4 @@ pub(crate) fn given_offset(child: &Child, side: Side, port: u32) -> i64
 {
     let found = port_at(child, port);
     along(side, found.place) + found.half
-}
-
-// The coordinate of a point along a side.
-fn along(side: Side, point: Point) -> i64
-    ensures { result ≡ along side point }
-{
-    match side {
-        Side::North => point.x,
-        Side::East => point.y,
-        Side::South => point.x,
-        Side::West => point.y,
-    }
 }

@@ -12,6 +12,7 @@ use crate::sides::{is_mirrored, side_of};
 use crate::spots::Spot;
 use crate::spreading::part_at;
 use elk_doc::shape::{Side, Size};
+use elk_doc::sides;
 
 /// The offset of a spot's anchor along its side, in the working frame: that of its given place where its port is pinned,
 /// and else the spread one, by the place of the spot's number in the order of its side.
@@ -76,16 +77,11 @@ fn place_in(order: &[u32], number: u32) -> usize
     unreachable!()
 }
 
-// The length of a box along a side.
-fn size_along(side: Side, size: Size) -> i64
+/// The length of a small box along a side.
+pub fn size_along(side: Side, size: Size) -> i64
     requires { IsSmall size }
     ensures value { result ≡ size_along side size }
     ensures small { IsWithin (pos 0) (pos (2 ^ 47)) result }
 {
-    match side {
-        Side::North => size.width,
-        Side::East => size.height,
-        Side::South => size.width,
-        Side::West => size.height,
-    }
+    sides::size_along(side, size)
 }

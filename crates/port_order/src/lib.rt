@@ -11,13 +11,13 @@ mod sides;
 mod spots;
 mod spreading;
 
-pub use children::{Child, ChildPort};
-pub use docks::dock_of;
+pub use children::{Child, ChildPort, is_pinned, is_pinned_spot};
+pub use docks::{dock_of, size_along};
 pub use laws::{
     directions_turn, fixed_orders_are_kept, offsets_rise, orders_agree, ports_stand,
     spots_are_ordered,
 };
 pub use ordering::order_side;
-pub use sides::side_of;
+pub use sides::{is_mirrored, side_of};
 pub use spots::{Mean, Spot};
 pub use spreading::{spread, spread_at};

@@ -27,7 +27,7 @@ pub fn side_of(child: &Child, spot: &Spot) -> Side
 }
 
 /// Whether the document's offsets along a working side run from the right.
-pub(crate) fn is_mirrored(direction: Direction, side: Side) -> bool
+pub fn is_mirrored(direction: Direction, side: Side) -> bool
     ensures { result ≡ is_mirrored direction side }
 {
     match direction {

@@ -35,13 +35,9 @@ fn judged(alloc: Global, text: &str) -> Result<Option<(Verdict, Vec<u8>)>, Alloc
 
 #[test]
 fn a_placed_document_is_judged_and_written_again(rt: HostRuntime) -> Result<(), Fail> {
-    match judged(rt.alloc(), PLACED)? {
-        None => assert!(rt; false),
-        Some((verdict, text)) => {
-            assert_eq!(rt; verdict, Verdict::Yes);
-            assert!(rt; text.as_slice() == PLACED.as_bytes());
-        }
-    }
+    let (verdict, text) = judged(rt.alloc(), PLACED)?.ok_or("not read")?;
+    assert_eq!(rt; verdict, Verdict::Yes);
+    assert_eq!(rt; text.as_slice(), PLACED.as_bytes());
     Ok(())
 }
 
@@ -89,14 +85,11 @@ fn refusal(alloc: Global, text: &str) -> Result<Option<(u32, &'static str, Vec<u
 
 #[test]
 fn a_refusal(rt: HostRuntime) -> Result<(), Fail> {
-    match refusal(rt.alloc(), r#"{"children":[{"id":"a\"1"},{"id":"a\"1"}]}"#)? {
-        None => assert!(rt; false),
-        Some((number, name, place)) => {
-            assert_eq!(rt; number, 7);
-            assert!(rt; name == "DoubleId");
-            assert!(rt; place.as_slice() == r#""a\"1""#.as_bytes());
-        }
-    }
+    let text = r#"{"children":[{"id":"a\"1"},{"id":"a\"1"}]}"#;
+    let (number, name, place) = refusal(rt.alloc(), text)?.ok_or("not refused")?;
+    assert_eq!(rt; number, 7);
+    assert_eq!(rt; name, "DoubleId");
+    assert_eq!(rt; place.as_slice(), r#""a\"1""#.as_bytes());
     Ok(())
 }
 

@@ -1,5 +1,5 @@
 //! Sources and sinks: each public function once, and a fault in the middle of a stream.
-ghost use Rattle.std.specs.Prelude.{◌≡◌, IfOk};
+ghost use Rattle.std.specs.Prelude.{◌≡◌, ◌≤◌, IfOk};
 
 use elk_outer::{
     Failed, MemSink, MemSource, ReadFault, Sink, Source, StdSink, StdSource, SureSource,
@@ -67,23 +67,28 @@ struct Failing {
     steps: u64,
 }
 
-impl Read for Failing {
-    fn read(&mut self, buf: &mut [u8]) -> io::Result<usize> {
+impl Failing {
+    // Takes a step, which gives or takes one byte where there is room for it.
+    fn step(&mut self, room: usize) -> io::Result<usize>
+        ensures { IfOk result (λ n. n ≤ room) }
+    {
         if self.steps == 0 {
             return Err(ErrorKind::Other.into());
         }
         self.steps -= 1;
-        Ok(buf.len().min(1))
+        Ok(room.min(1))
+    }
+}
+
+impl Read for Failing {
+    fn read(&mut self, buf: &mut [u8]) -> io::Result<usize> {
+        self.step(buf.len())
     }
 }
 
 impl Write for Failing {
     fn write(&mut self, buf: &[u8]) -> io::Result<usize> {
-        if self.steps == 0 {
-            return Err(ErrorKind::Other.into());
-        }
-        self.steps -= 1;
-        Ok(buf.len().min(1))
+        self.step(buf.len())
     }
 
     fn flush(&mut self) -> io::Result<()> {

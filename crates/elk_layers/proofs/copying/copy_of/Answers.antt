@@ -1,6 +1,6 @@
 use Rattle.std.proofs.Common.{◌∙◌}
-use Rattle.level_layout.proofs.RowsLemmas.{row_more}
-use Rattle.level_layout.proofs.phases.copy_of.Goals as goal
+use Rattle.elk_layers.proofs.CopyLemmas.{row_more}
+use Rattle.elk_layers.proofs.copying.copy_of.Goals as goal
 
 pub loop-row-preserved : goal.loop-row-preserved
 loop-row-preserved c =
