@@ -14,7 +14,11 @@ pin_of layered rows l = record { gap = gap_of layered l; tail = tail_key layered
 -- the same, where a list has the places
 abbrev pub pin_from : Plain → List ℕ → Link → Pin
 pin_from layered place l =
-    record { gap = gap_of layered l; tail = slice_index place l.tail * 65536 + l.tail_rank; head = slice_index place l.head * 65536 + l.head_rank }
+    record {
+      gap = gap_of layered l;
+      tail = slice_index place l.tail * 65536 + l.tail_rank;
+      head = slice_index place l.head * 65536 + l.head_rank;
+    }
 
 abbrev pub pins_of : Plain → List (List ℕ) → List Pin
 pins_of layered rows = map (pin_of layered rows) layered.links

@@ -139,7 +139,10 @@ fn is_better(
     requires lower_left_fits { FitKeys place.now (fan_at (fan_lists left.now) lower) }
     requires upper_right_fits { FitKeys place.now (fan_at (fan_lists right.now) upper) }
     requires lower_right_fits { FitKeys place.now (fan_at (fan_lists right.now) lower) }
-    ensures { IfOk result (λ b. b ≡ nat_lt (crossed_between place.now (fan_lists left.now) (fan_lists right.now) lower upper) (crossed_between place.now (fan_lists left.now) (fan_lists right.now) upper lower)) }
+    ensures { IfOk result
+        (λ b. b
+        ≡ nat_lt (crossed_between place.now (fan_lists left.now) (fan_lists right.now) lower upper)
+        (crossed_between place.now (fan_lists left.now) (fan_lists right.now) upper lower)) }
 {
     let (left_now, left_then) = both_ways(alloc, left.at(upper), left.at(lower), place)?;
     let (right_now, right_then) = both_ways(alloc, right.at(upper), right.at(lower), place)?;
@@ -199,10 +202,14 @@ fn try_exchange(
     requires state { IsState (plain layered.now) (rows_of state.old.order) state.old.place.items (fan_lists state.old.left) (fan_lists state.old.right) }
     requires row { r < length (rows_of state.old.order) }
     requires place { i + 1 < length (row_at (rows_of state.old.order) r) }
-    ensures state { OnOk result (IsState (plain layered.now) (rows_of state.new.order) state.new.place.items (fan_lists state.new.left) (fan_lists state.new.right)) }
+    ensures state { OnOk result
+        (IsState (plain layered.now) (rows_of state.new.order) state.new.place.items (fan_lists state.new.left)
+        (fan_lists state.new.right)) }
     ensures same { OnOk result (HasSameRows (rows_of state.old.order) (rows_of state.new.order)) }
     ensures after { OnOk result (rows_of state.new.order ≡ after_pair (plain layered.now) (rows_of state.old.order) r i) }
-    ensures tried { IfOk result (λ changed. IsTried (plain layered.now) (rows_of state.old.order) (rows_of state.new.order) changed (IsNoBetter (plain layered.now) (rows_of state.old.order) r i)) }
+    ensures tried { IfOk result
+        (λ changed. IsTried (plain layered.now) (rows_of state.old.order) (rows_of state.new.order) changed
+        (IsNoBetter (plain layered.now) (rows_of state.old.order) r i)) }
     ensures others { OnOk result (KeepsOthers (rows_of state.old.order) (rows_of state.new.order) r) }
 {
     let (upper, lower) = neighbours(&state.order, r, i);
@@ -223,10 +230,14 @@ fn try_row(
 ) -> Result<bool, AllocError>
     requires state { IsState (plain layered.now) (rows_of state.old.order) state.old.place.items (fan_lists state.old.left) (fan_lists state.old.right) }
     requires row { r < length (rows_of state.old.order) }
-    ensures state { OnOk result (IsState (plain layered.now) (rows_of state.new.order) state.new.place.items (fan_lists state.new.left) (fan_lists state.new.right)) }
+    ensures state { OnOk result
+        (IsState (plain layered.now) (rows_of state.new.order) state.new.place.items (fan_lists state.new.left)
+        (fan_lists state.new.right)) }
     ensures same { OnOk result (HasSameRows (rows_of state.old.order) (rows_of state.new.order)) }
     ensures after { OnOk result (rows_of state.new.order ≡ after_row (plain layered.now) (rows_of state.old.order) r) }
-    ensures tried { IfOk result (λ changed. IsTried (plain layered.now) (rows_of state.old.order) (rows_of state.new.order) changed (NoneInRow (plain layered.now) (rows_of state.old.order) r)) }
+    ensures tried { IfOk result
+        (λ changed. IsTried (plain layered.now) (rows_of state.old.order) (rows_of state.new.order) changed
+        (NoneInRow (plain layered.now) (rows_of state.old.order) r)) }
     ensures others { OnOk result (KeepsOthers (rows_of state.old.order) (rows_of state.new.order) r) }
 {
     let mut changed = false;
@@ -264,11 +275,15 @@ fn try_unsettled(
     requires state { IsState (plain layered.now) (rows_of state.old.order) state.old.place.items (fan_lists state.old.left) (fan_lists state.old.right) }
     requires settled { AreSettled (plain layered.now) (rows_of state.old.order) settled.old.items }
     requires row { r < length (rows_of state.old.order) }
-    ensures state { OnOk result (IsState (plain layered.now) (rows_of state.new.order) state.new.place.items (fan_lists state.new.left) (fan_lists state.new.right)) }
+    ensures state { OnOk result
+        (IsState (plain layered.now) (rows_of state.new.order) state.new.place.items (fan_lists state.new.left)
+        (fan_lists state.new.right)) }
     ensures settled { OnOk result (AreSettled (plain layered.now) (rows_of state.new.order) settled.new.items) }
     ensures same { OnOk result (HasSameRows (rows_of state.old.order) (rows_of state.new.order)) }
     ensures after { OnOk result (rows_of state.new.order ≡ after_row (plain layered.now) (rows_of state.old.order) r) }
-    ensures tried { IfOk result (λ changed. IsTried (plain layered.now) (rows_of state.old.order) (rows_of state.new.order) changed (NoneInRow (plain layered.now) (rows_of state.old.order) r)) }
+    ensures tried { IfOk result
+        (λ changed. IsTried (plain layered.now) (rows_of state.old.order) (rows_of state.new.order) changed
+        (NoneInRow (plain layered.now) (rows_of state.old.order) r)) }
 {
     if settled[r] {
         return Ok(false);
@@ -287,11 +302,15 @@ fn try_rows(
 ) -> Result<bool, AllocError>
     requires state { IsState (plain layered.now) (rows_of state.old.order) state.old.place.items (fan_lists state.old.left) (fan_lists state.old.right) }
     requires settled { AreSettled (plain layered.now) (rows_of state.old.order) settled.old.items }
-    ensures state { OnOk result (IsState (plain layered.now) (rows_of state.new.order) state.new.place.items (fan_lists state.new.left) (fan_lists state.new.right)) }
+    ensures state { OnOk result
+        (IsState (plain layered.now) (rows_of state.new.order) state.new.place.items (fan_lists state.new.left)
+        (fan_lists state.new.right)) }
     ensures settled { OnOk result (AreSettled (plain layered.now) (rows_of state.new.order) settled.new.items) }
     ensures same { OnOk result (HasSameRows (rows_of state.old.order) (rows_of state.new.order)) }
     ensures after { OnOk result (rows_of state.new.order ≡ after_rows (plain layered.now) (rows_of state.old.order) (length (rows_of state.old.order))) }
-    ensures tried { IfOk result (λ changed. IsTried (plain layered.now) (rows_of state.old.order) (rows_of state.new.order) changed (NoBetterSwap (plain layered.now) (rows_of state.old.order))) }
+    ensures tried { IfOk result
+        (λ changed. IsTried (plain layered.now) (rows_of state.old.order) (rows_of state.new.order) changed
+        (NoBetterSwap (plain layered.now) (rows_of state.old.order))) }
 {
     let mut changed = false;
     for r in 0..layered.layers as usize {

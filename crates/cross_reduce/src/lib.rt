@@ -9,7 +9,6 @@
 #![tactic(auto)]
 
 mod annealing;
-mod copying;
 mod counting;
 mod effort;
 mod exchanging;

@@ -50,10 +50,16 @@ pub(crate) fn fewer(
     requires counted { kept.crossings ≡ spec.crossings (plain layered.now) (rows_of kept.order) }
     ensures counted { IfOk result (λ k. k.crossings ≡ spec.crossings (plain layered.now) (rows_of k.order)) }
     ensures rows { IfOk result (λ k. AreRows (plain layered.now) (rows_of k.order)) }
-    ensures first { IfOk result (λ k. (orders : List (List (List ℕ))) → IsFirstOfFewest (plain layered.now) orders (rows_of kept.order) → IsFirstOfFewest (plain layered.now) (orders ++ rows_of new ∷ []) (rows_of k.order)) }
-    ensures either { IfOk result (λ k. (rows_of k.order ≡ rows_of kept.order) ⊎ (spec.crossings (plain layered.now) (rows_of k.order) < spec.crossings (plain layered.now) (rows_of kept.order))) }
+    ensures first { IfOk result
+        (λ k. (orders : List (List (List ℕ))) → IsFirstOfFewest (plain layered.now) orders (rows_of kept.order)
+        → IsFirstOfFewest (plain layered.now) (orders ++ rows_of new ∷ []) (rows_of k.order)) }
+    ensures either { IfOk result
+        (λ k. (rows_of k.order ≡ rows_of kept.order)
+        ⊎ (spec.crossings (plain layered.now) (rows_of k.order) < spec.crossings (plain layered.now) (rows_of kept.order))) }
     ensures one { IfOk result (λ k. (rows_of k.order ≡ rows_of kept.order) ⊎ (rows_of k.order ≡ rows_of new)) }
-    ensures same { IfOk result (λ k. (start : List (List ℕ)) → HasSameRows start (rows_of kept.order) → HasSameRows start (rows_of new) → HasSameRows start (rows_of k.order)) }
+    ensures same { IfOk result
+        (λ k. (start : List (List ℕ)) → HasSameRows start (rows_of kept.order) → HasSameRows start (rows_of new)
+        → HasSameRows start (rows_of k.order)) }
 {
     let new = with_count(alloc, layered, new)?;
     if new.crossings < kept.crossings {
@@ -103,7 +109,9 @@ fn best_sweep(
     requires right { AreFans Right (plain layered.now).links (length (plain layered.now).units) (fan_lists right.now) }
     requires counted { start.crossings ≡ spec.crossings (plain layered.now) (rows_of start.order) }
     ensures same_rows { IfOk result (λ k. HasSameRows (rows_of start.order) (rows_of k.order)) }
-    ensures first { IfOk result (λ k. IsFirstOfFewest (plain layered.now) (rows_of start.order ∷ sweep_orders (plain layered.now) (rows_of start.order)) (rows_of k.order)) }
+    ensures first { IfOk result
+        (λ k. IsFirstOfFewest (plain layered.now)
+        (rows_of start.order ∷ sweep_orders (plain layered.now) (rows_of start.order)) (rows_of k.order)) }
     ensures counted { IfOk result (λ k. k.crossings ≡ spec.crossings (plain layered.now) (rows_of k.order)) }
 {
     let (one, two) = two_sweeps(alloc, layered, &start.order, left, right)?;
@@ -214,7 +222,9 @@ pub fn reduce(alloc: Global, layered: &Layered, start: Order) -> Result<Order, A
     requires rows { AreRows (plain layered.now) (rows_of start) }
     ensures same_rows { IfOk result (λ o. HasSameRows (rows_of start) (rows_of o)) }
     ensures no_more { IfOk result (λ o. spec.crossings (plain layered.now) (rows_of o) ≤ spec.crossings (plain layered.now) (rows_of start)) }
-    ensures sweeps { IfOk result (λ o. All (λ swept. spec.crossings (plain layered.now) (rows_of o) ≤ spec.crossings (plain layered.now) swept) (sweep_orders (plain layered.now) (rows_of start))) }
+    ensures sweeps { IfOk result
+        (λ o. All (λ swept. spec.crossings (plain layered.now) (rows_of o) ≤ spec.crossings (plain layered.now) swept)
+        (sweep_orders (plain layered.now) (rows_of start))) }
     ensures settled { IfOk result (λ o. NoBetterSwap (plain layered.now) (rows_of o)) }
     ensures from_fewest { IfOk result (λ o. IsExchangedFromFewest (plain layered.now) (rows_of start) (rows_of o)) }
     ensures without_crossings { IfOk result (λ o. spec.crossings (plain layered.now) (rows_of start) ≡ 0 → rows_of o ≡ rows_of start) }
@@ -239,7 +249,9 @@ pub fn reduce_with_effort(
     requires rows { AreRows (plain layered.now) (rows_of start) }
     ensures same_rows { IfOk result (λ o. HasSameRows (rows_of start) (rows_of o)) }
     ensures no_more { IfOk result (λ o. spec.crossings (plain layered.now) (rows_of o) ≤ spec.crossings (plain layered.now) (rows_of start)) }
-    ensures sweeps { IfOk result (λ o. All (λ swept. spec.crossings (plain layered.now) (rows_of o) ≤ spec.crossings (plain layered.now) swept) (sweep_orders (plain layered.now) (rows_of start))) }
+    ensures sweeps { IfOk result
+        (λ o. All (λ swept. spec.crossings (plain layered.now) (rows_of o) ≤ spec.crossings (plain layered.now) swept)
+        (sweep_orders (plain layered.now) (rows_of start))) }
     ensures settled { IfOk result (λ o. NoBetterSwap (plain layered.now) (rows_of o)) }
     ensures from_fewest { IfOk result (λ o. IsExchangedFromFewest (plain layered.now) (rows_of start) (rows_of o)) }
     ensures without_crossings { IfOk result (λ o. spec.crossings (plain layered.now) (rows_of start) ≡ 0 → rows_of o ≡ rows_of start) }

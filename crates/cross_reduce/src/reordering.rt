@@ -3,11 +3,10 @@ ghost use Rattle.std.specs.Prelude.{◌≡◌, ◌<◌, length, slice_set, IfOk,
 ghost use Rattle.elk_layers.specs.Layered.{plain, rows_of, IsSound, AreRows};
 ghost use Rattle.elk_layers.specs.Crossings.{HasSameRows};
 
-use crate::copying::copy_of;
 use crate::flat::{Flat, place_of};
 use crate::ordering::by_keys;
 use crate::sweeping::row_in;
-use elk_layers::{Layered, Order};
+use elk_layers::{Layered, Order, copy_of};
 use std::alloc::{AllocError, Global};
 
 /// Puts a row into the place of another.

@@ -1,5 +1,6 @@
 -- The graph of a level's oriented edges that are no self-loops, and the chains that they become.
-use Rattle.std.specs.Prelude.{◌≡◌, ◌≢◌, ℕ, ◌+◌, ◌<◌, Bool, List, [], Option, None, Some, length, slice_index, slice_index_or, IsTrue, IsFalse}
+use Rattle.std.specs.Prelude.{◌≡◌, ◌≢◌, ℕ, ◌+◌, ◌<◌, Bool, List, [], Option, None, Some, length, slice_index, slice_index_or, IsTrue}
+use Rattle.std.specs.Prelude.{IsFalse}
 use Rattle.graph_arena.specs.Graph.{Graph, Ends, ends_at}
 use Rattle.graph_arena.specs.Changes.{AddsEdge}
 use Rattle.graph_arena.specs.declared.keys.NodeKey.{NodeKey}
@@ -35,10 +36,12 @@ IsLinkAt l marks nodes g e None = IsTrue (is_loop l e)
 IsLinkAt l marks nodes g e (Some k) = ends_at g k.at ≡ Some (between nodes (tail_by l marks e) (head_by l marks e))
 
 -- the first n edges have their keys, and there is no other edge
-pub record AreLinks (l : PlainLevel) (marks : List Bool) (nodes : List NodeKey) (g : Graph) (n : ℕ) (keys : List (Option EdgeKey)) : Type 0 where
+pub record AreLinks (l : PlainLevel) (marks : List Bool) (nodes : List NodeKey) (g : Graph) (n : ℕ)
+    (keys : List (Option EdgeKey)) : Type 0 where
   pub as_many : length keys ≡ n
   pub each : (e : ℕ) → e < n → IsLinkAt l marks nodes g e (key_in keys e)
-  pub only : (k : ℕ) (x : Ends) → ends_at g k ≡ Some x → (e : ℕ) × (e < n) × IsFalse (is_loop l e) × (x ≡ between nodes (tail_by l marks e) (head_by l marks e))
+  pub only : (k : ℕ) (x : Ends) → ends_at g k ≡ Some x
+      → (e : ℕ) × (e < n) × IsFalse (is_loop l e) × (x ≡ between nodes (tail_by l marks e) (head_by l marks e))
 
 -- the ends of an edge that leads to a child in a higher layer
 pub record RisingEnds (nodes : List NodeKey) (layers : List ℕ) (x : Ends) : Type 0 where

@@ -94,7 +94,10 @@ fn split_by(
     requires nodes { AreNodes arena.old (length layers.now) nodes.now }
     requires room { (v : ℕ) → IsNode arena.old v → v < length by_node.old }
     requires rising { (k : ℕ) (x : Ends) → ends_at arena.old k ≡ Some x → RisingEnds nodes.now layers.now x }
-    ensures { IfOk result (λ chains. (k a b : ℕ) → a < length layers.now → b < length layers.now → ends_at arena.old k ≡ Some (record { tail = node_of nodes.now a; head = node_of nodes.now b }) → HasChain layers.now chains a b k) }
+    ensures { IfOk result
+        (λ chains. (k a b : ℕ) → a < length layers.now → b < length layers.now
+        → ends_at arena.old k ≡ Some (record { tail = node_of nodes.now a; head = node_of nodes.now b })
+        → HasChain layers.now chains a b k) }
 {
     note_layers(nodes, layers, by_node);
     let chains = split_all(alloc, arena, by_node)?;
@@ -114,7 +117,9 @@ pub fn chains_of(
     requires level { IsLevel (plain_level level.now) }
     requires layers { length layers.now ≡ length level.now.children }
     requires turned { length turned.now ≡ length level.now.edges }
-    requires onward { (e : ℕ) → e < length level.now.edges → IsFalse (plan.is_loop (plain_level level.now) e) → slice_index layers.now (tail_by (plain_level level.now) turned.now e) < slice_index layers.now (head_by (plain_level level.now) turned.now e) }
+    requires onward { (e : ℕ) → e < length level.now.edges → IsFalse (plan.is_loop (plain_level level.now) e)
+        → slice_index layers.now (tail_by (plain_level level.now) turned.now e)
+        < slice_index layers.now (head_by (plain_level level.now) turned.now e) }
     ensures { IfOk result (λ v. AreChained (plain_level level.now) layers.now turned.now v.keys.items v.chains) }
 {
     let mut arena = Arena::new(alloc);

@@ -25,7 +25,8 @@ pub(crate) fn units_for(
     requires level { IsLevel (plain_level level.now) }
     requires layering { AreLayersOf (plain_level level.now) reversed.now layers.now }
     requires marked { AreMarks reversed.now (length level.now.edges) turned.now }
-    ensures linked { IfOk result (λ v. (rows : List (List ℕ)) (tops : List ℤ) → AreLinked (plain_level level.now) (plan_with v rows tops reversed.now) layers.now) }
+    ensures linked { IfOk result
+        (λ v. (rows : List (List ℕ)) (tops : List ℤ) → AreLinked (plain_level level.now) (plan_with v rows tops reversed.now) layers.now) }
     ensures sound { IfOk result (λ v. IsSound (plain v)) }
     ensures numbered { IfOk result (λ v. AreNumberedUnits (layering (plain_level level.now) reversed.now layers.now) (plain v)) }
     ensures layers { IfOk result (λ v. IsLayerCount layers.now v.layers) }

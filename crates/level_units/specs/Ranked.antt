@@ -52,5 +52,6 @@ pub record IsRanking (l : PlainLevel) (a b : Plain) (reversed : List ℕ) : Type
   pub ranks : AreRanked l b reversed
   pub sound : IsSound b
   pub rows : (rows : List (List ℕ)) → AreRows a rows → AreRows b rows
-  pub linked : (from to : List (List ℕ)) (tops : List ℤ) (layers : List ℕ) → AreLinked l (plan_of a from [] reversed) layers → AreLinked l (plan_of b to tops reversed) layers
+  pub linked : (from to : List (List ℕ)) (tops : List ℤ) (layers : List ℕ) → AreLinked l (plan_of a from [] reversed) layers
+      → AreLinked l (plan_of b to tops reversed) layers
   pub kept : AreReranked a b

@@ -1,5 +1,6 @@
 -- How far behind the first slots pieces with a pin on the right at some height stand.
-use Rattle.std.specs.Prelude.{◌≡◌, ◌≢◌, ℕ, ◌+◌, ◌<◌, ◌^◌, Bool, true, false, List, ℤ, length, Option, Some, None, slice_index, slice_index_or, if◌then◌else◌}
+use Rattle.std.specs.Prelude.{◌≡◌, ◌≢◌, ℕ, ◌+◌, ◌<◌, ◌^◌, Bool, true, false, List, ℤ, length, Option, Some, None, slice_index}
+use Rattle.std.specs.Prelude.{slice_index_or, if◌then◌else◌}
 use Rattle.std.specs.Ordering.{int_cmp}
 use Rattle.std.specs.BTreeMap.{get}
 use Rattle.route_slots.specs.declared.Pin.{Pin}
@@ -30,7 +31,8 @@ pub record AreDepths (nets : List Net) (bs : List Bool) (d : ℤ → ℕ) : Type
   pub len : length bs ≡ length nets
   pub sides : (k : ℕ) → k < length nets → is_split bs k ≡ true → (net_at nets k).a.on_left ≢ (net_at nets k).b.on_left
   pub bent : (k : ℕ) → k < length nets → is_split bs k ≡ true → IsLevelNet (net_at nets k) → ⊥
-  pub deep : (k : ℕ) (p : Pin) → k < length nets → (IsLevelNet (net_at nets k) → ⊥) → HasPin (net_at nets k) p → p.on_left ≡ true → 0 < d p.height
+  pub deep : (k : ℕ) (p : Pin) → k < length nets → (IsLevelNet (net_at nets k) → ⊥) → HasPin (net_at nets k) p
+      → p.on_left ≡ true → 0 < d p.height
   pub rising : (k : ℕ) (p q : Pin) → k < length nets → (IsLevelNet (net_at nets k) → ⊥) → is_split bs k ≡ false
       → HasPin (net_at nets k) p → HasPin (net_at nets k) q → p.on_left ≡ true → q.on_left ≡ false → d q.height < d p.height
 

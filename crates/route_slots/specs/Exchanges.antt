@@ -27,7 +27,8 @@ pub record AreExchanged (s : ℕ) (old new : List NetRoute) : Type 0 where
 
 -- where pieces still keep apart, the exchange of slot s and the next does not lessen the crossings
 abbrev pub NoBetterAt : List Net → List NetRoute → ℕ → Type 0
-NoBetterAt nets routes s = (others : List NetRoute) → AreExchanged s routes others → AreApart nets others → crossings nets routes ≤ crossings nets others
+NoBetterAt nets routes s =
+    (others : List NetRoute) → AreExchanged s routes others → AreApart nets others → crossings nets routes ≤ crossings nets others
 
 -- no exchange of two neighbouring slots lessens the crossings
 abbrev pub NoBetterExchange : List Net → ℕ → List NetRoute → Type 0
@@ -111,7 +112,8 @@ holds_back nets routes s j k = if j == k then false else blocks (net_at nets j) 
 -- the exchange lessens the crossings, and pieces still keep apart
 abbrev pub IsBetterAt : List Net → List NetRoute → ℕ → Type 0
 IsBetterAt nets routes s =
-    (others : List NetRoute) → AreExchanged s routes others → (crossings nets others < crossings nets routes) × (AreApart nets routes → AreApart nets others)
+    (others : List NetRoute) → AreExchanged s routes others
+    → (crossings nets others < crossings nets routes) × (AreApart nets routes → AreApart nets others)
 
 -- what a try of one exchange does
 pub record IsStep (nets : List Net) (count s : ℕ) (old new : List NetRoute) (changed : Bool) : Type 0 where

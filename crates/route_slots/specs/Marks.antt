@@ -1,5 +1,6 @@
 -- What becomes of a net: no piece, one, or two, and at which levels.
-use Rattle.std.specs.Prelude.{◌≡◌, ◌⊎◌, ℕ, ◌+◌, ◌<◌, max, Bool, true, false, not, List, ℤ, length, slice_index, slice_index_or, if◌then◌else◌}
+use Rattle.std.specs.Prelude.{◌≡◌, ◌⊎◌, ℕ, ◌+◌, ◌<◌, max, Bool, true, false, not, List, ℤ, length, slice_index, slice_index_or}
+use Rattle.std.specs.Prelude.{if◌then◌else◌}
 use Rattle.std.specs.Int.{int_min, int_max}
 use Rattle.route_slots.specs.declared.Pin.{Pin}
 use Rattle.route_slots.specs.declared.Net.{Net}
@@ -25,10 +26,12 @@ LevelAt n m p l = ((n.a ≡ p) × (m.at_a ≡ l)) ⊎ ((n.b ≡ p) × (m.at_b �
 -- another's on the right, the former's piece has the lower level.
 pub record AreNetMarks (nets : List Net) (ms : List Mark) : Type 0 where
   pub len : length ms ≡ length nets
-  pub straight : (k : ℕ) → k < length nets → ((mark_at ms k).straight ≡ true → IsLevelNet (net_at nets k)) × (IsLevelNet (net_at nets k) → (mark_at ms k).straight ≡ true)
+  pub straight : (k : ℕ) → k < length nets
+      → ((mark_at ms k).straight ≡ true → IsLevelNet (net_at nets k)) × (IsLevelNet (net_at nets k) → (mark_at ms k).straight ≡ true)
   pub whole : (k : ℕ) → k < length nets → (mark_at ms k).split ≡ false → (mark_at ms k).at_a ≡ (mark_at ms k).at_b
   pub split : (k : ℕ) → k < length nets → (mark_at ms k).split ≡ true → (mark_at ms k).straight ≡ false
-  pub order : (j k : ℕ) (p q : Pin) (x y : ℕ) → j < length nets → k < length nets → (mark_at ms j).straight ≡ false → (mark_at ms k).straight ≡ false
+  pub order : (j k : ℕ) (p q : Pin) (x y : ℕ) → j < length nets → k < length nets → (mark_at ms j).straight ≡ false
+      → (mark_at ms k).straight ≡ false
       → LevelAt (net_at nets j) (mark_at ms j) p x → LevelAt (net_at nets k) (mark_at ms k) q y
       → p.on_left ≡ true → q.on_left ≡ false → p.height ≡ q.height → x < y
 
@@ -64,7 +67,8 @@ route_by m s h t = if m.straight then Straight else (if m.split then Two s h t e
 
 pub record HaveSlots (nets : List Net) (ms : List Mark) (hs : List Height) (ss : List ℕ) (routes : List NetRoute) : Type 0 where
   pub as_many : length routes ≡ length nets
-  pub routes_are : (k : ℕ) → k < length nets → route_at routes k ≡ route_by (mark_at ms k) (slice_index ss (k + k)) (height_of hs k) (slice_index ss (k + k + 1))
+  pub routes_are : (k : ℕ) → k < length nets
+      → route_at routes k ≡ route_by (mark_at ms k) (slice_index ss (k + k)) (height_of hs k) (slice_index ss (k + k + 1))
 
 -- The mark of a net: a whole net stands behind all that its pins on the right ask for, each piece of a split net behind what
 -- its own pin asks for.
@@ -78,7 +82,8 @@ pub record IsMarkOf (n : Net) (da db : ℕ) (b : Bool) (m : Mark) : Type 0 where
 -- the marks of the first nets
 pub record AreMarked (nets : List Net) (bs : List Bool) (d : ℤ → ℕ) (ms : List Mark) (n : ℕ) : Type 0 where
   pub len : length ms ≡ n
-  pub each : (k : ℕ) → k < n → IsMarkOf (net_at nets k) (depth_of d (net_at nets k).a) (depth_of d (net_at nets k).b) (is_split bs k) (mark_at ms k)
+  pub each : (k : ℕ) → k < n
+      → IsMarkOf (net_at nets k) (depth_of d (net_at nets k).a) (depth_of d (net_at nets k).b) (is_split bs k) (mark_at ms k)
 
 -- no net is split, and all pieces are at one level
 pub record AreFlat (nets : List Net) (ms : List Mark) : Type 0 where

@@ -29,7 +29,8 @@ pub record AreHeightNumbers (nets : List Net) (n : ℕ) (heights : Heights) : Ty
   pub numbers : AreNumbers heights
   pub least : 2 ≤ heights.bound
   pub few : heights.bound ≤ 2 + (n + n)
-  pub each : (k : ℕ) (p : Pin) → k < n → (IsLevelNet (net_at nets k) → ⊥) → HasPin (net_at nets k) p → p.on_left ≡ true → IsSome (get int_cmp heights.numbers p.height)
+  pub each : (k : ℕ) (p : Pin) → k < n → (IsLevelNet (net_at nets k) → ⊥) → HasPin (net_at nets k) p → p.on_left ≡ true
+      → IsSome (get int_cmp heights.numbers p.height)
   pub held : (h : ℤ) (x : ℕ) → get int_cmp heights.numbers h ≡ Some x → (k : ℕ) × (k < n) × HasLeftAt (net_at nets k) h
 
 -- the pins of a net that leads across the gap and is not straight
@@ -49,7 +50,8 @@ HasNoSides n = (IsLevelNet n → ⊥) → (p q : Pin) → HasPin n p → HasPin 
 -- Every other net is a link from 0 to 1.
 pub data IsLinkOf (m : BTreeMap ℤ ℕ) (n : Net) (l : Link) : Type 0 where
   idle : HasNoSides n → l.tail ≡ 0 → l.head ≡ 1 → IsLinkOf m n l
-  across : (p q : Pin) → AreSides n p q → l.tail ≡ unwrap_or (get int_cmp m p.height) 0 → l.head ≡ unwrap_or (get int_cmp m q.height) 1 → IsLinkOf m n l
+  across : (p q : Pin) → AreSides n p q → l.tail ≡ unwrap_or (get int_cmp m p.height) 0
+      → l.head ≡ unwrap_or (get int_cmp m q.height) 1 → IsLinkOf m n l
 
 pub record AreLinks (m : BTreeMap ℤ ℕ) (nets : List Net) (links : List Link) (n : ℕ) : Type 0 where
   pub len : length links ≡ n

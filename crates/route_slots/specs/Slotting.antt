@@ -1,5 +1,6 @@
 -- Upright pieces by their levels and heights, and the slots that they stand in.
-use Rattle.std.specs.Prelude.{◌≡◌, ◌≢◌, ◌⊎◌, ℕ, ◌+◌, ◌<◌, ◌≤◌, Bool, true, false, List, ℤ, pos, ◌<ℤ◌, ◌≤ℤ◌, length, slice_index, slice_index_or}
+use Rattle.std.specs.Prelude.{◌≡◌, ◌≢◌, ◌⊎◌, ℕ, ◌+◌, ◌<◌, ◌≤◌, Bool, true, false, List, ℤ, pos, ◌<ℤ◌, ◌≤ℤ◌, length, slice_index}
+use Rattle.std.specs.Prelude.{slice_index_or}
 use Rattle.std.specs.Ordering.{int_cmp, nat_cmp, ordering_then}
 use Rattle.std.specs.declared.cmp.Ordering.{Ordering}
 use Rattle.std.specs.BTreeSet.{BTreeSet, contains, btree_set_len}
@@ -19,7 +20,8 @@ AreAtOneLevel ps = (i j : ℕ) → IsReal ps i → IsReal ps j → (piece_at ps 
 -- in each slot a piece contains one height
 pub record MeetInEach (ps : List Piece) (ss : List ℕ) (count : ℕ) : Type 0 where
   pub height : ℤ
-  pub each : (s : ℕ) → s < count → (i : ℕ) × IsReal ps i × (slice_index ss i ≡ s) × ((piece_at ps i).low ≤ℤ height) × (height ≤ℤ (piece_at ps i).high)
+  pub each : (s : ℕ) → s < count
+      → (i : ℕ) × IsReal ps i × (slice_index ss i ≡ s) × ((piece_at ps i).low ≤ℤ height) × (height ≤ℤ (piece_at ps i).high)
 
 -- Pieces of a lower level stand before those of a higher one, and pieces in one slot have no height in common. At one level
 -- there are no more slots than pieces that contain one height.

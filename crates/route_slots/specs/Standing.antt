@@ -31,4 +31,5 @@ pub record AreApart (nets : List Net) (routes : List NetRoute) : Type 0 where
       → StandsAt (net_at nets j) (route_at routes j) p s → StandsAt (net_at nets k) (route_at routes k) q t
       → p.on_left ≡ true → q.on_left ≡ false → p.height ≡ q.height → s ≤ t
   pub uprights : (j k s : ℕ) (x y z w : ℤ) → j < length nets → k < length nets → j ≢ k
-      → IsUpright (net_at nets j) (route_at routes j) s x y → IsUpright (net_at nets k) (route_at routes k) s z w → StretchesOverlap x y z w → ⊥
+      → IsUpright (net_at nets j) (route_at routes j) s x y → IsUpright (net_at nets k) (route_at routes k) s z w
+      → StretchesOverlap x y z w → ⊥

@@ -1,5 +1,6 @@
 -- How often two nets of a gap have to cross, and orders of the nets in which they cross no more.
-use Rattle.std.specs.Prelude.{◌≡◌, ◌≢◌, ◌↔◌, ◌⊎◌, ℕ, ◌+◌, ◌<◌, nat_lt, Bool, true, false, List, ◌&&◌, ◌||◌, int_lt, length, slice_index_or, if◌then◌else◌}
+use Rattle.std.specs.Prelude.{◌≡◌, ◌≢◌, ◌↔◌, ◌⊎◌, ℕ, ◌+◌, ◌<◌, nat_lt, Bool, true, false, List, ◌&&◌, ◌||◌, int_lt, length, slice_index_or}
+use Rattle.std.specs.Prelude.{if◌then◌else◌}
 use Rattle.std.specs.Int.{int_min, int_max}
 use Rattle.route_slots.specs.declared.Pin.{Pin}
 use Rattle.route_slots.specs.declared.Net.{Net}
@@ -16,7 +17,8 @@ use Rattle.route_slots.specs.Crossings.{one, cut, cut_at}
 -- the first pin comes before the second on the way round: along the left border by rising heights, then along the right one by
 -- falling heights
 unfoldable pub is_before : Pin → Pin → Bool
-is_before p q = if p.on_left then (if q.on_left then int_lt p.height q.height else true) else (if q.on_left then false else int_lt q.height p.height)
+is_before p q =
+    if p.on_left then (if q.on_left then int_lt p.height q.height else true) else (if q.on_left then false else int_lt q.height p.height)
 
 -- the net's two pins by that way
 unfoldable pub first_pin : Net → Pin
@@ -65,7 +67,8 @@ crossed nets routes j k = cut_at nets routes j k + cut_at nets routes k j
 
 -- each two nets cross once where their pins alternate, and not at all where they don't
 abbrev pub CrossAsAsked : List Net → List NetRoute → Type 0
-CrossAsAsked nets routes = (j k : ℕ) → j < length nets → k < length nets → j ≢ k → crossed nets routes j k ≡ asked (net_at nets j) (net_at nets k)
+CrossAsAsked nets routes =
+    (j k : ℕ) → j < length nets → k < length nets → j ≢ k → crossed nets routes j k ≡ asked (net_at nets j) (net_at nets k)
 
 abbrev pub level_of : List ℕ → ℕ → ℕ
 level_of levels k = slice_index_or levels k 0
@@ -103,4 +106,6 @@ pub record AreLevelMarks (nets : List Net) (levels : List ℕ) (ms : List Mark) 
 
 -- pieces of nets that are not split stand in order of their levels
 abbrev pub StandByLevels : List Net → List Mark → List NetRoute → Type 0
-StandByLevels nets ms routes = (j k s t : ℕ) → j < length nets → k < length nets → route_at routes j ≡ One s → route_at routes k ≡ One t → (mark_at ms j).at_a < (mark_at ms k).at_a → s < t
+StandByLevels nets ms routes =
+    (j k s t : ℕ) → j < length nets → k < length nets → route_at routes j ≡ One s → route_at routes k ≡ One t
+    → (mark_at ms j).at_a < (mark_at ms k).at_a → s < t

@@ -9,6 +9,7 @@ ghost use Rattle.route_slots.specs.Choosing.{IsRelevelled, AreRelevelled, KeepsO
 use crate::assigning::place;
 use crate::crossings::crossings_of;
 use crate::filling::fill;
+use crate::fitting::level_at;
 use crate::marks::Mark;
 use crate::middles::Height;
 use crate::sifting::sift;
@@ -16,14 +17,6 @@ use crate::strips::{levels_of, strips_of};
 use crate::tracks::exchange_tracks;
 use crate::{Net, Pin, Slots};
 use std::alloc::{AllocError, Global};
-
-// The level at a place, and 0 where there is none.
-fn level_at(levels: &[u32], place: usize) -> u32 {
-    match levels.get(place) {
-        None => 0,
-        Some(level) => *level,
-    }
-}
 
 // The mark with other levels, with one where the net is not split.
 fn relevelled(mark: Mark, at_a: u32, at_b: u32) -> Mark
@@ -114,7 +107,8 @@ fn row_keeps_order(nets: &[Net], marks: &[Mark], j: usize) -> bool
 /// Whether all pieces are before those before which they have to be.
 pub fn all_keep_order(nets: &[Net], marks: &[Mark]) -> bool
     requires len { length marks.now ≡ length nets.now }
-    ensures { result ≡ true → (j k : ℕ) → j < length nets.now → k < length nets.now → AreInOrder (net_at nets.now j) (mark_at marks.now j) (net_at nets.now k) (mark_at marks.now k) }
+    ensures { result ≡ true → (j k : ℕ) → j < length nets.now → k < length nets.now
+        → AreInOrder (net_at nets.now j) (mark_at marks.now j) (net_at nets.now k) (mark_at marks.now k) }
 {
     'nets: for j in 0..nets.len() {
         if !row_keeps_order(nets, marks, j) {
@@ -186,7 +180,8 @@ fn lighter(nets: &[Net], slots: Slots, other: Slots, deep: bool) -> Slots
     requires few { length nets.now ≤ 1024 }
     requires len { length slots.routes.items ≡ length nets.now }
     requires other { length other.routes.items ≡ length nets.now }
-    ensures good { (ms : List Mark) → AreGood nets.now ms slots.count slots.routes.items → AreGood nets.now ms other.count other.routes.items → AreGood nets.now ms result.count result.routes.items }
+    ensures good { (ms : List Mark) → AreGood nets.now ms slots.count slots.routes.items
+        → AreGood nets.now ms other.count other.routes.items → AreGood nets.now ms result.count result.routes.items }
     ensures count { deep ≡ false → result.count ≡ slots.count }
     ensures most { crossings nets.now result.routes.items ≤ crossings nets.now slots.routes.items }
 {

@@ -22,7 +22,9 @@ fn insert_pin(heights: &mut Heights, pin: Pin) -> Result<(), AllocError>
     requires { heights.old.bound < 2 ^ 31 }
     ensures numbers { OnOk result (AreNumbers heights.old → 2 ≤ heights.old.bound → AreNumbers heights.new) }
     ensures kept { OnOk result ((h : ℤ) (x : ℕ) → get int_cmp heights.old.numbers h ≡ Some x → get int_cmp heights.new.numbers h ≡ Some x) }
-    ensures from { OnOk result ((h : ℤ) (x : ℕ) → get int_cmp heights.new.numbers h ≡ Some x → (get int_cmp heights.old.numbers h ≡ Some x) ⊎ ((pin.on_left ≡ true) × (pin.height ≡ h))) }
+    ensures from { OnOk result
+        ((h : ℤ) (x : ℕ) → get int_cmp heights.new.numbers h ≡ Some x
+        → (get int_cmp heights.old.numbers h ≡ Some x) ⊎ ((pin.on_left ≡ true) × (pin.height ≡ h))) }
     ensures added { OnOk result (pin.on_left ≡ true → IsSome (get int_cmp heights.new.numbers pin.height)) }
     ensures more { OnOk result (heights.old.bound ≤ heights.new.bound) }
     ensures few { OnOk result (heights.new.bound ≤ heights.old.bound + 1) }
