@@ -4,14 +4,14 @@ use Rattle.std.proofs.lemmas.Int.{ints, clamps}
 use Rattle.std.proofs.lemmas.Bool.{cases_lt}
 use Rattle.std.specs.Int.{int_max}
 use Rattle.std.proofs.lemmas.List.{drop_more, drop_all}
-use Rattle.elk_doc.specs.declared.document.Sweep.{Sweep}
-use Rattle.elk_doc.specs.declared.document.Sweep.TheVariants.{LeftUp, LeftDown, RightUp, RightDown}
+use Rattle.drawing_types.specs.declared.sweep.Sweep.{Sweep}
+use Rattle.drawing_types.specs.declared.sweep.Sweep.TheVariants.{LeftUp, LeftDown, RightUp, RightDown}
 use Rattle.elk_layers.specs.declared.units.Unit.{Unit as LayerUnit}
 use Rattle.elk_layers.specs.Layered.{Plain, IsSound, unit_at}
 use Rattle.elk_layers.specs.Lines.{top_of, extent, extent_from, AreLeastLines, AreLines}
 use Rattle.elk_layers.specs.Alignment.{aligned}
-use Rattle.row_blocks.specs.Constraints.{EndsWithinStack, AreLeast, greatest_spacing}
-use Rattle.row_blocks.proofs.SumLemmas.{stacked_bound}
+use Rattle.unit_blocks.specs.Constraints.{EndsWithinStack, AreLeast, greatest_spacing}
+use Rattle.unit_blocks.proofs.SumLemmas.{stacked_bound}
 use Rattle.bk_place.specs.Placement.{rank_of, IsFirstAmong, IsFirstLowest}
 
 pub extent_from_zero : (units : List LayerUnit) (tops : List ℤ) → pos 0 ≤ℤ extent_from units tops

@@ -1,2 +1,11 @@
-pub mod HeightLemmas
 pub mod CheckLemmas
+pub mod ChoosingLemmas
+pub mod HeightLemmas
+pub mod LaneLemmas
+pub mod MarkLemmas
+pub mod MedianLemmas
+pub mod ReachLemmas
+pub mod SortLemmas
+pub mod SpokeLemmas
+pub mod StraightLemmas
+pub mod VisitLemmas

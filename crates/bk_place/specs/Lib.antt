@@ -1,3 +1,10 @@
-pub mod Placement
-pub mod Straight
 pub mod Checked
+pub mod Choosing
+pub mod Keys
+pub mod Lanes
+pub mod Marks
+pub mod Medians
+pub mod Placement
+pub mod Spokes
+pub mod Straight
+pub mod Visits

@@ -1,10 +1,10 @@
 -- The lines of a placement: those of one sweep, or of the first sweep of least height.
 use Rattle.std.specs.Prelude.{◌≡◌, ℕ, ◌<◌, ◌≤◌, ℤ, ◌≤ℤ◌, ◌<ℤ◌, List, Option, Some, None}
-use Rattle.elk_doc.specs.declared.document.Sweep.{Sweep}
-use Rattle.elk_doc.specs.declared.document.Sweep.TheVariants.{LeftUp, LeftDown, RightUp, RightDown}
+use Rattle.drawing_types.specs.declared.sweep.Sweep.{Sweep}
+use Rattle.drawing_types.specs.declared.sweep.Sweep.TheVariants.{LeftUp, LeftDown, RightUp, RightDown}
 use Rattle.elk_layers.specs.Layered.{Plain}
 use Rattle.elk_layers.specs.Lines.{AreLeastLines, extent}
-use Rattle.row_blocks.specs.Constraints.{EndsWithinStack}
+use Rattle.unit_blocks.specs.Constraints.{EndsWithinStack}
 
 -- the order in which sweeps of one height are preferred
 abbrev pub rank_of : Sweep → ℕ

@@ -1,10 +1,10 @@
 -- Long edges come out straight.
 use Rattle.std.specs.Prelude.{ℕ, ℤ, ◌<◌, List, length, IsTrue}
-use Rattle.elk_doc.specs.declared.document.Sweep.{Sweep}
+use Rattle.drawing_types.specs.declared.sweep.Sweep.{Sweep}
 use Rattle.elk_layers.specs.Layered.{Plain, IsSound, AreRows, link_at}
 use Rattle.elk_layers.specs.Alignment.{is_inner, aligned}
 use Rattle.elk_layers.specs.Lines.{IsLevel, AreLines}
-use Rattle.row_alignment.specs.Lanes.{HaveOneLink, LanesKeepOrder}
+use Rattle.bk_place.specs.Lanes.{HaveOneLink, LanesKeepOrder}
 
 -- where no two links between lanes cross, the lines of a sweep make each of them level
 abbrev pub LanesAreLevel : Type 0

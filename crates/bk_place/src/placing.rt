@@ -2,21 +2,23 @@
 ghost use Rattle.std.specs.Prelude.{◌≡◌, ℕ, ◌+◌, List, IfOk};
 ghost use Rattle.elk_layers.specs.Layered.{plain, rows_of, IsSound, AreRows, Plain};
 ghost use Rattle.elk_layers.specs.Lines.{AreLeastLines};
-ghost use Rattle.row_alignment.specs.Choosing.{IsMarked};
-ghost use Rattle.row_alignment.specs.Medians.{CanTake};
-ghost use Rattle.row_blocks.specs.Constraints.{EndsWithinStack};
+ghost use Rattle.bk_place.specs.Choosing.{IsMarked};
+ghost use Rattle.bk_place.specs.Medians.{CanTake};
+ghost use Rattle.unit_blocks.specs.Constraints.{EndsWithinStack};
 ghost use Rattle.bk_place.specs.Placement.{AreLinesOf, IsFirstLowest, IsFirstAmong, rank_of};
 
+use crate::align;
+use crate::choosing::{Marked, align_by, marked_order};
 use crate::heights::extent;
-use elk_doc::document::Sweep;
+use crate::medians::{Medians, medians_by_unit};
+use drawing_types::sweep::Sweep;
 use elk_layers::{Layered, Lines, Order};
-use row_alignment::{Marked, Medians, align, align_by, marked_order, medians_by_unit};
-use row_blocks::place_links;
 use std::alloc::{AllocError, Global};
+use unit_blocks::place_links;
 
 /// Lines with their height.
 #[derive(Drop)]
-struct Placed {
+struct Placement {
     lines: Lines,
     height: i64,
 }
@@ -60,17 +62,17 @@ fn measured(
     order: &Order,
     table: &[Medians],
     sweep: Sweep,
-) -> Result<Placed, AllocError>
+) -> Result<Placement, AllocError>
     requires can { CanTake (plain layered.now) (rows_of order.now) sweep table.now }
     ensures { IfOk result (λ p. IsFirstAmong (plain layered.now) (rows_of order.now) (rank_of sweep) (rank_of sweep + 1) p.lines.top.items p.height) }
 {
     let lines = place_by(alloc, layered, order, table, sweep)?;
     let height = extent(layered, &lines);
-    Ok(Placed { lines, height })
+    Ok(Placement { lines, height })
 }
 
 /// The second lines where they are lower, and else the first.
-fn lower(first: Placed, second: Placed) -> Placed
+fn lower(first: Placement, second: Placement) -> Placement
     ensures { (l : Plain) (rows : List (List ℕ)) (a b c : ℕ) → IsFirstAmong l rows a b first.lines.top.items first.height
         → IsFirstAmong l rows b c second.lines.top.items second.height
         → IsFirstAmong l rows a c result.lines.top.items result.height }
@@ -88,7 +90,7 @@ fn place_left(
     layered: &Layered,
     order: &Order,
     known: &Marked,
-) -> Result<Placed, AllocError>
+) -> Result<Placement, AllocError>
     requires sound { IsSound (plain layered.now) }
     requires rows { AreRows (plain layered.now) (rows_of order.now) }
     requires known { IsMarked (plain layered.now) (rows_of order.now) known.now.place.items known.now.marked.items }
@@ -106,7 +108,7 @@ fn place_right(
     layered: &Layered,
     order: &Order,
     known: &Marked,
-) -> Result<Placed, AllocError>
+) -> Result<Placement, AllocError>
     requires sound { IsSound (plain layered.now) }
     requires rows { AreRows (plain layered.now) (rows_of order.now) }
     requires known { IsMarked (plain layered.now) (rows_of order.now) known.now.place.items known.now.marked.items }

@@ -4,8 +4,8 @@ use Rattle.std.specs.Prelude.{int_lt}
 use Rattle.std.specs.Int.{int_max, int_gap}
 use Rattle.std.proofs.lemmas.Int.{ints, clamps, by_lt_z}
 use Rattle.std.proofs.lemmas.Bool.{cases_lt}
-use Rattle.elk_doc.specs.declared.shape.Point.{Point}
-use Rattle.elk_doc.specs.declared.shape.Size.{Size}
+use Rattle.drawing_types.specs.declared.shape.Point.{Point}
+use Rattle.drawing_types.specs.declared.shape.Size.{Size}
 use Rattle.box_pack.specs.declared.walk.Cursor.{Cursor}
 use Rattle.box_pack.specs.Boxes.{size_at, long_side, IsSize, EachSize}
 use Rattle.box_pack.specs.Walk.{reach, row_or, behind, before, spot, greatest_of, spot_right, spot_bottom, sooner, next_to, long_at, strip_of, IsLeastLimit, IsNear, IsStrip}

@@ -4,15 +4,15 @@ use Rattle.std.specs.Prelude.{int_lt}
 use Rattle.std.specs.Int.{int_max}
 use Rattle.std.proofs.lemmas.Int.{ints, clamps, by_lt_z}
 use Rattle.std.proofs.lemmas.Bool.{cases_lt}
-use Rattle.elk_doc.specs.declared.shape.Point.{Point}
-use Rattle.elk_doc.specs.declared.shape.Size.{Size}
+use Rattle.drawing_types.specs.declared.shape.Point.{Point}
+use Rattle.drawing_types.specs.declared.shape.Size.{Size}
 use Rattle.box_pack.specs.declared.walk.Cursor.{Cursor}
 use Rattle.box_pack.specs.declared.walk.Strip.{Strip}
 use Rattle.box_pack.specs.Boxes.{size_at, point_at, right_of, bottom_of, reach_beside, long_side, EachSize, IsTallest, IsPacked, IsGreatest, HasExtent}
 use Rattle.box_pack.specs.Walk.{reach, overflows, below, row_or, row_for, before, spot, greatest_of, spot_right, spot_bottom, measured_to, long_at, strip_of, AreSpots, IsNear, IsStrip}
 use Rattle.box_pack.specs.Packed.{AreRows}
 use Rattle.box_pack.proofs.Filling.{near_row, near_before, same_point, lt_yes, lt_no}
-use Rattle.elk_doc.proofs.NumberLaws.{bool_cases}
+use Rattle.drawing_types.proofs.SmallNumbers.{bool_cases}
 
 -- a row with a box in it is not empty
 started : (sizes : List Size) (r : Strip) → IsStrip r → EachSize sizes → (i : ℕ) → i < length sizes → pos 0 <ℤ (before sizes r (suc i)).x

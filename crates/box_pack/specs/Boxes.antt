@@ -1,8 +1,8 @@
 -- Sizes of boxes, their places in rows, and the extent of these.
 use Rattle.std.specs.Prelude.{◌≡◌, ℕ, suc, ◌-◌, ◌<◌, ◌≤◌, ◌^◌, List, ℤ, pos, ◌+ℤ◌, ◌≤ℤ◌, ◌<ℤ◌, length, slice_index_or, All}
 use Rattle.std.specs.Int.{int_max}
-use Rattle.elk_doc.specs.declared.shape.Point.{Point}
-use Rattle.elk_doc.specs.declared.shape.Size.{Size}
+use Rattle.drawing_types.specs.declared.shape.Point.{Point}
+use Rattle.drawing_types.specs.declared.shape.Size.{Size}
 
 abbrev pub size_at : List Size → ℕ → Size
 size_at sizes i = slice_index_or sizes i (record { width = pos 0; height = pos 0 })

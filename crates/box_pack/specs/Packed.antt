@@ -1,6 +1,6 @@
 -- Rows as an answer.
 use Rattle.std.specs.Prelude.{List, ℤ}
-use Rattle.elk_doc.specs.declared.shape.Size.{Size}
+use Rattle.drawing_types.specs.declared.shape.Size.{Size}
 use Rattle.box_pack.specs.declared.packing.Rows.{Rows}
 use Rattle.box_pack.specs.Boxes.{IsPacked, HasExtent}
 

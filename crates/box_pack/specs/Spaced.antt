@@ -1,11 +1,11 @@
 -- Boxes in rows keep their distance and take little room.
 use Rattle.std.specs.Prelude.{◌≡◌, ℕ, zero, suc, ◌<◌, List, length, ℤ, pos, ◌+ℤ◌, ◌≤ℤ◌}
-use Rattle.elk_doc.specs.declared.shape.Point.{Point}
-use Rattle.elk_doc.specs.declared.shape.Size.{Size}
-use Rattle.elk_doc.specs.declared.shape.Rect.{Rect}
-use Rattle.elk_doc.specs.Document.{origin}
-use Rattle.elk_doc.specs.Shapes.{rect_at}
-use Rattle.elk_doc.specs.Apart.{StandsClear}
+use Rattle.drawing_types.specs.declared.shape.Point.{Point}
+use Rattle.drawing_types.specs.declared.shape.Size.{Size}
+use Rattle.drawing_types.specs.declared.shape.Rect.{Rect}
+use Rattle.drawing_types.specs.Shapes.{origin}
+use Rattle.drawing_types.specs.Shapes.{rect_at}
+use Rattle.drawing_types.specs.Clearance.{StandsClear}
 use Rattle.box_pack.specs.declared.packing.Rows.{Rows}
 use Rattle.box_pack.specs.Boxes.{point_at, size_at}
 use Rattle.box_pack.specs.Packed.{AreRows}

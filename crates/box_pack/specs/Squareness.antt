@@ -1,7 +1,7 @@
 -- The squarest rows.
 use Rattle.std.specs.Prelude.{ℕ, List, ℤ, pos, ◌≤ℤ◌, ◌<ℤ◌}
-use Rattle.elk_doc.specs.declared.shape.Point.{Point}
-use Rattle.elk_doc.specs.declared.shape.Size.{Size}
+use Rattle.drawing_types.specs.declared.shape.Point.{Point}
+use Rattle.drawing_types.specs.declared.shape.Size.{Size}
 use Rattle.box_pack.specs.declared.squarest.Squarest.{Squarest}
 use Rattle.box_pack.specs.Boxes.{IsPacked, HasExtent, long_side}
 use Rattle.box_pack.specs.Packed.{AreRows}

@@ -5,8 +5,8 @@ ghost use Rattle.box_pack.specs.Packed.{AreRows};
 ghost use Rattle.box_pack.specs.Walk.{AreSpots, IsStrip};
 
 use crate::walk::{Strip, behind, measure, row_for, top};
-use elk_doc::list::Items;
-use elk_doc::shape::{Point, Size};
+use drawing_types::list::Items;
+use drawing_types::shape::{Point, Size};
 use std::alloc::{AllocError, Global};
 
 /// The places of boxes in rows, in the order of the boxes, and their extent.

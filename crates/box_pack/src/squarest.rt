@@ -6,7 +6,7 @@ ghost use Rattle.box_pack.specs.Walk.{IsLeastLimit};
 
 use crate::packing::{Rows, pack};
 use crate::walk::{Strip, measure};
-use elk_doc::shape::Size;
+use drawing_types::shape::Size;
 use std::alloc::{AllocError, Global};
 
 /// The least limit that gives rows with the smallest long side, and these rows.

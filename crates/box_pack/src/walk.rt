@@ -3,7 +3,7 @@ ghost use Rattle.std.specs.Prelude.{◌≡◌, ◌+◌, ◌*◌, ◌^◌, ◌<�
 ghost use Rattle.box_pack.specs.Boxes.{IsSize, EachSize};
 ghost use Rattle.box_pack.specs.Walk.{IsNear, IsStrip, before, behind, below, grown, measured_to, next_with, reach, row_for};
 
-use elk_doc::shape::Size;
+use drawing_types::shape::Size;
 
 // A width that no row reaches.
 const UNREACHED: i64 = 1 << 60;

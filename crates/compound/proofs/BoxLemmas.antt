@@ -3,9 +3,9 @@ use Rattle.std.proofs.Common.{◌≡◌, ℕ, suc, ◌<◌, List, [], ◌∷◌,
 use Rattle.std.specs.Prelude.{Some, IsTrue}
 use Rattle.std.specs.List.{range_with_len}
 use Rattle.std.proofs.lemmas.Int.{ints}
-use Rattle.elk_doc.specs.declared.shape.Point.{Point}
-use Rattle.elk_doc.specs.declared.shape.Rect.{Rect}
-use Rattle.elk_doc.specs.declared.shape.Size.{Size}
+use Rattle.drawing_types.specs.declared.shape.Point.{Point}
+use Rattle.drawing_types.specs.declared.shape.Rect.{Rect}
+use Rattle.drawing_types.specs.declared.shape.Size.{Size}
 use Rattle.elk_doc.specs.declared.document.Direction.{Direction}
 use Rattle.elk_doc.specs.declared.document.Direction.TheVariants.{Right, Left, Down, Up}
 use Rattle.elk_doc.specs.declared.document.LevelOptions.{LevelOptions}
@@ -16,34 +16,35 @@ use Rattle.elk_doc.specs.Document.{Document, node_at}
 use Rattle.elk_doc.specs.Drawing.{certificate_of, no_rect}
 use Rattle.elk_doc.specs.Level.{children}
 use Rattle.elk_doc.specs.Places.{outline_of as document_outline}
-use Rattle.elk_doc.specs.Shapes.{hull, turned}
+use Rattle.elk_doc.specs.Shapes.{turned}
+use Rattle.drawing_types.specs.Shapes.{hull}
 use Rattle.elk_doc.specs.Sound.{IsSound}
-use Rattle.elk_doc.proofs.ShapeLaws.{same_rect}
+use Rattle.drawing_types.proofs.SameShapes.{same_rect}
 use Rattle.port_order.specs.declared.children.Child.{Child}
 use Rattle.box_pack.specs.Boxes.{point_at}
 use Rattle.box_pack.specs.Squareness.{IsSquarest}
-use Rattle.level_plan.specs.declared.level.LevelEdge.{LevelEdge}
-use Rattle.level_plan.specs.declared.level.LevelIn.{LevelIn}
-use Rattle.level_plan.specs.Conditions.{plain_level}
-use Rattle.level_plan.specs.FromPlan.{LevelDrawing, point_or}
-use Rattle.level_plan.specs.Level.{PlainLevel, child_at}
-use Rattle.level_plan.specs.Apart.{drawn_outline_from}
-use Rattle.level_boxes.specs.Boxes.{IsBoxesLayout, alone}
-use Rattle.level_boxes.specs.Outlines.{child_in, outline_from, outline_of, outline_size, port_rect, ports_in, rect_in}
-use Rattle.level_boxes.specs.Placing.{corner}
-use Rattle.level_frame.specs.Drawing.{IsTurnedDrawing, plus}
-use Rattle.level_frame.specs.Turned.{box_size, child_number, edge_number, level_edge, level_of, turned_place, turned_size}
-use Rattle.level_frame.proofs.NumberedLemmas.{levels_are_listed}
-use Rattle.level_laws.specs.Framed.{start_of}
-use Rattle.level_laws.specs.Outlines.{shifted}
-use Rattle.level_laws.proofs.HullLemmas.{hull_moved}
-use Rattle.level_laws.proofs.OutlineLemmas.{drawn_port_box, outlines_turn_back}
-use Rattle.document_levels.specs.declared.figure.LevelFigure.{LevelFigure}
-use Rattle.document_levels.specs.Figure.{figure_in}
-use Rattle.document_levels.specs.Sizes.{IsSizeRound}
-use Rattle.document_levels.specs.Written.{HasCertificate}
-use Rattle.document_plan.specs.Boxed.{IsBoxedPlan, boxes_certificate, corner_of, inner_corner, lowest, outline_sizes, size_of}
-use Rattle.document_plan.proofs.EdgeLemmas.{no_edges}
+use Rattle.level_model.specs.declared.level.LevelEdge.{LevelEdge}
+use Rattle.level_model.specs.declared.level.LevelIn.{LevelIn}
+use Rattle.level_model.specs.Conditions.{plain_level}
+use Rattle.level_model.specs.FromPlan.{LevelDrawing, point_or}
+use Rattle.level_model.specs.Level.{PlainLevel, child_at}
+use Rattle.level_model.specs.Apart.{drawn_outline_from}
+use Rattle.level_split.specs.Boxes.{IsBoxesLayout, alone}
+use Rattle.level_split.specs.Outlines.{child_in, outline_from, outline_of, outline_size, port_rect, ports_in, rect_in}
+use Rattle.level_split.specs.Placing.{corner}
+use Rattle.working_frame.specs.Drawing.{IsTurnedDrawing, plus}
+use Rattle.working_frame.specs.Turned.{box_size, child_number, edge_number, level_edge, level_of, turned_place, turned_size}
+use Rattle.working_frame.proofs.NumberedLemmas.{levels_are_listed}
+use Rattle.turned_levels.specs.Framed.{start_of}
+use Rattle.turned_levels.specs.Outlines.{shifted}
+use Rattle.turned_levels.proofs.HullLemmas.{hull_moved}
+use Rattle.turned_levels.proofs.OutlineLemmas.{drawn_port_box, outlines_turn_back}
+use Rattle.level_io.specs.declared.figure.LevelFigure.{LevelFigure}
+use Rattle.level_io.specs.Figure.{figure_in}
+use Rattle.level_io.specs.Sizes.{IsSizeRound}
+use Rattle.level_io.specs.Written.{HasCertificate}
+use Rattle.compound.specs.Boxed.{IsBoxedPlan, boxes_certificate, corner_of, inner_corner, lowest, outline_sizes, size_of}
+use Rattle.compound.proofs.EdgeLemmas.{no_edges}
 use Rattle.compound.specs.Figures.{IsBoxed, figure_of_boxes, layers_for}
 
 -- ---- out of the frame

@@ -1,21 +1,21 @@
 -- A drawing all of whose nodes are laid out, with the ports of its root, is one of the whole document.
 use Rattle.std.proofs.Common.{◌≡◌, ℕ, List, get_or, None, sym, ap, ◌∙◌, arith}
 use Rattle.std.proofs.lemmas.Int.{ints}
-use Rattle.elk_doc.specs.declared.shape.Rect.{Rect}
-use Rattle.elk_doc.specs.declared.shape.Size.{Size}
+use Rattle.drawing_types.specs.declared.shape.Rect.{Rect}
+use Rattle.drawing_types.specs.declared.shape.Size.{Size}
 use Rattle.elk_doc.specs.declared.drawing.Placed.{Placed}
 use Rattle.elk_doc.specs.Document.{Document}
 use Rattle.elk_doc.specs.Drawing.{box_of, certificate_of, no_rect, no_section}
 use Rattle.elk_doc.specs.Fits.{KeepsSize}
 use Rattle.elk_doc.specs.Sound.{IsSound}
-use Rattle.level_frame.specs.Kept.{AgreeAt}
-use Rattle.level_frame.specs.Turned.{box_size}
-use Rattle.document_levels.specs.Back.{size_of}
-use Rattle.document_plan.proofs.PlanLemmas.{plans_stay}
-use Rattle.document_plan.proofs.NestedLemmas.{planned_boxes_are_small}
-use Rattle.document_plan.specs.Rooted.{AreRootPortsPlaced, IsRootBox}
-use Rattle.document_plan.specs.Whole.{IsLaidOutDocument, IsWellDrawnDocument}
-use Rattle.document_plan.proofs.WholeLemmas.{documents_are_drawn}
+use Rattle.working_frame.specs.Kept.{AgreeAt}
+use Rattle.working_frame.specs.Turned.{box_size}
+use Rattle.level_io.specs.Back.{size_of}
+use Rattle.compound.proofs.PlanLemmas.{plans_stay}
+use Rattle.compound.proofs.NestedLemmas.{planned_boxes_are_small}
+use Rattle.compound.specs.Rooted.{AreRootPortsPlaced, IsRootBox}
+use Rattle.compound.specs.Whole.{IsLaidOutDocument, IsWellDrawnDocument}
+use Rattle.compound.proofs.WholeLemmas.{documents_are_drawn}
 use Rattle.compound.specs.Work.{IsWork}
 use Rattle.compound.proofs.TreeLemmas.{child_after}
 

@@ -1,6 +1,6 @@
 -- As many layers as boxes.
 use Rattle.std.proofs.Common.{◌≡◌, ℕ, zero, suc, ◌+◌, ◌<◌, List, [], ◌∷◌, ◌++◌, length, take, refl, ap, ◌∙◌, arith}
-use Rattle.elk_doc.specs.declared.shape.Point.{Point}
+use Rattle.drawing_types.specs.declared.shape.Point.{Point}
 use Rattle.compound.specs.Figures.{layers_for}
 
 one_more : (xs : List Point) (i : ℕ) → i < length xs → layers_for (take i xs) ++ 0 ∷ [] ≡ layers_for (take (i + 1) xs)

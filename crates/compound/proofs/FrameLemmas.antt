@@ -3,32 +3,33 @@ use Rattle.std.proofs.Common.{◌≡◌, ◌≢◌, inl, inr, ⊎_elim, ℕ, suc
 use Rattle.std.specs.Prelude.{IfSome, IsFalse, IsNone, IsTrue, Option, Some}
 use Rattle.std.proofs.lemmas.Bool.{both_ways, cases_Bool, cases_eq}
 use Rattle.std.proofs.lemmas.List.{get_or-set_other, get_or-set_same, length-set}
-use Rattle.elk_doc.specs.declared.shape.Rect.{Rect}
-use Rattle.elk_doc.specs.declared.shape.Size.{Size}
+use Rattle.drawing_types.specs.declared.shape.Rect.{Rect}
+use Rattle.drawing_types.specs.declared.shape.Size.{Size}
 use Rattle.elk_doc.specs.declared.document.LevelOptions.{LevelOptions}
 use Rattle.elk_doc.specs.declared.drawing.Placed.{Placed}
-use Rattle.elk_doc.specs.Document.{Document, no_size, node_at}
+use Rattle.elk_doc.specs.Document.{Document, node_at}
+use Rattle.drawing_types.specs.Shapes.{no_size}
 use Rattle.elk_doc.specs.Level.{IsChild}
 use Rattle.elk_doc.specs.Drawing.{box_of, certificate_of}
 use Rattle.elk_doc.specs.Fits.{IsRooted, KeepsSize}
 use Rattle.elk_doc.specs.Sound.{IsSound, IsSoundLevel}
 use Rattle.route_lines.specs.Points.{PlainGap}
-use Rattle.level_plan.specs.FromPlan.{PlainTrace}
+use Rattle.level_model.specs.FromPlan.{PlainTrace}
 use Rattle.level_nets.specs.Held.{plain_gaps}
-use Rattle.level_traces.specs.Traced.{plain_traces}
-use Rattle.level_frame.specs.Drawing.{IsTurnedDrawing}
-use Rattle.level_frame.specs.Turned.{box_size, level_of}
-use Rattle.level_frame.proofs.KeptLemmas.{drawings_read_levels, levels_read_sizes}
-use Rattle.level_laws.specs.Framed.{start_of}
-use Rattle.document_levels.specs.Read.{size_at}
-use Rattle.document_levels.specs.declared.figure.LevelFigure.{LevelFigure}
-use Rattle.document_levels.specs.Back.{size_of}
-use Rattle.document_levels.specs.Figure.{figure_in}
-use Rattle.document_levels.specs.Sizes.{IsSizeRound}
-use Rattle.document_levels.specs.Written.{HasCertificate}
-use Rattle.document_plan.specs.Parted.{IsPartedPlan}
-use Rattle.document_plan.specs.Planned.{ArePlannedFrom, IsLayeredPlan, IsPlannedLevel}
-use Rattle.document_plan.proofs.PlanLemmas.{plans_stay}
+use Rattle.level_draw.specs.Traced.{plain_traces}
+use Rattle.working_frame.specs.Drawing.{IsTurnedDrawing}
+use Rattle.working_frame.specs.Turned.{box_size, level_of}
+use Rattle.working_frame.proofs.KeptLemmas.{drawings_read_levels, levels_read_sizes}
+use Rattle.turned_levels.specs.Framed.{start_of}
+use Rattle.level_io.specs.Read.{size_at}
+use Rattle.level_io.specs.declared.figure.LevelFigure.{LevelFigure}
+use Rattle.level_io.specs.Back.{size_of}
+use Rattle.level_io.specs.Figure.{figure_in}
+use Rattle.level_io.specs.Sizes.{IsSizeRound}
+use Rattle.level_io.specs.Written.{HasCertificate}
+use Rattle.compound.specs.Parted.{IsPartedPlan}
+use Rattle.compound.specs.Planned.{ArePlannedFrom, IsLayeredPlan, IsPlannedLevel}
+use Rattle.compound.proofs.PlanLemmas.{plans_stay}
 use Rattle.compound.specs.Figures.{IsLayered, IsParted}
 use Rattle.compound.specs.Work.{IsFigureOf, IsFramedRound, IsWork}
 use Rattle.compound.proofs.BoxLemmas.{boxed_planned}

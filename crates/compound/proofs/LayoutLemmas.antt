@@ -3,8 +3,8 @@ use Rattle.std.proofs.Common.{◌≡◌, inl, inr, ℕ, suc, ◌<◌, ◌≤◌,
 use Rattle.std.specs.Prelude.{Option, Some, IfSome, IsTrue}
 use Rattle.std.proofs.lemmas.Bool.{cases_Bool}
 use Rattle.std.proofs.lemmas.Int.{ints}
-use Rattle.elk_doc.specs.declared.shape.Rect.{Rect}
-use Rattle.elk_doc.specs.declared.shape.Size.{Size}
+use Rattle.drawing_types.specs.declared.shape.Rect.{Rect}
+use Rattle.drawing_types.specs.declared.shape.Size.{Size}
 use Rattle.elk_doc.specs.declared.document.LevelOptions.{LevelOptions}
 use Rattle.elk_doc.specs.declared.drawing.Placed.{Placed}
 use Rattle.elk_doc.specs.Document.{Document, node_at}
@@ -12,36 +12,36 @@ use Rattle.elk_doc.specs.Level.{children, edges_of, IsChild}
 use Rattle.elk_doc.specs.Drawing.{box_of}
 use Rattle.elk_doc.specs.Sound.{IsDistance, IsSound, IsSoundLevel, IsSoundSpacing}
 use Rattle.port_order.specs.Conditions.{IsSmall}
-use Rattle.level_plan.specs.declared.level.LevelIn.{LevelIn}
-use Rattle.level_plan.specs.Conditions.{IsLevel, plain_level}
-use Rattle.level_plan.specs.FromPlan.{IsDrawnFrom}
-use Rattle.level_plan.specs.Level.{PlainLevel, PlainPlan}
-use Rattle.level_plan.proofs.Lists.{has_at}
+use Rattle.level_model.specs.declared.level.LevelIn.{LevelIn}
+use Rattle.level_model.specs.Conditions.{IsLevel, plain_level}
+use Rattle.level_model.specs.FromPlan.{IsDrawnFrom}
+use Rattle.level_model.specs.Level.{PlainLevel, PlainPlan}
+use Rattle.level_model.proofs.Lists.{has_at}
 use Rattle.level_nets.specs.Held.{plain_gaps}
-use Rattle.level_traces.specs.Traced.{plain_traces}
-use Rattle.level_boxes.specs.Boxes.{alone}
+use Rattle.level_draw.specs.Traced.{plain_traces}
+use Rattle.level_split.specs.Boxes.{alone}
 use Rattle.level_draw.specs.declared.drawing.LevelOut.{LevelOut}
 use Rattle.level_draw.specs.Drawing.{IsTight, drawn_in, plan_from}
-use Rattle.level_frame.specs.Turned.{level_of}
-use Rattle.level_frame.proofs.NumberedLemmas.{levels_are_listed}
-use Rattle.level_laws.proofs.EdgeLemmas.{has_holds}
-use Rattle.level_laws.proofs.Bounded.{extents_small}
-use Rattle.document_levels.specs.Levels.{HasRoom}
-use Rattle.document_levels.specs.Read.{AreSizes, HasSizes}
-use Rattle.document_levels.proofs.LevelLemmas.{levels_are_levels}
-use Rattle.document_levels.specs.Back.{size_of}
-use Rattle.document_levels.specs.Ranges.{IsLongBox, IsLongSize}
-use Rattle.document_levels.specs.declared.figure.LevelFigure.{LevelFigure}
-use Rattle.document_levels.specs.Figure.{figure_of}
-use Rattle.document_levels.specs.Room.{HasPlaces}
-use Rattle.document_levels.specs.Written.{ArePortPlaces, IsWritable}
-use Rattle.document_levels.proofs.RoomLemmas.{writable}
+use Rattle.working_frame.specs.Turned.{level_of}
+use Rattle.working_frame.proofs.NumberedLemmas.{levels_are_listed}
+use Rattle.turned_levels.proofs.EdgeLemmas.{has_holds}
+use Rattle.turned_levels.proofs.Bounded.{extents_small}
+use Rattle.level_io.specs.Levels.{HasRoom}
+use Rattle.level_io.specs.Read.{AreSizes, HasSizes}
+use Rattle.level_io.proofs.LevelLemmas.{levels_are_levels}
+use Rattle.level_io.specs.Back.{size_of}
+use Rattle.level_io.specs.Ranges.{IsLongBox, IsLongSize}
+use Rattle.level_io.specs.declared.figure.LevelFigure.{LevelFigure}
+use Rattle.level_io.specs.Figure.{figure_of}
+use Rattle.level_io.specs.Room.{HasPlaces}
+use Rattle.level_io.specs.Written.{ArePortPlaces, IsWritable}
+use Rattle.level_io.proofs.RoomLemmas.{writable}
 use Rattle.level_layout.specs.Layout.{IsLaidOut}
-use Rattle.document_plan.specs.Planned.{ArePlannedFrom}
-use Rattle.document_plan.proofs.EdgeLemmas.{edges_none}
-use Rattle.document_plan.specs.Nested.{IsSmallBox}
-use Rattle.document_plan.proofs.NestedLemmas.{planned_boxes_are_small, planned_levels_have_room}
-use Rattle.level_laws.specs.Joined.{with_gaps}
+use Rattle.compound.specs.Planned.{ArePlannedFrom}
+use Rattle.compound.proofs.EdgeLemmas.{edges_none}
+use Rattle.compound.specs.Nested.{IsSmallBox}
+use Rattle.compound.proofs.NestedLemmas.{planned_boxes_are_small, planned_levels_have_room}
+use Rattle.turned_levels.specs.Joined.{with_gaps}
 use Rattle.level_split.specs.declared.layout.PartsOut.{PartsOut}
 use Rattle.level_split.specs.Laws.{IsPartedDrawing}
 use Rattle.level_split.specs.Parts.{IsPartsLayout, whole_drawing}

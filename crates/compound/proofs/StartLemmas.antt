@@ -2,16 +2,17 @@
 use Rattle.std.proofs.Common.{◌≡◌, ℕ, ◌<◌, List, length, map, None, sym, ap, ◌∙◌, subst, arith}
 use Rattle.std.proofs.lemmas.List.{get_or-map, length-map}
 use Rattle.std.proofs.Math.ListN.{get_or-map as get_or-map_all}
-use Rattle.elk_doc.specs.declared.shape.Rect.{Rect}
-use Rattle.elk_doc.specs.declared.shape.Size.{Size}
+use Rattle.drawing_types.specs.declared.shape.Rect.{Rect}
+use Rattle.drawing_types.specs.declared.shape.Size.{Size}
 use Rattle.elk_doc.specs.declared.document.Node.{Node}
 use Rattle.elk_doc.specs.declared.drawing.Placed.{Placed}
-use Rattle.elk_doc.specs.Document.{Document, no_node, no_size, node_at}
+use Rattle.elk_doc.specs.Document.{Document, no_node, node_at}
+use Rattle.drawing_types.specs.Shapes.{no_size}
 use Rattle.elk_doc.specs.Drawing.{box_of, certificate_of, no_rect}
 use Rattle.elk_doc.specs.Sound.{IsSound}
-use Rattle.level_frame.specs.Turned.{box_size}
-use Rattle.document_levels.specs.Back.{size_of}
-use Rattle.document_levels.specs.Canvas.{IsDrawingOf, blank_box, blank_drawing}
+use Rattle.working_frame.specs.Turned.{box_size}
+use Rattle.level_io.specs.Back.{size_of}
+use Rattle.level_io.specs.Canvas.{IsDrawingOf, blank_box, blank_drawing}
 use Rattle.compound.specs.Work.{IsWork, given_size}
 
 blank_at : (d : Document) (n : ℕ) → n < length d.nodes → box_of (blank_drawing d) n ≡ blank_box (node_at d n)

@@ -4,10 +4,10 @@ use Rattle.std.specs.Prelude.{Option, None, Some, IfSome, IsSome}
 use Rattle.elk_doc.specs.declared.document.LevelOptions.{LevelOptions}
 use Rattle.elk_doc.specs.declared.drawing.Placed.{Placed}
 use Rattle.elk_doc.specs.Document.{Document}
-use Rattle.document_levels.specs.declared.figure.LevelFigure.{LevelFigure}
-use Rattle.document_levels.specs.Canvas.{IsDrawingOf}
-use Rattle.document_levels.specs.Sizes.{IsNodeFramed}
-use Rattle.document_levels.specs.Written.{IsWritten}
+use Rattle.level_io.specs.declared.figure.LevelFigure.{LevelFigure}
+use Rattle.level_io.specs.Canvas.{IsDrawingOf}
+use Rattle.level_io.specs.Sizes.{IsNodeFramed}
+use Rattle.level_io.specs.Written.{IsWritten}
 use Rattle.compound.specs.Work.{IsFramedRound}
 
 module _ (d : Document) (n : ℕ) (v : LevelFigure) (old between : Placed) where

@@ -1,17 +1,17 @@
 -- The drawing of a level, as one of layers or of boxes.
 use Rattle.std.specs.Prelude.{◌≡◌, ℕ, List, [], map, IsFalse, IsTrue}
-use Rattle.elk_doc.specs.declared.shape.Point.{Point}
+use Rattle.drawing_types.specs.declared.shape.Point.{Point}
 use Rattle.elk_doc.specs.declared.document.LevelOptions.{LevelOptions}
 use Rattle.elk_doc.specs.declared.drawing.Certificate.{Certificate}
-use Rattle.level_plan.specs.declared.level.LevelIn.{LevelIn}
+use Rattle.level_model.specs.declared.level.LevelIn.{LevelIn}
 use Rattle.level_draw.specs.declared.drawing.LevelOut.{LevelOut}
 use Rattle.level_layout.specs.Layout.{IsLaidOut}
-use Rattle.level_boxes.specs.declared.layout.BoxesOut.{BoxesOut}
-use Rattle.level_boxes.specs.Boxes.{HasRoom, IsBoxesLayout}
+use Rattle.level_split.specs.declared.boxes_layout.BoxesOut.{BoxesOut}
+use Rattle.level_split.specs.Boxes.{HasRoom, IsBoxesLayout}
 use Rattle.level_split.specs.declared.layout.PartsOut.{PartsOut}
 use Rattle.level_split.specs.Parts.{IsPartsLayout}
-use Rattle.document_levels.specs.declared.figure.LevelFigure.{LevelFigure}
-use Rattle.document_levels.specs.Figure.{figure_of}
+use Rattle.level_io.specs.declared.figure.LevelFigure.{LevelFigure}
+use Rattle.level_io.specs.Figure.{figure_of}
 
 -- a layer for each box, and nothing turned round
 abbrev pub layers_for : List Point → List ℕ

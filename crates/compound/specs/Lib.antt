@@ -1,2 +1,12 @@
+pub mod Boxed
+pub mod Boxes
+pub mod Examples
 pub mod Figures
+pub mod Laws
+pub mod Nested
+pub mod Parted
+pub mod PartedDrawn
+pub mod Planned
+pub mod Rooted
+pub mod Whole
 pub mod Work

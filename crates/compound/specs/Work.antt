@@ -1,21 +1,21 @@
 -- A drawing of a document in work.
 use Rattle.std.specs.Prelude.{◌≡◌, ℕ, ◌<◌, List, length, None, IsNone}
-use Rattle.elk_doc.specs.declared.shape.Size.{Size}
+use Rattle.drawing_types.specs.declared.shape.Size.{Size}
 use Rattle.elk_doc.specs.declared.document.LevelOptions.{LevelOptions}
 use Rattle.elk_doc.specs.declared.document.Node.{Node}
 use Rattle.elk_doc.specs.declared.drawing.Placed.{Placed}
 use Rattle.elk_doc.specs.Document.{Document, node_at}
 use Rattle.elk_doc.specs.Drawing.{certificate_of}
 use Rattle.elk_doc.specs.Fits.{IsRooted}
-use Rattle.level_plan.specs.declared.level.LevelIn.{LevelIn}
-use Rattle.level_plan.specs.Conditions.{plain_level}
-use Rattle.document_levels.specs.declared.figure.LevelFigure.{LevelFigure}
-use Rattle.level_frame.specs.Turned.{box_size, level_of}
-use Rattle.document_levels.specs.Read.{size_at}
-use Rattle.document_levels.specs.Canvas.{IsDrawingOf}
-use Rattle.document_levels.specs.Sizes.{IsNodeFramed}
-use Rattle.document_levels.specs.Written.{IsWritten}
-use Rattle.document_plan.specs.Planned.{ArePlannedFrom}
+use Rattle.level_model.specs.declared.level.LevelIn.{LevelIn}
+use Rattle.level_model.specs.Conditions.{plain_level}
+use Rattle.level_io.specs.declared.figure.LevelFigure.{LevelFigure}
+use Rattle.working_frame.specs.Turned.{box_size, level_of}
+use Rattle.level_io.specs.Read.{size_at}
+use Rattle.level_io.specs.Canvas.{IsDrawingOf}
+use Rattle.level_io.specs.Sizes.{IsNodeFramed}
+use Rattle.level_io.specs.Written.{IsWritten}
+use Rattle.compound.specs.Planned.{ArePlannedFrom}
 use Rattle.compound.specs.Figures.{IsFigureIn}
 
 -- the size that a document gives a node

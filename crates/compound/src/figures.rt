@@ -1,18 +1,17 @@
 //! The drawing of a level, as one of layers, of parts or of boxes.
 ghost use Rattle.std.specs.Prelude.{◌≡◌, IfOk};
-ghost use Rattle.level_plan.specs.Conditions.{plain_level, IsLevel};
+ghost use Rattle.level_model.specs.Conditions.{plain_level, IsLevel};
 ghost use Rattle.elk_doc.specs.Sound.{IsDistance};
 ghost use Rattle.compound.specs.Figures.{IsBoxed, IsFigureIn, IsLayered, IsParted, figure_of_boxes, flat_certificate, layers_for};
 
-use document_levels::{LevelFigure, figure_of};
+use drawing_types::list::Items;
+use drawing_types::shape::Point;
 use elk_doc::document::LevelOptions;
 use elk_doc::drawing::Certificate;
-use elk_doc::list::Items;
-use elk_doc::shape::Point;
-use level_boxes::{BoxesOut, layout_boxes};
+use level_io::{LevelFigure, figure_of};
 use level_layout::layout_level;
-use level_plan::LevelIn;
-use level_split::layout_parts;
+use level_model::LevelIn;
+use level_split::{BoxesOut, layout_boxes, layout_parts};
 use std::alloc::{AllocError, Global};
 
 // Layer 0 for each box.

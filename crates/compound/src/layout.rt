@@ -4,24 +4,24 @@ ghost use Rattle.elk_doc.specs.Document.{node_at};
 ghost use Rattle.elk_doc.specs.Drawn.{Drawn};
 ghost use Rattle.elk_doc.specs.Fitted.{Fitted};
 ghost use Rattle.elk_doc.specs.Sound.{IsSound};
-ghost use Rattle.level_frame.specs.Turned.{box_size};
-ghost use Rattle.document_levels.specs.Indexed.{IsIndex};
-ghost use Rattle.document_levels.specs.Canvas.{IsDrawingOf, drawing_of};
-ghost use Rattle.document_levels.specs.Written.{IsWritable};
-ghost use Rattle.document_plan.specs.Planned.{Planned};
+ghost use Rattle.working_frame.specs.Turned.{box_size};
+ghost use Rattle.level_io.specs.Indexed.{IsIndex};
+ghost use Rattle.level_io.specs.Canvas.{IsDrawingOf, drawing_of};
+ghost use Rattle.level_io.specs.Written.{IsWritable};
+ghost use Rattle.compound.specs.Planned.{Planned};
 ghost use Rattle.drawing_laws.specs.Held.{HasSmallCoordinates};
 ghost use Rattle.compound.specs.Work.{IsFigureOf, IsFramedRound, IsWork};
 
 use crate::figures::figure_in;
+use crate::place_root_ports;
 use crate::sizes::given_sizes;
-use document_levels::{
+use drawing_types::shape::Size;
+use elk_doc::document::{Doc, LevelOptions};
+use elk_doc::drawing::Placed;
+use level_io::{
     Canvas, Index, LevelFigure, LevelNumbers, blank, frame_node, index_of, level_in, placed,
     write_level,
 };
-use document_plan::place_root_ports;
-use elk_doc::document::{Doc, LevelOptions};
-use elk_doc::drawing::Placed;
-use elk_doc::shape::Size;
 use std::alloc::{AllocError, Global};
 
 // A drawing in work, with the sizes of its boxes by node.

@@ -2,8 +2,8 @@
 ghost use Rattle.std.specs.Prelude.{◌≡◌, IfOk, map};
 ghost use Rattle.compound.specs.Work.{given_size};
 
+use drawing_types::shape::Size;
 use elk_doc::document::Node;
-use elk_doc::shape::Size;
 use std::alloc::{AllocError, Global};
 
 /// The sizes that a document gives its nodes: none to a compound node. The only error is want of memory.

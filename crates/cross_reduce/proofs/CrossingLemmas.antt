@@ -8,7 +8,7 @@ use Rattle.std.proofs.lemmas.List.Sorted.{sum_by-IsPermutation}
 use Rattle.elk_layers.specs.declared.units.Link.{Link}
 use Rattle.elk_layers.specs.Layered.{Plain, gap_of, tail_key, head_key}
 use Rattle.elk_layers.specs.Crossings.{cross, crossings_among, crossings}
-use Rattle.cross_reduce.specs.declared.counting.Pin.{Pin}
+use Rattle.cross_reduce.specs.declared.counting.LinkEnd.{LinkEnd}
 use Rattle.cross_reduce.specs.Pins.{pin_of, pins_of, is_under, crossed}
 use Rattle.cross_reduce.proofs.Sums.{one_if, double, sum_same, sum_plus, sum_map}
 use Rattle.cross_reduce.proofs.PairLemmas.{any_pair}
@@ -66,13 +66,13 @@ among l rows (x ∷ xs) =
 pub crossings_are : (l : Plain) (rows : List (List ℕ)) → crossings l rows ≡ double (any_pair l rows) l.links
 crossings_are l rows = among l rows l.links
 
-abbrev under : Pin → Pin → ℕ
+abbrev under : LinkEnd → LinkEnd → ℕ
 under b a = one_if (is_under b a)
 
-pub crossed_permuted : (xs ys : List Pin) → IsPermutation xs ys → crossed ys ≡ crossed xs
+pub crossed_permuted : (xs ys : List LinkEnd) → IsPermutation xs ys → crossed ys ≡ crossed xs
 crossed_permuted xs ys p =
-    sum_same (λ (a : Pin). sum_by (λ b. under b a) ys) (λ a. sum_by (λ b. under b a) xs) ys (λ a. sum_by-IsPermutation (λ b. under b a) xs ys p)
-    ∙ sum_by-IsPermutation (λ (a : Pin). sum_by (λ b. under b a) xs) xs ys p
+    sum_same (λ (a : LinkEnd). sum_by (λ b. under b a) ys) (λ a. sum_by (λ b. under b a) xs) ys (λ a. sum_by-IsPermutation (λ b. under b a) xs ys p)
+    ∙ sum_by-IsPermutation (λ (a : LinkEnd). sum_by (λ b. under b a) xs) xs ys p
 
 pub crossed_is : (l : Plain) (rows : List (List ℕ)) → crossed (pins_of l rows) ≡ crossings l rows
 crossed_is l rows =

@@ -14,27 +14,27 @@ use std::alloc::{AllocError, Global};
 
 /// A link by its gap and the keys of its ends.
 #[derive(Clone, Copy)]
-struct Pin {
+struct LinkEnd {
     gap: u32,
     tail: u32,
     head: u32,
 }
 
 /// Where a link begins: by gap, and in it by tail key.
-fn start(pin: &Pin) -> u64
+fn start(pin: &LinkEnd) -> u64
     ensures { result ≡ start_of pin.now }
 {
     pin.gap as u64 * 4294967296 + pin.tail as u64
 }
 
 /// A link's gap and keys.
-fn pin_for(layered: &Layered, place: &[u32], link: Link) -> Pin
+fn pin_for(layered: &Layered, place: &[u32], link: Link) -> LinkEnd
     requires places { FitPlaces (plain layered.now) place.now }
     requires link { IsSoundLink (plain layered.now) link }
     ensures { result ≡ pin_from (plain layered.now) place.now link }
 {
     let units = layered.units.as_slice();
-    Pin {
+    LinkEnd {
         gap: units[link.tail as usize].layer,
         tail: place[link.tail as usize] * 65536 + link.tail_rank,
         head: place[link.head as usize] * 65536 + link.head_rank,
@@ -42,7 +42,7 @@ fn pin_for(layered: &Layered, place: &[u32], link: Link) -> Pin
 }
 
 /// All links, from gap to gap, and in a gap by tail key.
-fn sorted_pins(alloc: Global, layered: &Layered, place: &[u32]) -> Result<Vec<Pin>, AllocError>
+fn sorted_pins(alloc: Global, layered: &Layered, place: &[u32]) -> Result<Vec<LinkEnd>, AllocError>
     requires sound { IsSound (plain layered.now) }
     requires places { FitPlaces (plain layered.now) place.now }
     ensures permutation { IfOk result (λ v. IsPermutation (map (pin_from (plain layered.now) place.now) (plain layered.now).links) v.items) }
@@ -58,8 +58,8 @@ fn sorted_pins(alloc: Global, layered: &Layered, place: &[u32]) -> Result<Vec<Pi
 }
 
 /// The head keys, in the same order.
-fn head_keys(alloc: Global, pins: &[Pin]) -> Result<Vec<u32>, AllocError>
-    ensures { IfOk result (λ v. v.items ≡ map (λ (p : Pin). p.head) pins.now) }
+fn head_keys(alloc: Global, pins: &[LinkEnd]) -> Result<Vec<u32>, AllocError>
+    ensures { IfOk result (λ v. v.items ≡ map (λ (p : LinkEnd). p.head) pins.now) }
 {
     let mut heads = Vec::with_capacity(alloc, pins.len())?;
     for pin in pins {
@@ -69,7 +69,7 @@ fn head_keys(alloc: Global, pins: &[Pin]) -> Result<Vec<u32>, AllocError>
 }
 
 /// How many links begin before a place.
-fn begin_before(pins: &[Pin], place: u64) -> usize
+fn begin_before(pins: &[LinkEnd], place: u64) -> usize
     requires { IsNonDecreasingBy start_of pins.now }
     ensures bound { result ≤ length pins.now }
     ensures before { (j : ℕ) → j < result → start_of (pin_at pins.now j) < place }
@@ -107,7 +107,7 @@ fn highest(heads: &[u32]) -> u32
 
 /// How many links begin before a place, where it is known of one that may be the same, and how far those between it and a
 /// link end.
-fn begin_again(pins: &[Pin], heads: &[u32], known: Begin, place: u64, i: usize) -> Begin
+fn begin_again(pins: &[LinkEnd], heads: &[u32], known: Begin, place: u64, i: usize) -> Begin
     requires sorted { IsNonDecreasingBy start_of pins.now }
     requires heads { length heads.now ≡ length pins.now }
     requires pin { i < length pins.now }
@@ -130,7 +130,7 @@ fn begin_again(pins: &[Pin], heads: &[u32], known: Begin, place: u64, i: usize) 
 }
 
 /// How many links begin before a link.
-fn begin_before_pin(pins: &[Pin], i: usize) -> usize
+fn begin_before_pin(pins: &[LinkEnd], i: usize) -> usize
     requires sorted { IsNonDecreasingBy start_of pins.now }
     requires pin { i < length pins.now }
     ensures { IsBegin pins.now (start_of (pin_at pins.now i)) result }
@@ -154,10 +154,10 @@ fn count_over(heads: &[u32], key: u32, highest: u32) -> u64
 }
 
 /// How many links begin above a link of their gap and end below it, where it is known how many begin before the gap.
-fn crossed_by(pins: &[Pin], heads: &[u32], i: usize, gap: Begin) -> u64
+fn crossed_by(pins: &[LinkEnd], heads: &[u32], i: usize, gap: Begin) -> u64
     requires sorted { IsNonDecreasingBy start_of pins.now }
     requires fits { All HasSmallTail pins.now }
-    requires heads { heads.now ≡ map (λ (p : Pin). p.head) pins.now }
+    requires heads { heads.now ≡ map (λ (p : LinkEnd). p.head) pins.now }
     requires pin { i < length pins.now }
     requires place { gap.place ≡ (pin_at pins.now i).gap * 4294967296 }
     requires gap { IsBegin pins.now gap.place gap.count }
@@ -183,10 +183,10 @@ fn with_head(known: Begin, head: u32) -> Begin
 }
 
 /// The crossings among these links.
-fn crossed_links(pins: &[Pin], heads: &[u32]) -> u64
+fn crossed_links(pins: &[LinkEnd], heads: &[u32]) -> u64
     requires sorted { IsNonDecreasingBy start_of pins.now }
     requires fits { All HasSmallTail pins.now }
-    requires heads { heads.now ≡ map (λ (p : Pin). p.head) pins.now }
+    requires heads { heads.now ≡ map (λ (p : LinkEnd). p.head) pins.now }
     requires few { length pins.now ≤ 2 ^ 24 }
     ensures { result ≡ crossed pins.now }
 {

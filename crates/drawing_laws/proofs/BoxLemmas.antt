@@ -2,13 +2,13 @@
 use Rattle.std.proofs.Common.{ℕ, zero, suc, ◌<◌, length, All, arith}
 use Rattle.std.proofs.lemmas.Int.{ints}
 use Rattle.std.proofs.lemmas.List.Elements.{All-from_get_or}
-use Rattle.elk_doc.specs.declared.shape.Rect.{Rect}
+use Rattle.drawing_types.specs.declared.shape.Rect.{Rect}
 use Rattle.elk_doc.specs.declared.drawing.Placed.{Placed}
 use Rattle.elk_doc.specs.Document.{Document, parent_of}
 use Rattle.elk_doc.specs.Drawing.{box_of, no_rect}
 use Rattle.elk_doc.specs.Fits.{FitsBox, IsRooted}
 use Rattle.elk_doc.specs.Places.{outline_of}
-use Rattle.elk_doc.specs.Shapes.{Holds}
+use Rattle.drawing_types.specs.Shapes.{Holds}
 use Rattle.elk_doc.specs.Sound.{IsSound}
 use Rattle.elk_doc.proofs.PlaceLaws.{outline_to-least}
 use Rattle.elk_doc.proofs.SoundLaws.{parent_of-in}

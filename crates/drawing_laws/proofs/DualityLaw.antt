@@ -16,7 +16,7 @@ use Rattle.elk_doc.specs.Layering.{span_of}
 use Rattle.elk_doc.proofs.SoundLaws.{node_of_end-in}
 use Rattle.drawing_laws.specs.Duality.{FlowShowsLeast}
 use Rattle.drawing_laws.proofs.Sums.{over, over_same, over_sum, over_none, over_one, sum_below-zero, sum_below-suc, sum_below-pass, sum_below-fail, total_below-zero, total_below-pass, total_below-fail, sum_below-split, sum_below-le, sum_below-more}
-use Rattle.elk_doc.proofs.NumberLaws.{bool_cases}
+use Rattle.drawing_types.proofs.SmallNumbers.{bool_cases}
 
 -- an edge of a level with this end at the node a, and no self-loop
 abbrev at_end : (ℕ → Bool) → (ℕ → Bool) → (ℕ → ℕ) → ℕ → ℕ → Bool

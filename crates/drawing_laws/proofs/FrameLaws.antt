@@ -1,11 +1,11 @@
 -- Whole definitions in the frame of a direction.
 use Rattle.std.proofs.Common.{◌≡◌, ◌⊎◌, ⊎_elim, ◌↔◌, ◌∙◌, sym, subst, ℕ, ℤ, neg_ℤ, inl, inr, refl, ap, ap₂, arith}
 use Rattle.std.proofs.lemmas.Int.{ints, clamps}
-use Rattle.elk_doc.specs.declared.shape.Point.{Point}
-use Rattle.elk_doc.specs.declared.shape.Rect.{Rect}
-use Rattle.elk_doc.specs.declared.shape.Side.{Side}
-use Rattle.elk_doc.specs.declared.shape.Side.TheVariants.{North, East, South, West}
-use Rattle.elk_doc.specs.declared.shape.Dock.{Dock}
+use Rattle.drawing_types.specs.declared.shape.Point.{Point}
+use Rattle.drawing_types.specs.declared.shape.Rect.{Rect}
+use Rattle.drawing_types.specs.declared.shape.Side.{Side}
+use Rattle.drawing_types.specs.declared.shape.Side.TheVariants.{North, East, South, West}
+use Rattle.drawing_types.specs.declared.shape.Dock.{Dock}
 use Rattle.elk_doc.specs.declared.document.Direction.{Direction}
 use Rattle.elk_doc.specs.declared.document.Direction.TheVariants.{Right, Left, Down, Up}
 use Rattle.elk_doc.specs.declared.document.Padding.{Padding}
@@ -14,11 +14,11 @@ use Rattle.elk_doc.specs.declared.drawing.Placed.{Placed}
 use Rattle.elk_doc.specs.Document.{Document}
 use Rattle.elk_doc.specs.Drawing.{box_of}
 use Rattle.elk_doc.specs.Shapes.{turned}
-use Rattle.elk_doc.specs.Segments.{IsBetween, IsOnSegment, Share}
+use Rattle.drawing_types.specs.Segments.{IsBetween, IsOnSegment, Share}
 use Rattle.elk_doc.specs.Places.{outline_of, offset_on}
-use Rattle.elk_doc.specs.Apart.{StandsClear}
+use Rattle.drawing_types.specs.Clearance.{StandsClear}
 use Rattle.elk_doc.specs.Inside.{Inside, IsWithinPadding}
-use Rattle.elk_doc.proofs.ShapeLaws.{same_rect}
+use Rattle.drawing_types.proofs.SameShapes.{same_rect}
 use Rattle.elk_doc.proofs.PathLemmas.{orthogonal_there, orthogonal_back, clear_there, clear_back, share_there, share_back}
 use Rattle.drawing_laws.specs.Turning.{turned_point, turned_side}
 use Rattle.drawing_laws.specs.Frames.{TurnsBack, DocksTurn, PathsTurn, DistancesTurn, InsideIn, point_back, rect_back, side_back, turned_offset, turned_dock, turned_padding, turned_within}

@@ -2,9 +2,10 @@
 use Rattle.std.proofs.Common.{arith}
 use Rattle.std.proofs.lemmas.Int.{ints}
 use Rattle.std.proofs.lemmas.List.Elements.{All-weaker}
-use Rattle.elk_doc.specs.declared.shape.Point.{Point}
-use Rattle.elk_doc.specs.declared.drawing.Section.{Section}
-use Rattle.elk_doc.specs.Fits.{FitsSection, IsNear}
+use Rattle.drawing_types.specs.declared.shape.Point.{Point}
+use Rattle.drawing_types.specs.declared.section.Section.{Section}
+use Rattle.elk_doc.specs.Fits.{FitsSection}
+use Rattle.drawing_types.specs.Ranges.{IsNear}
 use Rattle.drawing_laws.specs.Held.{HeldDrawingsAreSmall, HeldDrawingsFit, IsSmallPoint, IsSmallSection}
 use Rattle.drawing_laws.proofs.BoxLemmas.{boxes_fit, boxes_small}
 use Rattle.drawing_laws.proofs.PortLemmas.{ports_small}

@@ -1,7 +1,7 @@
 -- What the level of a node's parent says of the node.
 use Rattle.std.proofs.Common.{◌≡◌, ℕ, ◌<◌, ◌^◌, length, Option, Some, None, unwrap_or, IsTrue, IsSome, IfSome, pos, refl, subst, eq-eqb, arith, rules}
 use Rattle.std.proofs.lemmas.Int.{ints}
-use Rattle.elk_doc.specs.declared.shape.Rect.{Rect}
+use Rattle.drawing_types.specs.declared.shape.Rect.{Rect}
 use Rattle.elk_doc.specs.declared.document.LevelOptions.{LevelOptions}
 use Rattle.elk_doc.specs.declared.document.Padding.{Padding}
 use Rattle.elk_doc.specs.declared.drawing.Placed.{Placed}
@@ -9,7 +9,7 @@ use Rattle.elk_doc.specs.Document.{Document, node_at, parent_of}
 use Rattle.elk_doc.specs.Drawing.{box_of}
 use Rattle.elk_doc.specs.Inside.{IsWithinPadding}
 use Rattle.elk_doc.specs.Level.{IsChild, is_number}
-use Rattle.elk_doc.specs.Shapes.{Holds}
+use Rattle.drawing_types.specs.Shapes.{Holds}
 use Rattle.elk_doc.specs.Sound.{IsSound, IsSoundLevel, IsSoundPadding}
 use Rattle.drawing_laws.specs.Held.{IsHeld, IsModest}
 

@@ -2,23 +2,25 @@
 use Rattle.std.proofs.Common.{◌≡◌, ℕ, zero, suc, ◌<◌, ◌⊎◌, inl, inr, ⊎_elim, Bool, true, false, ◌&&◌, length, All, not, Option, Some, None, IfSome, IsTrue, IsFalse, IsSome, is_none, is_some, ℤ, pos, neg_ℤ, ◌^◌, ◌+ℤ◌, ◌-ℤ◌, ◌≤ℤ◌, refl, sym, subst, arith, rules}
 use Rattle.std.proofs.lemmas.Int.{ints}
 use Rattle.std.proofs.lemmas.List.Elements.{All-from_get_or}
-use Rattle.elk_doc.specs.declared.shape.Point.{Point}
-use Rattle.elk_doc.specs.declared.shape.Size.{Size}
-use Rattle.elk_doc.specs.declared.shape.Rect.{Rect}
-use Rattle.elk_doc.specs.declared.shape.Side.{Side}
-use Rattle.elk_doc.specs.declared.shape.Side.TheVariants.{North, East, South, West}
+use Rattle.drawing_types.specs.declared.shape.Point.{Point}
+use Rattle.drawing_types.specs.declared.shape.Size.{Size}
+use Rattle.drawing_types.specs.declared.shape.Rect.{Rect}
+use Rattle.drawing_types.specs.declared.shape.Side.{Side}
+use Rattle.drawing_types.specs.declared.shape.Side.TheVariants.{North, East, South, West}
 use Rattle.elk_doc.specs.declared.document.Direction.{Direction}
 use Rattle.elk_doc.specs.declared.document.LevelOptions.{LevelOptions}
 use Rattle.elk_doc.specs.declared.document.PortRule.{PortRule}
 use Rattle.elk_doc.specs.declared.document.PortRule.TheVariants.{Free, FixedSide, FixedOrder, FixedPos}
 use Rattle.elk_doc.specs.declared.drawing.Placed.{Placed}
-use Rattle.elk_doc.specs.Document.{Document, frame_of, origin, node_at, port_at, node_of_port}
+use Rattle.elk_doc.specs.Document.{Document, frame_of, node_at, port_at, node_of_port}
+use Rattle.drawing_types.specs.Shapes.{origin}
 use Rattle.elk_doc.specs.Drawing.{box_of, port_place}
 use Rattle.elk_doc.specs.Places.{outline_of, middle_of, offset_on}
 use Rattle.elk_doc.specs.PortsKept.{KeepsPort, across, flush, is_pinned, pins, side_length}
-use Rattle.elk_doc.specs.Shapes.{Holds, half_of, moved_by, rect_at}
+use Rattle.drawing_types.specs.Shapes.{Holds, half_of, moved_by, rect_at}
 use Rattle.elk_doc.specs.Sides.{is_entered, is_leaf, is_left, side_by_place, side_from, side_of_port, side_or}
-use Rattle.elk_doc.specs.Sound.{IsSound, IsSoundSize, IsWithin, along}
+use Rattle.elk_doc.specs.Sound.{IsSound, IsSoundSize, along}
+use Rattle.drawing_types.specs.Ranges.{IsWithin}
 use Rattle.elk_doc.proofs.PlaceLaws.{outline_to-least}
 use Rattle.elk_doc.proofs.ShapeLaws.{half_of-bounds}
 use Rattle.drawing_laws.specs.Held.{IsHeld, IsModest, IsSmall, IsSmallPoint}

@@ -4,13 +4,14 @@ use Rattle.std.proofs.Math.ListN.{get_or-append}
 use Rattle.std.proofs.lemmas.Int.{ints}
 use Rattle.std.proofs.lemmas.List.{get_or_push}
 use Rattle.std.proofs.lemmas.List.Elements.{All-from_get_or}
-use Rattle.elk_doc.specs.declared.shape.Point.{Point}
-use Rattle.elk_doc.specs.declared.drawing.Section.{Section}
+use Rattle.drawing_types.specs.declared.shape.Point.{Point}
+use Rattle.drawing_types.specs.declared.section.Section.{Section}
 use Rattle.elk_doc.specs.declared.drawing.Placed.{Placed}
-use Rattle.elk_doc.specs.Document.{Document, origin, edge_at}
+use Rattle.elk_doc.specs.Document.{Document, edge_at}
+use Rattle.drawing_types.specs.Shapes.{origin}
 use Rattle.elk_doc.specs.Drawing.{no_section, point_at, point_count, points_of, section_of}
 use Rattle.elk_doc.specs.Level.{IsEdge, level_of_edge, source_node}
-use Rattle.elk_doc.specs.Shapes.{Holds, point_rect}
+use Rattle.drawing_types.specs.Shapes.{Holds, point_rect}
 use Rattle.elk_doc.specs.Sound.{IsSound}
 use Rattle.elk_doc.proofs.SoundLaws.{node_of_end-in, parent_of-in}
 use Rattle.drawing_laws.specs.Held.{IsHeld, IsSmallPoint, IsSmallSection}

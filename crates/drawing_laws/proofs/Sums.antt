@@ -4,7 +4,7 @@ use Rattle.std.proofs.lemmas.Int.{ints}
 use Rattle.std.proofs.lemmas.Bool.{cases_eq}
 use Rattle.std.proofs.lemmas.Bool.Decides.{nat_tests}
 use Rattle.elk_doc.specs.Numbers.{sum_below, total_below}
-use Rattle.elk_doc.proofs.NumberLaws.{bool_cases}
+use Rattle.drawing_types.proofs.SmallNumbers.{bool_cases}
 
 -- the sum over all numbers below n
 abbrev pub over : (ℕ → ℕ) → ℕ → ℕ

@@ -1,17 +1,18 @@
 -- The frame of a direction.
 use Rattle.std.proofs.Common.{◌≡◌, ⊎_elim, ◌↔◌, ℤ, neg_ℤ, ◌+ℤ◌, inl, inr, refl, ap, arith}
 use Rattle.std.proofs.lemmas.Int.{ints, clamps}
-use Rattle.elk_doc.specs.declared.shape.Point.{Point}
-use Rattle.elk_doc.specs.declared.shape.Rect.{Rect}
-use Rattle.elk_doc.specs.declared.shape.Side.{Side}
-use Rattle.elk_doc.specs.declared.shape.Side.TheVariants.{North, East, South, West}
+use Rattle.drawing_types.specs.declared.shape.Point.{Point}
+use Rattle.drawing_types.specs.declared.shape.Rect.{Rect}
+use Rattle.drawing_types.specs.declared.shape.Side.{Side}
+use Rattle.drawing_types.specs.declared.shape.Side.TheVariants.{North, East, South, West}
 use Rattle.elk_doc.specs.declared.document.Direction.{Direction}
 use Rattle.elk_doc.specs.declared.document.Direction.TheVariants.{Right, Left, Down, Up}
-use Rattle.elk_doc.specs.Shapes.{turned, point_rect, Holds}
-use Rattle.elk_doc.specs.Segments.{MeetsRect, EntersRect, MeetsSpan, EntersSpan}
+use Rattle.elk_doc.specs.Shapes.{turned}
+use Rattle.drawing_types.specs.Shapes.{point_rect, Holds}
+use Rattle.drawing_types.specs.Segments.{MeetsRect, EntersRect, MeetsSpan, EntersSpan}
 use Rattle.elk_doc.specs.Route.{IsStep, IsTurn, LeavesOutward}
-use Rattle.elk_doc.proofs.SegmentBounds.{MeetsRect-spans, spans-MeetsRect, EntersRect-spans, spans-EntersRect}
-use Rattle.elk_doc.proofs.ShapeLaws.{same_rect}
+use Rattle.drawing_types.proofs.SegmentBounds.{MeetsRect-spans, spans-MeetsRect, EntersRect-spans, spans-EntersRect}
+use Rattle.drawing_types.proofs.SameShapes.{same_rect}
 use Rattle.drawing_laws.specs.Turning.{turned_point, turned_side, SidesTurn, RoutesTurn, BoxesTurn}
 
 neg_same : (a b : ℤ) → (a ≡ b) ↔ (neg_ℤ a ≡ neg_ℤ b)

@@ -1,10 +1,10 @@
 -- The definitions of a good drawing, said in the frame of a direction.
 use Rattle.std.specs.Prelude.{◌≡◌, ◌↔◌, ◌⊎◌, ℕ, ◌≤◌, List, map, length, ℤ, ◌-ℤ◌, neg_ℤ}
-use Rattle.elk_doc.specs.declared.shape.Point.{Point}
-use Rattle.elk_doc.specs.declared.shape.Rect.{Rect}
-use Rattle.elk_doc.specs.declared.shape.Side.{Side}
-use Rattle.elk_doc.specs.declared.shape.Side.TheVariants.{North, East, South, West}
-use Rattle.elk_doc.specs.declared.shape.Dock.{Dock}
+use Rattle.drawing_types.specs.declared.shape.Point.{Point}
+use Rattle.drawing_types.specs.declared.shape.Rect.{Rect}
+use Rattle.drawing_types.specs.declared.shape.Side.{Side}
+use Rattle.drawing_types.specs.declared.shape.Side.TheVariants.{North, East, South, West}
+use Rattle.drawing_types.specs.declared.shape.Dock.{Dock}
 use Rattle.elk_doc.specs.declared.document.Direction.{Direction}
 use Rattle.elk_doc.specs.declared.document.Direction.TheVariants.{Right, Left, Down, Up}
 use Rattle.elk_doc.specs.declared.document.Padding.{Padding}
@@ -12,11 +12,13 @@ use Rattle.elk_doc.specs.declared.document.LevelOptions.{LevelOptions}
 use Rattle.elk_doc.specs.declared.drawing.Placed.{Placed}
 use Rattle.elk_doc.specs.Document.{Document}
 use Rattle.elk_doc.specs.Drawing.{box_of}
-use Rattle.elk_doc.specs.Shapes.{turned, right_of, bottom_of}
-use Rattle.elk_doc.specs.Segments.{IsOnSegment}
+use Rattle.elk_doc.specs.Shapes.{turned}
+use Rattle.drawing_types.specs.Shapes.{right_of, bottom_of}
+use Rattle.drawing_types.specs.Segments.{IsOnSegment}
 use Rattle.elk_doc.specs.Places.{outline_of, offset_on}
 use Rattle.elk_doc.specs.Content.{EachShape}
-use Rattle.elk_doc.specs.Apart.{BoxesApart, StandsClear}
+use Rattle.elk_doc.specs.Apart.{BoxesApart}
+use Rattle.drawing_types.specs.Clearance.{StandsClear}
 use Rattle.elk_doc.specs.Inside.{Inside, IsWithinPadding}
 use Rattle.elk_doc.specs.Route.{IsOrthogonal}
 use Rattle.elk_doc.specs.Clear.{IsClear}

@@ -1,16 +1,17 @@
 -- Drawings whose coordinates are in range because each level lies within its node.
 use Rattle.std.specs.Prelude.{◌≡◌, ℕ, ◌<◌, ◌^◌, ℤ, pos, neg_ℤ, ◌<ℤ◌, length, Some, All}
-use Rattle.elk_doc.specs.declared.shape.Point.{Point}
-use Rattle.elk_doc.specs.declared.shape.Rect.{Rect}
+use Rattle.drawing_types.specs.declared.shape.Point.{Point}
+use Rattle.drawing_types.specs.declared.shape.Rect.{Rect}
 use Rattle.elk_doc.specs.declared.document.LevelOptions.{LevelOptions}
-use Rattle.elk_doc.specs.declared.drawing.Section.{Section}
+use Rattle.drawing_types.specs.declared.section.Section.{Section}
 use Rattle.elk_doc.specs.declared.drawing.Placed.{Placed}
 use Rattle.elk_doc.specs.Document.{Document, node_at}
 use Rattle.elk_doc.specs.Drawing.{box_of}
 use Rattle.elk_doc.specs.Fits.{Fits, HasCertificates, HasCounts, IsRooted, LeavesKept}
 use Rattle.elk_doc.specs.Inside.{Inside}
 use Rattle.elk_doc.specs.PortsKept.{KeepsPorts}
-use Rattle.elk_doc.specs.Sound.{IsSound, IsWithin}
+use Rattle.elk_doc.specs.Sound.{IsSound}
+use Rattle.drawing_types.specs.Ranges.{IsWithin}
 
 -- a rectangle has a width and a height from 0 to 2^51
 pub record IsModest (r : Rect) : Type 0 where

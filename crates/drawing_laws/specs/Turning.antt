@@ -1,13 +1,14 @@
 -- Points and sides in the frame in which a direction runs to the right, and what stays the same there.
 use Rattle.std.specs.Prelude.{◌≡◌, ◌↔◌, neg_ℤ}
-use Rattle.elk_doc.specs.declared.shape.Point.{Point}
-use Rattle.elk_doc.specs.declared.shape.Rect.{Rect}
-use Rattle.elk_doc.specs.declared.shape.Side.{Side}
-use Rattle.elk_doc.specs.declared.shape.Side.TheVariants.{North, East, South, West}
+use Rattle.drawing_types.specs.declared.shape.Point.{Point}
+use Rattle.drawing_types.specs.declared.shape.Rect.{Rect}
+use Rattle.drawing_types.specs.declared.shape.Side.{Side}
+use Rattle.drawing_types.specs.declared.shape.Side.TheVariants.{North, East, South, West}
 use Rattle.elk_doc.specs.declared.document.Direction.{Direction}
 use Rattle.elk_doc.specs.declared.document.Direction.TheVariants.{Right, Left, Down, Up}
-use Rattle.elk_doc.specs.Shapes.{turned, point_rect, Holds}
-use Rattle.elk_doc.specs.Segments.{MeetsRect, EntersRect}
+use Rattle.elk_doc.specs.Shapes.{turned}
+use Rattle.drawing_types.specs.Shapes.{point_rect, Holds}
+use Rattle.drawing_types.specs.Segments.{MeetsRect, EntersRect}
 use Rattle.elk_doc.specs.Sides.{ahead, behind}
 use Rattle.elk_doc.specs.Route.{IsStep, IsTurn, LeavesOutward}
 

@@ -19,7 +19,7 @@ use Rattle.elk_json.specs.Rules.{refused}
 use Rattle.elk_write.specs.Written.{IsPlacedBy}
 use Rattle.elk_write.specs.ReadBack.{IsReadBack}
 use Rattle.elk_write.specs.Text.{text as spelled}
-use Rattle.document_plan.specs.Planned.{Planned}
+use Rattle.compound.specs.Planned.{Planned}
 
 -- the refusal of what the bytes are read as
 abbrev pub RefusesReading : Option Data → Refusal → Type 0

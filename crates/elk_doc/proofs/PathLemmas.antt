@@ -1,13 +1,13 @@
 -- What holds of a path holds of its image, and the other way round, where it holds so of points.
 use Rattle.std.proofs.Common.{◌≡◌, ◌≢◌, ⊎_elim, inl, inr, ℕ, ◌+◌, ◌-◌, ◌<◌, ◌≤◌, List, [], ◌∷◌, map, length, arith, sym, subst, subst₂}
 use Rattle.std.proofs.lemmas.List.{get_or-map, length-map, length-append}
-use Rattle.elk_doc.specs.declared.shape.Point.{Point}
-use Rattle.elk_doc.specs.declared.shape.Rect.{Rect}
-use Rattle.elk_doc.specs.declared.shape.Side.{Side}
-use Rattle.elk_doc.specs.declared.drawing.Section.{Section}
-use Rattle.elk_doc.specs.Document.{origin}
+use Rattle.drawing_types.specs.declared.shape.Point.{Point}
+use Rattle.drawing_types.specs.declared.shape.Rect.{Rect}
+use Rattle.drawing_types.specs.declared.shape.Side.{Side}
+use Rattle.drawing_types.specs.declared.section.Section.{Section}
+use Rattle.drawing_types.specs.Shapes.{origin}
 use Rattle.elk_doc.specs.Drawing.{point_in, points_of}
-use Rattle.elk_doc.specs.Segments.{MeetsRect, EntersRect, Share}
+use Rattle.drawing_types.specs.Segments.{MeetsRect, EntersRect, Share}
 use Rattle.elk_doc.specs.Route.{IsStep, IsTurn, LeavesOutward, IsOrthogonal}
 use Rattle.elk_doc.specs.Clear.{IsClear}
 use Rattle.elk_doc.specs.Sharing.{PathsShare}

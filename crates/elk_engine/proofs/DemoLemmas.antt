@@ -20,8 +20,8 @@ use Rattle.elk_doc.specs.Drawn.{Drawn}
 use Rattle.drawing_laws.proofs.DualityLaw.{flow_shows_least}
 use Rattle.elk_doc.specs.declared.document.Direction.TheVariants.{Right}
 use Rattle.elk_doc.specs.Defaults.{default_options}
-use Rattle.elk_demo.specs.Demo.{demo_document, edge_count, total_weight}
-use Rattle.elk_demo.proofs.DemoLaws.{demo_sound, edges_lead_on}
+use Rattle.elk_engine.specs.DemoDocument.{demo_document, edge_count, total_weight}
+use Rattle.elk_engine.proofs.DemoLaws.{demo_sound, edges_lead_on}
 use Rattle.elk_engine.specs.Demo.{no_drawing, demo_text, IsDemoLine, IsLeastSpan}
 
 listed_in : (e : ℕ) (xs : List ℕ) → list_any (λ x. x == e) xs ≡ true → Contains xs e

@@ -5,3 +5,5 @@ mod AgainLaw
 mod Clap
 mod Numbers
 mod OneLine
+pub mod DemoLaws
+pub mod GrownLists

@@ -10,8 +10,8 @@ use Rattle.elk_json.specs.declared.fault.Refusal.{Refusal}
 use Rattle.elk_json.specs.Bytes.{reading}
 use Rattle.elk_json.specs.Document.{IsDocument}
 use Rattle.elk_write.specs.Placing.{IsDrawing, refused_placed}
-use Rattle.check_faults.specs.declared.fault.Place.{Place}
-use Rattle.check_faults.specs.declared.fault.Place.TheVariants.{Absent, Node, Port, Edge}
+use Rattle.layout_check.specs.declared.fault.Place.{Place}
+use Rattle.layout_check.specs.declared.fault.Place.TheVariants.{Absent, Node, Port, Edge}
 use Rattle.layout_check.specs.declared.verdict.Verdict.{Verdict}
 use Rattle.layout_check.specs.declared.verdict.Verdict.TheVariants.{Yes, No}
 use Rattle.layout_check.specs.Verdicts.{IsVerdict}

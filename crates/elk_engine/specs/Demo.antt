@@ -4,7 +4,7 @@ use Rattle.std.specs.Fmt.{decimal}
 use Rattle.elk_doc.specs.declared.drawing.Placed.{Placed}
 use Rattle.elk_doc.specs.Document.{Document}
 use Rattle.elk_doc.specs.Layering.{IsLayering, span_of}
-use Rattle.elk_demo.specs.Demo.{demo_document, edge_count, total_weight}
+use Rattle.elk_engine.specs.DemoDocument.{demo_document, edge_count, total_weight}
 
 -- a drawing with nothing in it, by which every edge is oriented as it is given
 abbrev pub no_drawing : Placed

@@ -3,8 +3,10 @@ ghost use Rattle.std.specs.Prelude.{◌≡◌, ◌≤◌, ◌<◌, IfOk, IfSome,
 ghost use Rattle.elk_doc.specs.Drawing.{certificate_of};
 ghost use Rattle.elk_engine.specs.Demo.{demo_text, IsDemoLine};
 
+use crate::counting::counts;
+use crate::demo;
+use crate::totals::Counts;
 use compound::lay_out;
-use elk_demo::{Counts, counts, demo};
 use elk_doc::drawing::Placed;
 use std::alloc::{AllocError, Global};
 

@@ -6,7 +6,8 @@ use Rattle.std.proofs.lemmas.List.{drop_more}
 use Rattle.std.proofs.lemmas.List.Elements.{All-push}
 use Rattle.std.proofs.lemmas.Int.{ints}
 use Rattle.serde_json.specs.Data.{Data}
-use Rattle.elk_doc.specs.Sound.{IsWithin, IsLength}
+use Rattle.elk_doc.specs.Sound.{IsLength}
+use Rattle.drawing_types.specs.Ranges.{IsWithin}
 use Rattle.std.proofs.lemmas.Option.{slice_get-map, slice_get_read}
 use Rattle.elk_json.specs.declared.elements.Element.{Element}
 use Rattle.elk_json.specs.Elements as spec

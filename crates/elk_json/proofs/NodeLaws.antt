@@ -6,7 +6,8 @@ use Rattle.std.proofs.lemmas.Bool.{and_parts, and_from, or_parts, not-false, not
 use Rattle.serde_json.specs.Data.{Data}
 use Rattle.elk_doc.specs.Document.{Document}
 use Rattle.elk_doc.specs.Level.{level_of_edge}
-use Rattle.elk_doc.specs.Sound.{IsWithin, IsSoundSize, IsSoundNode, IsSoundLevel}
+use Rattle.elk_doc.specs.Sound.{IsSoundSize, IsSoundNode, IsSoundLevel}
+use Rattle.drawing_types.specs.Ranges.{IsWithin}
 use Rattle.elk_options.specs.declared.names.OptionName.TheVariants as name
 use Rattle.elk_options.specs.Reading.{options_of, level_of}
 use Rattle.elk_json.specs.Elements.{Element}

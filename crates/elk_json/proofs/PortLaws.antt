@@ -7,13 +7,14 @@ use Rattle.std.proofs.lemmas.Bool.{and_parts, and_from, or_parts, not-false, not
 use Rattle.std.proofs.lemmas.Bool.Decides.{Decides-int_eq}
 use Rattle.std.proofs.lemmas.Int.{ints}
 use Rattle.serde_json.specs.Data.{Data}
-use Rattle.elk_doc.specs.declared.shape.Point.{Point}
-use Rattle.elk_doc.specs.declared.shape.Size.{Size}
-use Rattle.elk_doc.specs.declared.shape.Side.{Side}
-use Rattle.elk_doc.specs.declared.shape.Side.TheVariants as side
+use Rattle.drawing_types.specs.declared.shape.Point.{Point}
+use Rattle.drawing_types.specs.declared.shape.Size.{Size}
+use Rattle.drawing_types.specs.declared.shape.Side.{Side}
+use Rattle.drawing_types.specs.declared.shape.Side.TheVariants as side
 use Rattle.elk_doc.specs.declared.document.PortRule.TheVariants as rule
 use Rattle.elk_doc.specs.Sides.{side_by_place, side_by_touch, side_from}
-use Rattle.elk_doc.specs.Sound.{IsWithin, IsPlaceWithin, IsOutside, IsSoundPort, along}
+use Rattle.elk_doc.specs.Sound.{IsOutside, IsSoundPort, along}
+use Rattle.drawing_types.specs.Ranges.{IsWithin, IsPlaceWithin}
 use Rattle.elk_options.specs.declared.names.OptionName.TheVariants as name
 use Rattle.elk_options.specs.declared.options.Role.TheVariants.{Port}
 use Rattle.elk_options.specs.declared.options.Options.{Options}

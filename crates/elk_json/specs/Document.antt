@@ -4,14 +4,15 @@ use Rattle.std.specs.Prelude.{option_map, unwrap_or, pos}
 use Rattle.serde_json.specs.Data.{Data}
 use Rattle.elk_doc.specs.declared.document.Id.{Id}
 use Rattle.elk_doc.specs.declared.document.Id.TheVariants.{Whole}
-use Rattle.elk_doc.specs.declared.shape.Point.{Point}
-use Rattle.elk_doc.specs.declared.shape.Size.{Size}
+use Rattle.drawing_types.specs.declared.shape.Point.{Point}
+use Rattle.drawing_types.specs.declared.shape.Size.{Size}
 use Rattle.elk_doc.specs.declared.document.Node.{Node}
 use Rattle.elk_doc.specs.declared.document.Port.{Port}
 use Rattle.elk_doc.specs.declared.document.Edge.{Edge}
 use Rattle.elk_doc.specs.declared.document.End.{End}
 use Rattle.elk_doc.specs.declared.document.End.TheVariants as end
-use Rattle.elk_doc.specs.Document.{Document, no_size}
+use Rattle.elk_doc.specs.Document.{Document}
+use Rattle.drawing_types.specs.Shapes.{no_size}
 use Rattle.std.specs.Option.{option_map_or}
 use Rattle.elk_json.specs.Elements.{Element, elements}
 use Rattle.elk_json.specs.Members.{is_node, is_port, is_edge, is_compound, whole_at, id_of, has_bad_option, options_at}

@@ -5,8 +5,8 @@ use Rattle.std.specs.Option.{option_map_or}
 use Rattle.serde_json.specs.Data.{Data, null, boolean, number, string, array, object, Items, no_items, item, Members, no_members, member}
 use Rattle.elk_doc.specs.declared.document.PortRule.{PortRule}
 use Rattle.elk_doc.specs.declared.document.PortRule.TheVariants as rule
-use Rattle.elk_doc.specs.declared.shape.Side.{Side}
-use Rattle.elk_doc.specs.declared.shape.Side.TheVariants as side
+use Rattle.drawing_types.specs.declared.shape.Side.{Side}
+use Rattle.drawing_types.specs.declared.shape.Side.TheVariants as side
 use Rattle.elk_json.specs.Elements.{Element}
 use Rattle.elk_json.specs.Members.{is_node, is_port, is_edge, is_compound, is_at_compound, whole_at, has_bad_option, options_at}
 use Rattle.elk_json.specs.Members.{holder_has_bad_option, holder_options, is_between}

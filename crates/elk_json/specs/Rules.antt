@@ -4,8 +4,8 @@ use Rattle.std.specs.Prelude.{option_map, ◌+ℤ◌, pos, int_lt}
 use Rattle.std.specs.Option.{option_map_or, option_or, option_eq}
 use Rattle.std.specs.List.{list_any}
 use Rattle.serde_json.specs.Data.{Data}
-use Rattle.elk_doc.specs.declared.shape.Side.{Side}
-use Rattle.elk_doc.specs.declared.shape.Side.TheVariants as side
+use Rattle.drawing_types.specs.declared.shape.Side.{Side}
+use Rattle.drawing_types.specs.declared.shape.Side.TheVariants as side
 use Rattle.elk_json.specs.declared.fault.Rule.{Rule}
 use Rattle.elk_json.specs.declared.fault.Rule.TheVariants as rules
 use Rattle.elk_json.specs.declared.fault.Refusal.{Refusal}

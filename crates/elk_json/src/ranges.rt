@@ -8,8 +8,8 @@ ghost use Rattle.elk_json.specs.Seen.{seen, seen_list};
 
 use crate::elements::{Element, Kind};
 use crate::members::{is_at_compound, is_between, is_compound, whole_at};
+use drawing_types::shape::Side;
 use elk_doc::document::PortRule;
-use elk_doc::shape::Side;
 use serde_json::Value;
 
 #[tactic(auto, unfolding(crate::specs::Ranges::is_size))]

@@ -19,7 +19,7 @@ use crate::members::{is_at_compound, is_compound, whole_at};
 use crate::ranges::{first_out_of_range, has_fixed_pos};
 use crate::shape::has_bad_shape;
 use crate::whole::is_whole;
-use elk_doc::shape::Side;
+use drawing_types::shape::Side;
 use serde_json::Value;
 use std::alloc::{AllocError, Global};
 

@@ -5,7 +5,7 @@ use Rattle.std.proofs.lemmas.List.Sums.{count_by-le-length}
 use Rattle.elk_layers.specs.declared.units.Unit.{Unit as LayerUnit}
 use Rattle.elk_layers.specs.Layered.{Plain, IsSound, IsSoundLink, AreRows, HasUnit, HasBodyWithin, unit_at, link_at, row_at, layer_of, is_lane, is_child}
 use Rattle.elk_layers.specs.PlaceExamples.{box, forked, forked_rows}
-use Rattle.elk_doc.proofs.ExampleLaws.{below2, below3}
+use Rattle.drawing_types.proofs.SmallNumbers.{below2, below3}
 
 body : (layer : ℕ) → HasBodyWithin (box layer)
 body layer = record { top = omega (arith, ints); height = omega (arith, ints); bottom = omega (arith, ints) }

@@ -3,8 +3,8 @@ use Rattle.std.specs.Prelude.{ℕ, ◌-◌, ◌/◌, ◌==◌, cond, List, [], �
 use Rattle.std.specs.Prelude.{nat_le, nat_lt, slice_index, map}
 use Rattle.std.specs.List.{filter, list_any, list_all, range_with_len, concat}
 use Rattle.elk_layers.specs.declared.units.Link.{Link}
-use Rattle.elk_doc.specs.declared.document.Sweep.{Sweep}
-use Rattle.elk_doc.specs.declared.document.Sweep.TheVariants.{LeftUp, LeftDown, RightUp, RightDown}
+use Rattle.drawing_types.specs.declared.sweep.Sweep.{Sweep}
+use Rattle.drawing_types.specs.declared.sweep.Sweep.TheVariants.{LeftUp, LeftDown, RightUp, RightDown}
 use Rattle.elk_layers.specs.Layered.{Plain, link_at, gap_of, tail_key, head_key, place_of, is_lane}
 use Rattle.elk_layers.specs.Crossings.{cross}
 use Rattle.elk_layers.specs.Sweeps.{sorted_by}

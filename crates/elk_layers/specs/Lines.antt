@@ -4,7 +4,7 @@ use Rattle.std.specs.Prelude.{slice_index, slice_index_or}
 use Rattle.std.specs.List.{All, filter}
 use Rattle.std.specs.Int.{int_max}
 use Rattle.elk_layers.specs.declared.units.Unit.{Unit as LayerUnit}
-use Rattle.elk_doc.specs.declared.document.Sweep.{Sweep}
+use Rattle.drawing_types.specs.declared.sweep.Sweep.{Sweep}
 use Rattle.elk_layers.specs.Layered.{Plain, unit_at, link_at, row_at, is_child}
 use Rattle.elk_layers.specs.Alignment.{aligned}
 

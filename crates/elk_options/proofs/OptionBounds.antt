@@ -7,7 +7,8 @@ use Rattle.std.specs.Int.Signed.{le_z_yes}
 use Rattle.std.proofs.lemmas.Bool.{leb-true}
 use Rattle.std.proofs.lemmas.Int.{ints, clamps}
 use Rattle.serde_json.specs.Data.{Data}
-use Rattle.elk_doc.specs.Sound.{IsWithin, IsLength, IsDistance, IsSoundSpacing, IsSoundPadding}
+use Rattle.elk_doc.specs.Sound.{IsLength, IsDistance, IsSoundSpacing, IsSoundPadding}
+use Rattle.drawing_types.specs.Ranges.{IsWithin}
 use Rattle.elk_options.specs.declared.names.OptionName.{OptionName}
 use Rattle.elk_options.specs.declared.names.OptionName.TheVariants as name
 use Rattle.elk_options.specs.declared.padding.Given.{Given}

@@ -1,7 +1,8 @@
 -- Ranges that options keep, whatever is asked.
 use Rattle.std.specs.Prelude.{◌-◌, ◌^◌, ◌≤◌, pos, neg_ℤ}
 use Rattle.serde_json.specs.Data.{Data}
-use Rattle.elk_doc.specs.Sound.{IsWithin, IsDistance, IsSoundSpacing, IsSoundPadding}
+use Rattle.elk_doc.specs.Sound.{IsDistance, IsSoundSpacing, IsSoundPadding}
+use Rattle.drawing_types.specs.Ranges.{IsWithin}
 use Rattle.elk_options.specs.declared.names.OptionName.TheVariants as name
 use Rattle.elk_options.specs.Table.{to_index, to_padding}
 use Rattle.elk_options.specs.Reading.{spacing_of, value_or, distance_or, usual_padding, weight_of}

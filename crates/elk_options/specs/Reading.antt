@@ -5,7 +5,7 @@ use Rattle.std.specs.Option.{option_map_or, option_and_then}
 use Rattle.std.specs.Int.{int_max}
 use Rattle.serde_json.specs.Data.{Data}
 use Rattle.elk_doc.specs.declared.document.Direction.{Direction}
-use Rattle.elk_doc.specs.declared.document.Sweep.{Sweep}
+use Rattle.drawing_types.specs.declared.sweep.Sweep.{Sweep}
 use Rattle.elk_doc.specs.declared.document.Placing.{Placing}
 use Rattle.elk_doc.specs.declared.document.Direction.TheVariants as direction
 use Rattle.elk_doc.specs.declared.document.PortRule.{PortRule}

@@ -8,10 +8,10 @@ use Rattle.elk_doc.specs.declared.document.Direction.{Direction}
 use Rattle.elk_doc.specs.declared.document.Direction.TheVariants as direction
 use Rattle.elk_doc.specs.declared.document.PortRule.{PortRule}
 use Rattle.elk_doc.specs.declared.document.PortRule.TheVariants as rule
-use Rattle.elk_doc.specs.declared.shape.Side.{Side}
-use Rattle.elk_doc.specs.declared.shape.Side.TheVariants as side
-use Rattle.elk_doc.specs.declared.document.Sweep.{Sweep}
-use Rattle.elk_doc.specs.declared.document.Sweep.TheVariants as sweep
+use Rattle.drawing_types.specs.declared.shape.Side.{Side}
+use Rattle.drawing_types.specs.declared.shape.Side.TheVariants as side
+use Rattle.drawing_types.specs.declared.sweep.Sweep.{Sweep}
+use Rattle.drawing_types.specs.declared.sweep.Sweep.TheVariants as sweep
 use Rattle.elk_doc.specs.declared.document.Placing.{Placing}
 use Rattle.elk_doc.specs.declared.document.Placing.TheVariants as placing
 use Rattle.elk_doc.specs.declared.document.Slotting.{Slotting}

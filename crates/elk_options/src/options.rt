@@ -8,10 +8,9 @@ ghost use Rattle.elk_options.specs.Reading.{given, is_bad, front_names, spacing_
 
 use crate::names::OptionName;
 use crate::readers;
-use elk_doc::document::{
-    Choices, Direction, LevelOptions, Padding, Placing, PortRule, Spacing, Sweep,
-};
-use elk_doc::shape::Side;
+use drawing_types::shape::Side;
+use drawing_types::sweep::Sweep;
+use elk_doc::document::{Choices, Direction, LevelOptions, Padding, Placing, PortRule, Spacing};
 use serde_json::Value;
 
 /// What an element is to its options: a compound node, a leaf, a port or an edge.

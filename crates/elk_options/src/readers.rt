@@ -19,8 +19,9 @@ use crate::texts::{
     truth_of,
 };
 use crate::values::whole_in;
-use elk_doc::document::{Direction, Padding, Placing, PortRule, RowOrder, Slotting, Sweep};
-use elk_doc::shape::Side;
+use drawing_types::shape::Side;
+use drawing_types::sweep::Sweep;
+use elk_doc::document::{Direction, Padding, Placing, PortRule, RowOrder, Slotting};
 use serde_json::Value;
 
 // The value, or the default where the option is not there.

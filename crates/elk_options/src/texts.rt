@@ -3,8 +3,9 @@ ghost use Rattle.std.specs.Prelude.{◌≡◌, bytes_eq};
 ghost use Rattle.elk_options.specs.Table.{boxes_text, direction_text, rule_text, side_text, routing_text, sweep_text, truth_text, placing_text, slots_text, order_text};
 
 use crate::values::is_word;
-use elk_doc::document::{Direction, Placing, PortRule, RowOrder, Slotting, Sweep};
-use elk_doc::shape::Side;
+use drawing_types::shape::Side;
+use drawing_types::sweep::Sweep;
+use elk_doc::document::{Direction, Placing, PortRule, RowOrder, Slotting};
 
 fn is_text(text: &str, word: &str) -> bool
     ensures { result ≡ bytes_eq text.now word.now }

@@ -5,10 +5,10 @@ use Rattle.std.specs.Prelude.{codes, is_some, slice_get, if◌then◌else◌}
 use Rattle.serde_json.specs.Data.{Data, array, object, Members, no_members, member, put}
 use Rattle.serde_json.specs.Find.{get, get_member}
 use Rattle.serde_json.proofs.Views.{get_member-put_other}
-use Rattle.elk_doc.specs.declared.shape.Point.{Point}
-use Rattle.elk_doc.specs.declared.shape.Rect.{Rect}
+use Rattle.drawing_types.specs.declared.shape.Point.{Point}
+use Rattle.drawing_types.specs.declared.shape.Rect.{Rect}
 use Rattle.elk_doc.specs.declared.document.Edge.{Edge as DocEdge}
-use Rattle.elk_doc.specs.declared.drawing.Section.{Section}
+use Rattle.drawing_types.specs.declared.section.Section.{Section}
 use Rattle.elk_doc.specs.declared.drawing.Placed.{Placed}
 use Rattle.elk_doc.specs.Document.{Document}
 use Rattle.elk_json.specs.declared.elements.Kind.{Kind}

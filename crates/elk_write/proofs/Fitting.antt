@@ -7,16 +7,17 @@ use Rattle.std.proofs.lemmas.Bool.{and_parts}
 use Rattle.std.proofs.lemmas.List.Elements.{All-nil, All-cons}
 use Rattle.serde_json.specs.Data.{Data, Items, no_items, item}
 use Rattle.serde_json.specs.Find.{get, at, as_array}
-use Rattle.elk_doc.specs.declared.shape.Point.{Point}
-use Rattle.elk_doc.specs.declared.shape.Size.{Size}
+use Rattle.drawing_types.specs.declared.shape.Point.{Point}
+use Rattle.drawing_types.specs.declared.shape.Size.{Size}
 use Rattle.elk_doc.specs.declared.document.Id.{Id}
 use Rattle.elk_doc.specs.declared.document.LevelOptions.{LevelOptions}
-use Rattle.elk_doc.specs.declared.drawing.Section.{Section}
+use Rattle.drawing_types.specs.declared.section.Section.{Section}
 use Rattle.elk_doc.specs.declared.drawing.Certificate.{Certificate}
 use Rattle.elk_doc.specs.Document.{Document}
 use Rattle.elk_doc.specs.Level.{level_of_edge, is_loop, is_edge_of}
-use Rattle.elk_doc.specs.Sound.{IsWithin}
-use Rattle.elk_doc.specs.Fits.{IsNear, FitsSection, FitsCertificate, IsAscending, MayBeListed, child_count, edge_count}
+use Rattle.drawing_types.specs.Ranges.{IsWithin}
+use Rattle.elk_doc.specs.Fits.{FitsSection, FitsCertificate, IsAscending, MayBeListed, child_count, edge_count}
+use Rattle.drawing_types.specs.Ranges.{IsNear}
 use Rattle.elk_options.specs.Values.{if_within}
 use Rattle.elk_write.specs.Reading.{coordinate_in, length_in, integer_in, point_in, size_in, all_in, list_in, bends_in, route_in, section_in, is_sole, sole_section_in, sections_in, counted, are_from, is_ascending, is_listable, are_listable, listable, flow_in, layers_in, parts_in, reversed_in, span_in, certificate_in, edge_named}
 use Rattle.elk_write.proofs.Known.{not_true}

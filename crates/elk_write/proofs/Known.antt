@@ -10,7 +10,8 @@ use Rattle.serde_json.specs.Data.{Data, object, Members}
 use Rattle.elk_doc.specs.declared.document.LevelOptions.{LevelOptions}
 use Rattle.elk_doc.specs.declared.drawing.Certificate.{Certificate}
 use Rattle.elk_doc.specs.declared.drawing.Placed.{Placed}
-use Rattle.elk_doc.specs.Document.{Document, node_at, no_node, origin}
+use Rattle.elk_doc.specs.Document.{Document, node_at, no_node}
+use Rattle.drawing_types.specs.Shapes.{origin}
 use Rattle.elk_doc.specs.Drawing.{certificate_of, no_rect, no_section}
 use Rattle.elk_doc.specs.Fits.{Fits, FitsLevel}
 use Rattle.elk_options.specs.declared.options.Role.TheVariants as role

@@ -3,18 +3,19 @@ use Rattle.std.proofs.Common.{◌≡◌, ℕ, ◌<◌, ◌^◌, length, Bool, tr
 use Rattle.std.specs.Prelude.{pos, IsFalse, IsNone, is_some}
 use Rattle.std.proofs.lemmas.Int.{ints}
 use Rattle.std.proofs.lemmas.Bool.{cases_Bool}
-use Rattle.elk_doc.specs.declared.shape.Point.{Point}
-use Rattle.elk_doc.specs.declared.shape.Size.{Size}
-use Rattle.elk_doc.specs.declared.shape.Rect.{Rect}
-use Rattle.elk_doc.specs.declared.shape.Side.{Side}
-use Rattle.elk_doc.specs.declared.shape.Side.TheVariants.{North, East, South, West}
+use Rattle.drawing_types.specs.declared.shape.Point.{Point}
+use Rattle.drawing_types.specs.declared.shape.Size.{Size}
+use Rattle.drawing_types.specs.declared.shape.Rect.{Rect}
+use Rattle.drawing_types.specs.declared.shape.Side.{Side}
+use Rattle.drawing_types.specs.declared.shape.Side.TheVariants.{North, East, South, West}
 use Rattle.elk_doc.specs.declared.drawing.Placed.{Placed}
 use Rattle.elk_doc.specs.Document.{Document, node_at, port_at, node_of_port}
 use Rattle.elk_doc.specs.Drawing.{box_of, port_place}
-use Rattle.elk_doc.specs.Shapes.{rect_at, moved_by}
+use Rattle.drawing_types.specs.Shapes.{rect_at, moved_by}
 use Rattle.elk_doc.specs.Sides.{is_leaf, side_of_port}
 use Rattle.elk_doc.specs.Places.{middle_of, offset_on}
-use Rattle.elk_doc.specs.Sound.{IsSound, IsWithin, IsLength, IsSoundSize, IsPlaceWithin}
+use Rattle.elk_doc.specs.Sound.{IsSound, IsLength, IsSoundSize}
+use Rattle.drawing_types.specs.Ranges.{IsWithin, IsPlaceWithin}
 use Rattle.elk_doc.specs.PortsKept.{across, side_length, flush, is_pinned}
 use Rattle.elk_doc.specs.Drawn.{Drawn}
 use Rattle.elk_doc.proofs.ShapeLaws.{half_of-bounds}

@@ -5,9 +5,9 @@ use Rattle.std.specs.Option.{option_or, option_map_or}
 use Rattle.std.specs.List.{list_any}
 use Rattle.std.proofs.lemmas.Bool.{cases_Bool, and_parts}
 use Rattle.serde_json.specs.Data.{Data}
-use Rattle.elk_doc.specs.declared.shape.Point.{Point}
-use Rattle.elk_doc.specs.declared.shape.Rect.{Rect}
-use Rattle.elk_doc.specs.declared.shape.Size.{Size}
+use Rattle.drawing_types.specs.declared.shape.Point.{Point}
+use Rattle.drawing_types.specs.declared.shape.Rect.{Rect}
+use Rattle.drawing_types.specs.declared.shape.Size.{Size}
 use Rattle.elk_doc.specs.declared.document.Port.{Port as DocPort}
 use Rattle.elk_doc.specs.declared.drawing.Placed.{Placed}
 use Rattle.elk_doc.specs.Document.{Document, document, no_port}
@@ -52,7 +52,7 @@ use Rattle.elk_write.proofs.GoodShape.{IsWritten, AllShaped, Mate, all_shaped, m
 use Rattle.elk_write.proofs.InRange.{StandsAt, port_stands, whole_back}
 use Rattle.elk_write.proofs.PortsStand.{good_place, not_inside}
 use Rattle.elk_write.proofs.Redrawn.{HasPlaces, Redrawn, redrawn}
-use Rattle.elk_doc.proofs.ShapeLaws.{same_point}
+use Rattle.drawing_types.proofs.SameShapes.{same_point}
 
 -- ---- rules and lists
 

@@ -2,11 +2,11 @@
 -- has as little room for the one as for the other.
 use Rattle.std.proofs.Common.{◌≡◌, ℕ, ◌<◌, List, map, ◌⊎◌, ⊎_elim, inl, inr, sym, ap, ◌∙◌, subst}
 use Rattle.std.specs.Prelude.{ℤ, ◌+ℤ◌, IsTrue}
-use Rattle.elk_doc.specs.declared.shape.Point.{Point}
-use Rattle.elk_doc.specs.declared.shape.Rect.{Rect}
-use Rattle.elk_doc.specs.declared.shape.Size.{Size}
-use Rattle.elk_doc.specs.declared.shape.Side.{Side}
-use Rattle.elk_doc.specs.declared.shape.Side.TheVariants.{North, East, South, West}
+use Rattle.drawing_types.specs.declared.shape.Point.{Point}
+use Rattle.drawing_types.specs.declared.shape.Rect.{Rect}
+use Rattle.drawing_types.specs.declared.shape.Size.{Size}
+use Rattle.drawing_types.specs.declared.shape.Side.{Side}
+use Rattle.drawing_types.specs.declared.shape.Side.TheVariants.{North, East, South, West}
 use Rattle.elk_doc.specs.declared.document.Node.{Node}
 use Rattle.elk_doc.specs.declared.document.Port.{Port}
 use Rattle.elk_doc.specs.declared.document.Edge.{Edge}
@@ -15,7 +15,7 @@ use Rattle.elk_doc.specs.declared.drawing.Certificate.{Certificate}
 use Rattle.elk_doc.specs.declared.drawing.Placed.{Placed}
 use Rattle.elk_doc.specs.Document.{Document, document, port_at}
 use Rattle.elk_doc.specs.Drawing.{port_place}
-use Rattle.elk_doc.specs.Shapes.{right_of, bottom_of}
+use Rattle.drawing_types.specs.Shapes.{right_of, bottom_of}
 use Rattle.elk_doc.specs.Sides.{given_side}
 use Rattle.elk_doc.specs.Content.{SomeShape}
 use Rattle.elk_doc.specs.Fitted.{IsLeastOf, IsGreatestOf, HasNoChild, IsPinnedOn, NeedsWidth, NeedsHeight, LevelFitted}

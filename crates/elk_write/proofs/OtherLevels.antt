@@ -3,7 +3,7 @@
 use Rattle.std.proofs.Common.{◌≡◌, ◌≢◌, ℕ, ◌+◌, List, length, get_or, map, Bool, true, false, not, ◌&&◌, ◌⊎◌, ⊎_elim, inl, inr, Option, Some, None, sym, ap, ◌∙◌, subst, subst₂}
 use Rattle.std.specs.Prelude.{◌==◌, ℤ, pos, ◌+ℤ◌, ◌-ℤ◌, ◌*ℤ◌, ◌≤ℤ◌, IsTrue, IsFalse, slice_index}
 use Rattle.std.proofs.Math.Path.{fun_ext}
-use Rattle.elk_doc.specs.declared.shape.Rect.{Rect}
+use Rattle.drawing_types.specs.declared.shape.Rect.{Rect}
 use Rattle.elk_doc.specs.declared.document.Node.{Node}
 use Rattle.elk_doc.specs.declared.document.Port.{Port}
 use Rattle.elk_doc.specs.declared.document.Edge.{Edge}
@@ -15,13 +15,15 @@ use Rattle.elk_doc.specs.Level.{IsChild, IsEdge, source_node, target_node, is_lo
 use Rattle.elk_doc.specs.Numbers.{count_below, sum_below, total_below}
 use Rattle.elk_doc.specs.Drawing.{path_of, point_at, certificate_of, tail_node, head_node, flow_in}
 use Rattle.elk_doc.specs.Shapes.{turned}
-use Rattle.elk_doc.specs.Segments.{MeetsRect}
+use Rattle.drawing_types.specs.Segments.{MeetsRect}
 use Rattle.elk_doc.specs.Sides.{given_side, side_of_end}
 use Rattle.elk_doc.specs.Places.{outline_of, dock_of}
 use Rattle.elk_doc.specs.Paths.{Reaches, stay, go}
 use Rattle.elk_doc.specs.Fits.{Fits, FitsLevel, FitsCertificate, MayBeListed}
-use Rattle.elk_doc.specs.Content.{EachShapeOf, IsLeftBy, IsAboveBy}
-use Rattle.elk_doc.specs.Apart.{Apart, IsJoined, InOnePart, NumbersParts, LayersApart, framed, PartIsLeft, PartIsAbove, PartsApart, StandsClear, BoxesApart}
+use Rattle.elk_doc.specs.Content.{EachShapeOf}
+use Rattle.drawing_types.specs.Clearance.{IsLeftBy, IsAboveBy}
+use Rattle.elk_doc.specs.Apart.{Apart, AreJoined, InOnePart, NumbersParts, LayersApart, framed, PartIsLeft, PartIsAbove, PartsApart, BoxesApart}
+use Rattle.drawing_types.specs.Clearance.{StandsClear}
 use Rattle.elk_doc.specs.Inside.{Inside}
 use Rattle.elk_doc.specs.Route.{Route, IsOrthogonal}
 use Rattle.elk_doc.specs.Clear.{Clear}
@@ -122,7 +124,7 @@ module _ (ns : List Node) (es : List Edge) (ps qs : List Port) (same : map witho
 
   -- ---- parts of a level
 
-  joined_over : (n a b : ℕ) → IsJoined doc n a b → IsJoined other n a b
+  joined_over : (n a b : ℕ) → AreJoined doc n a b → AreJoined other n a b
   joined_over n a b h = (
     h.0,
     edge_over n h.0 h.1,
@@ -130,7 +132,7 @@ module _ (ns : List Node) (es : List Edge) (ps qs : List Port) (same : map witho
         (subst (λ t. ((source_node doc h.0 ≡ a) × (t ≡ b)) ⊎ ((source_node doc h.0 ≡ b) × (t ≡ a))) (sym (target_is h.0)) h.2),
   )
 
-  joined_back : (n a b : ℕ) → IsJoined other n a b → IsJoined doc n a b
+  joined_back : (n a b : ℕ) → AreJoined other n a b → AreJoined doc n a b
   joined_back n a b h = (
     h.0,
     edge_back n h.0 h.1,

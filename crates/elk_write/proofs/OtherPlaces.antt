@@ -4,8 +4,8 @@ use Rattle.std.proofs.Common.{◌≡◌, ℕ, zero, suc, List, [], ◌∷◌, le
 use Rattle.std.specs.Prelude.{◌==◌, ℤ, slice_index_or}
 use Rattle.std.proofs.Math.Path.{fun_ext}
 use Rattle.std.proofs.lemmas.List.{length-map}
-use Rattle.elk_doc.specs.declared.shape.Side.{Side}
-use Rattle.elk_doc.specs.declared.shape.Dock.{Dock}
+use Rattle.drawing_types.specs.declared.shape.Side.{Side}
+use Rattle.drawing_types.specs.declared.shape.Dock.{Dock}
 use Rattle.elk_doc.specs.declared.document.Node.{Node}
 use Rattle.elk_doc.specs.declared.document.Port.{Port}
 use Rattle.elk_doc.specs.declared.document.Edge.{Edge}
@@ -16,7 +16,7 @@ use Rattle.elk_doc.specs.Document.{Document, document, no_port, port_at, edge_at
 use Rattle.elk_doc.specs.Level.{node_of_end, source_node, target_node, is_loop, level_of_edge, is_edge_of}
 use Rattle.elk_doc.specs.Drawing.{box_of, port_place, certificate_of, lists, is_listed, tail_end, head_end, tail_node, head_node}
 use Rattle.elk_doc.specs.Numbers.{any_below}
-use Rattle.elk_doc.specs.Shapes.{rect_at, moved_by, hull}
+use Rattle.drawing_types.specs.Shapes.{rect_at, moved_by, hull}
 use Rattle.elk_doc.specs.Sides.{given_side, is_at_port, leaves_port, enters_port, is_left, is_entered, side_or, side_of_port, end_of, end_node, enters_at, side_at, side_of_end}
 use Rattle.elk_doc.specs.Places.{port_box, outline_to, outline_of, middle_of, anchor_at, anchor_of, offset_on, dock_of}
 use Rattle.elk_write.specs.ReadBack.{without_place}

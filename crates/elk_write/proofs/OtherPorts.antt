@@ -4,11 +4,11 @@ use Rattle.std.proofs.Common.{◌≡◌, ℕ, ◌+◌, ◌<◌, List, length, ma
 use Rattle.std.specs.Prelude.{◌==◌, ℤ, pos, ◌+ℤ◌, ◌≤ℤ◌, ◌<ℤ◌, IsTrue, IsFalse, is_some}
 use Rattle.std.proofs.Math.Path.{fun_ext}
 use Rattle.std.proofs.lemmas.Int.{ints}
-use Rattle.elk_doc.specs.declared.shape.Point.{Point}
-use Rattle.elk_doc.specs.declared.shape.Size.{Size}
-use Rattle.elk_doc.specs.declared.shape.Rect.{Rect}
-use Rattle.elk_doc.specs.declared.shape.Side.{Side}
-use Rattle.elk_doc.specs.declared.shape.Side.TheVariants.{North}
+use Rattle.drawing_types.specs.declared.shape.Point.{Point}
+use Rattle.drawing_types.specs.declared.shape.Size.{Size}
+use Rattle.drawing_types.specs.declared.shape.Rect.{Rect}
+use Rattle.drawing_types.specs.declared.shape.Side.{Side}
+use Rattle.drawing_types.specs.declared.shape.Side.TheVariants.{North}
 use Rattle.elk_doc.specs.declared.document.Node.{Node}
 use Rattle.elk_doc.specs.declared.document.Port.{Port}
 use Rattle.elk_doc.specs.declared.document.Edge.{Edge}
@@ -16,11 +16,13 @@ use Rattle.elk_doc.specs.declared.drawing.Placed.{Placed}
 use Rattle.elk_doc.specs.Document.{Document, document, node_at, port_at, node_of_port}
 use Rattle.elk_doc.specs.Numbers.{count_below}
 use Rattle.elk_doc.specs.Drawing.{box_of, port_place}
-use Rattle.elk_doc.specs.Shapes.{half_of, rect_at, moved_by}
+use Rattle.drawing_types.specs.Shapes.{half_of, rect_at, moved_by}
 use Rattle.elk_doc.specs.Sides.{is_leaf, given_side, side_of_port, side_of_end, end_of}
-use Rattle.elk_doc.specs.Sound.{IsWithin, along}
+use Rattle.elk_doc.specs.Sound.{along}
+use Rattle.drawing_types.specs.Ranges.{IsWithin}
 use Rattle.elk_doc.specs.Places.{port_box, middle_of, offset_on, section_end}
-use Rattle.elk_doc.specs.PortsKept.{PortsKept, KeepsPorts, KeepsPort, KeepsEnd, KeepsOrder, SpreadsApart, IsSpread, IsOnSide, Spot, a_port, an_end, across, side_length, size_along, flush, clockwise, pins, is_pinned, port_offset, given_clockwise, is_side, is_at_node, is_spread_port, is_spread_end, spread_count, spot_offset}
+use Rattle.elk_doc.specs.PortsKept.{PortsKept, KeepsPorts, KeepsPort, KeepsEnd, KeepsOrder, SpreadsApart, IsSpread, IsOnSide, Spot, a_port, an_end, across, side_length, size_along, flush, clockwise, pins, is_pinned, port_offset, given_clockwise, is_at_node, is_spread_port, is_spread_end, spread_count, spot_offset}
+use Rattle.drawing_types.specs.Shapes.{is_side}
 use Rattle.elk_write.specs.ReadBack.{without_place}
 use Rattle.elk_write.proofs.OtherPlaces.{same_count, owner_same, size_same, asked_same, index_same, sides, port_boxes, end_of_same, end_sides}
 use Rattle.elk_write.proofs.OtherLevels.{child_back}

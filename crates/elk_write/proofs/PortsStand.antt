@@ -6,20 +6,22 @@ use Rattle.std.proofs.lemmas.Option.{same_Some}
 use Rattle.std.proofs.lemmas.Bool.{cases_Bool, and_from, or_right}
 use Rattle.serde_json.specs.Data.{Data}
 use Rattle.serde_json.specs.Find.{get}
-use Rattle.elk_doc.specs.declared.shape.Point.{Point}
-use Rattle.elk_doc.specs.declared.shape.Size.{Size}
-use Rattle.elk_doc.specs.declared.shape.Side.{Side}
-use Rattle.elk_doc.specs.declared.shape.Side.TheVariants as side
+use Rattle.drawing_types.specs.declared.shape.Point.{Point}
+use Rattle.drawing_types.specs.declared.shape.Size.{Size}
+use Rattle.drawing_types.specs.declared.shape.Side.{Side}
+use Rattle.drawing_types.specs.declared.shape.Side.TheVariants as side
 use Rattle.elk_doc.specs.declared.document.Node.{Node}
 use Rattle.elk_doc.specs.declared.document.Port.{Port as DocPort}
 use Rattle.elk_doc.specs.declared.document.Direction.{Direction}
 use Rattle.elk_doc.specs.declared.document.PortRule.{PortRule}
 use Rattle.elk_doc.specs.declared.document.PortRule.TheVariants as rule
 use Rattle.elk_doc.specs.declared.drawing.Placed.{Placed}
-use Rattle.elk_doc.specs.Document.{Document, node_at, port_at, node_of_port, origin}
+use Rattle.elk_doc.specs.Document.{Document, node_at, port_at, node_of_port}
+use Rattle.drawing_types.specs.Shapes.{origin}
 use Rattle.elk_doc.specs.Drawing.{port_place}
 use Rattle.elk_doc.specs.Sides.{side_from, side_or, side_of_port}
-use Rattle.elk_doc.specs.Sound.{IsSound, IsWithin, along}
+use Rattle.elk_doc.specs.Sound.{IsSound, along}
+use Rattle.drawing_types.specs.Ranges.{IsWithin}
 use Rattle.elk_doc.specs.PortsKept.{pins, is_pinned}
 use Rattle.elk_doc.specs.Drawn.{Drawn}
 use Rattle.elk_options.specs.declared.options.Options.{Options}
@@ -43,7 +45,7 @@ use Rattle.elk_write.proofs.GoodShape.{AllShaped, mate_at}
 use Rattle.elk_write.proofs.Redrawn.{port_kept, pinned_place, pinned_leaf}
 use Rattle.elk_write.proofs.Near.{leaf_near}
 use Rattle.elk_write.proofs.InRange.{near_is, far_is, whole_back, StandsAt, port_stands, port_placed, port_in, port_is, node_is, compound_is, leaf_is, fixed_is}
-use Rattle.elk_doc.proofs.ShapeLaws.{same_point}
+use Rattle.drawing_types.proofs.SameShapes.{same_point}
 
 asked_side : (r : PortRule) (o : Option Side) (leaf : Bool) (x : Option Side) (b : Bool) (frame : Direction) (t : Side) → r ≡ rule.FixedPos → o ≡ Some t → side_or (side_from r o leaf x) b frame ≡ t
 asked_side r o leaf x b frame t e f = rw (e, f) refl

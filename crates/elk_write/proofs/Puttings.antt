@@ -5,10 +5,10 @@ use Rattle.std.specs.Prelude.{codes, option_and_then, slice_get}
 use Rattle.serde_json.specs.Data.{Data, no_members, Members, member, put}
 use Rattle.serde_json.specs.Find.{get_member}
 use Rattle.serde_json.proofs.Views.{get_member-put, get_member-put_other}
-use Rattle.elk_doc.specs.declared.shape.Point.{Point}
-use Rattle.elk_doc.specs.declared.shape.Rect.{Rect}
+use Rattle.drawing_types.specs.declared.shape.Point.{Point}
+use Rattle.drawing_types.specs.declared.shape.Rect.{Rect}
 use Rattle.elk_doc.specs.declared.document.Edge.{Edge}
-use Rattle.elk_doc.specs.declared.drawing.Section.{Section}
+use Rattle.drawing_types.specs.declared.section.Section.{Section}
 use Rattle.elk_doc.specs.declared.drawing.Certificate.{Certificate}
 use Rattle.elk_doc.specs.declared.drawing.Placed.{Placed}
 use Rattle.elk_doc.specs.Document.{Document}

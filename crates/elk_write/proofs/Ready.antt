@@ -3,10 +3,10 @@ use Rattle.std.proofs.Common.{◌≡◌, ℕ, ◌+◌, List, filter, true, false
 use Rattle.std.specs.Prelude.{codes, ◌||◌, ◌&&◌, is_some, IsTrue, option_and_then, slice_get}
 use Rattle.serde_json.specs.Data.{Data, object, no_members, Members}
 use Rattle.serde_json.specs.Find.{get}
-use Rattle.elk_doc.specs.declared.shape.Point.{Point}
-use Rattle.elk_doc.specs.declared.shape.Rect.{Rect}
+use Rattle.drawing_types.specs.declared.shape.Point.{Point}
+use Rattle.drawing_types.specs.declared.shape.Rect.{Rect}
 use Rattle.elk_doc.specs.declared.document.Edge.{Edge as DocEdge}
-use Rattle.elk_doc.specs.declared.drawing.Section.{Section}
+use Rattle.drawing_types.specs.declared.section.Section.{Section}
 use Rattle.elk_doc.specs.declared.drawing.Certificate.{Certificate}
 use Rattle.elk_doc.specs.declared.drawing.Placed.{Placed}
 use Rattle.elk_doc.specs.Document.{Document}

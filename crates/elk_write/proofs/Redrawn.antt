@@ -3,10 +3,10 @@ use Rattle.std.proofs.Common.{◌≡◌, ℕ, zero, suc, ◌<◌, ⊎_elim, List
 use Rattle.std.specs.Prelude.{IsSome, IsTrue, slice_index_or, unwrap_or}
 use Rattle.std.proofs.lemmas.Bool.{cases_lt}
 use Rattle.std.proofs.Common.{eq-eqb}
-use Rattle.elk_doc.specs.declared.shape.Point.{Point}
-use Rattle.elk_doc.specs.declared.shape.Size.{Size}
-use Rattle.elk_doc.specs.declared.shape.Side.{Side}
-use Rattle.elk_doc.specs.declared.shape.Side.TheVariants.{North, South}
+use Rattle.drawing_types.specs.declared.shape.Point.{Point}
+use Rattle.drawing_types.specs.declared.shape.Size.{Size}
+use Rattle.drawing_types.specs.declared.shape.Side.{Side}
+use Rattle.drawing_types.specs.declared.shape.Side.TheVariants.{North, South}
 use Rattle.elk_doc.specs.declared.document.Node.{Node}
 use Rattle.elk_doc.specs.declared.document.Port.{Port}
 use Rattle.elk_doc.specs.declared.document.Edge.{Edge}
@@ -30,7 +30,7 @@ use Rattle.elk_write.proofs.OtherPlaces.{same_count, owner_same, size_same, aske
 use Rattle.elk_write.proofs.OtherLevels.{fits_over, apart_over, inside_over, routes_over, clears_over, shares_over, reversed_over, layering_over, least_over, flow_over}
 use Rattle.elk_write.proofs.OtherPorts.{kept_over}
 use Rattle.elk_write.proofs.OtherFitted.{fitted_over}
-use Rattle.elk_doc.proofs.ShapeLaws.{same_point}
+use Rattle.drawing_types.proofs.SameShapes.{same_point}
 
 -- each port is given the place that the drawing has for it
 abbrev pub HasPlaces : Document → Placed → Type 0

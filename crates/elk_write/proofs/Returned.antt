@@ -9,17 +9,18 @@ use Rattle.std.proofs.lemmas.Bool.{and_from}
 use Rattle.serde_json.specs.Data.{Data, string, array, object, Members}
 use Rattle.serde_json.specs.Find.{get, get_member}
 use Rattle.serde_json.specs.View.{items_of}
-use Rattle.elk_doc.specs.declared.shape.Point.{Point}
-use Rattle.elk_doc.specs.declared.shape.Size.{Size}
+use Rattle.drawing_types.specs.declared.shape.Point.{Point}
+use Rattle.drawing_types.specs.declared.shape.Size.{Size}
 use Rattle.elk_doc.specs.declared.document.Id.{Id}
 use Rattle.elk_doc.specs.declared.document.Id.TheVariants.{Text, Whole}
 use Rattle.elk_doc.specs.declared.document.LevelOptions.{LevelOptions}
-use Rattle.elk_doc.specs.declared.drawing.Section.{Section}
+use Rattle.drawing_types.specs.declared.section.Section.{Section}
 use Rattle.elk_doc.specs.declared.drawing.Certificate.{Certificate}
 use Rattle.elk_doc.specs.Document.{Document, no_edge, edge_at}
 use Rattle.elk_doc.specs.Level.{is_loop, is_edge_of}
-use Rattle.elk_doc.specs.Sound.{IsWithin}
-use Rattle.elk_doc.specs.Fits.{IsNear, FitsSection, FitsCertificate, IsAscending, MayBeListed, child_count, edge_count}
+use Rattle.drawing_types.specs.Ranges.{IsWithin}
+use Rattle.elk_doc.specs.Fits.{FitsSection, FitsCertificate, IsAscending, MayBeListed, child_count, edge_count}
+use Rattle.drawing_types.specs.Ranges.{IsNear}
 use Rattle.elk_options.specs.Values.{if_within}
 use Rattle.elk_json.specs.Members.{to_id}
 use Rattle.elk_write.specs.Values.{whole, wholes, point_data, section_id, end_members, with_bends, sections_data, id_data, edge_id, edge_ids, layering_data}

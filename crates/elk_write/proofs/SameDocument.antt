@@ -13,9 +13,9 @@ use Rattle.elk_doc.specs.declared.document.Port.{Port as DocPort}
 use Rattle.elk_doc.specs.declared.document.Edge.{Edge as DocEdge}
 use Rattle.elk_doc.specs.declared.document.PortRule.{PortRule}
 use Rattle.elk_doc.specs.declared.document.LevelOptions.{LevelOptions}
-use Rattle.elk_doc.specs.declared.shape.Size.{Size}
-use Rattle.elk_doc.specs.declared.shape.Side.{Side}
-use Rattle.elk_doc.specs.Document.{no_size, origin}
+use Rattle.drawing_types.specs.declared.shape.Size.{Size}
+use Rattle.drawing_types.specs.declared.shape.Side.{Side}
+use Rattle.drawing_types.specs.Shapes.{no_size, origin}
 use Rattle.elk_options.specs.declared.options.Role.TheVariants as role
 use Rattle.elk_options.specs.Names.{or_empty}
 use Rattle.elk_options.specs.Reading.{options_of}

@@ -10,18 +10,20 @@ use Rattle.std.proofs.lemmas.List.Elements.{All-nil, All-cons}
 use Rattle.std.proofs.lemmas.Option.{slice_get_within, get_or_from_slice_get}
 use Rattle.serde_json.specs.Data.{Data}
 use Rattle.serde_json.specs.Find.{get}
-use Rattle.elk_doc.specs.declared.shape.Point.{Point}
-use Rattle.elk_doc.specs.declared.shape.Rect.{Rect}
-use Rattle.elk_doc.specs.declared.shape.Size.{Size}
+use Rattle.drawing_types.specs.declared.shape.Point.{Point}
+use Rattle.drawing_types.specs.declared.shape.Rect.{Rect}
+use Rattle.drawing_types.specs.declared.shape.Size.{Size}
 use Rattle.elk_doc.specs.declared.document.Node.{Node}
 use Rattle.elk_doc.specs.declared.document.LevelOptions.{LevelOptions}
-use Rattle.elk_doc.specs.declared.drawing.Section.{Section}
+use Rattle.drawing_types.specs.declared.section.Section.{Section}
 use Rattle.elk_doc.specs.declared.drawing.Certificate.{Certificate}
 use Rattle.elk_doc.specs.declared.drawing.Placed.{Placed}
 use Rattle.elk_doc.specs.Document.{Document, node_at, no_node}
 use Rattle.elk_doc.specs.Drawing.{box_of as drawn_box, certificate_of, no_rect}
-use Rattle.elk_doc.specs.Sound.{IsSound, IsWithin, IsSoundNode, IsSoundSize}
-use Rattle.elk_doc.specs.Fits.{Fits, FitsBox, FitsSection, FitsLevel, HasCounts, IsNear}
+use Rattle.elk_doc.specs.Sound.{IsSound, IsSoundNode, IsSoundSize}
+use Rattle.drawing_types.specs.Ranges.{IsWithin}
+use Rattle.elk_doc.specs.Fits.{Fits, FitsBox, FitsSection, FitsLevel, HasCounts}
+use Rattle.drawing_types.specs.Ranges.{IsNear}
 use Rattle.elk_json.specs.Elements.{Element}
 use Rattle.elk_json.specs.Members.{is_node, is_port, is_edge}
 use Rattle.elk_json.specs.Document.{node_of, port_of, edge_of, nodes_of, ports_of, edges_of}

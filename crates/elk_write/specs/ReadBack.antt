@@ -4,7 +4,8 @@ use Rattle.serde_json.specs.Data.{Data}
 use Rattle.elk_doc.specs.declared.document.Port.{Port}
 use Rattle.elk_doc.specs.declared.drawing.Certificate.{Certificate}
 use Rattle.elk_doc.specs.declared.drawing.Placed.{Placed}
-use Rattle.elk_doc.specs.Document.{Document, origin}
+use Rattle.elk_doc.specs.Document.{Document}
+use Rattle.drawing_types.specs.Shapes.{origin}
 use Rattle.elk_doc.specs.Layering.{Least}
 use Rattle.elk_doc.specs.Drawn.{Drawn}
 use Rattle.elk_doc.specs.Fitted.{Fitted}

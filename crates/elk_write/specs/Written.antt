@@ -4,7 +4,7 @@ use Rattle.std.specs.Prelude.{slice_get}
 use Rattle.std.specs.Option.{option_map_or}
 use Rattle.serde_json.specs.Data.{Data}
 use Rattle.serde_json.specs.Find.{get}
-use Rattle.elk_doc.specs.declared.shape.Rect.{Rect}
+use Rattle.drawing_types.specs.declared.shape.Rect.{Rect}
 use Rattle.elk_doc.specs.declared.drawing.Placed.{Placed}
 use Rattle.elk_doc.specs.Document.{Document}
 use Rattle.elk_json.specs.Elements.{Element, elements}

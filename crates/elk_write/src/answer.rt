@@ -19,9 +19,9 @@ ghost use Rattle.elk_write.specs.Answered.{with_place, with_size, with_layering,
 use crate::marks::{layering_value, with_member};
 use crate::numbers::{Numbers, item_count, past_own};
 use crate::parts::{edge_values, is_key, is_place_key, port_values};
+use drawing_types::shape::Rect;
 use elk_doc::document::Doc;
 use elk_doc::drawing::{Certificate, Placed};
-use elk_doc::shape::Rect;
 use serde_json::Value;
 use serde_json::value::Map;
 use std::alloc::{AllocError, Global};

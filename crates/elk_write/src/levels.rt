@@ -7,11 +7,11 @@ ghost use Rattle.elk_json.specs.Keys.{key_id};
 ghost use Rattle.elk_write.specs.Reading.{all_in, are_listable as listable_test, certificate_in as certificate_spec, certificate_with as certificate_spec_of, counted, edge_named as edge_named_spec, first_number, flow_in as flow_spec, is_ascending as ascending_test, is_listable as one_listable_test, large_in as large_spec, layers_in as layers_spec, list_in, parts_in as parts_spec, reversed_in as reversed_spec, small_in as small_spec};
 
 use crate::reading::{large_in, read_each, small_in};
+use drawing_types::list::Items;
 use elk_doc::document::{Doc, Id};
 use elk_doc::drawing::Certificate;
 use elk_doc::form::{child_count, edge_count};
 use elk_doc::level::{is_loop, level_of};
-use elk_doc::list::Items;
 use elk_json::key::Key;
 use serde_json::Value;
 use std::alloc::{AllocError, Global};

@@ -5,9 +5,10 @@ ghost use Rattle.serde_json.specs.View.{view, members_view, items_of};
 ghost use Rattle.elk_write.specs.Values.{wholes, point_data, end_members, with_bends, sections_data, edge_id, edge_ids, number_members as number_members_of, layering_data};
 
 use crate::ids::{id_value, section_name};
+use drawing_types::section::Section;
+use drawing_types::shape::Point;
 use elk_doc::document::{Doc, Edge, Id};
-use elk_doc::drawing::{Certificate, Section};
-use elk_doc::shape::Point;
+use elk_doc::drawing::Certificate;
 use serde_json::Value;
 use serde_json::value::Map;
 use std::alloc::{AllocError, Global};

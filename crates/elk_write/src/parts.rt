@@ -7,9 +7,10 @@ ghost use Rattle.elk_write.specs.Answered.{kept_into, with_point, with_sections,
 
 use crate::marks::{sections_value, with_member};
 use crate::numbers::advanced;
+use drawing_types::section::Section;
+use drawing_types::shape::Point;
 use elk_doc::document::{Doc, Edge};
-use elk_doc::drawing::{Placed, Section};
-use elk_doc::shape::Point;
+use elk_doc::drawing::Placed;
 use serde_json::Value;
 use serde_json::value::Map;
 use std::alloc::{AllocError, Global};

@@ -14,10 +14,11 @@ ghost use Rattle.elk_write.specs.Placing.{box_in as box_spec, first_unplaced, gi
 
 use crate::levels::certificate_in;
 use crate::reading::{point_in, sections_in, size_in};
+use drawing_types::list::Items;
+use drawing_types::section::Section;
+use drawing_types::shape::{Point, Rect, Size};
 use elk_doc::document::{Doc, Id, LevelOptions, Name, Node};
-use elk_doc::drawing::{Certificate, Placed, Section};
-use elk_doc::list::Items;
-use elk_doc::shape::{Point, Rect, Size};
+use elk_doc::drawing::{Certificate, Placed};
 use elk_json::elements::{Element, Kind, elements_of};
 use elk_json::key::Key;
 use elk_json::{DocFault, Refusal, Rule, read_doc};

@@ -10,10 +10,10 @@ ghost use Rattle.elk_write.specs.Reading.{all_in, bends_in as bends_spec, coordi
 
 use crate::ids::section_name;
 use crate::numbers::item_count;
+use drawing_types::list::Items;
+use drawing_types::section::Section;
+use drawing_types::shape::{Point, Size};
 use elk_doc::document::Id;
-use elk_doc::drawing::Section;
-use elk_doc::list::Items;
-use elk_doc::shape::{Point, Size};
 use serde_json::{Number, Value};
 use std::alloc::{AllocError, Global};
 

@@ -11,13 +11,13 @@ use Rattle.elk_doc.specs.Paths.{Reaches}
 use Rattle.elk_doc.specs.Reversed.{UnlistedStep}
 use Rattle.elk_doc.specs.Drawing.{path_of}
 use Rattle.elk_doc.specs.Sharing.{PathsShare, Sharing as SharesRightly}
-use Rattle.elk_doc.specs.declared.shape.Point.{Point}
+use Rattle.drawing_types.specs.declared.shape.Point.{Point}
 use Rattle.elk_doc.specs.Sound.{IsSound}
-use Rattle.check_faults.specs.declared.fault.Fault.{Fault}
-use Rattle.check_boxes.proofs.BreakLaws.{fault_breaks as apart_breaks}
-use Rattle.check_boxes.proofs.BreakInside.{fault_breaks as inside_breaks}
-use Rattle.check_ports.proofs.BreakLaws.{fault_breaks as ports_breaks}
-use Rattle.check_routes.specs.FirstRoutes.{FirstSharing, SharingHolds}
+use Rattle.layout_check.specs.declared.fault.Fault.{Fault}
+use Rattle.layout_check.proofs.BoxBreakLaws.{fault_breaks as apart_breaks}
+use Rattle.layout_check.proofs.BreakInside.{fault_breaks as inside_breaks}
+use Rattle.layout_check.proofs.PortBreakLaws.{fault_breaks as ports_breaks}
+use Rattle.layout_check.specs.FirstRoutes.{FirstSharing, SharingHolds}
 use Rattle.layout_check.specs.declared.definition.Definition.{Definition}
 use Rattle.layout_check.specs.declared.definition.Definition.TheVariants.{Apart, Inside, PortsKept, Route, Clear, Sharing, Reversed, Layering, FlowProof}
 use Rattle.layout_check.specs.Definitions.{FirstPlaces, Holds}

@@ -5,7 +5,7 @@ use Rattle.elk_doc.specs.Document.{Document}
 use Rattle.elk_doc.specs.Drawn.{Drawn}
 use Rattle.elk_doc.specs.Fits.{Fits}
 use Rattle.elk_doc.specs.Sound.{IsSound}
-use Rattle.check_faults.specs.Levels.{IsLevel}
+use Rattle.layout_check.specs.ListedLevels.{IsLevel}
 use Rattle.drawing_laws.proofs.DualityLaw.{flow_shows_least}
 use Rattle.layout_check.specs.declared.definition.Definition.{Definition}
 use Rattle.layout_check.specs.declared.definition.Definition.TheVariants.{Apart, Inside, PortsKept, Route, Clear, Sharing, Reversed, Layering, FlowProof}

@@ -14,13 +14,13 @@ use Rattle.elk_doc.specs.Sharing as sharing
 use Rattle.elk_doc.specs.Reversed as reversed
 use Rattle.elk_doc.specs.Layering as layering
 use Rattle.elk_doc.specs.FlowProof as flow
-use Rattle.check_faults.specs.declared.fault.Fault.{Fault}
-use Rattle.check_faults.specs.Levels.{IsLevel}
-use Rattle.check_boxes.specs.FirstApart.{FirstApart}
-use Rattle.check_boxes.specs.FirstInside.{FirstInside}
-use Rattle.check_ports.specs.FirstPorts.{FirstPorts}
-use Rattle.check_routes.specs.FirstRoutes.{FirstRoute, FirstClear, FirstSharing}
-use Rattle.check_levels.specs.FirstLevels.{FirstReversed, FirstLayering, FirstFlow}
+use Rattle.layout_check.specs.declared.fault.Fault.{Fault}
+use Rattle.layout_check.specs.ListedLevels.{IsLevel}
+use Rattle.layout_check.specs.FirstApart.{FirstApart}
+use Rattle.layout_check.specs.FirstInside.{FirstInside}
+use Rattle.layout_check.specs.FirstPorts.{FirstPorts}
+use Rattle.layout_check.specs.FirstRoutes.{FirstRoute, FirstClear, FirstSharing}
+use Rattle.layout_check.specs.FirstLevels.{FirstReversed, FirstLayering, FirstFlow}
 use Rattle.layout_check.specs.declared.definition.Definition.{Definition}
 use Rattle.layout_check.specs.declared.definition.Definition.TheVariants.{Apart, Inside, PortsKept, Route, Clear, Sharing, Reversed}
 use Rattle.layout_check.specs.declared.definition.Definition.TheVariants.{Layering, FlowProof}

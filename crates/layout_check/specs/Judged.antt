@@ -4,10 +4,10 @@ use Rattle.elk_doc.specs.declared.document.LevelOptions.{LevelOptions}
 use Rattle.elk_doc.specs.declared.drawing.Certificate.{Certificate}
 use Rattle.elk_doc.specs.declared.drawing.Placed.{Placed}
 use Rattle.elk_doc.specs.Document.{Document}
-use Rattle.check_faults.specs.declared.fault.Fault.{Fault}
-use Rattle.check_faults.specs.Shapes.{AreOutlines, AreSides, AreDocks, AreHeads, AreTails, AreWeights}
-use Rattle.check_routes.specs.Bounds.{AreRouteBounds}
-use Rattle.check_routes.specs.Ends.{AreEnds}
+use Rattle.layout_check.specs.declared.fault.Fault.{Fault}
+use Rattle.layout_check.specs.Shapes.{AreOutlines, AreSides, AreDocks, AreHeads, AreTails, AreWeights}
+use Rattle.layout_check.specs.Bounds.{AreRouteBounds}
+use Rattle.layout_check.specs.Ends.{AreEnds}
 use Rattle.layout_check.specs.declared.definition.Definition.{Definition}
 use Rattle.layout_check.specs.declared.definition.Definition.TheVariants.{Route, Clear, Sharing}
 use Rattle.layout_check.specs.declared.shapes.Extents.{Extents}

@@ -6,9 +6,9 @@ use Rattle.elk_doc.specs.declared.drawing.Placed.{Placed}
 use Rattle.elk_doc.specs.Document.{Document}
 use Rattle.elk_doc.specs.Drawn.{Drawn}
 use Rattle.elk_doc.specs.Layering.{Least}
-use Rattle.check_faults.specs.declared.fault.Place.{Place}
-use Rattle.check_faults.specs.Faults.{fault_at}
-use Rattle.check_faults.specs.Levels.{IsLevel}
+use Rattle.layout_check.specs.declared.fault.Place.{Place}
+use Rattle.layout_check.specs.Faults.{fault_at}
+use Rattle.layout_check.specs.ListedLevels.{IsLevel}
 use Rattle.layout_check.specs.declared.verdict.Verdict.{Verdict}
 use Rattle.layout_check.specs.declared.verdict.Verdict.TheVariants.{Yes, No}
 use Rattle.layout_check.specs.Definitions.{definitions, definition_at, Everywhere, FailsFirst}

@@ -1,19 +1,27 @@
 //! The first fault of each definition at one level.
 ghost use Rattle.std.specs.Prelude.{IfOk};
 ghost use Rattle.elk_doc.specs.Sound.{IsSound};
-ghost use Rattle.check_faults.specs.Levels.{IsLevel};
-ghost use Rattle.check_faults.specs.Scenes.{IsScene};
+ghost use Rattle.layout_check.specs.ListedLevels.{IsLevel};
+ghost use Rattle.layout_check.specs.Scenes.{IsScene};
 ghost use Rattle.layout_check.specs.declared.definition.Definition.TheVariants.{Apart, FlowProof, Inside, Layering, PortsKept, Reversed, Route, Clear, Sharing};
 ghost use Rattle.layout_check.specs.Definitions.{Holds};
 ghost use Rattle.layout_check.specs.Judged.{AreExtents, Judges, Needs};
 
+use crate::apart::apart_fault;
+use crate::blocks::clear_fault;
 use crate::definition::Definition;
+use crate::fault::Fault;
+use crate::flow::flow_fault;
+use crate::inside::inside_fault;
+use crate::kept::ports_fault;
+use crate::layering::layering_fault;
+use crate::level::Level;
+use crate::lists::{flows, layers, parts};
+use crate::partners::sharing_fault;
+use crate::reversed::reversed_fault;
+use crate::route::route_fault;
+use crate::scene::Scene;
 use crate::shapes::Extents;
-use check_boxes::{Level, apart_fault, inside_fault};
-use check_faults::{Fault, Scene};
-use check_levels::{flow_fault, flows, layering_fault, layers, parts, reversed_fault};
-use check_ports::ports_fault;
-use check_routes::{clear_fault, route_fault, sharing_fault};
 use elk_doc::document::LevelOptions;
 use elk_doc::drawing::Certificate;
 use std::alloc::{AllocError, Global};

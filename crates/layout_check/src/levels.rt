@@ -1,13 +1,14 @@
 //! The first level at which a definition fails.
 ghost use Rattle.std.specs.Prelude.{◌<◌, IfOk, MatchOption, length};
 ghost use Rattle.layout_check.specs.Definitions.{Everywhere, FailsAt, FailsFirst, HoldsAt};
-ghost use Rattle.check_faults.specs.Scenes.{IsScene};
+ghost use Rattle.layout_check.specs.Scenes.{IsScene};
 ghost use Rattle.layout_check.specs.Judged.{AreExtents, Needs};
 
 use crate::definition::Definition;
+use crate::fault::Fault;
 use crate::judge::judge;
+use crate::scene::Scene;
 use crate::shapes::Extents;
-use check_faults::{Fault, Scene};
 use std::alloc::{AllocError, Global};
 
 // The first fault of a definition at the level of a node, if it has one.

@@ -1,15 +1,17 @@
 //! What a drawing has at each node, port or edge, computed once for all definitions and levels.
 ghost use Rattle.std.specs.Prelude.{◌≡◌, IfOk, false, true};
 ghost use Rattle.elk_doc.specs.Fits.{Fits};
-ghost use Rattle.check_faults.specs.Scenes.{IsScene};
+ghost use Rattle.layout_check.specs.Scenes.{IsScene};
 ghost use Rattle.layout_check.specs.Judged.{AreExtents, AreShapes};
 
-use check_faults::{Scene, docks, listed, outlines, sides};
-use check_levels::{heads, tails, weights};
-use check_routes::{OutlineEnds, RouteBounds, outline_ends, route_bounds};
+use crate::bounds::{RouteBounds, route_bounds};
+use crate::lists::{heads, tails, weights};
+use crate::scene::Scene;
+use crate::shape_lists::{docks, listed, outlines, sides};
+use crate::stretches::{OutlineEnds, outline_ends};
+use drawing_types::shape::{Dock, Rect, Side};
 use elk_doc::document::Doc;
 use elk_doc::drawing::Placed;
-use elk_doc::shape::{Dock, Rect, Side};
 use std::alloc::{AllocError, Global};
 
 // The lists of a scene.

@@ -3,15 +3,17 @@ ghost use Rattle.std.specs.Prelude.{◌≡◌, ◌↔◌, ◌+◌, ◌<◌, IfOk
 ghost use Rattle.elk_doc.specs.Drawn.{Drawn};
 ghost use Rattle.elk_doc.specs.Fits.{Fits};
 ghost use Rattle.layout_check.specs.Definitions.{definitions};
-ghost use Rattle.check_faults.specs.Scenes.{IsScene};
+ghost use Rattle.layout_check.specs.Scenes.{IsScene};
 ghost use Rattle.layout_check.specs.Judged.{AreExtents};
 ghost use Rattle.layout_check.specs.Verdicts.{IsVerdict};
 ghost use Rattle.layout_check.specs.declared.verdict.Verdict.TheVariants.{No, Yes};
 
+use crate::Place;
 use crate::definition::Definition;
+use crate::fault::Fault;
 use crate::levels::first_fault;
+use crate::scene::Scene;
 use crate::shapes::{Extents, extents_of, scene_of, shapes_of};
-use check_faults::{Fault, Place, Scene};
 use elk_doc::document::Doc;
 use elk_doc::drawing::Placed;
 use std::alloc::{AllocError, Global};

@@ -1,10 +1,10 @@
 -- A drawing from its plan keeps what a good drawing keeps.
 use Rattle.std.proofs.Common.{◌≡◌, ℕ, List, refl, sym, subst}
-use Rattle.level_plan.specs.Level.{PlainLevel, PlainPlan, Orders}
-use Rattle.level_plan.specs.FromPlan.{LevelDrawing, IsDrawnFrom}
-use Rattle.level_plan.specs.Ready.{IsReady}
-use Rattle.level_plan.proofs.ApartLemmas.{children_keep_apart}
-use Rattle.level_plan.proofs.PortLemmas.{ports_are_kept}
+use Rattle.level_model.specs.Level.{PlainLevel, PlainPlan, Orders}
+use Rattle.level_model.specs.FromPlan.{LevelDrawing, IsDrawnFrom}
+use Rattle.level_model.specs.Ready.{IsReady}
+use Rattle.plan_laws.proofs.ApartLemmas.{children_keep_apart}
+use Rattle.plan_laws.proofs.PortLemmas.{ports_are_kept}
 use Rattle.level_draw.specs.declared.drawing.LevelOut.{LevelOut}
 use Rattle.level_draw.specs.declared.drawing.Sketch.{Sketch}
 use Rattle.level_draw.specs.Drawing.{IsDrawable, IsDrawing, IsDrawn, IsTight, drawn_in}

@@ -1,21 +1,21 @@
 -- The parts of a level make the drawing of its plan.
 use Rattle.std.proofs.Common.{◌≡◌, ℕ, ◌+◌, ◌<◌, List, [], length, get_or, pos, arith, sym, ◌∙◌, ap}
 use Rattle.std.proofs.lemmas.List.{get_or-map, length-map}
-use Rattle.elk_doc.specs.declared.shape.Point.{Point}
-use Rattle.elk_doc.specs.declared.shape.Size.{Size}
-use Rattle.elk_doc.specs.declared.drawing.Section.{Section}
+use Rattle.drawing_types.specs.declared.shape.Point.{Point}
+use Rattle.drawing_types.specs.declared.shape.Size.{Size}
+use Rattle.drawing_types.specs.declared.section.Section.{Section}
 use Rattle.route_lines.specs.declared.Gap.{Gap}
 use Rattle.route_lines.specs.declared.Trace.{Trace}
 use Rattle.route_lines.specs.Points.{plain_gap}
-use Rattle.level_plan.specs.declared.table.ChildAt.{ChildAt}
-use Rattle.level_plan.specs.Level.{Orders}
-use Rattle.level_plan.specs.Table.{child_in}
-use Rattle.level_plan.specs.FromPlan.{LevelDrawing, IsGap, IsPlaced, IsRoute, IsDrawnFrom}
-use Rattle.level_frame.specs.Ranges.{plain_trace}
+use Rattle.level_model.specs.declared.table.ChildAt.{ChildAt}
+use Rattle.level_model.specs.Level.{Orders}
+use Rattle.level_model.specs.Table.{child_in}
+use Rattle.level_model.specs.FromPlan.{LevelDrawing, IsGap, IsPlaced, IsRoute, IsDrawnFrom}
+use Rattle.working_frame.specs.Ranges.{plain_trace}
 use Rattle.level_nets.specs.Parts.{Parts, ArePlanned, plan_of}
 use Rattle.level_nets.specs.Held.{plain_gaps}
 use Rattle.level_nets.specs.Routed.{AreGapsOf}
-use Rattle.level_traces.specs.Traced.{ArePlannedRoutes, plain_traces}
+use Rattle.level_draw.specs.Traced.{ArePlannedRoutes, plain_traces}
 use Rattle.level_draw.specs.Joined.{AreJoined}
 use Rattle.level_draw.specs.Parts.{ports_in}
 

@@ -4,32 +4,32 @@ use Rattle.std.proofs.lemmas.Int.{ints}
 use Rattle.std.proofs.lemmas.List.{length-map}
 use Rattle.std.proofs.lemmas.List.Elements.{All-nil, All-cons, All-from_get_or, All-head, All-tail, All-weaker}
 use Rattle.std.specs.List.{All}
-use Rattle.elk_doc.specs.declared.shape.Point.{Point}
-use Rattle.elk_doc.specs.declared.drawing.Section.{Section}
-use Rattle.elk_doc.specs.Fits.{IsNear}
-use Rattle.elk_doc.specs.Sound.{IsWithin}
+use Rattle.drawing_types.specs.declared.shape.Point.{Point}
+use Rattle.drawing_types.specs.declared.section.Section.{Section}
+use Rattle.drawing_types.specs.Ranges.{IsNear}
+use Rattle.drawing_types.specs.Ranges.{IsWithin}
 use Rattle.elk_layers.specs.Layered.{IsFromZero}
-use Rattle.route_slots.specs.declared.NetRoute.{NetRoute}
-use Rattle.route_slots.specs.declared.NetRoute.TheVariants.{Straight, One, Two}
-use Rattle.route_slots.specs.Pieces.{route_at}
-use Rattle.route_slots.specs.GapFree.{AreHeights, IsHeight}
+use Rattle.net_routes.specs.declared.NetRoute.{NetRoute}
+use Rattle.net_routes.specs.declared.NetRoute.TheVariants.{Straight, One, Two}
+use Rattle.net_routes.specs.Pieces.{route_at}
+use Rattle.net_routes.specs.GapFree.{AreHeights, IsHeight}
 use Rattle.route_lines.specs.declared.Gap.{Gap}
 use Rattle.route_lines.specs.declared.Step.{Step}
 use Rattle.route_lines.specs.declared.Step.TheVariants.{Lane, Leg}
 use Rattle.route_lines.specs.declared.Trace.{Trace}
 use Rattle.route_lines.specs.Points.{plain_gap, gap_in, IsInRange, IsJoinOf}
 use Rattle.route_lines.specs.Tidied.{Drops, equal, middle, later, DropsSome, none, more, IsSectionOf, one, many}
-use Rattle.level_plan.specs.Level.{Orders}
-use Rattle.level_ends.specs.Bounds.{AreNumbersIn}
+use Rattle.level_model.specs.Level.{Orders}
+use Rattle.dock_table.specs.Bounds.{AreNumbersIn}
 use Rattle.level_nets.specs.declared.routing.Routing.{Routing}
 use Rattle.level_nets.specs.Parts.{Parts, ArePlanned, EndAbove}
 use Rattle.level_nets.specs.Held.{plain_gaps}
 use Rattle.level_nets.specs.Routed.{AreGapsIn, AreGapsOf, AreLegsOf}
-use Rattle.level_frame.specs.Ranges.{IsFar, IsFarGap, IsFarNet, IsFarPoint, IsFarRoute, IsFarSection, IsFarStep, IsFarTrace}
-use Rattle.level_traces.specs.declared.tracing.Routes.{Routes}
-use Rattle.level_traces.specs.Reach.{IsBoxPoint}
-use Rattle.level_traces.specs.Traced.{AreRoutesOf, plain_traces, trace_in}
-use Rattle.level_plan.specs.Nearness.{IsNearEnd, IsNearHeight, IsNearStep}
+use Rattle.working_frame.specs.Ranges.{IsFar, IsFarGap, IsFarNet, IsFarPoint, IsFarRoute, IsFarSection, IsFarStep, IsFarTrace}
+use Rattle.level_draw.specs.declared.tracing.Routes.{Routes}
+use Rattle.level_draw.specs.Reach.{IsBoxPoint}
+use Rattle.level_draw.specs.Traced.{AreRoutesOf, plain_traces, trace_in}
+use Rattle.plan_laws.specs.Nearness.{IsNearEnd, IsNearHeight, IsNearStep}
 use Rattle.level_draw.specs.Joined.{AreJoinable, AreJoined, section_in}
 use Rattle.level_draw.proofs.Nearness.{gaps_near, nets_held, nets_near}
 use Rattle.level_draw.proofs.Joining.{end_near, lanes_near, start_near}

@@ -5,18 +5,18 @@ use Rattle.std.proofs.lemmas.List.{get_or-map, length-map}
 use Rattle.std.specs.List.{All}
 use Rattle.elk_layers.specs.Layered.{IsFromZero}
 use Rattle.route_lines.specs.Points.{PlainGap, plain_gap, IsInRange, IsTrace}
-use Rattle.level_plan.specs.Level.{Orders, end_at}
-use Rattle.level_ends.specs.Bounds.{AreNumbersIn}
+use Rattle.level_model.specs.Level.{Orders, end_at}
+use Rattle.dock_table.specs.Bounds.{AreNumbersIn}
 use Rattle.level_nets.specs.declared.routing.Routing.{Routing}
 use Rattle.level_nets.specs.Parts.{Parts, ArePlanned, EndAbove, plan_of}
 use Rattle.level_nets.specs.Held.{plain_gaps}
 use Rattle.level_nets.specs.Routed.{AreGapsIn, AreGapsOf, AreLegsOf}
-use Rattle.level_frame.specs.Ranges.{plain_trace}
-use Rattle.level_traces.specs.declared.tracing.Routes.{Routes}
-use Rattle.level_traces.specs.Traced.{ArePlannedRoutes, AreRoutesOf, plain_traces, trace_in}
-use Rattle.level_plan.specs.Nearness.{IsNearEnd, IsNearStep}
-use Rattle.level_plan.proofs.LegsThere.{traces_join}
-use Rattle.level_plan.proofs.NearPoints.{points_near}
+use Rattle.working_frame.specs.Ranges.{plain_trace}
+use Rattle.level_draw.specs.declared.tracing.Routes.{Routes}
+use Rattle.level_draw.specs.Traced.{ArePlannedRoutes, AreRoutesOf, plain_traces, trace_in}
+use Rattle.plan_laws.specs.Nearness.{IsNearEnd, IsNearStep}
+use Rattle.plan_laws.proofs.LegsThere.{traces_join}
+use Rattle.plan_laws.proofs.NearPoints.{points_near}
 use Rattle.level_draw.specs.Joined.{AreJoinable}
 use Rattle.level_draw.proofs.Nearness.{anchor_near, gaps_near, nets_held, steps_near}
 

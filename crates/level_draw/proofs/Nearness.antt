@@ -6,28 +6,28 @@ use Rattle.std.proofs.lemmas.List.{get_or-reverse, get_or_past, length-map, leng
 use Rattle.std.proofs.lemmas.List.Elements.{All-nil, All-cons, All-append, All-from_get_or, All-get_or, All-head, All-tail}
 use Rattle.std.specs.Int.{int_min, int_max}
 use Rattle.std.specs.List.{All}
-use Rattle.elk_doc.specs.declared.shape.Side.{Side}
-use Rattle.elk_doc.specs.declared.shape.Side.TheVariants.{North, East, South, West}
+use Rattle.drawing_types.specs.declared.shape.Side.{Side}
+use Rattle.drawing_types.specs.declared.shape.Side.TheVariants.{North, East, South, West}
 use Rattle.elk_doc.specs.Sound.{IsDistance}
 use Rattle.elk_layers.specs.Layered.{IsFromZero, unit_at}
 use Rattle.elk_layers.specs.Lines.{top_of}
 use Rattle.self_loops.specs.Loops.{is_upright}
-use Rattle.route_slots.specs.declared.Net.{Net}
-use Rattle.route_slots.specs.Pieces.{net_at}
-use Rattle.route_slots.specs.GapFree.{AreHeights, IsNearPins}
+use Rattle.net_routes.specs.declared.Net.{Net}
+use Rattle.net_routes.specs.Pieces.{net_at}
+use Rattle.net_routes.specs.GapFree.{AreHeights, IsNearPins}
 use Rattle.route_lines.specs.declared.Gap.{Gap}
 use Rattle.route_lines.specs.declared.Step.{Step}
 use Rattle.route_lines.specs.declared.Step.TheVariants.{Lane, Leg}
 use Rattle.route_lines.specs.Points.{plain_gap, gap_in}
-use Rattle.level_plan.specs.declared.table.Table.{Table}
-use Rattle.level_plan.specs.Level.{Orders, End, end_at, spoke, is_loop, holds, dock_of}
-use Rattle.level_plan.specs.Lanes.{has_one_dock}
-use Rattle.level_plan.specs.Table.{end_in, loop_in}
-use Rattle.level_plan.specs.FromPlan.{IsGap, anchor}
-use Rattle.level_plan.specs.Traces as plan
-use Rattle.level_plan.proofs.Lists.{Has, at_has}
-use Rattle.level_plan.proofs.LinkLemmas.{chain_are}
-use Rattle.level_ends.specs.Bounds.{AreNumbersIn, IsIn, IsEndIn, IsLoopIn}
+use Rattle.level_model.specs.declared.table.Table.{Table}
+use Rattle.level_model.specs.Level.{Orders, End, end_at, spoke, is_loop, holds, dock_of}
+use Rattle.level_model.specs.Lanes.{has_one_dock}
+use Rattle.level_model.specs.Table.{end_in, loop_in}
+use Rattle.level_model.specs.FromPlan.{IsGap, anchor}
+use Rattle.level_model.specs.Traces as plan
+use Rattle.level_model.proofs.Lists.{Has, at_has}
+use Rattle.level_model.proofs.LinkLemmas.{chain_are}
+use Rattle.dock_table.specs.Bounds.{AreNumbersIn, IsIn, IsEndIn, IsLoopIn}
 use Rattle.level_nets.specs.declared.routing.Routing.{Routing}
 use Rattle.level_nets.specs.Parts.{Parts, ArePlanned, EndAbove, plan_of}
 use Rattle.level_nets.specs.Held.{plain_gaps}
@@ -38,15 +38,15 @@ use Rattle.level_nets.proofs.Gaps.{are_nets, nets_are}
 use Rattle.level_nets.proofs.Names.{child_below}
 use Rattle.level_nets.proofs.Reaching.{are_in_reach}
 use Rattle.level_nets.proofs.Slots.{few_slots}
-use Rattle.level_traces.specs.Read as read
-use Rattle.level_traces.specs.Reach.{AreNumbersIn as AreBelow}
-use Rattle.level_traces.proofs.Linking.{is_linked}
-use Rattle.level_traces.proofs.LoopReading.{loop_steps_are}
-use Rattle.level_traces.proofs.PlaceReading.{anchor_is, box_is}
-use Rattle.level_traces.proofs.RangeLemmas.{box_numbers}
-use Rattle.level_traces.proofs.StepReading.{edge_steps_are}
-use Rattle.level_plan.specs.Joins.{HoldNets}
-use Rattle.level_plan.specs.Nearness.{AreNearGaps, IsNearEnd, IsNearGap, IsNearHeight, IsNearStep}
+use Rattle.level_draw.specs.Read as read
+use Rattle.level_draw.specs.Reach.{AreNumbersIn as AreBelow}
+use Rattle.level_draw.proofs.Linking.{is_linked}
+use Rattle.level_draw.proofs.LoopReading.{loop_steps_are}
+use Rattle.level_draw.proofs.PlaceReading.{anchor_is, box_is}
+use Rattle.level_draw.proofs.RangeLemmas.{box_numbers}
+use Rattle.level_draw.proofs.StepReading.{edge_steps_are}
+use Rattle.plan_laws.specs.Joins.{HoldNets}
+use Rattle.plan_laws.specs.Nearness.{AreNearGaps, IsNearEnd, IsNearGap, IsNearHeight, IsNearStep}
 
 -- ---- the table
 

@@ -4,18 +4,18 @@ use Rattle.std.proofs.lemmas.Int.{ints}
 use Rattle.std.proofs.lemmas.List.{ext_get_or, get_or_default}
 use Rattle.std.proofs.lemmas.List.FromFn.{get_or-map-range_with_len, length-map-range_with_len}
 use Rattle.std.specs.List.{All}
-use Rattle.elk_doc.specs.declared.shape.Point.{Point}
-use Rattle.elk_doc.specs.declared.shape.Rect.{Rect}
-use Rattle.level_plan.specs.declared.table.ChildAt.{ChildAt}
-use Rattle.level_plan.specs.declared.table.Table.{Table}
-use Rattle.level_plan.specs.Level.{PlainLevel, PlainPlan, Orders}
-use Rattle.level_plan.specs.Table.{IsTable, child_in}
-use Rattle.level_plan.specs.FromPlan.{LevelDrawing, IsDrawnFrom, point_or}
-use Rattle.level_plan.specs.Apart.{drawn_outline}
-use Rattle.level_plan.proofs.ApartLemmas.{outlines_are_drawn}
-use Rattle.level_frame.specs.Reach.{IsNear}
-use Rattle.level_ends.specs.Bounds.{AreNumbersIn, IsChildIn}
-use Rattle.level_traces.specs.Reach.{IsBoxPoint}
+use Rattle.drawing_types.specs.declared.shape.Point.{Point}
+use Rattle.drawing_types.specs.declared.shape.Rect.{Rect}
+use Rattle.level_model.specs.declared.table.ChildAt.{ChildAt}
+use Rattle.level_model.specs.declared.table.Table.{Table}
+use Rattle.level_model.specs.Level.{PlainLevel, PlainPlan, Orders}
+use Rattle.level_model.specs.Table.{IsTable, child_in}
+use Rattle.level_model.specs.FromPlan.{LevelDrawing, IsDrawnFrom, point_or}
+use Rattle.level_model.specs.Apart.{drawn_outline}
+use Rattle.plan_laws.proofs.ApartLemmas.{outlines_are_drawn}
+use Rattle.working_frame.specs.Reach.{IsNear}
+use Rattle.dock_table.specs.Bounds.{AreNumbersIn, IsChildIn}
+use Rattle.level_draw.specs.Reach.{IsBoxPoint}
 use Rattle.level_draw.specs.Drawing.{outlines_in}
 use Rattle.level_draw.specs.Outlines.{AreNearby, AreOutlines, IsNearby, outline_from, rect_in}
 

@@ -4,21 +4,21 @@ use Rattle.std.proofs.lemmas.Int.{ints, clamps}
 use Rattle.std.proofs.lemmas.List.{get_or-map, map-append}
 use Rattle.std.specs.Int.{int_min, int_max}
 use Rattle.std.specs.List.{range_with_len}
-use Rattle.elk_doc.specs.declared.shape.Point.{Point}
-use Rattle.elk_doc.specs.declared.shape.Rect.{Rect}
-use Rattle.elk_doc.specs.declared.shape.Size.{Size}
-use Rattle.elk_doc.specs.declared.drawing.Section.{Section}
-use Rattle.elk_doc.specs.Document.{origin}
-use Rattle.elk_doc.specs.Shapes.{hull, moved_by, rect_at}
-use Rattle.elk_doc.proofs.ShapeLaws.{same_point, same_rect}
+use Rattle.drawing_types.specs.declared.shape.Point.{Point}
+use Rattle.drawing_types.specs.declared.shape.Rect.{Rect}
+use Rattle.drawing_types.specs.declared.shape.Size.{Size}
+use Rattle.drawing_types.specs.declared.section.Section.{Section}
+use Rattle.drawing_types.specs.Shapes.{origin}
+use Rattle.drawing_types.specs.Shapes.{hull, moved_by, rect_at}
+use Rattle.drawing_types.proofs.SameShapes.{same_point, same_rect}
 use Rattle.port_order.specs.Child.{port_at}
-use Rattle.level_plan.specs.Level.{PlainLevel, child_at}
-use Rattle.level_plan.specs.FromPlan.{LevelDrawing}
-use Rattle.level_plan.specs.Apart.{drawn_box, drawn_port, drawn_outline, drawn_outline_from}
-use Rattle.level_frame.specs.declared.spanning.Reach.{Reach}
-use Rattle.level_frame.specs.Reach.{IsReach, abscissae, corners_of, greatest, heights, least, points_along, points_of, reached}
-use Rattle.level_frame.proofs.Spanned.{moves}
-use Rattle.level_frame.specs.Moved.{moved, moved_point, moved_section}
+use Rattle.level_model.specs.Level.{PlainLevel, child_at}
+use Rattle.level_model.specs.FromPlan.{LevelDrawing}
+use Rattle.level_model.specs.Apart.{drawn_box, drawn_port, drawn_outline, drawn_outline_from}
+use Rattle.working_frame.specs.declared.spanning.Reach.{Reach}
+use Rattle.working_frame.specs.Reach.{IsReach, abscissae, corners_of, greatest, heights, least, points_along, points_of, reached}
+use Rattle.working_frame.proofs.Spanned.{moves}
+use Rattle.working_frame.specs.Moved.{moved, moved_point, moved_section}
 use Rattle.level_draw.specs.Drawing.{outlines_in}
 
 -- a rectangle, moved to the left and up

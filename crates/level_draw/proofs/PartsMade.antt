@@ -1,22 +1,22 @@
 -- What is made for a level are the parts of its drawing.
 use Rattle.std.proofs.Common.{◌≡◌, ℕ, ◌+◌, ◌≤◌, List, length, pos, refl, sym, subst, ap, ◌∙◌}
 use Rattle.std.specs.List.{All}
-use Rattle.elk_doc.specs.declared.shape.Rect.{Rect}
-use Rattle.elk_doc.specs.declared.shape.Size.{Size}
-use Rattle.elk_doc.specs.declared.drawing.Section.{Section}
-use Rattle.level_plan.specs.Level.{Orders}
-use Rattle.level_plan.specs.FromPlan.{LevelDrawing, IsDrawnFrom}
-use Rattle.level_plan.specs.Ready.{IsReady}
-use Rattle.level_frame.specs.Reach.{IsNear}
-use Rattle.level_frame.specs.Ranges.{IsFarGap, IsFarPoint, IsFarSection, IsFarTrace}
-use Rattle.level_units.specs.Tabled.{IsTableOf}
+use Rattle.drawing_types.specs.declared.shape.Rect.{Rect}
+use Rattle.drawing_types.specs.declared.shape.Size.{Size}
+use Rattle.drawing_types.specs.declared.section.Section.{Section}
+use Rattle.level_model.specs.Level.{Orders}
+use Rattle.level_model.specs.FromPlan.{LevelDrawing, IsDrawnFrom}
+use Rattle.level_model.specs.Ready.{IsReady}
+use Rattle.working_frame.specs.Reach.{IsNear}
+use Rattle.working_frame.specs.Ranges.{IsFarGap, IsFarPoint, IsFarSection, IsFarTrace}
+use Rattle.layer_units.specs.Tabled.{IsTableOf}
 use Rattle.level_nets.specs.declared.routing.Routing.{Routing}
 use Rattle.level_nets.specs.Parts as nets
 use Rattle.level_nets.specs.Held.{plain_gaps}
 use Rattle.level_nets.specs.Routed.{AreGapsIn, AreGapsOf, AreLegsOf}
-use Rattle.level_traces.specs.declared.tracing.Routes.{Routes}
-use Rattle.level_traces.specs.Reach.{IsBoxPoint}
-use Rattle.level_traces.specs.Traced.{AreRoutesOf, plain_traces}
+use Rattle.level_draw.specs.declared.tracing.Routes.{Routes}
+use Rattle.level_draw.specs.Reach.{IsBoxPoint}
+use Rattle.level_draw.specs.Traced.{AreRoutesOf, plain_traces}
 use Rattle.level_draw.specs.declared.parts.Parts.{Parts}
 use Rattle.level_draw.specs.Drawing.{IsDrawable, outlines_in}
 use Rattle.level_draw.specs.Joined.{AreJoinable, AreJoined}

@@ -1,19 +1,19 @@
 -- A table that is made before places are known belongs to the plan.
 use Rattle.std.proofs.Common.{ℕ, ◌≤◌, List, [], inl, inr, ℤ}
 use Rattle.std.proofs.Common.{⊎_elim}
-use Rattle.level_plan.specs.declared.table.Table.{Table}
-use Rattle.level_plan.specs.Level.{PlainLevel, PlainPlan, Orders}
-use Rattle.level_plan.specs.Table.{IsTable}
-use Rattle.level_plan.specs.Units.{AreLinked, AreOrders, HasChain, IsLaneUnit, IsLinkOf, IsUnitOf}
-use Rattle.level_plan.specs.Ready.{IsReady}
-use Rattle.level_ends.specs.Bounds.{AreNumbersIn}
-use Rattle.level_ends.specs.Tops.{with_tops}
-use Rattle.level_units.specs.Tabled.{IsTableOf}
+use Rattle.level_model.specs.declared.table.Table.{Table}
+use Rattle.level_model.specs.Level.{PlainLevel, PlainPlan, Orders}
+use Rattle.level_model.specs.Table.{IsTable}
+use Rattle.level_model.specs.Units.{AreLinked, AreOrders, HasChain, IsLaneUnit, IsLinkOf, IsUnitOf}
+use Rattle.level_model.specs.Ready.{IsReady}
+use Rattle.dock_table.specs.Bounds.{AreNumbersIn}
+use Rattle.dock_table.specs.Tops.{with_tops}
+use Rattle.layer_units.specs.Tabled.{IsTableOf}
 use Rattle.level_nets.specs.Parts.{IsGiven, Parts, plan_of}
-use Rattle.level_units.proofs.LayerLemmas.{few_counted}
+use Rattle.layer_units.proofs.LayerLemmas.{few_counted}
 use Rattle.level_draw.specs.Drawing.{IsDrawable}
-use Rattle.level_ends.proofs.TopLemmas.{no_tops}
-use Rattle.level_ends.proofs.AgreeingLemmas.{need_no_orders}
+use Rattle.dock_table.proofs.TopLemmas.{no_tops}
+use Rattle.dock_table.proofs.AgreeingLemmas.{need_no_orders}
 
 module _ (l : PlainLevel) (p : PlainPlan) (tops : List ℤ) where
   unit_kept : (layer c : ℕ) → IsUnitOf p layer c → IsUnitOf (with_tops p tops) layer c

@@ -3,13 +3,13 @@ use Rattle.std.proofs.Common.{◌≡◌, suc, List, [], ◌∷◌, ◌++◌, ℤ
 use Rattle.std.specs.Int.{int_max, int_min}
 use Rattle.std.proofs.lemmas.Int.{ints, clamps}
 use Rattle.std.specs.List.{All}
-use Rattle.elk_doc.specs.declared.shape.Point.{Point}
-use Rattle.elk_doc.specs.declared.shape.Rect.{Rect}
-use Rattle.elk_doc.specs.declared.drawing.Section.{Section}
-use Rattle.level_frame.specs.declared.spanning.Reach.{Reach}
-use Rattle.level_frame.specs.Reach.{IsNear, IsReach, abscissae, corners_of, greatest, heights, least, points_along, points_of, reached}
-use Rattle.level_frame.specs.Ranges.{IsFar, IsFarPoint, IsFarSection}
-use Rattle.elk_doc.specs.Document.{origin}
+use Rattle.drawing_types.specs.declared.shape.Point.{Point}
+use Rattle.drawing_types.specs.declared.shape.Rect.{Rect}
+use Rattle.drawing_types.specs.declared.section.Section.{Section}
+use Rattle.working_frame.specs.declared.spanning.Reach.{Reach}
+use Rattle.working_frame.specs.Reach.{IsNear, IsReach, abscissae, corners_of, greatest, heights, least, points_along, points_of, reached}
+use Rattle.working_frame.specs.Ranges.{IsFar, IsFarPoint, IsFarSection}
+use Rattle.drawing_types.specs.Shapes.{origin}
 use Rattle.level_draw.specs.Shifted.{IsFarReach, reach_or}
 
 -- all points of a list are in range

@@ -2,13 +2,13 @@
 use Rattle.std.proofs.Common.{◌≡◌, inl, inr, ℕ, ◌+◌, ◌<◌, List, [], ◌∷◌, ◌++◌, length, get_or, arith, sym, subst, ap, ◌∙◌}
 use Rattle.std.proofs.lemmas.Bool.{cases_lt}
 use Rattle.std.proofs.lemmas.List.{get_or-map, get_or_append_left, get_or_push, length_push}
-use Rattle.elk_doc.specs.declared.drawing.Section.{Section}
+use Rattle.drawing_types.specs.declared.section.Section.{Section}
 use Rattle.route_lines.specs.declared.Gap.{Gap}
 use Rattle.route_lines.specs.declared.Trace.{Trace}
 use Rattle.route_lines.specs.Points.{IsJoinOf}
-use Rattle.level_frame.specs.Ranges.{plain_trace}
+use Rattle.working_frame.specs.Ranges.{plain_trace}
 use Rattle.level_nets.specs.Held.{plain_gaps}
-use Rattle.level_traces.specs.Traced.{plain_traces, trace_in}
+use Rattle.level_draw.specs.Traced.{plain_traces, trace_in}
 use Rattle.level_draw.specs.Joined.{AreJoined, points_through}
 
 -- a trace of a slice as plain data

@@ -1,20 +1,20 @@
 -- Parts that are moved to begin at 0 make the drawing of the plan.
 use Rattle.std.proofs.Common.{◌≡◌, ℕ, ◌<◌, Bool, true, false, List, map, length, ℤ, pos, ◌+ℤ◌, ◌-ℤ◌, arith, refl, sym, subst, ap, ◌∙◌}
-use Rattle.elk_doc.specs.declared.shape.Point.{Point}
-use Rattle.elk_doc.specs.declared.shape.Rect.{Rect}
-use Rattle.elk_doc.specs.declared.shape.Size.{Size}
-use Rattle.elk_doc.specs.declared.drawing.Section.{Section}
-use Rattle.elk_doc.specs.Document.{origin}
-use Rattle.elk_doc.proofs.ShapeLaws.{same_point}
+use Rattle.drawing_types.specs.declared.shape.Point.{Point}
+use Rattle.drawing_types.specs.declared.shape.Rect.{Rect}
+use Rattle.drawing_types.specs.declared.shape.Size.{Size}
+use Rattle.drawing_types.specs.declared.section.Section.{Section}
+use Rattle.drawing_types.specs.Shapes.{origin}
+use Rattle.drawing_types.proofs.SameShapes.{same_point}
 use Rattle.route_lines.specs.Points.{PlainGap}
-use Rattle.level_plan.specs.Level.{PlainLevel, PlainPlan, Orders, end_at, spoke}
-use Rattle.level_plan.specs.Nets.{unit_of}
-use Rattle.level_plan.specs.FromPlan.{LevelDrawing, PlainTrace, IsDrawnFrom}
-use Rattle.level_plan.specs.Ready.{IsReady}
-use Rattle.level_frame.specs.declared.spanning.Reach.{Reach}
-use Rattle.level_frame.specs.Reach.{IsReach, reached}
-use Rattle.level_frame.specs.Moved.{HasPlaces, moved, moved_point, moved_section}
-use Rattle.level_frame.proofs.DrawingMoves.{drawing_moves}
+use Rattle.level_model.specs.Level.{PlainLevel, PlainPlan, Orders, end_at, spoke}
+use Rattle.level_model.specs.Nets.{unit_of}
+use Rattle.level_model.specs.FromPlan.{LevelDrawing, PlainTrace, IsDrawnFrom}
+use Rattle.level_model.specs.Ready.{IsReady}
+use Rattle.working_frame.specs.declared.spanning.Reach.{Reach}
+use Rattle.working_frame.specs.Reach.{IsReach, reached}
+use Rattle.working_frame.specs.Moved.{HasPlaces, moved, moved_point, moved_section}
+use Rattle.working_frame.proofs.DrawingMoves.{drawing_moves}
 use Rattle.level_draw.specs.declared.parts.Parts.{Parts}
 use Rattle.level_draw.specs.Drawing.{IsDrawable, IsTight, outlines_in}
 use Rattle.level_draw.specs.Parts.{AreLevelParts, drawn_of}

@@ -1,6 +1,6 @@
 -- What a level's drawing is made from.
-use Rattle.level_plan.specs.Conditions.{plain_plan}
-use Rattle.level_plan.specs.Level.{PlainPlan}
+use Rattle.level_model.specs.Conditions.{plain_plan}
+use Rattle.level_model.specs.Level.{PlainPlan}
 use Rattle.level_draw.specs.declared.parts.Draft.{Draft}
 
 -- the plan of a draft

@@ -1,25 +1,25 @@
 -- The drawing of a level, as it is answered.
 use Rattle.std.specs.Prelude.{◌≡◌, ◌≢◌, ℕ, ◌<◌, ◌^◌, List, map, ℤ, pos, ◌+ℤ◌, ◌<ℤ◌, length}
 use Rattle.std.specs.List.{range_with_len}
-use Rattle.elk_doc.specs.declared.shape.Rect.{Rect}
+use Rattle.drawing_types.specs.declared.shape.Rect.{Rect}
 use Rattle.elk_doc.specs.declared.drawing.Certificate.{Certificate}
-use Rattle.elk_doc.specs.Document.{origin}
+use Rattle.drawing_types.specs.Shapes.{origin}
 use Rattle.elk_layers.specs.declared.units.Layered.{Layered}
 use Rattle.elk_layers.specs.declared.units.Order.{Order}
 use Rattle.elk_layers.specs.declared.units.Lines.{Lines}
 use Rattle.elk_layers.specs.Layered.{unit_at}
 use Rattle.elk_layers.specs.Lines.{top_of}
-use Rattle.level_plan.specs.Conditions.{plain_plan}
-use Rattle.level_plan.specs.Level.{PlainLevel, PlainPlan, Orders}
-use Rattle.level_plan.specs.FromPlan.{LevelDrawing, IsDrawnFrom}
-use Rattle.level_plan.specs.Ready.{IsReady}
-use Rattle.level_plan.specs.Apart.{ChildrenApart, drawn_outline}
-use Rattle.level_plan.specs.PortsKept.{KeepsPorts}
-use Rattle.level_plan.specs.Routes.{RoutesKept}
-use Rattle.level_frame.specs.Reach.{IsReach, reached}
+use Rattle.level_model.specs.Conditions.{plain_plan}
+use Rattle.level_model.specs.Level.{PlainLevel, PlainPlan, Orders}
+use Rattle.level_model.specs.FromPlan.{LevelDrawing, IsDrawnFrom}
+use Rattle.level_model.specs.Ready.{IsReady}
+use Rattle.level_model.specs.Apart.{ChildrenApart, drawn_outline}
+use Rattle.level_model.specs.PortsKept.{KeepsPorts}
+use Rattle.plan_laws.specs.Routes.{RoutesKept}
+use Rattle.working_frame.specs.Reach.{IsReach, reached}
 use Rattle.level_nets.specs.Held.{plain_gaps}
-use Rattle.level_traces.specs.Traced.{plain_traces}
-use Rattle.level_units.specs.Layering.{AreLayersOf, IsLayerCount}
+use Rattle.level_draw.specs.Traced.{plain_traces}
+use Rattle.layer_units.specs.Layering.{AreLayersOf, IsLayerCount}
 use Rattle.level_draw.specs.declared.drawing.LevelOut.{LevelOut}
 
 -- the plan of these units, rows and tops, with the edges that a certificate says are turned round

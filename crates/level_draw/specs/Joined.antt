@@ -1,15 +1,15 @@
 -- Traces whose points can be joined, and their sections.
 use Rattle.std.specs.Prelude.{◌≡◌, ℕ, ◌<◌, List, [], pos, length, slice_index_or}
 use Rattle.std.specs.List.{All}
-use Rattle.elk_doc.specs.declared.shape.Point.{Point}
-use Rattle.elk_doc.specs.declared.drawing.Section.{Section}
-use Rattle.elk_doc.specs.Fits.{IsNear}
+use Rattle.drawing_types.specs.declared.shape.Point.{Point}
+use Rattle.drawing_types.specs.declared.section.Section.{Section}
+use Rattle.drawing_types.specs.Ranges.{IsNear}
 use Rattle.route_lines.specs.declared.Gap.{Gap}
 use Rattle.route_lines.specs.declared.Trace.{Trace}
 use Rattle.route_lines.specs.Points.{PlainGap, IsTrace, IsGapInRange, IsJoinOf, trace_points}
-use Rattle.level_plan.specs.FromPlan.{PlainTrace}
+use Rattle.level_model.specs.FromPlan.{PlainTrace}
 use Rattle.level_nets.specs.Held.{plain_gaps}
-use Rattle.level_traces.specs.Traced.{plain_traces, trace_in}
+use Rattle.level_draw.specs.Traced.{plain_traces, trace_in}
 
 -- the points of a trace through gaps
 abbrev pub points_through : List PlainGap → PlainTrace → List Point

@@ -1,7 +1,11 @@
+pub mod Chains
 pub mod Draft
 pub mod Drawing
 pub mod Joined
 pub mod Outlines
 pub mod Parts
+pub mod Reach
+pub mod Read
 pub mod Shifted
 pub mod Sketched
+pub mod Traced

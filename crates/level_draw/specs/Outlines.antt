@@ -1,11 +1,11 @@
 -- The outlines of children, from the corners of their boxes.
 use Rattle.std.specs.Prelude.{◌≡◌, ℕ, ◌<◌, ◌^◌, List, pos, ◌+ℤ◌, length, slice_index_or}
-use Rattle.elk_doc.specs.declared.shape.Point.{Point}
-use Rattle.elk_doc.specs.declared.shape.Rect.{Rect}
-use Rattle.elk_doc.specs.Sound.{IsPlaceWithin}
-use Rattle.level_plan.specs.declared.table.ChildAt.{ChildAt}
-use Rattle.level_plan.specs.FromPlan.{point_or}
-use Rattle.level_plan.specs.Table.{child_in}
+use Rattle.drawing_types.specs.declared.shape.Point.{Point}
+use Rattle.drawing_types.specs.declared.shape.Rect.{Rect}
+use Rattle.drawing_types.specs.Ranges.{IsPlaceWithin}
+use Rattle.level_model.specs.declared.table.ChildAt.{ChildAt}
+use Rattle.level_model.specs.FromPlan.{point_or}
+use Rattle.level_model.specs.Table.{child_in}
 
 -- an outline that is known from the corner of its child's box
 abbrev pub outline_from : Rect → Point → Rect

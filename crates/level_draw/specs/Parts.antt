@@ -1,16 +1,16 @@
 -- The parts of a drawing before it is moved.
 use Rattle.std.specs.Prelude.{◌≡◌, ℕ, List, map, ℤ, pos}
 use Rattle.std.specs.List.{All}
-use Rattle.elk_doc.specs.declared.shape.Point.{Point}
-use Rattle.elk_doc.specs.declared.shape.Size.{Size}
-use Rattle.level_plan.specs.declared.table.ChildAt.{ChildAt}
-use Rattle.level_plan.specs.Level.{PlainLevel, PlainPlan, Orders}
-use Rattle.level_plan.specs.FromPlan.{LevelDrawing, IsDrawnFrom}
-use Rattle.level_plan.specs.Ready.{IsReady}
-use Rattle.level_frame.specs.Reach.{IsNear}
-use Rattle.level_frame.specs.Ranges.{IsFarGap, IsFarPoint, IsFarSection, IsFarTrace}
+use Rattle.drawing_types.specs.declared.shape.Point.{Point}
+use Rattle.drawing_types.specs.declared.shape.Size.{Size}
+use Rattle.level_model.specs.declared.table.ChildAt.{ChildAt}
+use Rattle.level_model.specs.Level.{PlainLevel, PlainPlan, Orders}
+use Rattle.level_model.specs.FromPlan.{LevelDrawing, IsDrawnFrom}
+use Rattle.level_model.specs.Ready.{IsReady}
+use Rattle.working_frame.specs.Reach.{IsNear}
+use Rattle.working_frame.specs.Ranges.{IsFarGap, IsFarPoint, IsFarSection, IsFarTrace}
 use Rattle.level_nets.specs.Held.{plain_gaps}
-use Rattle.level_traces.specs.Traced.{plain_traces}
+use Rattle.level_draw.specs.Traced.{plain_traces}
 use Rattle.level_draw.specs.declared.parts.Parts.{Parts}
 use Rattle.level_draw.specs.Drawing.{outlines_in}
 

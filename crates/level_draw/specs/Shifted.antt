@@ -1,11 +1,11 @@
 -- The parts of a drawing that is moved, and how far they reach.
 use Rattle.std.specs.Prelude.{◌≡◌, map, ℤ, Option, Some, None}
-use Rattle.elk_doc.specs.Document.{origin}
-use Rattle.level_frame.specs.declared.spanning.Reach.{Reach}
-use Rattle.level_frame.specs.Moved.{moved_gap, moved_point, moved_section, moved_trace}
-use Rattle.level_frame.specs.Ranges.{IsFarPoint}
+use Rattle.drawing_types.specs.Shapes.{origin}
+use Rattle.working_frame.specs.declared.spanning.Reach.{Reach}
+use Rattle.working_frame.specs.Moved.{moved_gap, moved_point, moved_section, moved_trace}
+use Rattle.working_frame.specs.Ranges.{IsFarPoint}
 use Rattle.level_nets.specs.Held.{plain_gaps}
-use Rattle.level_traces.specs.Traced.{plain_traces}
+use Rattle.level_draw.specs.Traced.{plain_traces}
 use Rattle.level_draw.specs.declared.parts.Parts.{Parts}
 
 -- one number is taken from all abscissae, and one from all heights; ports and outlines stay

@@ -1,8 +1,8 @@
 -- The parts of a drawing that begins at 0, and how far they reach.
 use Rattle.std.specs.Prelude.{ℕ, List, ℤ}
-use Rattle.level_plan.specs.Level.{PlainLevel, PlainPlan, Orders}
-use Rattle.level_plan.specs.FromPlan.{IsDrawnFrom}
-use Rattle.level_plan.specs.Ready.{IsReady}
+use Rattle.level_model.specs.Level.{PlainLevel, PlainPlan, Orders}
+use Rattle.level_model.specs.FromPlan.{IsDrawnFrom}
+use Rattle.level_model.specs.Ready.{IsReady}
 use Rattle.level_draw.specs.declared.drawing.Sketch.{Sketch}
 use Rattle.level_draw.specs.Drawing.{IsTight}
 use Rattle.level_draw.specs.Parts.{drawn_of}

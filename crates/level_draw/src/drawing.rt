@@ -1,20 +1,21 @@
 //! The drawing of a level.
 ghost use Rattle.std.specs.Prelude.{ℕ, List, IfOk, length};
-ghost use Rattle.level_plan.specs.Conditions.{plain_level};
-ghost use Rattle.level_plan.specs.Marks.{AreMarks};
-ghost use Rattle.level_units.specs.Tabled.{IsTableOf};
+ghost use Rattle.level_model.specs.Conditions.{plain_level};
+ghost use Rattle.level_model.specs.Marks.{AreMarks};
+ghost use Rattle.layer_units.specs.Tabled.{IsTableOf};
 ghost use Rattle.level_draw.specs.Draft.{plan_in};
 ghost use Rattle.level_draw.specs.Drawing.{IsDrawable, IsDrawn, IsMadeFrom, plan_from};
 ghost use Rattle.level_draw.specs.Sketched.{IsSketch};
 
 use crate::parts::{Draft, Parts, parts_of};
 use crate::shifting::{reach_in, shifted, size_of};
-use elk_doc::drawing::{Certificate, Section};
-use elk_doc::list::Items;
-use elk_doc::shape::{Point, Size};
+use dock_table::table_of;
+use drawing_types::list::Items;
+use drawing_types::section::Section;
+use drawing_types::shape::{Point, Size};
+use elk_doc::drawing::Certificate;
 use elk_layers::{Layered, Lines, Order};
-use level_ends::table_of;
-use level_plan::{LevelIn, Table, marks_of};
+use level_model::{LevelIn, Table, marks_of};
 use route_lines::{Gap, Trace};
 use std::alloc::{AllocError, Global};
 

@@ -1,11 +1,11 @@
 //! The outlines of children in a drawing.
 ghost use Rattle.std.specs.Prelude.{◌≡◌, ◌<◌, ◌≤◌, length, IfOk};
-ghost use Rattle.level_plan.specs.Table.{child_in};
-ghost use Rattle.level_plan.specs.FromPlan.{point_or};
+ghost use Rattle.level_model.specs.Table.{child_in};
+ghost use Rattle.level_model.specs.FromPlan.{point_or};
 ghost use Rattle.level_draw.specs.Outlines.{AreNearby, AreOutlines, IsNearby, outline_from};
 
-use elk_doc::shape::{Point, Rect};
-use level_plan::ChildAt;
+use drawing_types::shape::{Point, Rect};
+use level_model::ChildAt;
 use std::alloc::{AllocError, Global};
 
 // An outline that is known from the corner of its child's box.

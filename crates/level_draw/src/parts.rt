@@ -1,22 +1,22 @@
 //! The parts of a drawing before it is moved.
 ghost use Rattle.std.specs.Prelude.{◌≡◌, ℕ, List, IfOk, length};
-ghost use Rattle.level_plan.specs.Conditions.{plain_level};
-ghost use Rattle.level_plan.specs.Marks.{AreMarks};
-ghost use Rattle.level_units.specs.Tabled.{IsTableOf};
+ghost use Rattle.level_model.specs.Conditions.{plain_level};
+ghost use Rattle.level_model.specs.Marks.{AreMarks};
+ghost use Rattle.layer_units.specs.Tabled.{IsTableOf};
 ghost use Rattle.level_draw.specs.Drawing.{IsDrawable};
 ghost use Rattle.level_draw.specs.Draft.{plan_in};
 ghost use Rattle.level_draw.specs.Parts.{AreLevelParts, ports_in};
 
 use crate::outlines::outlines_of;
+use crate::routes_of;
 use crate::sections::sections_of;
-use elk_doc::drawing::Section;
-use elk_doc::list::Items;
-use elk_doc::shape::{Point, Rect};
+use drawing_types::list::Items;
+use drawing_types::section::Section;
+use drawing_types::shape::{Point, Rect};
 use elk_layers::{Layered, Lines, Order};
+use level_model::{ChildAt, LevelIn, Table};
 use level_nets::gaps_of;
 use level_nets::sheet::Sheet;
-use level_plan::{ChildAt, LevelIn, Table};
-use level_traces::routes_of;
 use route_lines::{Gap, Trace};
 use std::alloc::{AllocError, Global};
 

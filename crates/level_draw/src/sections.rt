@@ -4,7 +4,7 @@ ghost use Rattle.std.specs.List.{All};
 ghost use Rattle.route_lines.specs.Points.{plain_gap};
 ghost use Rattle.level_draw.specs.Joined.{AreJoinable, AreJoined};
 
-use elk_doc::drawing::Section;
+use drawing_types::section::Section;
 use route_lines::{Gap, Trace, join};
 use std::alloc::{AllocError, Global};
 

@@ -1,14 +1,14 @@
 //! The parts of a drawing, moved so that they begin at 0.
 ghost use Rattle.std.specs.Prelude.{◌≡◌, ◌-ℤ◌, IfOk};
-ghost use Rattle.level_frame.specs.Reach.{IsReach, reached};
-ghost use Rattle.level_frame.specs.Ranges.{IsFarPoint};
+ghost use Rattle.working_frame.specs.Reach.{IsReach, reached};
+ghost use Rattle.working_frame.specs.Ranges.{IsFarPoint};
 ghost use Rattle.level_draw.specs.Parts.{AreFar};
 ghost use Rattle.level_draw.specs.Shifted.{AreShifted, IsFarReach, reach_or};
 
 use crate::parts::Parts;
-use elk_doc::shape::{Point, Size};
-use level_frame::{Reach, move_gaps, move_points, move_traces, moved_sections, reach_of};
+use drawing_types::shape::{Point, Size};
 use std::alloc::{AllocError, Global};
+use working_frame::{Reach, move_gaps, move_points, move_traces, moved_sections, reach_of};
 
 /// Parts that are moved to the left and up.
 pub(crate) fn shifted(alloc: Global, parts: Parts, by: Point) -> Result<Parts, AllocError>

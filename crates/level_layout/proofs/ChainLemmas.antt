@@ -4,16 +4,16 @@ use Rattle.std.proofs.lemmas.Bool.{cases_lt}
 use Rattle.std.specs.Prelude.{IsFalse, slice_index}
 use Rattle.graph_arena.specs.declared.keys.EdgeKey.{EdgeKey}
 use Rattle.long_edges.specs.Chains.{Table}
-use Rattle.level_plan.specs.Conditions.{IsLevel}
-use Rattle.level_plan.specs.Level.{PlainLevel, edge_at, holds, is_loop}
-use Rattle.level_plan.specs.Marks.{AreMarks}
-use Rattle.level_layers.specs.Certificate.{oriented}
-use Rattle.level_layers.specs.Chained.{IsChainAt, head_by, tail_by}
-use Rattle.level_layers.specs.Chained as split
-use Rattle.level_units.specs.Layering.{AreLayersOf, head_child, layering, layer_in, tail_child}
-use Rattle.level_units.specs.Numbered.{gaps_of}
-use Rattle.level_units.specs.Chained.{AreChained, IsLength, key_in}
-use Rattle.level_units.proofs.RunLemmas.{no_loop}
+use Rattle.level_model.specs.Conditions.{IsLevel}
+use Rattle.level_model.specs.Level.{PlainLevel, edge_at, holds, is_loop}
+use Rattle.level_model.specs.Marks.{AreMarks}
+use Rattle.level_layout.specs.Certificate.{oriented}
+use Rattle.level_layout.specs.Chained.{IsChainAt, head_by, tail_by}
+use Rattle.level_layout.specs.Chained as split
+use Rattle.layer_units.specs.Layering.{AreLayersOf, head_child, layering, layer_in, tail_child}
+use Rattle.layer_units.specs.Numbered.{gaps_of}
+use Rattle.layer_units.specs.Chained.{AreChained, IsLength, key_in}
+use Rattle.layer_units.proofs.RunLemmas.{no_loop}
 use Rattle.level_layout.proofs.LayerLemmas.{head_is, tail_is}
 
 module _ (l : PlainLevel) (rs layers : List ℕ) (marks : List Bool) (level : IsLevel l) (are : AreLayersOf l rs layers) (marked : AreMarks rs (length l.edges) marks) where

@@ -2,8 +2,8 @@
 use Rattle.std.proofs.Common.{◌≡◌, ◌⊎◌, ⊎_elim, inl, inr, ℕ, zero, suc, ◌+◌, ◌-◌, ◌*◌, ◌<◌, ◌≤◌, ◌^◌, eqb, ltb, cond, Bool, true, false, refl, ap, subst, ◌∙◌, arith}
 use Rattle.std.proofs.lemmas.Bool.{cases_Bool, cases_eq, cases_lt, eq-eqb, eqb-true, le-ltb, lt-ltb, ltb-true}
 use Rattle.std.proofs.lemmas.Nat.{mul-le}
-use Rattle.level_units.specs.Numbered.{before}
-use Rattle.level_units.proofs.SumLemmas.{before_bound}
+use Rattle.layer_units.specs.Numbered.{before}
+use Rattle.layer_units.proofs.SumLemmas.{before_bound}
 
 -- the greatest of the first n values, and where it is taken
 pub record Greatest (f : ℕ → ℕ) (n : ℕ) : Type 0 where

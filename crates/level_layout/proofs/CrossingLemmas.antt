@@ -9,7 +9,7 @@ use Rattle.network_laws.specs.Network.{edge_at, EndsBelow}
 use Rattle.network_laws.specs.Layering.{layer_of, natural, rise, weighed, weights, IsSolution}
 use Rattle.network_laws.proofs.Duality.{carries, natural_is, same_cost, weighed_le, weighed_sum}
 use Rattle.network_laws.proofs.Naming.{same_in_part}
-use Rattle.level_layers.specs.Low.{IsPlainNetwork}
+use Rattle.level_layout.specs.Low.{IsPlainNetwork}
 
 -- 1 above layer j, else 0
 above : ℕ → ℤ → ℕ

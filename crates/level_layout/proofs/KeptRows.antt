@@ -11,7 +11,7 @@ use Rattle.elk_layers.specs.Layered.{Plain, gap_of, head_key, layer_of, link_at,
 use Rattle.elk_layers.specs.Crossings.{cross, crossings, crossings_among, exchanged, NoBetterSwap}
 use Rattle.elk_layers.specs.Sweeps.{Ends, backward_sweep, far_count, far_sum, forward_sweep, has_links, insert_by, mean_le, ordered, refilled, sorted_by, sweep_orders, swept, swept_after, to_left, to_right}
 use Rattle.cross_reduce.specs.Reduced.{after_pair, after_pairs, after_row, after_rows, again, at_rest, AtMostOf, FewerThan, IsExchangedFromFewest, IsFirstOfFewest, SettlesTo}
-use Rattle.level_units.specs.Fitted.{AreKept}
+use Rattle.layer_units.specs.Fitted.{AreKept}
 use Rattle.elk_doc.specs.declared.document.RowOrder.{RowOrder}
 use Rattle.level_layout.specs.Chosen.{AreChosenRows, IsReduced}
 

@@ -7,11 +7,11 @@ use Rattle.std.specs.Prelude.{IsFalse}
 use Rattle.elk_doc.specs.declared.drawing.Certificate.{Certificate}
 use Rattle.network_laws.specs.declared.network.NetEdge.{NetEdge}
 use Rattle.network_laws.specs.Layering.{layer_of}
-use Rattle.level_plan.specs.Conditions.{IsLevel}
-use Rattle.level_plan.specs.Level.{PlainLevel, edge_at, holds, is_loop}
-use Rattle.level_plan.proofs.Lists.{Has, at_has, has_filter, has_map, has_range}
-use Rattle.level_layers.specs.Certificate.{IsCertificateOf, links, net_edge, network}
-use Rattle.level_units.specs.Layering.{AreLayersOf, head_child, layer_in, tail_child}
+use Rattle.level_model.specs.Conditions.{IsLevel}
+use Rattle.level_model.specs.Level.{PlainLevel, edge_at, holds, is_loop}
+use Rattle.level_model.proofs.Lists.{Has, at_has, has_filter, has_map, has_range}
+use Rattle.level_layout.specs.Certificate.{IsCertificateOf, links, net_edge, network}
+use Rattle.layer_units.specs.Layering.{AreLayersOf, head_child, layer_in, tail_child}
 
 -- an edge that is no self-loop is one of the network
 in_network : (l : PlainLevel) (rs : List ℕ) (e : ℕ) → e < length l.edges → is_loop l e ≡ false → Has (network l rs) (net_edge l rs e)

@@ -6,7 +6,7 @@ use Rattle.std.specs.declared.alloc.AllocError.{AllocError}
 use Rattle.std.specs.Int.{int_max}
 use Rattle.std.specs.List.{filter, range_with_len}
 use Rattle.elk_doc.specs.declared.document.Placing.{Placing}
-use Rattle.elk_doc.specs.declared.document.Sweep.{Sweep}
+use Rattle.drawing_types.specs.declared.sweep.Sweep.{Sweep}
 use Rattle.elk_doc.specs.declared.drawing.Certificate.{Certificate}
 use Rattle.elk_layers.specs.declared.units.Unit.{Unit as LayerUnit}
 use Rattle.elk_layers.specs.declared.units.Layered.{Layered}
@@ -14,19 +14,19 @@ use Rattle.elk_layers.specs.declared.units.Order.{Order}
 use Rattle.elk_layers.specs.declared.units.Lines.{Lines}
 use Rattle.elk_layers.specs.Layered.{Plain, AreRows, IsSound, plain, rows_of, total_height, unit_at}
 use Rattle.elk_layers.specs.Lines.{top_of}
-use Rattle.row_blocks.specs.Constraints.{EndsWithinStack, greatest_spacing, stacked_height}
+use Rattle.unit_blocks.specs.Constraints.{EndsWithinStack, greatest_spacing, stacked_height}
 use Rattle.ns_place.specs.Heights.{pins_together}
-use Rattle.level_plan.specs.declared.level.LevelIn.{LevelIn}
-use Rattle.level_plan.specs.Conditions.{IsLevel, plain_level, plain_plan}
-use Rattle.level_plan.specs.Level.{Orders, PlainLevel}
-use Rattle.level_plan.specs.Units.{AreLinked}
-use Rattle.level_layers.specs.Certificate.{IsCertificateOf}
-use Rattle.level_units.specs.Alike.{AreAlike, LanesStay}
-use Rattle.level_units.specs.Fitted.{AreFitted, AreKept}
-use Rattle.level_units.specs.Layering.{IsLayerCount}
+use Rattle.level_model.specs.declared.level.LevelIn.{LevelIn}
+use Rattle.level_model.specs.Conditions.{IsLevel, plain_level, plain_plan}
+use Rattle.level_model.specs.Level.{Orders, PlainLevel}
+use Rattle.level_model.specs.Units.{AreLinked}
+use Rattle.level_layout.specs.Certificate.{IsCertificateOf}
+use Rattle.layer_units.specs.Alike.{AreAlike, LanesStay}
+use Rattle.layer_units.specs.Fitted.{AreFitted, AreKept}
+use Rattle.layer_units.specs.Layering.{IsLayerCount}
 use Rattle.level_draw.specs.declared.drawing.LevelOut.{LevelOut}
 use Rattle.level_draw.specs.Drawing.{IsDrawable, IsDrawn, IsMadeFrom, plan_from}
-use Rattle.level_units.specs.Laws.{MakeUnits}
+use Rattle.layer_units.specs.Laws.{MakeUnits}
 use Rattle.level_layout.specs.Bounds.{AreFew}
 use Rattle.level_layout.proofs.LayerLemmas.{layers_from}
 use Rattle.level_layout.proofs.LinkLemmas.{links_few}

@@ -7,14 +7,14 @@ use Rattle.elk_layers.specs.Layered.{Plain}
 use Rattle.network_laws.specs.declared.network.NetEdge.{NetEdge}
 use Rattle.network_laws.specs.Network.{edge_at}
 use Rattle.network_laws.specs.Layering.{layer_of}
-use Rattle.level_plan.specs.Conditions.{IsLevel}
-use Rattle.level_plan.specs.Level.{PlainLevel, holds}
-use Rattle.level_layers.specs.Certificate.{IsCertificateOf, net_edge, network}
-use Rattle.level_layers.proofs.NetLemmas.{ends_below, is_plain, link_at}
-use Rattle.level_units.specs.Layering.{AreLayersOf, Layering, head_child, layer_in, layering, tail_child}
-use Rattle.level_units.specs.Numbered.{AreNumberedUnits, before, gaps_of, lanes_of}
-use Rattle.level_units.proofs.RunLemmas.{head_below, head_in}
-use Rattle.level_units.specs.Alike.{AreAlike}
+use Rattle.level_model.specs.Conditions.{IsLevel}
+use Rattle.level_model.specs.Level.{PlainLevel, holds}
+use Rattle.level_layout.specs.Certificate.{IsCertificateOf, net_edge, network}
+use Rattle.level_layout.proofs.NetLemmas.{ends_below, is_plain, link_at}
+use Rattle.layer_units.specs.Layering.{AreLayersOf, Layering, head_child, layer_in, layering, tail_child}
+use Rattle.layer_units.specs.Numbered.{AreNumberedUnits, before, gaps_of, lanes_of}
+use Rattle.layer_units.proofs.RunLemmas.{head_below, head_in}
+use Rattle.layer_units.specs.Alike.{AreAlike}
 use Rattle.level_layout.specs.Bounds.{AreFew, LinksAreFew}
 use Rattle.level_layout.proofs.CountLemmas.{found_below, greatest, ones_keep_small, sum_grows}
 use Rattle.level_layout.proofs.CrossingLemmas.{some_step}

@@ -6,13 +6,13 @@ use Rattle.std.specs.Prelude.{is_some}
 use Rattle.elk_layers.specs.declared.units.Unit.{Unit as LayerUnit}
 use Rattle.elk_layers.specs.declared.units.Link.{Link}
 use Rattle.elk_layers.specs.Layered.{IsSound, Plain, link_at, total_height, unit_at}
-use Rattle.row_blocks.proofs.SumLemmas.{sum_to}
-use Rattle.level_plan.specs.Level.{holds}
-use Rattle.level_units.specs.Layering.{Layering, head_child, layer_in, layering, tail_child}
-use Rattle.level_units.specs.Numbered.{AreNumberedUnits, first_lane, first_link, gaps_of, lanes_of, run_of, stop_of}
-use Rattle.level_units.proofs.RunLemmas.{Stop, at_head, at_lane, at_tail, stop_last, stop_where}
-use Rattle.level_units.proofs.SumLemmas.{before_below}
-use Rattle.level_units.specs.Alike.{AreAlike}
+use Rattle.unit_blocks.proofs.SumLemmas.{sum_to}
+use Rattle.level_model.specs.Level.{holds}
+use Rattle.layer_units.specs.Layering.{Layering, head_child, layer_in, layering, tail_child}
+use Rattle.layer_units.specs.Numbered.{AreNumberedUnits, first_lane, first_link, gaps_of, lanes_of, run_of, stop_of}
+use Rattle.layer_units.proofs.RunLemmas.{Stop, at_head, at_lane, at_tail, stop_last, stop_where}
+use Rattle.layer_units.proofs.SumLemmas.{before_below}
+use Rattle.layer_units.specs.Alike.{AreAlike}
 use Rattle.ns_place.specs.Heights.{pins_together}
 use Rattle.level_layout.specs.Bounds.{PinsAreLow}
 use Rattle.level_layout.proofs.PinSums.{groups_small, one_counts, pins_added, pins_of, sum_of_both, two_within}

@@ -5,8 +5,8 @@ use Rattle.std.proofs.lemmas.Int.{ints}
 use Rattle.elk_layers.specs.declared.units.Unit.{Unit as LayerUnit}
 use Rattle.elk_layers.specs.declared.units.Link.{Link}
 use Rattle.elk_layers.specs.Layered.{link_at, total_height, unit_at}
-use Rattle.row_blocks.proofs.SumLemmas.{sum_to}
-use Rattle.level_units.specs.Numbered.{before}
+use Rattle.unit_blocks.proofs.SumLemmas.{sum_to}
+use Rattle.layer_units.specs.Numbered.{before}
 use Rattle.ns_place.specs.Heights.{pins_together}
 use Rattle.elk_layers.proofs.HeightLemmas.{total_from_zero}
 

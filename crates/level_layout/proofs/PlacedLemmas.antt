@@ -3,10 +3,10 @@ use Rattle.std.proofs.Common.{◌≡◌, sym, ◌∙◌, ℕ, List, ℤ, None, S
 use Rattle.std.specs.Prelude.{Option}
 use Rattle.elk_doc.specs.declared.document.Placing.{Placing}
 use Rattle.elk_doc.specs.declared.document.Placing.TheVariants.{BrandesKoepf, NetworkSimplex}
-use Rattle.elk_doc.specs.declared.document.Sweep.{Sweep}
+use Rattle.drawing_types.specs.declared.sweep.Sweep.{Sweep}
 use Rattle.elk_layers.specs.Layered.{Plain}
 use Rattle.elk_layers.specs.Lines.{AreApart}
-use Rattle.row_blocks.specs.Constraints.{EndsWithinStack}
+use Rattle.unit_blocks.specs.Constraints.{EndsWithinStack}
 use Rattle.bk_place.specs.Placement.{AreLinesOf}
 use Rattle.level_layout.specs.Chosen.{AreLeastHigh, AreChosenLines}
 

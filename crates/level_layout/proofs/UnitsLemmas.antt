@@ -7,15 +7,15 @@ use Rattle.elk_doc.specs.declared.drawing.Certificate.{Certificate}
 use Rattle.elk_layers.specs.declared.units.Layered.{Layered}
 use Rattle.elk_layers.specs.declared.units.Unit.{Unit as LayerUnit}
 use Rattle.elk_layers.specs.Layered.{Plain, IsSound, plain, unit_at}
-use Rattle.level_plan.specs.Level.{PlainLevel}
-use Rattle.level_units.specs.Layering.{IsLayerCount, layering, plan_with}
-use Rattle.level_units.specs.Numbered.{AreNumberedUnits}
-use Rattle.level_units.specs.Alike.{AreFlat}
-use Rattle.level_units.proofs.AlikeLemmas.{no_heights}
-use Rattle.level_units.specs.Ranked.{AreRanked, AreReranked}
-use Rattle.level_units.specs.Started.{AreAscending}
+use Rattle.level_model.specs.Level.{PlainLevel}
+use Rattle.layer_units.specs.Layering.{IsLayerCount, layering, plan_with}
+use Rattle.layer_units.specs.Numbered.{AreNumberedUnits}
+use Rattle.layer_units.specs.Alike.{AreFlat}
+use Rattle.layer_units.proofs.AlikeLemmas.{no_heights}
+use Rattle.layer_units.specs.Ranked.{AreRanked, AreReranked}
+use Rattle.layer_units.specs.Started.{AreAscending}
 use Rattle.level_layout.specs.Phases.{AreRankedUnits, IsStart}
-use Rattle.level_plan.specs.Units.{AreLinked}
+use Rattle.level_model.specs.Units.{AreLinked}
 
 flat : (v : Plain) → IsSound v → AreFlat v
 flat v sound u none =

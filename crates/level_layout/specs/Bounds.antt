@@ -2,12 +2,12 @@
 use Rattle.std.specs.Prelude.{ℕ, ◌≤◌, ◌^◌, ◌*◌, List, pos, ◌+ℤ◌, ◌≤ℤ◌, ◌<ℤ◌, length}
 use Rattle.elk_doc.specs.declared.drawing.Certificate.{Certificate}
 use Rattle.elk_layers.specs.Layered.{Plain, IsSound, total_height}
-use Rattle.level_plan.specs.Conditions.{IsLevel}
-use Rattle.level_plan.specs.Level.{PlainLevel}
-use Rattle.level_layers.specs.Certificate.{IsCertificateOf}
-use Rattle.level_units.specs.Layering.{layering}
-use Rattle.level_units.specs.Numbered.{AreNumberedUnits}
-use Rattle.level_units.specs.Alike.{AreAlike}
+use Rattle.level_model.specs.Conditions.{IsLevel}
+use Rattle.level_model.specs.Level.{PlainLevel}
+use Rattle.level_layout.specs.Certificate.{IsCertificateOf}
+use Rattle.layer_units.specs.Layering.{layering}
+use Rattle.layer_units.specs.Numbered.{AreNumberedUnits}
+use Rattle.layer_units.specs.Alike.{AreAlike}
 use Rattle.ns_place.specs.Heights.{pins_together}
 
 -- at most 2^21 units and 2^21 links

@@ -5,13 +5,13 @@ use Rattle.elk_doc.specs.declared.document.Placing.{Placing}
 use Rattle.elk_doc.specs.declared.document.Placing.TheVariants.{BrandesKoepf, NetworkSimplex}
 use Rattle.elk_doc.specs.declared.document.RowOrder.{RowOrder}
 use Rattle.elk_doc.specs.declared.document.RowOrder.TheVariants.{Document, Swept}
-use Rattle.elk_doc.specs.declared.document.Sweep.{Sweep}
+use Rattle.drawing_types.specs.declared.sweep.Sweep.{Sweep}
 use Rattle.elk_layers.specs.Layered.{Plain}
 use Rattle.elk_layers.specs.Crossings.{crossings, HasSameRows, NoBetterSwap}
 use Rattle.elk_layers.specs.Lines.{AreApart}
 use Rattle.elk_layers.specs.Sweeps.{sweep_orders}
 use Rattle.cross_reduce.specs.Reduced.{IsExchangedFromFewest}
-use Rattle.row_blocks.specs.Constraints.{EndsWithinStack}
+use Rattle.unit_blocks.specs.Constraints.{EndsWithinStack}
 use Rattle.bk_place.specs.Placement.{AreLinesOf}
 use Rattle.ns_place.specs.declared.least.PairFlow.{PairFlow}
 use Rattle.ns_place.specs.Heights.{IsLeastPlacing}

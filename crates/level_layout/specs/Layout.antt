@@ -4,12 +4,12 @@ use Rattle.elk_layers.specs.declared.units.Layered.{Layered}
 use Rattle.elk_layers.specs.declared.units.Order.{Order}
 use Rattle.elk_layers.specs.declared.units.Lines.{Lines}
 use Rattle.elk_layers.specs.Layered.{plain, rows_of}
-use Rattle.level_layers.specs.Certificate.{IsCertificateOf}
-use Rattle.level_plan.specs.Conditions.{plain_level}
-use Rattle.level_plan.specs.declared.level.LevelIn.{LevelIn}
-use Rattle.level_plan.specs.Level.{Orders}
-use Rattle.level_plan.specs.Ready.{IsReady}
-use Rattle.level_units.specs.Layering.{IsLayerCount}
+use Rattle.level_layout.specs.Certificate.{IsCertificateOf}
+use Rattle.level_model.specs.Conditions.{plain_level}
+use Rattle.level_model.specs.declared.level.LevelIn.{LevelIn}
+use Rattle.level_model.specs.Level.{Orders}
+use Rattle.level_model.specs.Ready.{IsReady}
+use Rattle.layer_units.specs.Layering.{IsLayerCount}
 use Rattle.level_draw.specs.declared.drawing.LevelOut.{LevelOut}
 use Rattle.level_draw.specs.Drawing.{IsDrawn, plan_from}
 use Rattle.level_layout.specs.Chosen.{AreChosenLines, AreChosenRows}

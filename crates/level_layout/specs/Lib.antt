@@ -1,4 +1,9 @@
-pub mod Chosen
-pub mod Phases
-pub mod Layout
 pub mod Bounds
+pub mod Certificate
+pub mod Chained
+pub mod Chosen
+pub mod Flows
+pub mod Layout
+pub mod Low
+pub mod Marks
+pub mod Phases

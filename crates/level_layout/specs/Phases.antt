@@ -3,13 +3,13 @@ use Rattle.std.specs.Prelude.{◌≡◌, ◌≤◌, ℕ, List, ℤ, length}
 use Rattle.elk_doc.specs.declared.drawing.Certificate.{Certificate}
 use Rattle.elk_layers.specs.declared.units.Layered.{Layered}
 use Rattle.elk_layers.specs.Layered.{Plain, plain, IsSound}
-use Rattle.level_plan.specs.Level.{PlainLevel}
-use Rattle.level_plan.specs.Units.{AreLinked}
-use Rattle.level_units.specs.Layering.{IsLayerCount, layering, plan_with}
-use Rattle.level_units.specs.Numbered.{AreNumberedUnits}
-use Rattle.level_units.specs.Started.{AreAscending}
-use Rattle.level_units.specs.Alike.{AreAlike, LanesStay}
-use Rattle.level_units.specs.Ranked.{AreRanked}
+use Rattle.level_model.specs.Level.{PlainLevel}
+use Rattle.level_model.specs.Units.{AreLinked}
+use Rattle.layer_units.specs.Layering.{IsLayerCount, layering, plan_with}
+use Rattle.layer_units.specs.Numbered.{AreNumberedUnits}
+use Rattle.layer_units.specs.Started.{AreAscending}
+use Rattle.layer_units.specs.Alike.{AreAlike, LanesStay}
+use Rattle.layer_units.specs.Ranked.{AreRanked}
 
 -- Units and links whose numbers, layers and ends are those of a level's children and edges, from the tail of each edge on. The
 -- units of lanes have no height, and no lanes above or below.

@@ -1,14 +1,14 @@
 //! The layout of a level.
 ghost use Rattle.std.specs.Prelude.{IfOk};
-ghost use Rattle.level_plan.specs.Conditions.{plain_level, IsLevel};
+ghost use Rattle.level_model.specs.Conditions.{plain_level, IsLevel};
 ghost use Rattle.level_layout.specs.Layout.{IsLaidOut};
 
+use crate::certificates::certificate_for;
 use crate::lines::lines_for;
 use crate::phases::{order_for, start_for};
+use layer_units::pinned;
 use level_draw::{Basis, LevelOut, draw_by_table};
-use level_layers::certificate_for;
-use level_plan::{LevelIn, marks_of};
-use level_units::pinned;
+use level_model::{LevelIn, marks_of};
 use std::alloc::{AllocError, Global};
 
 /// The layout of one level, in whole document units and in the frame in which its direction runs to the right.

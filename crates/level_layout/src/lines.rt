@@ -1,7 +1,7 @@
 //! The lines of a level's units, by the placing that the level asks for.
 ghost use Rattle.std.specs.Prelude.{◌^◌, pos, ◌+ℤ◌, ◌<ℤ◌, IfOk};
 ghost use Rattle.elk_layers.specs.Layered.{plain, rows_of, total_height, AreRows, IsSound};
-ghost use Rattle.row_blocks.specs.Constraints.{EndsWithinStack};
+ghost use Rattle.unit_blocks.specs.Constraints.{EndsWithinStack};
 ghost use Rattle.ns_place.specs.Heights.{pins_together};
 ghost use Rattle.level_layout.specs.Bounds.{AreFew};
 ghost use Rattle.level_layout.specs.Chosen.{AreLeastHigh, AreChosenLines};
@@ -9,7 +9,7 @@ ghost use Rattle.level_layout.specs.Chosen.{AreLeastHigh, AreChosenLines};
 use bk_place::place;
 use elk_doc::document::Placing;
 use elk_layers::{Layered, Lines, Order};
-use level_plan::LevelIn;
+use level_model::LevelIn;
 use ns_place::place_least;
 use std::alloc::{AllocError, Global};
 

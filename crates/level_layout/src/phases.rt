@@ -1,9 +1,9 @@
 //! The units of a level with the ranks of pins, and the order of its rows.
 ghost use Rattle.std.specs.Prelude.{length, IfOk};
 ghost use Rattle.elk_layers.specs.Layered.{plain, rows_of, AreRows, IsSound};
-ghost use Rattle.level_plan.specs.Conditions.{plain_level, IsLevel};
-ghost use Rattle.level_plan.specs.Marks.{AreMarks};
-ghost use Rattle.level_layers.specs.Certificate.{IsCertificateOf};
+ghost use Rattle.level_model.specs.Conditions.{plain_level, IsLevel};
+ghost use Rattle.level_model.specs.Marks.{AreMarks};
+ghost use Rattle.level_layout.specs.Certificate.{IsCertificateOf};
 ghost use Rattle.level_layout.specs.Chosen.{AreChosenRows, IsReduced};
 ghost use Rattle.level_layout.specs.Phases.{AreRankedUnits, IsStart};
 
@@ -12,8 +12,8 @@ use cross_reduce::reduce_with_effort;
 use elk_doc::document::RowOrder;
 use elk_doc::drawing::Certificate;
 use elk_layers::{Layered, Order, copy_of};
-use level_plan::LevelIn;
-use level_units::{ranked, start_of};
+use layer_units::{ranked, start_of};
+use level_model::LevelIn;
 use std::alloc::{AllocError, Global};
 
 /// The units and links of a level with the ranks of pins, and the rows to start with.

@@ -1,16 +1,16 @@
 //! The units and links of a level, read off the chains of its edges.
 ghost use Rattle.std.specs.Prelude.{◌≡◌, ℕ, ℤ, ◌≤◌, List, length, IfOk};
 ghost use Rattle.elk_layers.specs.Layered.{IsSound, plain};
-ghost use Rattle.level_plan.specs.Conditions.{IsLevel, plain_level};
-ghost use Rattle.level_plan.specs.Marks.{AreMarks};
-ghost use Rattle.level_plan.specs.Units.{AreLinked};
-ghost use Rattle.level_units.specs.Layering.{layering, AreLayersOf, IsLayerCount, plan_with};
-ghost use Rattle.level_units.specs.Numbered.{AreNumberedUnits};
+ghost use Rattle.level_model.specs.Conditions.{IsLevel, plain_level};
+ghost use Rattle.level_model.specs.Marks.{AreMarks};
+ghost use Rattle.level_model.specs.Units.{AreLinked};
+ghost use Rattle.layer_units.specs.Layering.{layering, AreLayersOf, IsLayerCount, plan_with};
+ghost use Rattle.layer_units.specs.Numbered.{AreNumberedUnits};
 
+use crate::chaining::chains_of;
 use elk_layers::Layered;
-use level_layers::chains_of;
-use level_plan::LevelIn;
-use level_units::units_of;
+use layer_units::units_of;
+use level_model::LevelIn;
 use std::alloc::{AllocError, Global};
 
 /// The units and links of a level whose children lie in these layers, without heights, pins and ranks: its long edges are split

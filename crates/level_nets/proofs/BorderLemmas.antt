@@ -10,9 +10,9 @@ use Rattle.elk_doc.specs.Sound.{IsDistance, IsSoundSpacing}
 use Rattle.elk_layers.specs.Layered.{IsFromZero, layer_of}
 use Rattle.route_lines.specs.declared.Gap.{Gap}
 use Rattle.route_lines.specs.Points.{PlainGap, plain_gap, gap_in}
-use Rattle.level_plan.specs.Level.{PlainLevel, PlainPlan}
-use Rattle.level_plan.specs.Nets.{gap_width, outer_width, inner_width}
-use Rattle.level_plan.specs.Table.{child_in}
+use Rattle.level_model.specs.Level.{PlainLevel, PlainPlan}
+use Rattle.level_model.specs.Nets.{gap_width, outer_width, inner_width}
+use Rattle.level_model.specs.Table.{child_in}
 use Rattle.level_nets.specs.Parts.{Parts, plan_of}
 use Rattle.level_nets.specs.Read.{widest_of, width_of, left_of, columns_of}
 use Rattle.level_nets.specs.Reach.{AreNetsIn, AreColumnsIn}

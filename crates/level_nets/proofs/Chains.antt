@@ -6,14 +6,14 @@ use Rattle.std.specs.Prelude.{is_some}
 use Rattle.std.specs.List.{range_with_len}
 use Rattle.elk_layers.specs.Layered.{unit_at, link_at, is_child, layer_of}
 use Rattle.self_loops.specs.Loops.{is_upright}
-use Rattle.level_plan.specs.Stage.{anchor_line, dock_lane, long_lane}
-use Rattle.level_plan.specs.Level.{PlainLevel, PlainPlan, Orders, End, spoke, tail_end, head_end, dock_of}
-use Rattle.level_plan.specs.Nets.{unit_of, unit_of_line, is_inverted, line_of_end, tail_line, head_line}
-use Rattle.level_plan.specs.Traces.{chain}
-use Rattle.level_plan.specs.Units.{IsLaneUnit, HasChain, chain_at}
-use Rattle.level_plan.specs.Ready.{IsReady}
-use Rattle.level_plan.proofs.Lists.{Has, has_filter, has_range, at_has, has_at}
-use Rattle.level_plan.proofs.LinkLemmas.{links_have, links_are as from_has}
+use Rattle.level_model.specs.Stage.{anchor_line, dock_lane, long_lane}
+use Rattle.level_model.specs.Level.{PlainLevel, PlainPlan, Orders, End, spoke, tail_end, head_end, dock_of}
+use Rattle.level_model.specs.Nets.{unit_of, unit_of_line, is_inverted, line_of_end, tail_line, head_line}
+use Rattle.level_model.specs.Traces.{chain}
+use Rattle.level_model.specs.Units.{IsLaneUnit, HasChain, chain_at}
+use Rattle.level_model.specs.Ready.{IsReady}
+use Rattle.level_model.proofs.Lists.{Has, has_filter, has_range, at_has, has_at}
+use Rattle.level_model.proofs.LinkLemmas.{links_have, links_are as from_has}
 
 -- a lane is no child
 lane_no_child : (p : PlainPlan) (u : ℕ) → IsLaneUnit p u → is_child p.layered u ≡ true → ⊥

@@ -6,16 +6,16 @@ use Rattle.std.proofs.lemmas.List.{length-append, length-map}
 use Rattle.std.proofs.lemmas.List.FromFn.{length-range_with_len}
 use Rattle.std.specs.Int.{int_max}
 use Rattle.std.specs.List.{All, filter, range_with_len}
-use Rattle.elk_doc.specs.declared.shape.Rect.{Rect}
+use Rattle.drawing_types.specs.declared.shape.Rect.{Rect}
 use Rattle.elk_layers.specs.Layered.{link_at, layer_of}
-use Rattle.route_slots.specs.GapFree.{IsNet, AreHeights}
+use Rattle.net_routes.specs.GapFree.{IsNet, AreHeights}
 use Rattle.route_lines.specs.Points.{PlainGap, gap_in}
-use Rattle.level_plan.specs.Level.{Orders, all_ends, outline}
-use Rattle.level_plan.specs.Nets.{Name, of_link, layer_of_child, gap_of, net_of, all_names, names_in, nets_in, place_of_name, widest, column_width, gap_left, gap_width}
-use Rattle.level_plan.specs.FromPlan.{IsGap}
-use Rattle.level_plan.specs.Table.{child_in}
-use Rattle.level_plan.proofs.Lists.{Has, has_left, has_right, filter_has, range_has}
-use Rattle.level_plan.proofs.NameLemmas.{IsName, name_is}
+use Rattle.level_model.specs.Level.{Orders, all_ends, outline}
+use Rattle.level_model.specs.Nets.{Name, of_link, layer_of_child, gap_of, net_of, all_names, names_in, nets_in, place_of_name, widest, column_width, gap_left, gap_width}
+use Rattle.level_model.specs.FromPlan.{IsGap}
+use Rattle.level_model.specs.Table.{child_in}
+use Rattle.level_model.proofs.Lists.{Has, has_left, has_right, filter_has, range_has}
+use Rattle.level_model.proofs.NameLemmas.{IsName, name_is}
 use Rattle.level_nets.specs.Parts.{Parts, plan_of, ArePlanned, EndAbove}
 use Rattle.level_nets.specs.Read.{HoldNets, link_names, dock_names, passing_names, names_of, gap_named, net_named, in_gap, nets_named, leg_behind, widest_of, width_of, left_of}
 use Rattle.level_nets.specs.Reach.{AreNetsIn}
@@ -151,7 +151,7 @@ module _ (s : Parts) (rows : List (List ℕ)) (o : Orders) (layers : List ℕ) (
   gap_of_plan gaps g held h placed =
       record {
         left = placed.left_is ∙ left_is (counts_of gaps) g ∙ unmoved _;
-        first = placed.first ∙ ap (λ z. z +ℤ Rattle.level_plan.specs.Nets.first_slot s.level g) (sym placed.left_is);
+        first = placed.first ∙ ap (λ z. z +ℤ Rattle.level_model.specs.Nets.first_slot s.level g) (sym placed.left_is);
         step = placed.step;
         right = placed.right ∙ ap (λ z. z +ℤ gap_width s.level (plan_of s rows) g (counts_of gaps g)) (sym placed.left_is);
         nets = held.nets g h ∙ nets_are g;

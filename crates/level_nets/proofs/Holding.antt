@@ -4,12 +4,12 @@ use Rattle.std.proofs.lemmas.Bool.{cases_eq, eq-eqb, ne_eqb}
 use Rattle.std.proofs.lemmas.List.{append-nil, append_assoc, map-append, length-append, length-map, length-set, get_or-set_same, get_or-set_other}
 use Rattle.std.proofs.lemmas.List.FromFn.{length-range_with_len, map-range_with_len_more}
 use Rattle.std.specs.List.{filter, range_with_len}
-use Rattle.elk_doc.specs.declared.shape.Side.{Side}
-use Rattle.elk_doc.specs.declared.shape.Side.TheVariants.{East, West}
-use Rattle.route_slots.specs.declared.Net.{Net}
+use Rattle.drawing_types.specs.declared.shape.Side.{Side}
+use Rattle.drawing_types.specs.declared.shape.Side.TheVariants.{East, West}
+use Rattle.net_routes.specs.declared.Net.{Net}
 use Rattle.route_lines.specs.Points.{PlainGap, gap_in}
-use Rattle.level_plan.specs.Level.{End, end_at, ends_of_edges, all_ends}
-use Rattle.level_plan.specs.Nets.{Name, of_link, of_dock, of_loop, if_passed}
+use Rattle.level_model.specs.Level.{End, end_at, ends_of_edges, all_ends}
+use Rattle.level_model.specs.Nets.{Name, of_link, of_dock, of_loop, if_passed}
 use Rattle.level_nets.specs.Parts.{Parts}
 use Rattle.level_nets.specs.Read.{HoldNets, net_named, gap_named, in_gap, leg_behind, link_names, dock_names, passing_names, passes_west, passes_east, is_turned_back, names_of}
 use Rattle.level_nets.specs.Held.{with_net, AreFew, behind_docks, behind_loops}

@@ -3,8 +3,8 @@ use Rattle.std.proofs.Common.{◌≡◌, inl, inr, ⊎_elim, ℕ, zero, suc, ◌
 use Rattle.std.proofs.lemmas.Bool.{cases_Bool}
 use Rattle.std.proofs.lemmas.List.{length-map, get_or-map}
 use Rattle.std.specs.List.{All, filter, range_with_len}
-use Rattle.level_plan.proofs.Lists.{Has, has_at, filter_has, range_has}
-use Rattle.route_slots.proofs.Lists.{few_below}
+use Rattle.level_model.proofs.Lists.{Has, has_at, filter_has, range_has}
+use Rattle.net_routes.proofs.Lists.{few_below}
 
 -- tests that agree on what a list holds filter it alike, and functions that do so map it alike
 pub filter_same : {X : Type 0} (f g : X → Bool) (xs : List X) → ((x : X) → Has xs x → f x ≡ g x) → filter f xs ≡ filter g xs

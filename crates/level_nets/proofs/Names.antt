@@ -2,22 +2,22 @@
 use Rattle.std.proofs.Common.{◌≡◌, inl, inr, ℕ, ◌+◌, ◌<◌, Bool, true, false, not, ◌&&◌, List, [], ◌∷◌, ◌++◌, map, length, refl, sym, ap, ◌∙◌, arith}
 use Rattle.std.specs.Ordering.{int_eq}
 use Rattle.std.specs.List.{filter, range_with_len}
-use Rattle.elk_doc.specs.declared.shape.Side.{Side}
-use Rattle.elk_doc.specs.declared.shape.Side.TheVariants.{North, East, South, West}
-use Rattle.elk_doc.specs.declared.shape.Dock.{Dock}
-use Rattle.elk_doc.specs.PortsKept.{is_side}
+use Rattle.drawing_types.specs.declared.shape.Side.{Side}
+use Rattle.drawing_types.specs.declared.shape.Side.TheVariants.{North, East, South, West}
+use Rattle.drawing_types.specs.declared.shape.Dock.{Dock}
+use Rattle.drawing_types.specs.Shapes.{is_side}
 use Rattle.elk_layers.specs.Layered.{layer_of}
 use Rattle.self_loops.specs.Loops.{passes_left, passes_right}
-use Rattle.level_plan.specs.Level.{PlainLevel, Orders, End, end_at, edge_at, all_ends, spoke, enters, is_loop, dock_of}
-use Rattle.level_plan.specs.Lanes.{has_one_dock}
-use Rattle.level_plan.specs.Nets.{Name, of_link, of_dock, of_loop, unit_of, inverts, is_inverted, if_passed, loop_names, all_names, gap_beside, gap_of}
-use Rattle.level_plan.specs.Table.{IsEndAt, child_in}
-use Rattle.level_plan.proofs.Lists.{Has, range_has}
-use Rattle.level_plan.proofs.SpotLemmas.{spoke_there}
+use Rattle.level_model.specs.Level.{PlainLevel, Orders, End, end_at, edge_at, all_ends, spoke, enters, is_loop, dock_of}
+use Rattle.level_model.specs.Lanes.{has_one_dock}
+use Rattle.level_model.specs.Nets.{Name, of_link, of_dock, of_loop, unit_of, inverts, is_inverted, if_passed, loop_names, all_names, gap_beside, gap_of}
+use Rattle.level_model.specs.Table.{IsEndAt, child_in}
+use Rattle.level_model.proofs.Lists.{Has, range_has}
+use Rattle.level_model.proofs.SpotLemmas.{spoke_there}
 use Rattle.level_nets.specs.Parts.{Parts, plan_of, ArePlanned}
 use Rattle.level_nets.specs.Read.{at_end, dock_at, unit_of_dock, is_turned_back, is_one_dock, passes_west, passes_east, link_names, dock_names, passing_names, names_of, gap_at, gap_named}
 use Rattle.level_nets.specs.Routed.{is_passing_left, is_passing_right}
-use Rattle.level_plan.proofs.NameLemmas.{IsName, ends_edge}
+use Rattle.level_model.proofs.NameLemmas.{IsName, ends_edge}
 use Rattle.level_nets.proofs.ListLemmas.{filter_same}
 
 and_first : (a b : Bool) → a ≡ true → (a && b) ≡ b

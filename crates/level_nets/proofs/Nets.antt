@@ -3,26 +3,26 @@ use Rattle.std.proofs.Common.{◌≡◌, ◌⊎◌, ⊎_elim, ℕ, ◌<◌, ◌^
 use Rattle.std.proofs.lemmas.Bool.{eqb-true, and_parts, or_right, not-true}
 use Rattle.std.proofs.lemmas.Int.{ints}
 use Rattle.std.specs.List.{list_any}
-use Rattle.elk_doc.specs.declared.shape.Side.{Side}
-use Rattle.elk_doc.specs.declared.shape.Side.TheVariants.{North, East, South, West}
-use Rattle.elk_doc.specs.declared.shape.Rect.{Rect}
-use Rattle.elk_doc.specs.declared.shape.Dock.{Dock}
-use Rattle.elk_doc.specs.PortsKept.{is_side}
+use Rattle.drawing_types.specs.declared.shape.Side.{Side}
+use Rattle.drawing_types.specs.declared.shape.Side.TheVariants.{North, East, South, West}
+use Rattle.drawing_types.specs.declared.shape.Rect.{Rect}
+use Rattle.drawing_types.specs.declared.shape.Dock.{Dock}
+use Rattle.drawing_types.specs.Shapes.{is_side}
 use Rattle.elk_layers.specs.Layered.{unit_at}
 use Rattle.elk_layers.specs.Lines.{top_of}
-use Rattle.route_slots.specs.declared.Pin.{Pin}
-use Rattle.route_slots.specs.GapFree.{IsNet, IsHeight, AreHeights}
+use Rattle.net_routes.specs.declared.Pin.{Pin}
+use Rattle.net_routes.specs.GapFree.{IsNet, IsHeight, AreHeights}
 use Rattle.self_loops.specs.Loops.{is_upright, crosses, passes_left, passes_right}
-use Rattle.level_plan.specs.Stage.{Line, anchor_line, dock_lane, loop_lane, Reaches}
-use Rattle.level_plan.specs.Level.{PlainLevel, PlainPlan, Orders, End, end_at, edge_at, spoke, enters, is_loop, dock_of, outline}
-use Rattle.level_plan.specs.Lanes.{dock_eq, has_one_dock, loop_sides, body_top}
-use Rattle.level_plan.specs.Nets.{Name, of_link, of_dock, of_loop, unit_of, unit_of_line, below_top, height_of, inverts, is_inverted, lane_side_of_end, loop_line, a_line, b_line, edge_of, net_of}
-use Rattle.level_plan.specs.Table.{loop_in}
-use Rattle.level_plan.proofs.SameLines.{dock_eq-self}
-use Rattle.level_plan.proofs.LoopSides.{source_left, target_left, source_right, target_right}
-use Rattle.level_plan.proofs.LaneLemmas.{end_has_lane}
-use Rattle.level_plan.proofs.NameLemmas.{IsName, IsLine, a_line_is, b_line_is}
-use Rattle.level_plan.proofs.LineLemmas.{lies_in, line_unit, lines_differ}
+use Rattle.level_model.specs.Stage.{Line, anchor_line, dock_lane, loop_lane, Reaches}
+use Rattle.level_model.specs.Level.{PlainLevel, PlainPlan, Orders, End, end_at, edge_at, spoke, enters, is_loop, dock_of, outline}
+use Rattle.level_model.specs.Lanes.{dock_eq, has_one_dock, loop_sides, body_top}
+use Rattle.level_model.specs.Nets.{Name, of_link, of_dock, of_loop, unit_of, unit_of_line, below_top, height_of, inverts, is_inverted, lane_side_of_end, loop_line, a_line, b_line, edge_of, net_of}
+use Rattle.level_model.specs.Table.{loop_in}
+use Rattle.level_model.proofs.SameLines.{dock_eq-self}
+use Rattle.level_model.proofs.LoopSides.{source_left, target_left, source_right, target_right}
+use Rattle.level_model.proofs.LaneLemmas.{end_has_lane}
+use Rattle.level_model.proofs.NameLemmas.{IsName, IsLine, a_line_is, b_line_is}
+use Rattle.level_model.proofs.LineLemmas.{lies_in, line_unit, lines_differ}
 use Rattle.level_nets.specs.Parts.{Parts, plan_of, ArePlanned, EndAbove}
 use Rattle.level_nets.specs.Read.{at_end, dock_at, child_of, unit_of_dock, anchor_below, lane_of_loop, loop_below, pin, loop_pin, net_named}
 use Rattle.level_nets.proofs.Chains.{tail_line_unit, head_line_unit}

@@ -2,16 +2,16 @@
 use Rattle.std.proofs.Common.{◌≡◌, ℕ, Bool, true, false, not, [], ℤ, FitsSigned, to_z, of_z, w64, refl, ap, ◌∙◌}
 use Rattle.std.proofs.lemmas.Bool.{and_parts}
 use Rattle.std.proofs.lemmas.Int.{to_z-of_z}
-use Rattle.elk_doc.specs.declared.shape.Side.{Side}
-use Rattle.elk_doc.specs.declared.shape.Side.TheVariants.{North, East, South, West}
-use Rattle.route_slots.specs.declared.Pin.{Pin}
-use Rattle.route_slots.specs.declared.Net.{Net}
+use Rattle.drawing_types.specs.declared.shape.Side.{Side}
+use Rattle.drawing_types.specs.declared.shape.Side.TheVariants.{North, East, South, West}
+use Rattle.net_routes.specs.declared.Pin.{Pin}
+use Rattle.net_routes.specs.declared.Net.{Net}
 use Rattle.self_loops.specs.Loops.{is_upright}
-use Rattle.level_plan.specs.Level.{End, enters, is_loop}
-use Rattle.level_plan.specs.Nets.{inverts}
+use Rattle.level_model.specs.Level.{End, enters, is_loop}
+use Rattle.level_model.specs.Nets.{inverts}
 use Rattle.level_nets.specs.Parts.{Parts, plan_of}
 use Rattle.level_nets.specs.Read.{pin, dock_at, is_turned_back, passes_on}
-use Rattle.level_plan.proofs.NameLemmas.{inverts_level}
+use Rattle.level_model.proofs.NameLemmas.{inverts_level}
 
 pub pin_is : (b c : Bool) (r z : ℤ) → FitsSigned w64 r → b ≡ c → r ≡ z → (let q : Pin = record { on_left = b; height = to_z w64 (of_z w64 r) } in q) ≡ pin c z
 pin_is b c r z fits e f = ap (λ h. pin b h) (to_z-of_z w64 r fits ∙ f) ∙ ap (λ k. pin k z) e

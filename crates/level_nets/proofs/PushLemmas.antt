@@ -2,14 +2,14 @@
 use Rattle.std.proofs.Common.{◌≡◌, ⊎_elim, ℕ, ◌+◌, ◌*◌, ◌<◌, ◌≤◌, ◌^◌, Bool, true, false, List, [], ◌∷◌, ◌++◌, length, get_or, set, sym, subst, ap, ◌∙◌, arith}
 use Rattle.std.proofs.lemmas.Bool.{cases_eq}
 use Rattle.std.proofs.lemmas.List.{map-set, length-map, length_push, get_or_append_left, get_or_push, length-append}
-use Rattle.elk_doc.specs.declared.shape.Side.TheVariants.{West}
+use Rattle.drawing_types.specs.declared.shape.Side.TheVariants.{West}
 use Rattle.elk_layers.specs.Layered.{IsSound}
-use Rattle.route_slots.specs.declared.Net.{Net}
-use Rattle.route_slots.proofs.Lists.{each_pushed}
+use Rattle.net_routes.specs.declared.Net.{Net}
+use Rattle.net_routes.proofs.Lists.{each_pushed}
 use Rattle.route_lines.specs.declared.Gap.{Gap}
 use Rattle.route_lines.specs.Points.{PlainGap, plain_gap, gap_in}
-use Rattle.level_plan.specs.Level.{end_at}
-use Rattle.level_plan.specs.Nets.{of_link, of_dock, if_passed}
+use Rattle.level_model.specs.Level.{end_at}
+use Rattle.level_model.specs.Nets.{of_link, of_dock, if_passed}
 use Rattle.level_nets.specs.declared.pushing.LoopLegs.{LoopLegs}
 use Rattle.level_nets.specs.Parts.{Parts}
 use Rattle.level_nets.specs.Read.{HoldNets, link_names, dock_names, is_turned_back, passes_west, end_number, leg_behind}

@@ -2,23 +2,23 @@
 use Rattle.std.proofs.Common.{◌≡◌, inl, inr, ℕ, ◌<◌, ◌≤◌, ◌^◌, Bool, true, false, List, length, ℤ, pos, neg_ℤ, ◌+ℤ◌, ◌-ℤ◌, ◌≤ℤ◌, ◌<ℤ◌, refl, sym, subst, ap, ◌∙◌, arith}
 use Rattle.std.proofs.lemmas.Bool.{and_parts}
 use Rattle.std.proofs.lemmas.Int.{ints}
-use Rattle.elk_doc.specs.declared.shape.Side.{Side}
-use Rattle.elk_doc.specs.declared.shape.Side.TheVariants.{North, East, South, West}
-use Rattle.elk_doc.specs.declared.shape.Dock.{Dock}
-use Rattle.elk_doc.specs.PortsKept.{is_side}
-use Rattle.elk_doc.specs.Sound.{IsWithin}
+use Rattle.drawing_types.specs.declared.shape.Side.{Side}
+use Rattle.drawing_types.specs.declared.shape.Side.TheVariants.{North, East, South, West}
+use Rattle.drawing_types.specs.declared.shape.Dock.{Dock}
+use Rattle.drawing_types.specs.Shapes.{is_side}
+use Rattle.drawing_types.specs.Ranges.{IsWithin}
 use Rattle.elk_layers.specs.Layered.{unit_at, IsFromZero}
 use Rattle.elk_layers.specs.Lines.{top_of}
 use Rattle.self_loops.specs.Loops.{is_upright, passes_left, passes_right}
-use Rattle.level_plan.specs.Stage.{Line, anchor_line, dock_lane, loop_lane}
-use Rattle.level_plan.specs.Level.{Orders, End, end_at, spoke, is_loop, dock_of}
-use Rattle.level_plan.specs.Lanes.{has_one_dock}
-use Rattle.level_plan.specs.Nets.{of_dock, of_loop, unit_of, unit_of_line, below_top, lane_side_of_end, loop_line, is_inverted}
-use Rattle.level_plan.proofs.EndLemmas.{child_unit}
-use Rattle.level_plan.proofs.LinkLemmas.{child_is}
-use Rattle.level_plan.proofs.NameLemmas.{IsName, IsLine, a_line_is, b_line_is}
-use Rattle.level_plan.proofs.LineLemmas.{lies_in, line_unit}
-use Rattle.level_plan.specs.Marks.{AreMarks}
+use Rattle.level_model.specs.Stage.{Line, anchor_line, dock_lane, loop_lane}
+use Rattle.level_model.specs.Level.{Orders, End, end_at, spoke, is_loop, dock_of}
+use Rattle.level_model.specs.Lanes.{has_one_dock}
+use Rattle.level_model.specs.Nets.{of_dock, of_loop, unit_of, unit_of_line, below_top, lane_side_of_end, loop_line, is_inverted}
+use Rattle.level_model.proofs.EndLemmas.{child_unit}
+use Rattle.level_model.proofs.LinkLemmas.{child_is}
+use Rattle.level_model.proofs.NameLemmas.{IsName, IsLine, a_line_is, b_line_is}
+use Rattle.level_model.proofs.LineLemmas.{lies_in, line_unit}
+use Rattle.level_model.specs.Marks.{AreMarks}
 use Rattle.level_nets.specs.declared.sheet.Sheet.{Sheet}
 use Rattle.level_nets.specs.Parts.{Parts, plan_of, ArePlanned, EndAbove, IsGiven}
 use Rattle.level_nets.specs.Read.{dock_at, child_of, unit_of_dock, passes_on}

@@ -3,13 +3,13 @@ use Rattle.std.proofs.Common.{◌≡◌, ⊎_elim, ℕ, ◌+◌, ◌<◌, ◌^�
 use Rattle.std.proofs.lemmas.Bool.{cases_eq, cond_both}
 use Rattle.std.proofs.lemmas.Int.{ints}
 use Rattle.std.proofs.lemmas.List.{length-map, map_push, length_push, get_or_append_left, get_or_push, append-nil, drop_all, take_all}
-use Rattle.elk_doc.specs.declared.shape.Side.TheVariants.{East, West}
+use Rattle.drawing_types.specs.declared.shape.Side.TheVariants.{East, West}
 use Rattle.elk_doc.specs.Sound.{IsDistance, IsSoundSpacing}
 use Rattle.elk_layers.specs.Layered.{IsFromZero}
 use Rattle.route_lines.specs.declared.Gap.{Gap}
 use Rattle.route_lines.specs.Points.{PlainGap, plain_gap, gap_in}
-use Rattle.level_plan.specs.Level.{PlainLevel, end_at}
-use Rattle.level_plan.specs.Nets.{of_link, of_dock, of_loop, first_slot}
+use Rattle.level_model.specs.Level.{PlainLevel, end_at}
+use Rattle.level_model.specs.Nets.{of_link, of_dock, of_loop, first_slot}
 use Rattle.level_nets.specs.declared.routing.Places.{Places}
 use Rattle.level_nets.specs.declared.routing.Routing.{Routing}
 use Rattle.level_nets.specs.Parts.{Parts, IsGiven}

@@ -3,12 +3,12 @@ use Rattle.std.proofs.Common.{◌≡◌, ◌⊎◌, inl, ⊎_elim, ℕ, ◌+◌,
 use Rattle.std.proofs.lemmas.Bool.{cases_lt, lt-ltb, le-ltb}
 use Rattle.std.proofs.lemmas.List.FromFn.{length-map-range_with_len, get_or-map-range_with_len}
 use Rattle.std.specs.List.{range_with_len}
-use Rattle.route_slots.specs.declared.Net.{Net}
-use Rattle.route_slots.specs.declared.NetRoute.{NetRoute}
-use Rattle.route_slots.specs.declared.NetRoute.TheVariants.{Straight, One, Two}
-use Rattle.route_slots.specs.Pieces.{route_at}
-use Rattle.route_slots.specs.GapFree.{GapFree, StandsIn}
-use Rattle.route_slots.proofs.Lists.{few_below}
+use Rattle.net_routes.specs.declared.Net.{Net}
+use Rattle.net_routes.specs.declared.NetRoute.{NetRoute}
+use Rattle.net_routes.specs.declared.NetRoute.TheVariants.{Straight, One, Two}
+use Rattle.net_routes.specs.Pieces.{route_at}
+use Rattle.net_routes.specs.GapFree.{GapFree, StandsIn}
+use Rattle.net_routes.proofs.Lists.{few_below}
 
 -- a function that reaches all numbers below n from those below m
 few_reached : (f : ℕ → ℕ) (n m : ℕ) → ((s : ℕ) → s < n → (i : ℕ) × (i < m) × (f i ≡ s)) → n ≤ m

@@ -3,13 +3,13 @@ use Rattle.std.proofs.Common.{◌≡◌, inl, inr, ⊎_elim, ℕ, suc, ◌+◌, 
 use Rattle.std.proofs.lemmas.Bool.{eq-eqb, ne_eqb, and_left, and_right, and_from}
 use Rattle.std.proofs.lemmas.List.{append_assoc, map-append}
 use Rattle.std.specs.List.{filter, range_with_len}
-use Rattle.elk_doc.specs.declared.shape.Side.{Side}
-use Rattle.elk_doc.specs.declared.shape.Side.TheVariants.{East, West}
-use Rattle.elk_doc.specs.PortsKept.{is_side}
-use Rattle.level_plan.specs.Level.{End, end_at, end_eq, ends_of_edges, all_ends}
-use Rattle.level_plan.specs.Nets.{Name, of_link, of_dock, of_loop, name_eq, if_passed, place_of_name}
-use Rattle.level_plan.proofs.Lists.{Has, map_has, append_has, filter_has, range_has}
-use Rattle.level_plan.proofs.NameLemmas.{ends_edge}
+use Rattle.drawing_types.specs.declared.shape.Side.{Side}
+use Rattle.drawing_types.specs.declared.shape.Side.TheVariants.{East, West}
+use Rattle.drawing_types.specs.Shapes.{is_side}
+use Rattle.level_model.specs.Level.{End, end_at, end_eq, ends_of_edges, all_ends}
+use Rattle.level_model.specs.Nets.{Name, of_link, of_dock, of_loop, name_eq, if_passed, place_of_name}
+use Rattle.level_model.proofs.Lists.{Has, map_has, append_has, filter_has, range_has}
+use Rattle.level_model.proofs.NameLemmas.{ends_edge}
 use Rattle.level_nets.specs.Parts.{Parts}
 use Rattle.level_nets.specs.Read.{link_names, dock_names, passing_names, names_of, is_turned_back, passes_west, passes_east}
 use Rattle.level_nets.specs.Held.{behind_docks, behind_loops, before_dock}

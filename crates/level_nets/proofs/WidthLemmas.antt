@@ -6,16 +6,17 @@ use Rattle.std.proofs.lemmas.Bool.{cases_Bool, cases_order}
 use Rattle.std.specs.Prelude.{Option, None, Some, IsFalse, slice_index_or}
 use Rattle.std.specs.Int.{int_min, int_max}
 use Rattle.std.specs.List.{range_with_len}
-use Rattle.elk_doc.specs.declared.shape.Point.{Point}
-use Rattle.elk_doc.specs.declared.shape.Size.{Size}
-use Rattle.elk_doc.specs.declared.shape.Rect.{Rect}
-use Rattle.elk_doc.specs.declared.shape.Side.{Side}
-use Rattle.elk_doc.specs.declared.shape.Side.TheVariants.{North, East, South, West}
+use Rattle.drawing_types.specs.declared.shape.Point.{Point}
+use Rattle.drawing_types.specs.declared.shape.Size.{Size}
+use Rattle.drawing_types.specs.declared.shape.Rect.{Rect}
+use Rattle.drawing_types.specs.declared.shape.Side.{Side}
+use Rattle.drawing_types.specs.declared.shape.Side.TheVariants.{North, East, South, West}
 use Rattle.elk_doc.specs.declared.document.PortRule.TheVariants.{Free}
 use Rattle.elk_doc.specs.declared.document.Direction.TheVariants.{Right}
-use Rattle.elk_doc.specs.Document.{origin, no_size}
-use Rattle.elk_doc.specs.Shapes.{rect_at}
-use Rattle.elk_doc.specs.Sound.{IsWithin, along}
+use Rattle.drawing_types.specs.Shapes.{origin, no_size}
+use Rattle.drawing_types.specs.Shapes.{rect_at}
+use Rattle.elk_doc.specs.Sound.{along}
+use Rattle.drawing_types.specs.Ranges.{IsWithin}
 use Rattle.elk_doc.specs.PortsKept.{size_along, across, flush}
 use Rattle.elk_layers.specs.Layered.{layer_of}
 use Rattle.port_order.specs.declared.children.Child.{Child}
@@ -26,12 +27,12 @@ use Rattle.port_order.specs.Sides.{side_of, side_else, given_side, given_to}
 use Rattle.port_order.specs.Places.{HoldsOnce, place_of_port, dock_of}
 use Rattle.port_order.specs.Laws.{KeepsPort, stands_at}
 use Rattle.port_order.proofs.KeptLemmas.{ports_stand}
-use Rattle.level_plan.specs.Level.{PlainLevel, PlainPlan, Orders, child_at, port_spot, port_place, outline, outline_from}
-use Rattle.level_plan.specs.Conditions.{IsLevel, IsLevelChild, IsNear, sizes_of, sum_of_ints, total_width}
-use Rattle.level_plan.specs.Table.{child_in}
-use Rattle.level_plan.specs.Units.{AreOrders}
-use Rattle.level_plan.proofs.Lists.{Has, range_has}
-use Rattle.level_plan.proofs.SpotLemmas.{port_spot_there, held_once}
+use Rattle.level_model.specs.Level.{PlainLevel, PlainPlan, Orders, child_at, port_spot, port_place, outline, outline_from}
+use Rattle.level_model.specs.Conditions.{IsLevel, IsLevelChild, IsNear, sizes_of, sum_of_ints, total_width}
+use Rattle.level_model.specs.Table.{child_in}
+use Rattle.level_model.specs.Units.{AreOrders}
+use Rattle.level_model.proofs.Lists.{Has, range_has}
+use Rattle.level_model.proofs.SpotLemmas.{port_spot_there, held_once}
 use Rattle.level_nets.specs.Parts.{Parts, plan_of, ArePlanned}
 use Rattle.level_nets.specs.Read.{widest_of, width_of, columns_of}
 use Rattle.level_nets.specs.Reach.{AreColumnsIn}

@@ -3,26 +3,27 @@ use Rattle.std.proofs.Common.{◌≡◌, ◌≢◌, ◌⊎◌, inr, ℕ, zero, s
 use Rattle.std.proofs.lemmas.Int.{ints}
 use Rattle.std.proofs.lemmas.List.Sums.{count_by-le-length}
 use Rattle.std.specs.Prelude.{Some, slice_index, slice_index_or}
-use Rattle.elk_doc.specs.declared.shape.Side.{Side}
-use Rattle.elk_doc.specs.declared.shape.Side.TheVariants.{North, East, South, West}
-use Rattle.elk_doc.specs.Sound.{IsWithin, IsDistance, IsSoundSpacing}
+use Rattle.drawing_types.specs.declared.shape.Side.{Side}
+use Rattle.drawing_types.specs.declared.shape.Side.TheVariants.{North, East, South, West}
+use Rattle.elk_doc.specs.Sound.{IsDistance, IsSoundSpacing}
+use Rattle.drawing_types.specs.Ranges.{IsWithin}
 use Rattle.elk_layers.specs.declared.units.Unit.{Unit as LayerUnit}
 use Rattle.elk_layers.specs.Layered.{unit_at, link_at, layer_of, is_lane, is_child, IsSpacing, IsFromZero, HasBodyWithin, IsSoundLink, IsSound, HasUnit, AreRows, row_at}
 use Rattle.elk_layers.specs.Lines.{AreApart, Keeps, room, body_room, top_of}
 use Rattle.port_order.specs.Child.{spot_at}
 use Rattle.port_order.specs.Places.{HoldsOnce}
 use Rattle.port_order.specs.Order.{ComesFirst, IsOrderOfSide, IsSpreadOn}
-use Rattle.level_plan.specs.Level.{PlainLevel, end_at, child_at, spots, is_loop}
-use Rattle.level_plan.specs.Conditions.{IsLevel, IsLevelChild, IsLevelEdge}
-use Rattle.level_plan.specs.Units.{AreUnits, AreLinked, AreOrders, IsUnitOf, HasRoom, HasChain, IsLinkOf, HasPins, IsLaneUnit}
-use Rattle.level_plan.specs.Nets.{unit_of}
-use Rattle.level_plan.specs.Table.{IsEndAt, IsLoopAt, IsChildAt, IsTable, end_in, loop_in, child_in}
-use Rattle.level_plan.specs.Examples.{parallel, parallel_plan, parallel_orders}
+use Rattle.level_model.specs.Level.{PlainLevel, end_at, child_at, spots, is_loop}
+use Rattle.level_model.specs.Conditions.{IsLevel, IsLevelChild, IsLevelEdge}
+use Rattle.level_model.specs.Units.{AreUnits, AreLinked, AreOrders, IsUnitOf, HasRoom, HasChain, IsLinkOf, HasPins, IsLaneUnit}
+use Rattle.level_model.specs.Nets.{unit_of}
+use Rattle.level_model.specs.Table.{IsEndAt, IsLoopAt, IsChildAt, IsTable, end_in, loop_in, child_in}
+use Rattle.level_model.specs.Examples.{parallel, parallel_plan, parallel_orders}
 use Rattle.level_nets.specs.Parts.{Parts, IsGiven}
 use Rattle.elk_layers.specs.Layered.{Plain}
-use Rattle.level_plan.specs.declared.table.Table.{Table}
+use Rattle.level_model.specs.declared.table.Table.{Table}
 use Rattle.level_nets.specs.Worked.{parallel_table, parallel_parts}
-use Rattle.elk_doc.proofs.ExampleLaws.{below1, below2}
+use Rattle.drawing_types.proofs.SmallNumbers.{below1, below2}
 
 distance : (n : ℕ) → 1 ≤ n → n ≤ 20 → IsDistance (pos n)
 distance n h k = record { above = omega (arith, ints, h); below = omega (arith, ints, k) }

@@ -2,12 +2,12 @@
 use Rattle.std.specs.Prelude.{◌≡◌, ℕ, ◌*◌, ◌<◌, ◌^◌, Bool, true, false, List, [], ◌∷◌, ◌++◌, map, length, slice_index, slice_index_or}
 use Rattle.std.specs.Prelude.{IsTrue}
 use Rattle.std.specs.List.{range_with_len}
-use Rattle.elk_doc.specs.declared.shape.Side.TheVariants.{East, West}
-use Rattle.route_slots.specs.declared.Net.{Net}
+use Rattle.drawing_types.specs.declared.shape.Side.TheVariants.{East, West}
+use Rattle.net_routes.specs.declared.Net.{Net}
 use Rattle.route_lines.specs.declared.Gap.{Gap}
 use Rattle.route_lines.specs.Points.{PlainGap, plain_gap, gap_in}
-use Rattle.level_plan.specs.Level.{end_at, ends_of_edges, all_ends}
-use Rattle.level_plan.specs.Nets.{Name, of_link, of_dock, of_loop, if_passed}
+use Rattle.level_model.specs.Level.{end_at, ends_of_edges, all_ends}
+use Rattle.level_model.specs.Nets.{Name, of_link, of_dock, of_loop, if_passed}
 use Rattle.level_nets.specs.declared.pushing.LoopLegs.{LoopLegs}
 use Rattle.level_nets.specs.Parts.{Parts}
 use Rattle.level_nets.specs.Read.{link_names, dock_names, passing_names, passes_west, passes_east, is_turned_back, leg_behind, end_number}

@@ -4,12 +4,12 @@ use Rattle.std.specs.Prelude.{ℕ, ◌<◌, ◌≤◌, ◌^◌, List, ℤ, pos, 
 use Rattle.elk_layers.specs.declared.units.Layered.{Layered}
 use Rattle.elk_layers.specs.Layered.{Plain, plain, unit_at}
 use Rattle.elk_layers.specs.Lines.{top_of}
-use Rattle.level_plan.specs.declared.level.LevelIn.{LevelIn}
-use Rattle.level_plan.specs.declared.table.Table.{Table}
-use Rattle.level_plan.specs.Level.{PlainLevel, PlainPlan, Orders}
-use Rattle.level_plan.specs.Conditions.{plain_level}
-use Rattle.level_plan.specs.Table.{IsTable}
-use Rattle.level_plan.specs.Ready.{IsReady}
+use Rattle.level_model.specs.declared.level.LevelIn.{LevelIn}
+use Rattle.level_model.specs.declared.table.Table.{Table}
+use Rattle.level_model.specs.Level.{PlainLevel, PlainPlan, Orders}
+use Rattle.level_model.specs.Conditions.{plain_level}
+use Rattle.level_model.specs.Table.{IsTable}
+use Rattle.level_model.specs.Ready.{IsReady}
 
 pub record Parts : Type 0 where
   pub level : PlainLevel

@@ -1,10 +1,10 @@
 -- The widths of columns, and the borders and slots of gaps.
 use Rattle.std.specs.Prelude.{◌≡◌, ℕ, ◌+◌, ◌-◌, ◌<◌, List, [], ℤ, pos, ◌+ℤ◌, length, slice_index_or}
 use Rattle.std.specs.List.{range_with_len}
-use Rattle.route_slots.specs.GapFree.{GapFree}
+use Rattle.net_routes.specs.GapFree.{GapFree}
 use Rattle.route_lines.specs.Points.{PlainGap, gap_in}
-use Rattle.level_plan.specs.FromPlan.{AreSlots}
-use Rattle.level_plan.specs.Nets.{gap_width, first_slot}
+use Rattle.level_model.specs.FromPlan.{AreSlots}
+use Rattle.level_model.specs.Nets.{gap_width, first_slot}
 use Rattle.level_nets.specs.Parts.{Parts, plan_of}
 use Rattle.level_nets.specs.Read.{widest_of, width_of, left_of}
 

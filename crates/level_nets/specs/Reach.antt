@@ -1,17 +1,17 @@
 -- What lies in range, so that the nets of a level can be read off without a number that doesn't fit.
 use Rattle.std.specs.Prelude.{◌≡◌, ℕ, ◌+◌, ◌*◌, ◌<◌, ◌≤◌, ◌^◌, Bool, false, List, ℤ, pos, neg_ℤ, ◌-ℤ◌, ◌≤ℤ◌, length, slice_index_or, IsTrue}
 use Rattle.std.specs.List.{All}
-use Rattle.elk_doc.specs.declared.shape.Side.{Side}
-use Rattle.elk_doc.specs.declared.shape.Dock.{Dock}
-use Rattle.elk_doc.specs.PortsKept.{is_side}
-use Rattle.elk_doc.specs.Sound.{IsWithin}
+use Rattle.drawing_types.specs.declared.shape.Side.{Side}
+use Rattle.drawing_types.specs.declared.shape.Dock.{Dock}
+use Rattle.drawing_types.specs.Shapes.{is_side}
+use Rattle.drawing_types.specs.Ranges.{IsWithin}
 use Rattle.elk_layers.specs.Layered.{plain, IsSound, IsFromZero, unit_at}
-use Rattle.route_slots.specs.declared.Net.{Net}
-use Rattle.route_slots.specs.GapFree.{IsNet, AreHeights}
+use Rattle.net_routes.specs.declared.Net.{Net}
+use Rattle.net_routes.specs.GapFree.{IsNet, AreHeights}
 use Rattle.self_loops.specs.Loops.{is_upright}
-use Rattle.level_plan.specs.Level.{End, end_at, holds}
-use Rattle.level_plan.specs.Nets.{lane_side_of_end}
-use Rattle.level_plan.specs.Table.{loop_in, child_in}
+use Rattle.level_model.specs.Level.{End, end_at, holds}
+use Rattle.level_model.specs.Nets.{lane_side_of_end}
+use Rattle.level_model.specs.Table.{loop_in, child_in}
 use Rattle.level_nets.specs.declared.sheet.Sheet.{Sheet}
 use Rattle.elk_layers.specs.Lines.{top_of}
 use Rattle.level_nets.specs.Parts.{Parts, parts, EndAbove}

@@ -4,22 +4,22 @@ use Rattle.std.specs.Prelude.{◌+ℤ◌, ◌-ℤ◌, length}
 use Rattle.std.specs.List.{filter, range_with_len}
 use Rattle.std.specs.Ordering.{int_eq}
 use Rattle.std.specs.Int.{int_max}
-use Rattle.elk_doc.specs.declared.shape.Side.{Side}
-use Rattle.elk_doc.specs.declared.shape.Side.TheVariants.{East, South, West}
-use Rattle.elk_doc.specs.declared.shape.Dock.{Dock}
-use Rattle.elk_doc.specs.PortsKept.{is_side}
+use Rattle.drawing_types.specs.declared.shape.Side.{Side}
+use Rattle.drawing_types.specs.declared.shape.Side.TheVariants.{East, South, West}
+use Rattle.drawing_types.specs.declared.shape.Dock.{Dock}
+use Rattle.drawing_types.specs.Shapes.{is_side}
 use Rattle.elk_layers.specs.Layered.{unit_at, link_at, layer_of}
 use Rattle.elk_layers.specs.Lines.{top_of}
-use Rattle.route_slots.specs.declared.Pin.{Pin}
-use Rattle.route_slots.specs.declared.Net.{Net}
+use Rattle.net_routes.specs.declared.Pin.{Pin}
+use Rattle.net_routes.specs.declared.Net.{Net}
 use Rattle.route_lines.specs.Points.{PlainGap, gap_in}
 use Rattle.self_loops.specs.Loops.{passes_left, passes_right}
-use Rattle.level_plan.specs.declared.table.EndAt.{EndAt}
-use Rattle.level_plan.specs.declared.table.LoopAt.{LoopAt}
-use Rattle.level_plan.specs.declared.table.ChildAt.{ChildAt}
-use Rattle.level_plan.specs.Level.{End, end_at, enters, is_loop, all_ends}
-use Rattle.level_plan.specs.Nets.{Name, gap_width, of_link, of_dock, of_loop, inverts, if_passed, lane_side_of_end}
-use Rattle.level_plan.specs.Table.{end_in, loop_in, child_in}
+use Rattle.level_model.specs.declared.table.EndAt.{EndAt}
+use Rattle.level_model.specs.declared.table.LoopAt.{LoopAt}
+use Rattle.level_model.specs.declared.table.ChildAt.{ChildAt}
+use Rattle.level_model.specs.Level.{End, end_at, enters, is_loop, all_ends}
+use Rattle.level_model.specs.Nets.{Name, gap_width, of_link, of_dock, of_loop, inverts, if_passed, lane_side_of_end}
+use Rattle.level_model.specs.Table.{end_in, loop_in, child_in}
 use Rattle.level_nets.specs.Parts.{Parts, plan_of}
 
 -- the number of an end: two for each edge, its source first

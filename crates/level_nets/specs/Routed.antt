@@ -1,14 +1,14 @@
 -- The gaps of a level are those of its plan, and the places of nets are those of their names.
 use Rattle.std.specs.Prelude.{◌≡◌, ℕ, ◌<◌, ◌^◌, ◌*◌, ◌&&◌, Bool, true, false, List, [], ℤ, pos, length, slice_index, IsTrue}
-use Rattle.elk_doc.specs.declared.shape.Side.TheVariants.{East, West}
+use Rattle.drawing_types.specs.declared.shape.Side.TheVariants.{East, West}
 use Rattle.elk_layers.specs.Layered.{IsFromZero}
 use Rattle.self_loops.specs.Loops.{passes_left, passes_right}
 use Rattle.route_lines.specs.declared.Gap.{Gap}
 use Rattle.route_lines.specs.Points.{PlainGap, gap_in}
-use Rattle.level_plan.specs.Level.{PlainLevel, PlainPlan, Orders, end_at, is_loop, dock_of}
-use Rattle.level_plan.specs.Lanes.{has_one_dock}
-use Rattle.level_plan.specs.Nets.{Name, of_link, of_dock, of_loop, gap_of, names_in, place_of_name, is_inverted}
-use Rattle.level_plan.specs.FromPlan.{LevelDrawing, IsGap}
+use Rattle.level_model.specs.Level.{PlainLevel, PlainPlan, Orders, end_at, is_loop, dock_of}
+use Rattle.level_model.specs.Lanes.{has_one_dock}
+use Rattle.level_model.specs.Nets.{Name, of_link, of_dock, of_loop, gap_of, names_in, place_of_name, is_inverted}
+use Rattle.level_model.specs.FromPlan.{LevelDrawing, IsGap}
 use Rattle.level_nets.specs.declared.routing.Places.{Places}
 use Rattle.level_nets.specs.declared.routing.Routing.{Routing}
 use Rattle.level_nets.specs.Parts.{Parts, ArePlanned, plan_of}

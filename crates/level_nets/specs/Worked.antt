@@ -1,11 +1,11 @@
 -- Two children side by side, joined by two parallel edges, with the table of their docks.
 use Rattle.std.specs.Prelude.{ℕ, [], ◌∷◌, pos}
-use Rattle.elk_doc.specs.declared.shape.Side.{Side}
-use Rattle.elk_doc.specs.declared.shape.Side.TheVariants.{East, West}
-use Rattle.level_plan.specs.declared.table.EndAt.{EndAt}
-use Rattle.level_plan.specs.declared.table.ChildAt.{ChildAt}
-use Rattle.level_plan.specs.declared.table.Table.{Table}
-use Rattle.level_plan.specs.Examples.{parallel, parallel_plan}
+use Rattle.drawing_types.specs.declared.shape.Side.{Side}
+use Rattle.drawing_types.specs.declared.shape.Side.TheVariants.{East, West}
+use Rattle.level_model.specs.declared.table.EndAt.{EndAt}
+use Rattle.level_model.specs.declared.table.ChildAt.{ChildAt}
+use Rattle.level_model.specs.declared.table.Table.{Table}
+use Rattle.level_model.specs.Examples.{parallel, parallel_plan}
 use Rattle.level_nets.specs.Parts.{Parts}
 
 abbrev pub child_of_table : ℕ → ChildAt

@@ -4,11 +4,11 @@ ghost use Rattle.std.specs.Int.{int_max};
 ghost use Rattle.elk_doc.specs.Sound.{IsDistance, IsSoundSpacing};
 ghost use Rattle.elk_layers.specs.Layered.{IsFromZero};
 ghost use Rattle.std.specs.List.{All};
-ghost use Rattle.route_slots.specs.GapFree.{AreHeights, GapFree, IsNet};
+ghost use Rattle.net_routes.specs.GapFree.{AreHeights, GapFree, IsNet};
 ghost use Rattle.route_lines.specs.Points.{gap_in, plain_gap};
-ghost use Rattle.level_plan.specs.Conditions.{plain_level};
-ghost use Rattle.level_plan.specs.FromPlan.{AreSlots};
-ghost use Rattle.level_plan.specs.Nets as nets;
+ghost use Rattle.level_model.specs.Conditions.{plain_level};
+ghost use Rattle.level_model.specs.FromPlan.{AreSlots};
+ghost use Rattle.level_model.specs.Nets as nets;
 ghost use Rattle.level_nets.specs.Parts.{plan_of};
 ghost use Rattle.level_nets.specs.Held.{plain_gaps};
 ghost use Rattle.level_nets.specs.Placed.{HaveBorders, AreWidest, AreWidths, IsPlaced};
@@ -16,9 +16,10 @@ ghost use Rattle.level_nets.specs.Reach.{AreColumnsIn, AreNetsIn, IsSheet, parts
 
 use crate::sheet::{Sheet, child_at, unit_at};
 use elk_doc::document::Slotting;
-use level_plan::LevelIn;
+use level_model::LevelIn;
+use net_routes::{Net, Slots};
 use route_lines::Gap;
-use route_slots::{Net, Slots, assign_near, assign_uncrossed_near};
+use route_slots::{assign_near, assign_uncrossed_near};
 use std::alloc::{AllocError, Global};
 
 // Makes a column at least so wide.

@@ -1,8 +1,8 @@
 //! All nets of a level, each put behind those of its gap.
 ghost use Rattle.std.specs.Prelude.{◌≡◌, ℕ, ◌+◌, ◌<◌, ◌^◌, List, [], ◌∷◌, ◌++◌, length, slice_set, IfOk, OnOk, IsTrue};
 ghost use Rattle.route_lines.specs.Points.{gap_in};
-ghost use Rattle.level_plan.specs.Level.{end_at};
-ghost use Rattle.level_plan.specs.Nets.{Name, of_link, of_dock, of_loop, if_passed};
+ghost use Rattle.level_model.specs.Level.{end_at};
+ghost use Rattle.level_model.specs.Nets.{Name, of_link, of_dock, of_loop, if_passed};
 ghost use Rattle.level_nets.specs.Read.{HoldNets, names_of, dock_names, is_turned_back, passes_on, leg_behind};
 ghost use Rattle.level_nets.specs.Held.{plain_gaps, with_net, AreFew, AreLinkLegs, AreDockLegs, IsLoopLegs, AreLoopLegs, behind_docks, behind_loops};
 ghost use Rattle.level_nets.specs.Reach.{IsSheet, parts_in};
@@ -11,9 +11,9 @@ use crate::reading::{
     dock_gap, dock_net, is_turned_back, link_gap, link_net, loop_gap, loop_net, passes,
 };
 use crate::sheet::Sheet;
-use elk_doc::shape::Side;
+use drawing_types::shape::Side;
+use net_routes::Net;
 use route_lines::Gap;
-use route_slots::Net;
 use std::alloc::{AllocError, Global};
 
 /// The places of a self-loop's nets in the gaps on the left and on the right of its child, where it passes these.

@@ -1,17 +1,17 @@
 //! The nets of a level and their gaps, read off its table.
 ghost use Rattle.std.specs.Prelude.{◌≡◌, ◌<◌, ◌+◌, [], ◌+ℤ◌, length, IsTrue};
 ghost use Rattle.elk_layers.specs.Lines.{top_of};
-ghost use Rattle.level_plan.specs.Level.{end_at, enters};
-ghost use Rattle.level_plan.specs.Nets.{inverts, lane_side_of_end, of_link, of_dock, of_loop};
-ghost use Rattle.elk_doc.specs.PortsKept.{is_side};
+ghost use Rattle.level_model.specs.Level.{end_at, enters};
+ghost use Rattle.level_model.specs.Nets.{inverts, lane_side_of_end, of_link, of_dock, of_loop};
+ghost use Rattle.drawing_types.specs.Shapes.{is_side};
 ghost use Rattle.level_nets.specs.Parts.{plan_of};
 ghost use Rattle.level_nets.specs.Read as read;
 ghost use Rattle.level_nets.specs.Reach.{IsSheet, IsBeside, IsDockIn, IsPassing, IsBelow, parts_in};
 
 use crate::sheet::{Sheet, child_at, end_at, is_loop, link_at, loop_at, top_of, unit_at};
-use elk_doc::shape::{Dock, Side};
-use level_plan::LoopAt;
-use route_slots::{Net, Pin};
+use drawing_types::shape::{Dock, Side};
+use level_model::LoopAt;
+use net_routes::{Net, Pin};
 use self_loops::{LoopEnds, loop_legs};
 
 // A height so far below the top of a unit.

@@ -1,6 +1,6 @@
 //! The gaps of a level.
 ghost use Rattle.std.specs.Prelude.{◌≡◌, ◌+◌, [], length, IfOk, OnOk};
-ghost use Rattle.level_plan.specs.Marks.{AreMarks};
+ghost use Rattle.level_model.specs.Marks.{AreMarks};
 ghost use Rattle.level_nets.specs.Parts.{IsGiven};
 ghost use Rattle.level_nets.specs.Held.{plain_gaps};
 ghost use Rattle.level_nets.specs.Reach.{AreColumnsIn, IsSheet, parts_in};
@@ -11,9 +11,9 @@ use crate::borders::{column_widths, place_gaps};
 pub use crate::pushing::LoopLegs;
 use crate::pushing::{push_docks, push_links, push_loops};
 use crate::sheet::Sheet;
-use elk_doc::list::Items;
+use drawing_types::list::Items;
+use net_routes::Slots;
 use route_lines::Gap;
-use route_slots::Slots;
 use std::alloc::{AllocError, Global};
 
 /// The gaps of a level from left to right, one more than its layers, with their nets and slots; and the places of nets in

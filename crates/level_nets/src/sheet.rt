@@ -2,13 +2,13 @@
 ghost use Rattle.std.specs.Prelude.{◌≡◌, ◌<◌, length};
 ghost use Rattle.elk_layers.specs.Layered.{unit_at, link_at};
 ghost use Rattle.elk_layers.specs.Lines.{top_of};
-ghost use Rattle.level_plan.specs.Level.{end_at, is_loop};
-ghost use Rattle.level_plan.specs.Table.{child_in, loop_in};
+ghost use Rattle.level_model.specs.Level.{end_at, is_loop};
+ghost use Rattle.level_model.specs.Table.{child_in, loop_in};
 ghost use Rattle.level_nets.specs.Read.{at_end};
 ghost use Rattle.level_nets.specs.Reach.{IsSheet, parts_in};
 
 use elk_layers::{Layered, Link, Unit};
-use level_plan::{ChildAt, EndAt, LevelIn, LoopAt, Table};
+use level_model::{ChildAt, EndAt, LevelIn, LoopAt, Table};
 
 /// A level with its units and links, their tops, the edges that are turned round, by list and by edge, and its table.
 #[derive(Clone, Copy)]

@@ -2,7 +2,7 @@
 use Rattle.std.proofs.Common.{◌≡◌, ℕ, suc, ◌+◌, ◌<◌, cond, Bool, true, false, ◌||◌, List, [], ◌∷◌, length, map, get_or, arith, refl, sym, ap, inl, inr, ◌∙◌, eq-eqb, true≢false}
 use Rattle.std.specs.List.{filter, list_any}
 use Rattle.std.proofs.lemmas.Bool.{cases_eq, ne_eqb, false_from_ne_true}
-use Rattle.level_plan.specs.Level.{End, end_at, end_eq, ends_of_edges, place_of_end}
+use Rattle.level_model.specs.Level.{End, end_at, end_eq, ends_of_edges, place_of_end}
 
 -- all numbers of a list are below a bound
 abbrev pub AllBelow : ℕ → List ℕ → Type 0

@@ -6,16 +6,16 @@ use Rattle.std.proofs.lemmas.Bool.{cases_Bool}
 use Rattle.std.proofs.lemmas.Int.{ints}
 use Rattle.std.proofs.lemmas.List.{get_or-map, length-map, map_push}
 use Rattle.std.proofs.lemmas.List.FromFn.{fill_by_all}
-use Rattle.elk_doc.specs.declared.shape.Size.{Size}
-use Rattle.elk_doc.specs.Document.{no_size}
+use Rattle.drawing_types.specs.declared.shape.Size.{Size}
+use Rattle.drawing_types.specs.Shapes.{no_size}
 use Rattle.port_order.specs.declared.children.ChildPort.{ChildPort}
 use Rattle.port_order.specs.declared.children.Child.{Child}
 use Rattle.port_order.specs.Child.{no_port}
 use Rattle.port_order.specs.Conditions.{IsChild, IsSmall}
-use Rattle.level_plan.specs.declared.level.Spoke.{Spoke}
-use Rattle.level_plan.specs.declared.level.LevelEdge.{LevelEdge}
-use Rattle.level_plan.specs.Conditions.{IsLevel, IsLevelChild, IsLevelEdge, IsSpoke, sizes_of, sum_of_ints, total_height, total_ports, total_width}
-use Rattle.level_plan.specs.Level.{PlainLevel, child_at, edge_at}
+use Rattle.level_model.specs.declared.level.EdgeEnd.{EdgeEnd}
+use Rattle.level_model.specs.declared.level.LevelEdge.{LevelEdge}
+use Rattle.level_model.specs.Conditions.{IsLevel, IsLevelChild, IsLevelEdge, IsSpoke, sizes_of, sum_of_ints, total_height, total_ports, total_width}
+use Rattle.level_model.specs.Level.{PlainLevel, child_at, edge_at}
 use Rattle.network_parts.specs.Divided.{place_of}
 use Rattle.network_parts.proofs.RangeLemmas.{few_picked, filter_next, range_next}
 use Rattle.network_parts.proofs.PlaceLemmas.{node_in, node_place, place_less}
@@ -144,13 +144,13 @@ module _ (l : PlainLevel) (numbers : List ℕ) (k : ℕ) (level : IsLevel l) (pa
 
   -- ---- the part is a level
 
-  abbrev placed : Spoke → Spoke
+  abbrev placed : EdgeEnd → EdgeEnd
   placed s = record { child = place_of numbers s.child; port = s.port }
 
   port_in : (c d : Child) → d ≡ c → (port : Option ℕ) → IfSome port (λ q. q < length c.ports) → IfSome port (λ q. q < length d.ports)
   port_in c d same port h = subst (λ (x : Child). IfSome port (λ q. q < length x.ports)) (sym same) h
 
-  spoke_in : (s : Spoke) → IsSpoke l s → slice_index numbers s.child ≡ k → IsSpoke part (placed s)
+  spoke_in : (s : EdgeEnd) → IsSpoke l s → slice_index numbers s.child ≡ k → IsSpoke part (placed s)
   spoke_in s spoke is =
       let low = place_in s.child spoke.child is in
       record {

@@ -6,9 +6,9 @@ use Rattle.elk_doc.specs.Paths.Reaches.{stay, go}
 use Rattle.network_laws.specs.declared.network.NetEdge.{NetEdge}
 use Rattle.network_laws.specs.Network.{edge_at as net_at, EndsBelow, HasEdge, InOnePart as InOneNetPart, Joined}
 use Rattle.network_laws.specs.Parts.{ArePartNumbers}
-use Rattle.level_plan.specs.Conditions.{IsLevel}
-use Rattle.level_plan.specs.Level.{PlainLevel, edge_at}
-use Rattle.level_parts.specs.Parts.{AreParts, InOnePart, IsJoined, join}
+use Rattle.level_model.specs.Conditions.{IsLevel}
+use Rattle.level_model.specs.Level.{PlainLevel, edge_at}
+use Rattle.level_parts.specs.Parts.{AreParts, InOnePart, AreJoined, join}
 
 pub many_joins : (l : PlainLevel) → length (map join l.edges) ≡ length l.edges
 many_joins l = length-map l.edges join
@@ -23,7 +23,7 @@ ends_below l level e h =
 
 -- ---- steps and walks
 
-step_forth : (l : PlainLevel) (a b : ℕ) → (HasEdge (map join l.edges) a b ⊎ HasEdge (map join l.edges) b a) → IsJoined l a b
+step_forth : (l : PlainLevel) (a b : ℕ) → (HasEdge (map join l.edges) a b ⊎ HasEdge (map join l.edges) b a) → AreJoined l a b
 step_forth l a b (inl has) =
     let inside : has.number < length l.edges = subst (λ n. has.number < n) (many_joins l) has.is_there in
     let is = join_at l has.number inside in
@@ -42,7 +42,7 @@ one_edge l e a b h from to =
       to_is = ap (λ (x : NetEdge). x.head) (join_at l e h) ∙ to;
     }
 
-step_back : (l : PlainLevel) (a b : ℕ) → IsJoined l a b → HasEdge (map join l.edges) a b ⊎ HasEdge (map join l.edges) b a
+step_back : (l : PlainLevel) (a b : ℕ) → AreJoined l a b → HasEdge (map join l.edges) a b ⊎ HasEdge (map join l.edges) b a
 step_back l a b joined = pick joined.2
   where
     pick : ((((edge_at l joined.0).source.child ≡ a) × ((edge_at l joined.0).target.child ≡ b)) ⊎ (((edge_at l joined.0).source.child ≡ b) × ((edge_at l joined.0).target.child ≡ a)))
@@ -51,7 +51,7 @@ step_back l a b joined = pick joined.2
     pick (inr is) = inr (one_edge l joined.0 b a joined.1 is.0 is.1)
 
 -- a path goes on by another
-joined_more : (l : PlainLevel) (a b c : ℕ) → Reaches (IsJoined l) a b → Reaches (IsJoined l) b c → Reaches (IsJoined l) a c
+joined_more : (l : PlainLevel) (a b c : ℕ) → Reaches (AreJoined l) a b → Reaches (AreJoined l) b c → Reaches (AreJoined l) a c
 joined_more l a b c (stay _) r = r
 joined_more l a b c (go _ m _ s p) r = go a m c s (joined_more l m b c p r)
 

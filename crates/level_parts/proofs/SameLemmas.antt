@@ -5,21 +5,21 @@ use Rattle.std.specs.List.{filter, list_any, range_with_len}
 use Rattle.std.proofs.lemmas.Bool.{cases_eq, eqb-true, ne_eqb}
 use Rattle.std.proofs.lemmas.List.{map-append}
 use Rattle.std.proofs.lemmas.List.FromFn.{fill_by_all, length-range_with_len, get_or-range_with_len}
-use Rattle.elk_doc.specs.declared.shape.Point.{Point}
-use Rattle.elk_doc.specs.declared.shape.Side.{Side}
-use Rattle.elk_doc.specs.Shapes.{hull, rect_at}
+use Rattle.drawing_types.specs.declared.shape.Point.{Point}
+use Rattle.drawing_types.specs.declared.shape.Side.{Side}
+use Rattle.drawing_types.specs.Shapes.{hull, rect_at}
 use Rattle.port_order.specs.declared.spots.Spot.{Spot}
 use Rattle.port_order.specs.declared.children.Child.{Child}
 use Rattle.port_order.specs.Child.{port_at}
 use Rattle.port_order.specs.Sides.{side_of}
 use Rattle.port_order.specs.Places as places
 use Rattle.port_order.specs.Ranks.{is_spread_on}
-use Rattle.level_plan.specs.declared.level.Spoke.{Spoke}
-use Rattle.level_plan.specs.declared.level.LevelEdge.{LevelEdge}
-use Rattle.level_plan.specs.Conditions.{IsLevel}
-use Rattle.level_plan.specs.Level.{PlainLevel, PlainPlan, Orders, End, all_ends, child_at, dock_of, end_at, ends_at_port, ends_of_edges, enters, implicit_ends, implicit_spot, is_loop, is_port, linked, outline_from, place_of_end, port_place, port_spot, spoke, spot_at_port, spot_of, spots}
-use Rattle.level_plan.proofs.SameLines.{same_dock}
-use Rattle.level_plan.specs.PortsKept.{spread_count}
+use Rattle.level_model.specs.declared.level.EdgeEnd.{EdgeEnd}
+use Rattle.level_model.specs.declared.level.LevelEdge.{LevelEdge}
+use Rattle.level_model.specs.Conditions.{IsLevel}
+use Rattle.level_model.specs.Level.{PlainLevel, PlainPlan, Orders, End, all_ends, child_at, dock_of, end_at, ends_at_port, ends_of_edges, enters, implicit_ends, implicit_spot, is_loop, is_port, linked, outline_from, place_of_end, port_place, port_spot, spoke, spot_at_port, spot_of, spots}
+use Rattle.level_model.proofs.SameLines.{same_dock}
+use Rattle.level_model.specs.PortsKept.{spread_count}
 use Rattle.network_parts.specs.Divided.{place_of}
 use Rattle.network_parts.proofs.PlaceLemmas.{place_node}
 use Rattle.level_parts.specs.Divided.{child_number, edge_keys, edge_number, members, part_level}
@@ -97,7 +97,7 @@ module _ (l : PlainLevel) (numbers : List ℕ) (k : ℕ) (pp pl : PlainPlan) (in
   abbrev lifted : End → End
   lifted n = end_at (edge_of n.edge) n.at_source
 
-  abbrev placed : Spoke → Spoke
+  abbrev placed : EdgeEnd → EdgeEnd
   placed s = record { child = place_of numbers s.child; port = s.port }
 
   -- ---- one end
@@ -114,15 +114,15 @@ module _ (l : PlainLevel) (numbers : List ℕ) (k : ℕ) (pp pl : PlainPlan) (in
   child_below : (j : ℕ) (t : Bool) → j < many → (spoke part (end_at j t)).child < some
   child_below j t h =
       let found = end_in j t h in
-      subst (λ (s : Spoke). s.child < some) (sym (spoke_is j t h)) (place_in l numbers k level parts (spoke l (end_at (edge_of j) t)).child found.0 found.1)
+      subst (λ (s : EdgeEnd). s.child < some) (sym (spoke_is j t h)) (place_in l numbers k level parts (spoke l (end_at (edge_of j) t)).child found.0 found.1)
 
   child_up : (j : ℕ) (t : Bool) → j < many → child_of (spoke part (end_at j t)).child ≡ (spoke l (end_at (edge_of j) t)).child
   child_up j t h =
       let found = end_in j t h in
-      ap (λ (s : Spoke). child_of s.child) (spoke_is j t h) ∙ place_back l numbers k level parts (spoke l (end_at (edge_of j) t)).child found.0 found.1
+      ap (λ (s : EdgeEnd). child_of s.child) (spoke_is j t h) ∙ place_back l numbers k level parts (spoke l (end_at (edge_of j) t)).child found.0 found.1
 
   port_up : (j : ℕ) (t : Bool) → j < many → (spoke part (end_at j t)).port ≡ (spoke l (end_at (edge_of j) t)).port
-  port_up j t h = ap (λ (s : Spoke). s.port) (spoke_is j t h)
+  port_up j t h = ap (λ (s : EdgeEnd). s.port) (spoke_is j t h)
 
   enters_up : (j : ℕ) (t : Bool) → j < many → enters pp (end_at j t) ≡ enters pl (lifted (end_at j t))
   enters_up j true h = alike.turned j h
@@ -141,7 +141,7 @@ module _ (l : PlainLevel) (numbers : List ℕ) (k : ℕ) (pp pl : PlainPlan) (in
         | inr other ↦
             ne_eqb (spoke part (end_at j t)).child i other
             ∙ sym (ne_eqb (spoke l (end_at (edge_of j) t)).child (child_of i)
-            (λ e. other (ap (λ (s : Spoke). s.child) (spoke_is j t h) ∙ ap (place_of numbers) e ∙ child_back i there)))
+            (λ e. other (ap (λ (s : EdgeEnd). s.child) (spoke_is j t h) ∙ ap (place_of numbers) e ∙ child_back i there)))
       ]
 
   loop_up : (j : ℕ) → j < many → is_loop part j ≡ is_loop l (edge_of j)

@@ -6,12 +6,12 @@ use Rattle.std.proofs.lemmas.List.{get_or_append_left, get_or_push, length_push}
 use Rattle.elk_doc.specs.declared.document.Choices.{Choices}
 use Rattle.elk_doc.specs.declared.document.Placing.{Placing}
 use Rattle.elk_doc.specs.declared.document.Spacing.{Spacing}
-use Rattle.elk_doc.specs.declared.document.Sweep.{Sweep}
+use Rattle.drawing_types.specs.declared.sweep.Sweep.{Sweep}
 use Rattle.port_order.specs.declared.children.Child.{Child}
-use Rattle.level_plan.specs.declared.level.LevelEdge.{LevelEdge}
-use Rattle.level_plan.specs.declared.level.LevelIn.{LevelIn}
-use Rattle.level_plan.specs.Conditions.{plain_level, IsLevel}
-use Rattle.level_plan.specs.Level.{PlainLevel, child_at, edge_at}
+use Rattle.level_model.specs.declared.level.LevelEdge.{LevelEdge}
+use Rattle.level_model.specs.declared.level.LevelIn.{LevelIn}
+use Rattle.level_model.specs.Conditions.{plain_level, IsLevel}
+use Rattle.level_model.specs.Level.{PlainLevel, child_at, edge_at}
 use Rattle.network_parts.specs.Divided.{place_of}
 use Rattle.network_parts.specs.Dividing.{AreCounted, ArePlaces}
 use Rattle.network_parts.proofs.RangeLemmas.{map_same}

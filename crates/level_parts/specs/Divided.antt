@@ -1,7 +1,7 @@
 -- The children and edges of each part of a level, and the part as a level of its own.
 use Rattle.std.specs.Prelude.{ℕ, List, map, slice_index}
-use Rattle.level_plan.specs.declared.level.LevelEdge.{LevelEdge}
-use Rattle.level_plan.specs.Level.{PlainLevel, child_at, edge_at}
+use Rattle.level_model.specs.declared.level.LevelEdge.{LevelEdge}
+use Rattle.level_model.specs.Level.{PlainLevel, child_at, edge_at}
 use Rattle.network_parts.specs.Divided.{nodes_of, place_of}
 
 -- the numbers whose key is k, in ascending order, and the i-th of them

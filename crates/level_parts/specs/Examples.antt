@@ -2,9 +2,9 @@
 use Rattle.std.specs.Prelude.{ℕ, [], ◌∷◌, None}
 use Rattle.elk_doc.specs.Defaults.{default_choices}
 use Rattle.elk_doc.specs.declared.document.PortRule.TheVariants.{Free}
-use Rattle.level_plan.specs.declared.level.LevelEdge.{LevelEdge}
-use Rattle.level_plan.specs.Examples.{spacing, square}
-use Rattle.level_plan.specs.Level.{PlainLevel}
+use Rattle.level_model.specs.declared.level.LevelEdge.{LevelEdge}
+use Rattle.level_model.specs.Examples.{spacing, square}
+use Rattle.level_model.specs.Level.{PlainLevel}
 
 abbrev pub edge : ℕ → ℕ → ℕ → LevelEdge
 edge a b weight = record { source = record { child = a; port = None }; target = record { child = b; port = None }; weight = weight }

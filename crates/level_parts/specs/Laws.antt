@@ -1,11 +1,11 @@
 -- What is said of the children and ends of a part is what is said of them in the level.
 use Rattle.std.specs.Prelude.{◌≡◌, ℕ, ◌<◌, Bool, List, length}
-use Rattle.elk_doc.specs.declared.shape.Dock.{Dock}
-use Rattle.elk_doc.specs.declared.shape.Side.{Side}
-use Rattle.level_plan.specs.Conditions.{IsLevel}
-use Rattle.level_plan.specs.Level.{PlainLevel, PlainPlan, Orders, anchor_of_spot, child_at, dock_of, end_at, holds, outline, port_place}
-use Rattle.level_plan.specs.Level.{spoke, spot_of}
-use Rattle.level_plan.specs.PortsKept.{port_side, spread_count}
+use Rattle.drawing_types.specs.declared.shape.Dock.{Dock}
+use Rattle.drawing_types.specs.declared.shape.Side.{Side}
+use Rattle.level_model.specs.Conditions.{IsLevel}
+use Rattle.level_model.specs.Level.{PlainLevel, PlainPlan, Orders, anchor_of_spot, child_at, dock_of, end_at, holds, outline, port_place}
+use Rattle.level_model.specs.Level.{spoke, spot_of}
+use Rattle.level_model.specs.PortsKept.{port_side, spread_count}
 use Rattle.level_parts.specs.Divided.{child_number, edge_keys, edge_number, members, part_level}
 use Rattle.level_parts.specs.Parts.{AreParts}
 

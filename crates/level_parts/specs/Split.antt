@@ -2,9 +2,9 @@
 use Rattle.std.specs.Prelude.{◌≡◌, ◌<◌, ℕ, List, [], pos, None, length, map, slice_index, slice_index_or}
 use Rattle.elk_doc.specs.declared.document.Placing.TheVariants.{BrandesKoepf}
 use Rattle.elk_doc.specs.Defaults.{default_choices}
-use Rattle.level_plan.specs.Conditions.{plain_level}
-use Rattle.level_plan.specs.Level.{child_at, edge_at}
-use Rattle.level_plan.specs.declared.level.LevelIn.{LevelIn}
+use Rattle.level_model.specs.Conditions.{plain_level}
+use Rattle.level_model.specs.Level.{child_at, edge_at}
+use Rattle.level_model.specs.declared.level.LevelIn.{LevelIn}
 use Rattle.network_parts.specs.Dividing.{AreCounted, ArePlaces}
 use Rattle.level_parts.specs.declared.levels.PartLevel.{PartLevel}
 use Rattle.level_parts.specs.declared.levels.PartLevels.{PartLevels}

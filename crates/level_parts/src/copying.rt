@@ -1,11 +1,11 @@
 //! The children and edges of a part.
 ghost use Rattle.std.specs.Prelude.{◌≡◌, ◌<◌, ℕ, map, length, slice_index, IfOk};
-ghost use Rattle.level_plan.specs.Conditions.{plain_level, IsLevel};
-ghost use Rattle.level_plan.specs.Level.{child_at, edge_at};
+ghost use Rattle.level_model.specs.Conditions.{plain_level, IsLevel};
+ghost use Rattle.level_model.specs.Level.{child_at, edge_at};
 ghost use Rattle.level_parts.specs.Divided.{placed_at};
 
-use elk_doc::list::Items;
-use level_plan::{LevelEdge, LevelIn, Spoke};
+use drawing_types::list::Items;
+use level_model::{EdgeEnd, LevelEdge, LevelIn};
 use port_order::Child;
 use std::alloc::{AllocError, Global};
 
@@ -41,11 +41,11 @@ pub(crate) fn children_in(
 }
 
 // An end of an edge, by the place of its child.
-fn placed_spoke(places: &[u32], spoke: Spoke) -> Spoke
+fn placed_spoke(places: &[u32], spoke: EdgeEnd) -> EdgeEnd
     requires { spoke.child < length places.now }
     ensures { result ≡ record { child = slice_index places.now spoke.child; port = spoke.port } }
 {
-    Spoke {
+    EdgeEnd {
         child: places[spoke.child as usize],
         port: spoke.port,
     }

@@ -1,6 +1,6 @@
 //! The parts of a level, and where its children and edges are in them.
-use elk_doc::list::Items;
-use level_plan::LevelIn;
+use drawing_types::list::Items;
+use level_model::LevelIn;
 
 /// For each of some things in order, the number of its part and its place there.
 #[derive(Drop)]

@@ -1,10 +1,10 @@
 //! The numbers of a level's connected parts.
 ghost use Rattle.std.specs.Prelude.{◌≡◌, ◌<◌, map, length, IfOk};
-ghost use Rattle.level_plan.specs.Conditions.{plain_level, IsLevel};
+ghost use Rattle.level_model.specs.Conditions.{plain_level, IsLevel};
 ghost use Rattle.level_parts.specs.Divided.{edge_keys};
 ghost use Rattle.level_parts.specs.Parts.{AreParts, join};
 
-use level_plan::{LevelEdge, LevelIn};
+use level_model::{LevelEdge, LevelIn};
 use network_laws::{NetEdge, part_numbers};
 use std::alloc::{AllocError, Global};
 

@@ -1,6 +1,6 @@
 //! A level split into its connected parts.
 ghost use Rattle.std.specs.Prelude.{◌≡◌, ◌<◌, ℕ, length, slice_index, IfOk};
-ghost use Rattle.level_plan.specs.Conditions.{plain_level, IsLevel};
+ghost use Rattle.level_model.specs.Conditions.{plain_level, IsLevel};
 ghost use Rattle.level_parts.specs.Divided.{edge_keys};
 ghost use Rattle.level_parts.specs.Groups.{AreGrouped};
 ghost use Rattle.level_parts.specs.Parts.{AreParts};
@@ -10,8 +10,8 @@ use crate::copying::{children_in, edges_in};
 use crate::grouping::{Groups, groups_of};
 use crate::levels::{PartLevel, PartLevels, Seats};
 use crate::numbering::{edge_numbers, numbers_of};
-use elk_doc::list::Items;
-use level_plan::LevelIn;
+use drawing_types::list::Items;
+use level_model::LevelIn;
 use network_parts::count_parts;
 use std::alloc::{AllocError, Global};
 

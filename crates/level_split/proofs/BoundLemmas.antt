@@ -6,30 +6,30 @@ use Rattle.std.proofs.lemmas.Int.{ints}
 use Rattle.std.proofs.lemmas.List.{length-map}
 use Rattle.std.proofs.lemmas.List.FromFn.{fill_by_all, length-range_with_len}
 use Rattle.std.proofs.Math.Nat.{mul-le-mul_left}
-use Rattle.elk_doc.specs.declared.shape.Point.{Point}
-use Rattle.elk_doc.specs.declared.shape.Rect.{Rect}
-use Rattle.elk_doc.specs.declared.shape.Size.{Size}
-use Rattle.elk_doc.specs.Shapes.{Holds}
+use Rattle.drawing_types.specs.declared.shape.Point.{Point}
+use Rattle.drawing_types.specs.declared.shape.Rect.{Rect}
+use Rattle.drawing_types.specs.declared.shape.Size.{Size}
+use Rattle.drawing_types.specs.Shapes.{Holds}
 use Rattle.elk_doc.specs.Sound.{IsDistance}
 use Rattle.box_pack.specs.Boxes.{EachSize, IsSize, point_at}
 use Rattle.box_pack.specs.Spaced.{AreSpaced, gapped, height_at, width_at}
-use Rattle.level_laws.proofs.PartLemmas.{outline_at}
-use Rattle.level_laws.proofs.JoinedReachLemmas as reach
-use Rattle.level_laws.specs.Extents.{IsBounded, outline_heights, outline_widths, room_between}
-use Rattle.level_laws.proofs.Sums.{first_le, over, over_same, part, parts_within}
+use Rattle.turned_levels.proofs.PartLemmas.{outline_at}
+use Rattle.turned_levels.proofs.JoinedReachLemmas as reach
+use Rattle.turned_levels.specs.Extents.{IsBounded, outline_heights, outline_widths, room_between}
+use Rattle.turned_levels.proofs.Sums.{first_le, over, over_same, part, parts_within}
 use Rattle.level_draw.specs.declared.drawing.LevelOut.{LevelOut}
-use Rattle.level_units.proofs.TotalLemmas.{first}
-use Rattle.level_plan.specs.declared.level.LevelIn.{LevelIn}
-use Rattle.level_plan.specs.Conditions.{plain_level, sum_of_ints}
-use Rattle.level_plan.specs.FromPlan.{LevelDrawing}
-use Rattle.level_plan.specs.Level.{PlainLevel}
-use Rattle.level_plan.specs.Apart.{drawn_box, drawn_outline}
-use Rattle.level_plan.proofs.Lists.{Has, below_has}
+use Rattle.layer_units.proofs.TotalLemmas.{first}
+use Rattle.level_model.specs.declared.level.LevelIn.{LevelIn}
+use Rattle.level_model.specs.Conditions.{plain_level, sum_of_ints}
+use Rattle.level_model.specs.FromPlan.{LevelDrawing}
+use Rattle.level_model.specs.Level.{PlainLevel}
+use Rattle.level_model.specs.Apart.{drawn_box, drawn_outline}
+use Rattle.level_model.proofs.Lists.{Has, below_has}
 use Rattle.network_parts.proofs.RangeLemmas.{few_picked}
 use Rattle.level_parts.specs.Divided.{child_number, edge_keys, members, part_level}
 use Rattle.level_parts.specs.Split.{part_in}
 use Rattle.level_parts.proofs.LevelLemmas.{many_children, many_edges, many_keys}
-use Rattle.level_laws.specs.Outlines.{shifted}
+use Rattle.turned_levels.specs.Outlines.{shifted}
 use Rattle.level_split.specs.declared.layout.PartsOut.{PartsOut}
 use Rattle.level_split.specs.Gathered.{extents_of}
 use Rattle.level_split.specs.Laws.{PartsAreBounded, room_apart}

@@ -1,6 +1,12 @@
-pub mod OutLemmas
-pub mod RowLemmas
-pub mod StepLemmas
-pub mod SeatLemmas
-pub mod WholeLemmas
 pub mod BoundLemmas
+pub mod BoxesOutLemmas
+pub mod ExampleLemmas
+pub mod HullLemmas
+pub mod LayoutLemmas
+pub mod OutLemmas
+pub mod PushLemmas
+pub mod RoomLemmas
+pub mod RowLemmas
+pub mod SeatLemmas
+pub mod StepLemmas
+pub mod WholeLemmas

@@ -2,7 +2,7 @@
 use Rattle.std.proofs.Common.{◌≡◌, ℕ, zero, suc, ◌<◌, List, [], ◌∷◌, length, get_or, arith}
 use Rattle.std.proofs.lemmas.List.{get_or-map}
 use Rattle.box_pack.specs.Boxes.{size_at}
-use Rattle.elk_doc.specs.Document.{no_size}
+use Rattle.drawing_types.specs.Shapes.{no_size}
 use Rattle.level_draw.specs.declared.drawing.LevelOut.{LevelOut}
 use Rattle.level_split.specs.Gathered.{certificate_at, drawing_at, drawing_of, extents_of, no_certificate, no_drawing}
 

@@ -3,29 +3,29 @@ use Rattle.std.proofs.Common.{◌≡◌, ℕ, zero, suc, ◌+◌, ◌*◌, ◌-�
 use Rattle.std.specs.List.{range_with_len}
 use Rattle.std.proofs.lemmas.Int.{ints}
 use Rattle.std.proofs.Math.Nat.{mul-le-mul_left}
-use Rattle.elk_doc.specs.declared.shape.Rect.{Rect}
-use Rattle.elk_doc.specs.declared.shape.Size.{Size}
+use Rattle.drawing_types.specs.declared.shape.Rect.{Rect}
+use Rattle.drawing_types.specs.declared.shape.Size.{Size}
 use Rattle.elk_doc.specs.Sound.{IsDistance}
 use Rattle.box_pack.specs.declared.packing.Rows.{Rows}
 use Rattle.box_pack.specs.Boxes.{EachSize, IsSize, point_at}
 use Rattle.box_pack.specs.Packed.{AreRows}
 use Rattle.box_pack.specs.Spaced.{AreSolid, gapped, height_at, width_at}
 use Rattle.box_pack.proofs.SpacedLemmas.{rows_are_spaced}
-use Rattle.level_laws.specs.Extents.{outline_heights, outline_widths}
-use Rattle.level_laws.proofs.Bounded.{extents_bounded, extents_small}
-use Rattle.level_laws.proofs.SizeLemmas.{heights_low, widths_low}
-use Rattle.level_laws.proofs.Sums.{over, over_same}
+use Rattle.turned_levels.specs.Extents.{outline_heights, outline_widths}
+use Rattle.turned_levels.proofs.Bounded.{extents_bounded, extents_small}
+use Rattle.turned_levels.proofs.SizeLemmas.{heights_low, widths_low}
+use Rattle.turned_levels.proofs.Sums.{over, over_same}
 use Rattle.level_draw.specs.declared.drawing.LevelOut.{LevelOut}
 use Rattle.level_draw.specs.Drawing.{drawn_in, plan_from}
 use Rattle.level_layout.specs.Layout.{IsLaidOut}
-use Rattle.level_plan.specs.declared.level.LevelIn.{LevelIn}
-use Rattle.level_plan.specs.Conditions.{plain_level, sum_of_ints}
-use Rattle.level_plan.specs.FromPlan.{LevelDrawing, IsDrawnFrom}
-use Rattle.level_plan.specs.Level.{PlainLevel, PlainPlan, outline}
-use Rattle.level_plan.specs.Drawing.{outline_at}
-use Rattle.level_plan.specs.Apart.{drawn_outline}
-use Rattle.level_plan.proofs.ApartLemmas.{outlines_are_drawn}
-use Rattle.level_plan.proofs.Lists.{Has, below_has}
+use Rattle.level_model.specs.declared.level.LevelIn.{LevelIn}
+use Rattle.level_model.specs.Conditions.{plain_level, sum_of_ints}
+use Rattle.level_model.specs.FromPlan.{LevelDrawing, IsDrawnFrom}
+use Rattle.level_model.specs.Level.{PlainLevel, PlainPlan, outline}
+use Rattle.level_model.specs.Drawing.{outline_at}
+use Rattle.level_model.specs.Apart.{drawn_outline}
+use Rattle.plan_laws.proofs.ApartLemmas.{outlines_are_drawn}
+use Rattle.level_model.proofs.Lists.{Has, below_has}
 use Rattle.level_split.specs.Gathered.{IsPartPlace}
 
 -- ---- a part

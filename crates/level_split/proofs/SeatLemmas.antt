@@ -6,34 +6,34 @@ use Rattle.std.proofs.lemmas.Int.{ints}
 use Rattle.std.proofs.lemmas.List.{get_or_append_left, get_or_default, length-append, length-map}
 use Rattle.std.proofs.Math.Seq.{get_or-append_seam}
 use Rattle.elk_doc.specs.declared.drawing.Certificate.{Certificate}
-use Rattle.elk_doc.specs.declared.drawing.Section.{Section}
-use Rattle.elk_doc.specs.declared.shape.Point.{Point}
-use Rattle.elk_doc.specs.Document.{origin}
+use Rattle.drawing_types.specs.declared.section.Section.{Section}
+use Rattle.drawing_types.specs.declared.shape.Point.{Point}
+use Rattle.drawing_types.specs.Shapes.{origin}
 use Rattle.elk_doc.specs.Drawing.{points_of}
 use Rattle.elk_doc.specs.Sound.{IsDistance}
 use Rattle.box_pack.specs.declared.packing.Rows.{Rows}
 use Rattle.box_pack.specs.Packed.{AreRows}
 use Rattle.box_pack.specs.Boxes.{AreSizes, EachSize, IsSize, point_at}
-use Rattle.level_laws.specs.CertificateJoined as certificates
-use Rattle.level_laws.specs.CertificateJoined.{AreCertificates, spans_to, turns}
-use Rattle.level_laws.proofs.ListLemmas.{filter_alike}
-use Rattle.level_laws.proofs.CertificateWholeLemmas.{certificates_join}
-use Rattle.level_laws.specs.Joined.{moved_section}
-use Rattle.level_laws.proofs.PlanLemmas.{many_over, over_range}
-use Rattle.level_laws.proofs.JoinedReachLemmas.{IsReached, LiesIn, at_lower, at_upper, box_held, lower, on_route, reached_has, tight_lies, upper}
-use Rattle.level_laws.proofs.Bounded.{extents_small}
+use Rattle.turned_levels.specs.CertificateJoined as certificates
+use Rattle.turned_levels.specs.CertificateJoined.{AreCertificates, spans_to, turns}
+use Rattle.turned_levels.proofs.ListLemmas.{filter_alike}
+use Rattle.turned_levels.proofs.CertificateWholeLemmas.{certificates_join}
+use Rattle.turned_levels.specs.Joined.{moved_section}
+use Rattle.turned_levels.proofs.PlanLemmas.{many_over, over_range}
+use Rattle.turned_levels.proofs.JoinedReachLemmas.{IsReached, LiesIn, at_lower, at_upper, box_held, lower, on_route, reached_has, tight_lies, upper}
+use Rattle.turned_levels.proofs.Bounded.{extents_small}
 use Rattle.level_draw.specs.declared.drawing.LevelOut.{LevelOut}
 use Rattle.level_draw.specs.Drawing.{drawn_in, plan_from}
-use Rattle.level_layers.specs.Certificate.{IsCertificateOf, link_flows}
-use Rattle.level_layers.proofs.FlowLemmas.{span_low}
+use Rattle.level_layout.specs.Certificate.{IsCertificateOf, link_flows}
+use Rattle.level_layout.proofs.FlowLemmas.{span_low}
 use Rattle.level_layout.specs.Layout.{IsLaidOut}
-use Rattle.level_plan.specs.declared.level.LevelIn.{LevelIn}
-use Rattle.level_plan.specs.Conditions.{IsLevel, plain_level}
-use Rattle.level_plan.specs.FromPlan.{LevelDrawing, IsDrawnFrom, point_or, section_at}
-use Rattle.level_plan.specs.Level.{PlainLevel, child_at, holds}
-use Rattle.level_plan.specs.Routes.{route_count, route_point}
-use Rattle.level_plan.specs.Apart.{drawn_outline}
-use Rattle.level_plan.proofs.Lists.{below_has, has_at}
+use Rattle.level_model.specs.declared.level.LevelIn.{LevelIn}
+use Rattle.level_model.specs.Conditions.{IsLevel, plain_level}
+use Rattle.level_model.specs.FromPlan.{LevelDrawing, IsDrawnFrom, point_or, section_at}
+use Rattle.level_model.specs.Level.{PlainLevel, child_at, holds}
+use Rattle.plan_laws.specs.Routes.{route_count, route_point}
+use Rattle.level_model.specs.Apart.{drawn_outline}
+use Rattle.level_model.proofs.Lists.{below_has, has_at}
 use Rattle.network_parts.specs.Divided.{place_of}
 use Rattle.network_parts.specs.Dividing.{AreCounted}
 use Rattle.network_parts.proofs.PlaceLemmas.{place_less}
@@ -42,8 +42,8 @@ use Rattle.level_parts.specs.Divided.{edge_keys, part_level}
 use Rattle.level_parts.specs.Split.{IsSplit, part_at, part_in}
 use Rattle.level_parts.proofs.LevelLemmas.{many_children, many_edges, many_keys}
 use Rattle.level_parts.proofs.SplitLemmas.{keys_below}
-use Rattle.level_laws.proofs.EdgeLemmas.{has_holds}
-use Rattle.level_frame.specs.Drawing.{plus}
+use Rattle.turned_levels.proofs.EdgeLemmas.{has_holds}
+use Rattle.working_frame.specs.Drawing.{plus}
 use Rattle.level_split.specs.declared.layout.Joined.{Joined}
 use Rattle.level_split.specs.Gathered.{AreLayouts, ArePartDrawings, AreSeated, IsInPart, IsSectionInPart, certificate_at, drawing_at, extents_of}
 use Rattle.level_split.specs.Parts.{IsPartsLayout}
@@ -271,7 +271,7 @@ module _ (level : LevelIn) (split : PartLevels) (outs : List LevelOut) (sound : 
         parts = numbers;
       }
 
-  made_joined : certificates.IsJoined whole numbers count (certificate_at outs) made
+  made_joined : certificates.IsJoinedCertificate whole numbers count (certificate_at outs) made
   unfolding made
   made_joined =
       record {

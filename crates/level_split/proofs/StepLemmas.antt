@@ -6,22 +6,22 @@ use Rattle.std.proofs.lemmas.Bool.{cases_Bool, cases_lt}
 use Rattle.std.proofs.lemmas.List.{get_or-map, get_or_append_left, get_or_default, length-append, map_push}
 use Rattle.std.proofs.Math.Seq.{get_or-append_seam}
 use Rattle.elk_doc.specs.declared.drawing.Certificate.{Certificate}
-use Rattle.elk_doc.specs.declared.drawing.Section.{Section}
-use Rattle.elk_doc.specs.declared.shape.Size.{Size}
-use Rattle.elk_doc.specs.Document.{no_size, origin}
+use Rattle.drawing_types.specs.declared.section.Section.{Section}
+use Rattle.drawing_types.specs.declared.shape.Size.{Size}
+use Rattle.drawing_types.specs.Shapes.{no_size, origin}
 use Rattle.box_pack.specs.Boxes.{size_at}
-use Rattle.level_laws.specs.CertificateJoined.{spans_to}
-use Rattle.level_laws.proofs.ListLemmas.{filter_alike}
+use Rattle.turned_levels.specs.CertificateJoined.{spans_to}
+use Rattle.turned_levels.proofs.ListLemmas.{filter_alike}
 use Rattle.level_draw.specs.declared.drawing.LevelOut.{LevelOut}
 use Rattle.level_layout.specs.Layout.{IsLaidOut}
-use Rattle.level_plan.specs.FromPlan.{LevelDrawing, section_at}
-use Rattle.level_plan.specs.Level.{holds}
-use Rattle.level_plan.proofs.Lists.{Has, any_has, at_has, below_has, has_at}
+use Rattle.level_model.specs.FromPlan.{LevelDrawing, section_at}
+use Rattle.level_model.specs.Level.{holds}
+use Rattle.level_model.proofs.Lists.{Has, any_has, at_has, below_has, has_at}
 use Rattle.network_parts.proofs.RangeLemmas.{filter_no, filter_yes}
 use Rattle.level_parts.specs.declared.levels.PartLevel.{PartLevel}
 use Rattle.level_parts.specs.declared.levels.PartLevels.{PartLevels}
 use Rattle.level_parts.specs.Split.{part_at}
-use Rattle.level_laws.proofs.EdgeLemmas.{has_holds}
+use Rattle.turned_levels.proofs.EdgeLemmas.{has_holds}
 use Rattle.level_split.specs.Gathered.{AreFlows, AreLayers, AreLayouts, AreMarked, AreTurned, certificate_at, drawing_at, drawing_of, is_marked, marks_in, no_certificate, no_drawing}
 use Rattle.level_split.specs.Limits.{area_of, area_to}
 use Rattle.level_split.specs.Steps.{CanCertify, IsCertificateIn}

@@ -3,34 +3,34 @@ use Rattle.std.proofs.Common.{◌≡◌, ◌⊎◌, inl, inr, ℕ, ◌<◌, ◌�
 use Rattle.std.proofs.lemmas.Bool.{cases_lt}
 use Rattle.std.proofs.lemmas.List.{length-map}
 use Rattle.elk_doc.specs.declared.drawing.Certificate.{Certificate}
-use Rattle.elk_doc.specs.declared.shape.Point.{Point}
-use Rattle.elk_doc.specs.declared.drawing.Section.{Section}
+use Rattle.drawing_types.specs.declared.shape.Point.{Point}
+use Rattle.drawing_types.specs.declared.section.Section.{Section}
 use Rattle.box_pack.specs.Boxes.{point_at, size_at}
-use Rattle.level_laws.specs.CertificateJoined.{AreCertificates}
-use Rattle.level_laws.proofs.JoinedEdgeLemmas.{turned_at}
-use Rattle.level_laws.proofs.CertificateWholeLemmas.{certificates_join}
-use Rattle.level_laws.specs.Joined.{AreDrawn, AreInRows, IsJoined, IsWholeDrawing, moved_section, part_rect}
-use Rattle.level_laws.proofs.PartLemmas.{by_child, in_part, ports_at, same_child, there}
-use Rattle.level_laws.proofs.JoinedReachLemmas as reach
-use Rattle.level_laws.proofs.JoinedWholeLemmas.{drawings_join}
+use Rattle.turned_levels.specs.CertificateJoined.{AreCertificates}
+use Rattle.turned_levels.proofs.JoinedEdgeLemmas.{turned_at}
+use Rattle.turned_levels.proofs.CertificateWholeLemmas.{certificates_join}
+use Rattle.turned_levels.specs.Joined.{AreDrawn, AreInRows, IsJoinedDrawing, IsWholeDrawing, moved_section, part_rect}
+use Rattle.turned_levels.proofs.PartLemmas.{by_child, in_part, ports_at, same_child, there}
+use Rattle.turned_levels.proofs.JoinedReachLemmas as reach
+use Rattle.turned_levels.proofs.JoinedWholeLemmas.{drawings_join}
 use Rattle.box_pack.specs.Spaced.{AreSpaced}
-use Rattle.level_laws.specs.Extents.{IsBounded}
-use Rattle.level_laws.proofs.Bounded.{extents_bounded}
+use Rattle.turned_levels.specs.Extents.{IsBounded}
+use Rattle.turned_levels.proofs.Bounded.{extents_bounded}
 use Rattle.level_draw.specs.declared.drawing.LevelOut.{LevelOut}
 use Rattle.level_draw.specs.Drawing.{IsDrawing, drawn_in, plan_from}
-use Rattle.level_layers.specs.Certificate.{IsCertificateOf}
+use Rattle.level_layout.specs.Certificate.{IsCertificateOf}
 use Rattle.level_layout.specs.Layout.{IsLaidOut}
-use Rattle.level_plan.specs.declared.level.LevelIn.{LevelIn}
-use Rattle.level_plan.specs.Conditions.{plain_level}
-use Rattle.level_plan.specs.FromPlan.{LevelDrawing, point_or}
-use Rattle.level_plan.specs.Level.{Orders, PlainLevel, PlainPlan, child_at, holds}
+use Rattle.level_model.specs.declared.level.LevelIn.{LevelIn}
+use Rattle.level_model.specs.Conditions.{plain_level}
+use Rattle.level_model.specs.FromPlan.{LevelDrawing, point_or}
+use Rattle.level_model.specs.Level.{Orders, PlainLevel, PlainPlan, child_at, holds}
 use Rattle.port_order.specs.declared.children.Child.{Child}
-use Rattle.level_plan.specs.Ready.{IsReady}
+use Rattle.level_model.specs.Ready.{IsReady}
 use Rattle.network_parts.specs.Divided.{place_of}
 use Rattle.level_parts.specs.Divided.{child_number, edge_keys, part_level}
 use Rattle.level_parts.specs.Split.{part_in}
 use Rattle.level_parts.proofs.SplitLemmas.{keys_below}
-use Rattle.level_frame.specs.Drawing.{plus}
+use Rattle.working_frame.specs.Drawing.{plus}
 use Rattle.level_parts.proofs.LevelLemmas.{many_keys}
 use Rattle.level_split.specs.declared.layout.PartsOut.{PartsOut}
 use Rattle.level_split.specs.Gathered.{certificate_at, drawing_at, extents_of, no_drawing, section_in}
@@ -158,7 +158,7 @@ module _ (level : LevelIn) (component : ℤ) (v : PartsOut) (laid : IsPartsLayou
   key_below : (e : ℕ) → e < length l.edges → slice_index (edge_keys l v.parts) e < count
   key_below e h = keys_below l v.parts count laid.sound laid.numbered laid.counted e (subst (λ n. e < n) (sym (many_keys l v.parts 0 laid.sound laid.numbered)) h)
 
-  pub joined : IsJoined l v.parts (point_at v.at) own (whole_drawing v)
+  pub joined : IsJoinedDrawing l v.parts (point_at v.at) own (whole_drawing v)
   joined =
       let d = laid.drawing in
       record {

@@ -2,22 +2,22 @@
 use Rattle.std.specs.Prelude.{◌≡◌, ℕ, ◌<◌, ◌^◌, Bool, true, false, List, [], length, map, pos, slice_index, slice_index_or, Vec}
 use Rattle.std.specs.Global.{Global}
 use Rattle.std.specs.List.{All}
-use Rattle.elk_doc.specs.declared.shape.Point.{Point}
-use Rattle.elk_doc.specs.declared.shape.Size.{Size}
+use Rattle.drawing_types.specs.declared.shape.Point.{Point}
+use Rattle.drawing_types.specs.declared.shape.Size.{Size}
 use Rattle.elk_doc.specs.declared.drawing.Certificate.{Certificate}
-use Rattle.elk_doc.specs.declared.drawing.Section.{Section}
-use Rattle.elk_doc.specs.Document.{no_size}
-use Rattle.elk_doc.specs.Sound.{IsWithin}
+use Rattle.drawing_types.specs.declared.section.Section.{Section}
+use Rattle.drawing_types.specs.Shapes.{no_size}
+use Rattle.drawing_types.specs.Ranges.{IsWithin}
 use Rattle.box_pack.specs.Boxes.{point_at}
-use Rattle.level_laws.specs.Joined.{moved_section}
+use Rattle.turned_levels.specs.Joined.{moved_section}
 use Rattle.level_draw.specs.declared.drawing.LevelOut.{LevelOut}
 use Rattle.level_draw.specs.Drawing.{drawn_in}
 use Rattle.level_layout.specs.Layout.{IsLaidOut}
-use Rattle.level_plan.specs.FromPlan.{LevelDrawing, point_or, section_at}
-use Rattle.level_plan.specs.Level.{holds}
+use Rattle.level_model.specs.FromPlan.{LevelDrawing, point_or, section_at}
+use Rattle.level_model.specs.Level.{holds}
 use Rattle.level_parts.specs.declared.levels.PartLevel.{PartLevel}
 use Rattle.level_parts.specs.Split.{part_at}
-use Rattle.level_frame.specs.Drawing.{plus}
+use Rattle.working_frame.specs.Drawing.{plus}
 
 -- the drawing, the certificate and the extent of part k
 abbrev pub no_drawing : LevelDrawing

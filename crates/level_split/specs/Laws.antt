@@ -1,19 +1,20 @@
 -- A level that is laid out part by part keeps every rule.
 use Rattle.std.specs.Prelude.{◌≡◌, ◌≢◌, ◌⊎◌, ◌+◌, ◌*◌, ◌^◌, ◌<◌, ◌+ℤ◌, ◌≤ℤ◌, ℕ, ℤ, [], pos, length, slice_index, slice_index_or}
-use Rattle.elk_doc.specs.declared.shape.Rect.{Rect}
-use Rattle.elk_doc.specs.Apart.{StandsClear}
-use Rattle.elk_doc.specs.Shapes.{Holds, point_rect}
-use Rattle.elk_doc.specs.Sound.{IsDistance, IsWithin}
-use Rattle.level_laws.specs.Extents.{outline_heights, outline_widths}
-use Rattle.level_laws.specs.Joined.{KeepsRules}
-use Rattle.level_plan.specs.declared.level.LevelIn.{LevelIn}
-use Rattle.level_plan.specs.Conditions.{plain_level}
-use Rattle.level_plan.specs.Level.{PlainLevel, child_at}
-use Rattle.level_plan.specs.Routes.{route_count, route_point}
-use Rattle.level_plan.specs.Apart.{ChildrenApart, drawn_outline}
+use Rattle.drawing_types.specs.declared.shape.Rect.{Rect}
+use Rattle.drawing_types.specs.Clearance.{StandsClear}
+use Rattle.drawing_types.specs.Shapes.{Holds, point_rect}
+use Rattle.elk_doc.specs.Sound.{IsDistance}
+use Rattle.drawing_types.specs.Ranges.{IsWithin}
+use Rattle.turned_levels.specs.Extents.{outline_heights, outline_widths}
+use Rattle.turned_levels.specs.Joined.{KeepsRules}
+use Rattle.level_model.specs.declared.level.LevelIn.{LevelIn}
+use Rattle.level_model.specs.Conditions.{plain_level}
+use Rattle.level_model.specs.Level.{PlainLevel, child_at}
+use Rattle.plan_laws.specs.Routes.{route_count, route_point}
+use Rattle.level_model.specs.Apart.{ChildrenApart, drawn_outline}
 use Rattle.level_parts.specs.Divided.{edge_keys}
 use Rattle.level_parts.specs.Parts.{AreParts}
-use Rattle.level_laws.specs.Certified.{IsProofOf}
+use Rattle.turned_levels.specs.Certified.{IsProofOf}
 use Rattle.level_split.specs.declared.layout.PartsOut.{PartsOut}
 use Rattle.level_split.specs.Parts.{IsPartsLayout, whole_drawing}
 

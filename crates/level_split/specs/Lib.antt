@@ -1,5 +1,9 @@
-pub mod Limits
+pub mod Boxes
+pub mod Examples
 pub mod Gathered
-pub mod Steps
-pub mod Parts
 pub mod Laws
+pub mod Limits
+pub mod Outlines
+pub mod Parts
+pub mod Placing
+pub mod Steps

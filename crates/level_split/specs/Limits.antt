@@ -1,7 +1,7 @@
 -- How wide rows of parts may be.
 use Rattle.std.specs.Prelude.{◌≡◌, ℕ, zero, suc, ◌+◌, ◌*◌, ◌<◌, ◌≤◌, List, ℤ, pos, ◌+ℤ◌, length, nat_abs}
 use Rattle.std.specs.Int.{int_max}
-use Rattle.elk_doc.specs.declared.shape.Size.{Size}
+use Rattle.drawing_types.specs.declared.shape.Size.{Size}
 use Rattle.box_pack.specs.Boxes.{IsGreatest, size_at}
 
 -- the area of a size whose sides are each longer by a gap, and those of the first n sizes together

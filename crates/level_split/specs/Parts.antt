@@ -2,13 +2,13 @@
 use Rattle.std.specs.Prelude.{◌<◌, ℕ, [], ℤ, pos, length, slice_index_or}
 use Rattle.box_pack.specs.Boxes.{point_at}
 use Rattle.box_pack.specs.Packed.{AreRows}
-use Rattle.level_laws.specs.CertificateJoined as certificates
-use Rattle.level_laws.specs.Joined as drawings
+use Rattle.turned_levels.specs.CertificateJoined as certificates
+use Rattle.turned_levels.specs.Joined as drawings
 use Rattle.level_draw.specs.declared.drawing.LevelOut.{LevelOut}
 use Rattle.level_layout.specs.Layout.{IsLaidOut}
-use Rattle.level_plan.specs.declared.level.LevelIn.{LevelIn}
-use Rattle.level_plan.specs.Conditions.{IsLevel, plain_level}
-use Rattle.level_plan.specs.FromPlan.{LevelDrawing}
+use Rattle.level_model.specs.declared.level.LevelIn.{LevelIn}
+use Rattle.level_model.specs.Conditions.{IsLevel, plain_level}
+use Rattle.level_model.specs.FromPlan.{LevelDrawing}
 use Rattle.network_parts.specs.Dividing.{AreCounted}
 use Rattle.level_parts.specs.Parts.{AreParts}
 use Rattle.level_parts.specs.Split.{part_in}
@@ -32,5 +32,5 @@ pub record IsPartsLayout (level : LevelIn) (component : ℤ) (v : PartsOut) : Ty
   pub limit : ℤ
   pub is_limit : IsRowLimit (extents_of v.outs) component limit
   pub rows : AreRows (extents_of v.outs) component limit (record { at = v.at; extent = v.extent })
-  pub drawing : drawings.IsJoined (plain_level level) v.parts (point_at v.at) (drawing_at v.outs) (whole_drawing v)
-  pub certificate : certificates.IsJoined (plain_level level) v.parts (length v.outs) (certificate_at v.outs) v.certificate
+  pub drawing : drawings.IsJoinedDrawing (plain_level level) v.parts (point_at v.at) (drawing_at v.outs) (whole_drawing v)
+  pub certificate : certificates.IsJoinedCertificate (plain_level level) v.parts (length v.outs) (certificate_at v.outs) v.certificate

@@ -2,12 +2,12 @@
 use Rattle.std.specs.Prelude.{◌≡◌, ◌<◌, ◌≤◌, ◌^◌, ℕ, List, ℤ, length, slice_index}
 use Rattle.std.specs.List.{filter, range_with_len}
 use Rattle.elk_doc.specs.declared.drawing.Certificate.{Certificate}
-use Rattle.elk_doc.specs.declared.shape.Point.{Point}
+use Rattle.drawing_types.specs.declared.shape.Point.{Point}
 use Rattle.box_pack.specs.declared.packing.Rows.{Rows}
 use Rattle.box_pack.specs.Packed.{AreRows}
-use Rattle.level_laws.specs.CertificateJoined.{spans_to}
+use Rattle.turned_levels.specs.CertificateJoined.{spans_to}
 use Rattle.level_draw.specs.declared.drawing.LevelOut.{LevelOut}
-use Rattle.level_plan.specs.Level.{holds}
+use Rattle.level_model.specs.Level.{holds}
 use Rattle.level_parts.specs.declared.levels.PartLevels.{PartLevels}
 use Rattle.level_parts.specs.Split.{part_at}
 use Rattle.level_split.specs.declared.layout.Joined.{Joined}

@@ -2,7 +2,7 @@
 ghost use Rattle.std.specs.Prelude.{◌≡◌, ◌<◌, ◌≤◌, ◌^◌, [], ℕ, length, slice_index, slice_index_or, IfOk};
 ghost use Rattle.std.specs.List.{filter, range_with_len};
 ghost use Rattle.level_parts.specs.Split.{part_at};
-ghost use Rattle.level_laws.specs.CertificateJoined.{spans_to};
+ghost use Rattle.turned_levels.specs.CertificateJoined.{spans_to};
 ghost use Rattle.level_split.specs.Gathered.{AreFlows, AreLayers, AreMarked, AreSeated, AreTurned, certificate_at, is_marked, marks_in};
 
 use level_draw::LevelOut;
@@ -62,7 +62,7 @@ pub(crate) fn flow_of(
 }
 
 // Marks the numbers that are listed among those below a count.
-fn marks_of(alloc: Global, listed: &[u32], count: usize) -> Result<Vec<bool>, AllocError>
+fn listed_marks(alloc: Global, listed: &[u32], count: usize) -> Result<Vec<bool>, AllocError>
     requires { (i : ℕ) → i < length listed.now → slice_index listed.now i < count }
     ensures { IfOk result (λ marks. AreMarked listed.now count (length listed.now) marks.items) }
 {
@@ -87,7 +87,7 @@ pub(crate) fn turned_of(
     let mut marks = Vec::with_capacity(alloc, parts.len())?;
     for i in 0..parts.len() {
         let listed = outs[i].certificate.reversed.as_slice();
-        marks.push(marks_of(alloc, listed, parts[i].edges.len())?)?;
+        marks.push(listed_marks(alloc, listed, parts[i].edges.len())?)?;
     }
     Ok(marks)
 }

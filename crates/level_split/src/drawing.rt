@@ -2,14 +2,14 @@
 ghost use Rattle.std.specs.Prelude.{◌≡◌, ◌<◌, [], length, map, slice_index_or, IfOk};
 ghost use Rattle.std.specs.List.{All};
 ghost use Rattle.box_pack.specs.Boxes.{point_at};
-ghost use Rattle.level_laws.specs.Joined.{moved_section};
-ghost use Rattle.level_plan.specs.FromPlan.{point_or, section_at};
-ghost use Rattle.level_frame.specs.Drawing.{plus};
+ghost use Rattle.turned_levels.specs.Joined.{moved_section};
+ghost use Rattle.level_model.specs.FromPlan.{point_or, section_at};
+ghost use Rattle.working_frame.specs.Drawing.{plus};
 ghost use Rattle.level_split.specs.Gathered.{AreBoxes, ArePartDrawings, ArePorts, AreSeated, AreSections, IsInPart, IsPartPlace, IsSectionInPart, drawing_at};
 
-use elk_doc::drawing::Section;
-use elk_doc::list::Items;
-use elk_doc::shape::Point;
+use drawing_types::list::Items;
+use drawing_types::section::Section;
+use drawing_types::shape::Point;
 use level_draw::LevelOut;
 use std::alloc::{AllocError, Global};
 

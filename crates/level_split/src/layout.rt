@@ -2,7 +2,7 @@
 ghost use Rattle.std.specs.Prelude.{◌≡◌, ◌≤◌, length, IfOk};
 ghost use Rattle.box_pack.specs.Boxes.{AreSizes};
 ghost use Rattle.elk_doc.specs.Sound.{IsDistance};
-ghost use Rattle.level_plan.specs.Conditions.{plain_level, IsLevel};
+ghost use Rattle.level_model.specs.Conditions.{plain_level, IsLevel};
 ghost use Rattle.level_split.specs.Gathered.{ArePartDrawings, AreSeated, drawing_at, extents_of};
 ghost use Rattle.level_split.specs.Parts.{IsPartsLayout};
 ghost use Rattle.level_split.specs.Steps.{CanCertify, IsCertificateIn, IsDrawingIn, IsStanding};
@@ -12,12 +12,13 @@ use crate::drawing::{boxes_of, ports_of, sections_of};
 use crate::layouts::{extents_of, layouts_of};
 use crate::limit::row_limit;
 use box_pack::{Rows, pack};
-use elk_doc::drawing::{Certificate, Section};
-use elk_doc::list::Items;
-use elk_doc::shape::{Point, Size};
+use drawing_types::list::Items;
+use drawing_types::section::Section;
+use drawing_types::shape::{Point, Size};
+use elk_doc::drawing::Certificate;
 use level_draw::LevelOut;
+use level_model::LevelIn;
 use level_parts::{PartLevels, split};
-use level_plan::LevelIn;
 use std::alloc::{AllocError, Global};
 
 /// A level whose connected parts are laid out apart: the number of each child's part; the layouts of the parts, each as a level of

@@ -1,10 +1,10 @@
 //! The layouts of the parts.
 ghost use Rattle.std.specs.Prelude.{◌≡◌, ◌<◌, ℕ, length, IfOk};
-ghost use Rattle.level_plan.specs.Conditions.{plain_level, IsLevel};
+ghost use Rattle.level_model.specs.Conditions.{plain_level, IsLevel};
 ghost use Rattle.level_parts.specs.Split.{part_at};
 ghost use Rattle.level_split.specs.Gathered.{AreLayouts, extents_of};
 
-use elk_doc::shape::Size;
+use drawing_types::shape::Size;
 use level_draw::LevelOut;
 use level_layout::layout_level;
 use level_parts::PartLevel;

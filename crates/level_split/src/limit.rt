@@ -4,7 +4,7 @@ ghost use Rattle.box_pack.specs.Boxes.{EachSize, IsSize};
 ghost use Rattle.elk_doc.specs.Sound.{IsDistance};
 ghost use Rattle.level_split.specs.Limits.{IsRoot, IsRowLimit, IsWidest, area_of, area_to};
 
-use elk_doc::shape::Size;
+use drawing_types::shape::Size;
 
 // The length of a side with a gap.
 fn side(length: i64, gap: i64) -> u64

@@ -3,11 +3,11 @@ use Rattle.std.proofs.Common.{◌≡◌, ℕ, ◌<◌, List, [], ◌∷◌, pos,
 use Rattle.std.proofs.lemmas.Int.{ints}
 use Rattle.elk_layers.specs.Layered.{Plain, unit_at}
 use Rattle.elk_layers.specs.Lines.{top_of}
-use Rattle.elk_doc.proofs.ExampleLaws.{below3}
-use Rattle.level_plan.specs.Chained.{chained, chained_orders, chained_plan}
-use Rattle.level_plan.specs.Level.{PlainLevel, holds, is_loop}
-use Rattle.level_plan.proofs.ExampleLemmas.{below4, chained_ready}
-use Rattle.level_units.specs.Layering.{head_child, layer_in, tail_child}
+use Rattle.drawing_types.proofs.SmallNumbers.{below3}
+use Rattle.plan_laws.specs.Chained.{chained, chained_orders, chained_plan}
+use Rattle.level_model.specs.Level.{PlainLevel, holds, is_loop}
+use Rattle.plan_laws.proofs.ExampleLemmas.{below4, chained_ready}
+use Rattle.layer_units.specs.Layering.{head_child, layer_in, tail_child}
 use Rattle.level_draw.specs.Drawing.{IsDrawable}
 
 drawable : IsDrawable chained chained_plan (0 ∷ 1 ∷ 2 ∷ [])

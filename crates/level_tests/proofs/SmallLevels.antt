@@ -2,11 +2,11 @@
 use Rattle.std.proofs.Common.{◌≡◌, ℕ, zero, suc, ◌<◌, [], arith, sym, subst}
 use Rattle.std.proofs.lemmas.Int.{ints}
 use Rattle.elk_doc.specs.declared.document.PortRule.TheVariants.{Free}
-use Rattle.level_plan.specs.Conditions.{IsLevel, IsLevelChild, IsLevelEdge}
-use Rattle.level_plan.specs.Examples.{square}
-use Rattle.level_plan.specs.Level.{PlainLevel, child_at}
+use Rattle.level_model.specs.Conditions.{IsLevel, IsLevelChild, IsLevelEdge}
+use Rattle.level_model.specs.Examples.{square}
+use Rattle.level_model.specs.Level.{PlainLevel, child_at}
 use Rattle.level_parts.specs.Examples.{mixed}
-use Rattle.elk_doc.proofs.ExampleLaws.{below3}
+use Rattle.drawing_types.proofs.SmallNumbers.{below3}
 
 below_five : (P : ℕ → Type 0) → P 0 → P 1 → P 2 → P 3 → P 4 → (k : ℕ) → k < 5 → P k
 below_five P a b c d e zero h = a

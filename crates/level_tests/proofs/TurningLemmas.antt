@@ -14,15 +14,15 @@ use Rattle.elk_doc.specs.Numbers.{numbers_below}
 use Rattle.elk_doc.specs.Sides.{given_side}
 use Rattle.elk_doc.specs.Sound.{HasParent, IsSound, IsSoundEdge, IsSoundLevel, IsSoundNode, IsSoundPort, ancestor}
 use Rattle.elk_doc.specs.Examples.{point}
-use Rattle.level_frame.specs.Ranges.{IsFarPoint, IsFarSection}
-use Rattle.level_frame.specs.Turned.{ports_of}
-use Rattle.document_levels.specs.Canvas.{blank_drawing}
-use Rattle.document_levels.specs.Ranges.{IsLongBox}
-use Rattle.document_levels.specs.declared.figure.LevelFigure.{LevelFigure}
-use Rattle.document_levels.specs.declared.writing.LevelNumbers.{LevelNumbers}
-use Rattle.document_levels.specs.Written.{AreNumbersAt, ArePortPlaces, IsWritable, rows_in}
+use Rattle.working_frame.specs.Ranges.{IsFarPoint, IsFarSection}
+use Rattle.working_frame.specs.Turned.{ports_of}
+use Rattle.level_io.specs.Canvas.{blank_drawing}
+use Rattle.level_io.specs.Ranges.{IsLongBox}
+use Rattle.level_io.specs.declared.figure.LevelFigure.{LevelFigure}
+use Rattle.level_io.specs.declared.writing.LevelNumbers.{LevelNumbers}
+use Rattle.level_io.specs.Written.{AreNumbersAt, ArePortPlaces, IsWritable, rows_in}
 use Rattle.level_tests.specs.Turning.{figure, padded, port_rows, turning}
-use Rattle.elk_doc.proofs.ExampleLaws.{below1, below2}
+use Rattle.drawing_types.proofs.SmallNumbers.{below1, below2}
 
 root_options : (way : Direction) → IsSoundLevel (turning way) 0 (padded way)
 root_options way =

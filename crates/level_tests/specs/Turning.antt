@@ -7,9 +7,10 @@ use Rattle.elk_doc.specs.declared.document.LevelOptions.{LevelOptions}
 use Rattle.elk_doc.specs.declared.document.Node.{Node}
 use Rattle.elk_doc.specs.declared.document.Port.{Port}
 use Rattle.elk_doc.specs.declared.document.PortRule.TheVariants.{Free}
-use Rattle.elk_doc.specs.Document.{Document, no_size}
+use Rattle.elk_doc.specs.Document.{Document}
+use Rattle.drawing_types.specs.Shapes.{no_size}
 use Rattle.elk_doc.specs.Examples.{edge, options, point, size}
-use Rattle.document_levels.specs.declared.figure.LevelFigure.{LevelFigure}
+use Rattle.level_io.specs.declared.figure.LevelFigure.{LevelFigure}
 
 -- the default options with a padding of another width on each side
 abbrev pub padded : Direction → LevelOptions

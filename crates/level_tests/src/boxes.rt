@@ -1,14 +1,14 @@
 //! Four boxes in three rows.
 ghost use Rattle.std.specs.Prelude.{◌≡◌, IfOk};
-ghost use Rattle.level_plan.specs.Conditions.{plain_level};
-ghost use Rattle.level_boxes.specs.Examples.{box_of, four_boxes};
+ghost use Rattle.level_model.specs.Conditions.{plain_level};
+ghost use Rattle.level_split.specs.Examples.{box_of, four_boxes};
 
 use crate::fixtures::level_of;
+use drawing_types::list::Items;
+use drawing_types::shape::{Point, Size};
 use elk_doc::document::{Direction, Placing, PortRule};
-use elk_doc::list::Items;
-use elk_doc::shape::{Point, Size};
-use level_boxes::{BoxesOut, layout_boxes};
-use level_plan::LevelIn;
+use level_model::LevelIn;
+use level_split::{BoxesOut, layout_boxes};
 use port_order::Child;
 use std::alloc::{AllocError, Global};
 use std::test::Fail;

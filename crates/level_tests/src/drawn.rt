@@ -1,17 +1,17 @@
 //! Three children in a row, joined one to the next and the first to the last, drawn from their units, rows and tops.
 ghost use Rattle.std.specs.Prelude.{◌≡◌, [], ◌∷◌, pos, IfOk};
 ghost use Rattle.elk_layers.specs.Layered.{plain, rows_of};
-ghost use Rattle.level_plan.specs.Conditions.{plain_level};
-ghost use Rattle.level_plan.specs.Chained.{chained, chained_plan, joined, lane_unit};
+ghost use Rattle.level_model.specs.Conditions.{plain_level};
+ghost use Rattle.plan_laws.specs.Chained.{chained, chained_plan, joined, lane_unit};
 
 use crate::fixtures::{edge, level_of, square, unit};
+use drawing_types::list::Items;
+use drawing_types::shape::Point;
 use elk_doc::document::Placing;
 use elk_doc::drawing::Certificate;
-use elk_doc::list::Items;
-use elk_doc::shape::Point;
 use elk_layers::{Layered, Lines, Link, Order, Unit};
 use level_draw::{LevelOut, draw};
-use level_plan::LevelIn;
+use level_model::LevelIn;
 use std::alloc::{AllocError, Global};
 use std::test::Fail;
 

@@ -1,16 +1,16 @@
 //! A level of two children of 30 by 30. An edge leaves the first one by its port on the west side, so its dock has a lane.
 ghost use Rattle.std.specs.Prelude.{◌≡◌, IfOk};
 ghost use Rattle.elk_layers.specs.Layered.{plain, rows_of};
-ghost use Rattle.level_plan.specs.Conditions.{plain_level};
-ghost use Rattle.level_ends.specs.Examples.{west, west_plan};
+ghost use Rattle.level_model.specs.Conditions.{plain_level};
+ghost use Rattle.dock_table.specs.Examples.{west, west_plan};
 
 use crate::fixtures::{level_of, link, square, unit};
+use dock_table::table_of;
+use drawing_types::list::Items;
+use drawing_types::shape::{Dock, Point, Rect, Side, Size};
 use elk_doc::document::{Direction, Placing, PortRule};
-use elk_doc::list::Items;
-use elk_doc::shape::{Dock, Point, Rect, Side, Size};
 use elk_layers::{Layered, Order};
-use level_ends::table_of;
-use level_plan::{LevelEdge, LevelIn, Spoke, Table, marks_of};
+use level_model::{EdgeEnd, LevelEdge, LevelIn, Table, marks_of};
 use port_order::{Child, ChildPort};
 use std::alloc::{AllocError, Global};
 use std::test::Fail;
@@ -39,11 +39,11 @@ fn west_level(alloc: Global) -> Result<LevelIn, AllocError>
         ports: Items::from_vec(vec![in alloc; port]?),
     };
     let edge = LevelEdge {
-        source: Spoke {
+        source: EdgeEnd {
             child: 0,
             port: Some(0),
         },
-        target: Spoke {
+        target: EdgeEnd {
             child: 1,
             port: None,
         },

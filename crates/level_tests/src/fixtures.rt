@@ -3,15 +3,15 @@ ghost use Rattle.std.specs.Prelude.{◌≡◌, [], None, IfOk};
 ghost use Rattle.elk_doc.specs.Defaults.{default_choices};
 ghost use Rattle.elk_layers.specs.Layered.{plain};
 ghost use Rattle.level_nets.specs.Worked as worked;
-ghost use Rattle.level_plan.specs.Conditions.{plain_level};
-ghost use Rattle.level_plan.specs.Examples as examples;
+ghost use Rattle.level_model.specs.Conditions.{plain_level};
+ghost use Rattle.level_model.specs.Examples as examples;
 ghost use Rattle.level_parts.specs.Examples as parted;
 
+use drawing_types::list::Items;
+use drawing_types::shape::{Dock, Point, Rect, Side, Size};
 use elk_doc::document::{Direction, Placing, PortRule, Spacing, default_choices, default_options};
-use elk_doc::list::Items;
-use elk_doc::shape::{Dock, Point, Rect, Side, Size};
 use elk_layers::{Layered, Link, Unit};
-use level_plan::{ChildAt, EndAt, LevelEdge, LevelIn, LoopAt, Spoke, Table};
+use level_model::{ChildAt, EdgeEnd, EndAt, LevelEdge, LevelIn, LoopAt, Table};
 use port_order::Child;
 use std::alloc::{AllocError, Global};
 
@@ -43,11 +43,11 @@ pub(crate) fn weighted(source: u32, target: u32, weight: u32) -> LevelEdge
     ensures { result ≡ parted.edge source target weight }
 {
     LevelEdge {
-        source: Spoke {
+        source: EdgeEnd {
             child: source,
             port: None,
         },
-        target: Spoke {
+        target: EdgeEnd {
             child: target,
             port: None,
         },

@@ -1,8 +1,8 @@
 //! The gaps of two children that two parallel edges join.
 use crate::fixtures::{parallel, parallel_layered, parallel_table};
+use level_model::marks_of;
 use level_nets::sheet::Sheet;
 use level_nets::{Routing, gaps_of};
-use level_plan::marks_of;
 use std::alloc::{AllocError, Global};
 use std::test::Fail;
 

@@ -1,11 +1,11 @@
 //! The ports of a root of 200 by 300 alone in its document, each 10 by 20.
 ghost use Rattle.std.specs.Prelude.{◌≡◌, IfOk};
-ghost use Rattle.document_plan.specs.Examples.{port_with, rooted};
+ghost use Rattle.compound.specs.Examples.{port_with, rooted};
 
-use document_levels::{Canvas, blank, index_of};
-use document_plan::place_root_ports;
+use compound::place_root_ports;
+use drawing_types::shape::{Point, Rect, Side, Size};
 use elk_doc::document::{Direction, Doc, Id, Node, Port, PortRule, default_options};
-use elk_doc::shape::{Point, Rect, Side, Size};
+use level_io::{Canvas, blank, index_of};
 use std::alloc::{AllocError, Global};
 use std::test::Fail;
 

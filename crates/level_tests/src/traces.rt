@@ -1,10 +1,10 @@
 //! The boxes and traces of two children that two parallel edges join.
 use crate::fixtures::{parallel, parallel_layered, parallel_table};
-use elk_doc::shape::Point;
+use drawing_types::shape::Point;
+use level_draw::{Routes, routes_of};
+use level_model::marks_of;
 use level_nets::gaps_of;
 use level_nets::sheet::Sheet;
-use level_plan::marks_of;
-use level_traces::{Routes, routes_of};
 use route_lines::Step;
 use std::alloc::{AllocError, Global};
 use std::test::Fail;

@@ -1,16 +1,17 @@
 //! Boxes, ports and routes that come back from the frames of the four directions, a document of which nothing is placed, and the
 //! size of a node round its content.
 ghost use Rattle.std.specs.Prelude.{◌≡◌, IfOk};
-ghost use Rattle.document_levels.specs.Written.{rows_in};
+ghost use Rattle.level_io.specs.Written.{rows_in};
 ghost use Rattle.level_tests.specs.Turning as turning;
 
-use document_levels::{LevelFigure, LevelNumbers, blank, frame_node, placed, write_level};
+use drawing_types::list::Items;
+use drawing_types::section::Section;
+use drawing_types::shape::{Point, Rect, Size};
 use elk_doc::document::{
     Direction, Doc, Edge, End, Id, LevelOptions, Node, Padding, Port, PortRule, default_options,
 };
-use elk_doc::drawing::{Certificate, Placed, Section};
-use elk_doc::list::Items;
-use elk_doc::shape::{Point, Rect, Size};
+use elk_doc::drawing::{Certificate, Placed};
+use level_io::{LevelFigure, LevelNumbers, blank, frame_node, placed, write_level};
 use std::alloc::{AllocError, Global};
 use std::test::Fail;
 

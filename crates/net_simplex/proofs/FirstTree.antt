@@ -18,7 +18,7 @@ use Rattle.net_simplex.specs.Pivots.{Growing, slack, shifted, is_in, borders, mo
 use Rattle.net_simplex.specs.Answer.{IsGrowing}
 use Rattle.net_simplex.specs.Rooted.{beyond, IsPlanted}
 use Rattle.net_simplex.specs.Chosen.{Tells}
-use Rattle.net_simplex.specs.Grown.{IsConnected, growing_of, IsGrown, IsSmall, Joins, Attaches, IsJoined}
+use Rattle.net_simplex.specs.Grown.{IsConnected, growing_of, IsGrown, IsSmall, Joins, Attaches, ReachesOneMore}
 use Rattle.net_simplex.specs.Kept.{kept_state, IsKept, StandsFor}
 use Rattle.net_simplex.proofs.Choosing.{Chosen, least_chosen}
 use Rattle.net_simplex.proofs.Exchanging.{cut_no_cycle}
@@ -464,9 +464,9 @@ module _ (nodes : ℕ) (edges : List NetEdge) (net : IsNetwork nodes edges) wher
           | inr a ↦ once_are e.tail (layer_of layers e.head -ℤ pos e.least) (t.from_head a) (once_head a)
         ]
 
-        joined_at : (w : ℕ) (at : ℤ) → Joined' w at → w < nodes → is_in reached w ≡ false → is_in marked w ≡ true → ((v : ℕ) → v < nodes → v ≢ w → is_in marked v ≡ is_in reached v) → IsJoined nodes count reached layers order' reached' layers'
+        joined_at : (w : ℕ) (at : ℤ) → Joined' w at → w < nodes → is_in reached w ≡ false → is_in marked w ≡ true → ((v : ℕ) → v < nodes → v ≢ w → is_in marked v ≡ is_in reached v) → ReachesOneMore nodes count reached layers order' reached' layers'
         joined_at w at j lw out held others =
-            let is : IsJoined nodes count reached layers (set order count w) marked (set layers w at) =
+            let is : ReachesOneMore nodes count reached layers (set order count w) marked (set layers w at) =
             let first = get_or-set_same order count w 0 (let n = s.planted.order_each in omega (arith, n, free)) in
             record {
               node = subst (λ x. x < nodes) (sym first) lw;
@@ -477,7 +477,7 @@ module _ (nodes : ℕ) (edges : List NetEdge) (net : IsNetwork nodes edges) wher
             in
             rw (j.order_is, t.reached_is, j.layers_are) is
 
-        pub attached_joined : IsJoined nodes count reached layers order' reached' layers'
+        pub attached_joined : ReachesOneMore nodes count reached layers order' reached' layers'
         attached_joined = elim (cases_Bool (is_in reached e.tail)) [
           | inl a ↦ joined_at e.head (layer_of layers e.tail +ℤ pos e.least) (t.from_tail a) lh (head_out a) mark_head (reach_tail a)
           | inr a ↦ joined_at e.tail (layer_of layers e.head -ℤ pos e.least) (t.from_head a) lt a (mark_tail two_ends) (reach_head a)

@@ -14,7 +14,7 @@ use Rattle.network_laws.specs.Layering.{layer_of}
 use Rattle.flow_dual.proofs.Offering.{in_first, first_in, rest_in}
 use Rattle.net_simplex.specs.declared.waiting.Waiting.{Waiting}
 use Rattle.net_simplex.specs.Pivots.{is_in}
-use Rattle.net_simplex.specs.Grown.{IsJoined}
+use Rattle.net_simplex.specs.Grown.{ReachesOneMore}
 use Rattle.net_simplex.specs.Outward.{rise_of, ComesFirst, entry, Adds, IsFirst, Loses, LeadsOut, AreWaiting, IsNearest, IsQueue, IsQueueBut}
 use Rattle.net_simplex.proofs.Walking.{clash}
 
@@ -132,7 +132,7 @@ module _ (nodes : ℕ) (edges : List NetEdge) (ends : EndsBelow nodes edges) (en
   rise_same Tail layers layers' e a b = omega (arith, ints, a, b)
   rise_same Head layers layers' e a b = omega (arith, ints, a, b)
 
-  module _ (filled : ℕ) (reached : List Bool) (layers : List ℤ) (order' : List ℕ) (reached' : List Bool) (layers' : List ℤ) (j : IsJoined nodes filled reached layers order' reached' layers') where
+  module _ (filled : ℕ) (reached : List Bool) (layers : List ℤ) (order' : List ℕ) (reached' : List Bool) (layers' : List ℤ) (j : ReachesOneMore nodes filled reached layers order' reached' layers') where
     abbrev new : ℕ
     new = get_or order' filled 0
 

@@ -70,7 +70,7 @@ pub record Attaches (e : NetEdge) (k filled : ℕ) (tree reached : List Bool) (l
       → Joins e.tail k (layer_of layers e.head -ℤ pos e.least) filled layers order place parent layers' order' place' parent' by
 
 -- one node is reached more, the one that stands last in the order; the layers of the others stay
-pub record IsJoined (nodes filled : ℕ) (reached : List Bool) (layers : List ℤ) (order' : List ℕ) (reached' : List Bool)
+pub record ReachesOneMore (nodes filled : ℕ) (reached : List Bool) (layers : List ℤ) (order' : List ℕ) (reached' : List Bool)
     (layers' : List ℤ) : Type 0 where
   pub node : slice_index order' filled < nodes
   pub was_out : is_in reached (slice_index order' filled) ≡ false

@@ -7,7 +7,7 @@ ghost use Rattle.network_laws.specs.Network.{IsNetwork, IsAcyclic, EndsBelow};
 ghost use Rattle.network_laws.specs.Layering.{layer_of, IsLayering};
 ghost use Rattle.network_laws.specs.Paths.{AreGreatestSums};
 ghost use Rattle.net_simplex.specs.Pivots.{is_in, shifted, borders, least_slack_edge, first_state, grown_once as once};
-ghost use Rattle.net_simplex.specs.Grown.{IsConnected, Joins, Attaches, IsSmall, IsJoined, growing_of, IsBare, Grows};
+ghost use Rattle.net_simplex.specs.Grown.{IsConnected, Joins, Attaches, IsSmall, ReachesOneMore, growing_of, IsBare, Grows};
 ghost use Rattle.net_simplex.specs.Outward.{AreBothLinks, AreQueues, AreQueuesBut, IsEmptyHeap};
 ghost use Rattle.net_simplex.specs.Kept.{StandsFor, Keeps};
 
@@ -116,7 +116,7 @@ fn grow_by(
     requires grown { Grows (length layers.old) edges.now filled tree.old reached.old by layers.old }
     ensures grown { Grows (length layers.old) edges.now (filled + 1) tree.new reached.new result layers.new }
     ensures once { growing_of tree.new.marks.items reached.new result layers.new ≡ once edges.now (growing_of tree.old.marks.items reached.old by layers.old) }
-    ensures joined { IsJoined (length layers.old) filled reached.old layers.old tree.new.order.items reached.new layers.new }
+    ensures joined { ReachesOneMore (length layers.old) filled reached.old layers.old tree.new.order.items reached.new layers.new }
 {
     match choice {
         Some(k) => attach(edges[k as usize], k, filled, tree, reached, layers),

@@ -8,7 +8,7 @@ use borrow.Author.Count.{below_more}
 use Rattle.network_laws.specs.declared.network.NetEdge.{NetEdge}
 use Rattle.network_laws.specs.Network.{edge_at, HasEdge, Joined, InOnePart}
 use Rattle.network_laws.specs.Parts.{AreNames, HaveOneName, AreNumberedTo, ArePartNumbers, NumbersAll}
-use Rattle.network_laws.specs.Joining.{IsJoined, IsJoinedAt}
+use Rattle.network_laws.specs.Joining.{ArePassed, IsPassed}
 
 module _ (edges : List NetEdge) where
   pub part_self : (a : ℕ) → InOnePart edges a a
@@ -78,7 +78,7 @@ lowered_names nodes edges names v w true is a l le p =
 lowered_names nodes edges names v w false is a l le p = (a, omega arith)
 
 -- the greater name's node gets the lower name at one end of an edge, and where it is named
-pub joined_at : (edges : List NetEdge) (k : ℕ) (old new : List ℕ) (at low high : ℕ) → k < length edges → AreNames (length old) edges old → at < length old → high ≡ get_or old at 0 → low < high → InOnePart edges low at → new ≡ cond (ltb low (get_or (set old at low) high 0)) (set (set old at low) high low) (set old at low) → IsJoinedAt edges k old new true
+pub joined_at : (edges : List NetEdge) (k : ℕ) (old new : List ℕ) (at low high : ℕ) → k < length edges → AreNames (length old) edges old → at < length old → high ≡ get_or old at 0 → low < high → InOnePart edges low at → new ≡ cond (ltb low (get_or (set old at low) high 0)) (set (set old at low) high low) (set old at low) → IsPassed edges k old new true
 joined_at edges k old new at low high there a l is less p new_is =
     let nodes = length old in
     let up : high ≤ at = let b = a.no_later at l in omega (arith, is, b) in
@@ -93,10 +93,10 @@ joined_at edges k old new at low high there a l is less p new_is =
       less = λ _. let e = ap sum new_is in omega (arith, e, s, t, is, less);
     }
 
-pub join_start : (edges : List NetEdge) (old : List ℕ) → AreNames (length old) edges old → IsJoined edges 0 old old false
+pub join_start : (edges : List NetEdge) (old : List ℕ) → AreNames (length old) edges old → ArePassed edges 0 old old false
 join_start edges old a = record { names = a; unchanged = λ _. (refl, λ k l. absurd (omega (arith, l))); less = λ h. let bad : false ≡ true = h in absurd cc }
 
-pub join_more : (edges : List NetEdge) (i : ℕ) (first old new : List ℕ) (changed now : Bool) → IsJoined edges i first old changed → length old ≡ length first → IsJoinedAt edges i old new now → IsJoined edges (i + 1) first new (changed || now)
+pub join_more : (edges : List NetEdge) (i : ℕ) (first old new : List ℕ) (changed now : Bool) → ArePassed edges i first old changed → length old ≡ length first → IsPassed edges i old new now → ArePassed edges (i + 1) first new (changed || now)
 join_more edges i first old new true true j n s = record {
   names = subst (λ x. AreNames x edges new) n s.names;
   unchanged = λ h. let bad : true ≡ false = h in absurd cc;
@@ -122,7 +122,7 @@ join_more edges i first old new false false j n s = record {
 }
 
 -- what is left to lower falls
-pub join_falls : (edges : List NetEdge) (i : ℕ) (old flat new : List ℕ) (b c : Bool) → b ≡ true → sum flat ≤ sum old → IsJoined edges i flat new c → cond c 1 0 + 2 * sum new < cond b 1 0 + 2 * sum old
+pub join_falls : (edges : List NetEdge) (i : ℕ) (old flat new : List ℕ) (b c : Bool) → b ≡ true → sum flat ≤ sum old → ArePassed edges i flat new c → cond c 1 0 + 2 * sum new < cond b 1 0 + 2 * sum old
 join_falls edges i old flat new b true is le j = let l = j.less refl in rw is (omega (arith, l, le))
 join_falls edges i old flat new b false is le j = let l = ap sum (j.unchanged refl).0 in rw is (omega (arith, l, le))
 

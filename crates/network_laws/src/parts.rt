@@ -4,7 +4,7 @@
 ghost use Rattle.std.specs.Prelude.{◌≡◌, ◌<◌, ◌≤◌, ◌^◌, ◌+◌, ◌||◌, length, IfOk, slice_index, slice_set, cond, nat_lt, ℕ};
 ghost use Rattle.std.specs.List.{sum};
 ghost use Rattle.network_laws.specs.Network.{EndsBelow, edge_at};
-ghost use Rattle.network_laws.specs.Joining.{IsJoined, IsJoinedAt};
+ghost use Rattle.network_laws.specs.Joining.{ArePassed, IsPassed};
 ghost use Rattle.network_laws.specs.Parts.{ArePartNumbers, AreNames, HaveOneName, NumbersAll};
 
 use crate::network::NetEdge;
@@ -26,7 +26,7 @@ fn join_edge(edges: &[NetEdge], k: u32, names: &mut [u32]) -> bool
     requires there { k < length edges.now }
     requires ends { EndsBelow (length names.old) edges.now }
     requires names { AreNames (length names.old) edges.now names.old }
-    ensures { IsJoinedAt edges.now k names.old names.new result }
+    ensures { IsPassed edges.now k names.old names.new result }
 {
     let e = edges[k as usize];
     let tail = names[e.tail as usize];
@@ -49,7 +49,7 @@ fn join_once(edges: &[NetEdge], names: &mut [u32]) -> bool
     requires few { length edges.now ≤ 2 ^ 24 }
     requires ends { EndsBelow (length names.old) edges.now }
     requires names { AreNames (length names.old) edges.now names.old }
-    ensures { IsJoined edges.now (length edges.now) names.old names.new result }
+    ensures { ArePassed edges.now (length edges.now) names.old names.new result }
 {
     let mut changed = false;
     for k in 0..edges.len() {

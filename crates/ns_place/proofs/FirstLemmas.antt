@@ -10,7 +10,7 @@ use Rattle.elk_layers.specs.Layered.{Plain, IsSound, AreRows, IsFromZero, link_a
 use Rattle.elk_layers.proofs.HeightLemmas.{height_below}
 use Rattle.elk_layers.specs.Lines.{top_of, AreApart}
 use Rattle.network_laws.specs.Layering.{layer_of}
-use Rattle.row_blocks.specs.Constraints.{EndsWithinStack}
+use Rattle.unit_blocks.specs.Constraints.{EndsWithinStack}
 use Rattle.ns_place.specs.declared.least.PairFlow.{PairFlow}
 use Rattle.ns_place.specs.Pairs.{all_pairs}
 use Rattle.ns_place.specs.Heights.{IsNearLink}

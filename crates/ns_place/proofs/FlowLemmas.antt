@@ -14,7 +14,7 @@ use Rattle.ns_place.specs.Heights.{of_links, of_pairs, links_value, pairs_value,
 use Rattle.ns_place.specs.Flows.{flow_at}
 use Rattle.ns_place.specs.Network.{joining, edge_for, alone_of, edges_of, HasPins}
 use Rattle.ns_place.proofs.NetworkLemmas.{joining_all, edges_all}
-use Rattle.elk_doc.proofs.SegmentBounds.{scale_one}
+use Rattle.drawing_types.proofs.SegmentBounds.{scale_one}
 use Rattle.network_laws.proofs.Duality.{natural_is}
 
 abbrev pub head_of : NetEdge → ℕ

@@ -9,8 +9,8 @@ use Rattle.elk_layers.specs.Layered.{Plain, IsSound, IsSoundLink, AreRows, unit_
 use Rattle.elk_layers.specs.Lines.{lane_below, lane_above}
 use Rattle.network_laws.specs.declared.network.NetEdge.{NetEdge}
 use Rattle.network_laws.specs.Layering.{Balances, flow_value, IsSolution}
-use Rattle.row_blocks.specs.Constraints.{greatest_spacing}
-use Rattle.row_blocks.proofs.StackLemmas.{facing_within}
+use Rattle.unit_blocks.specs.Constraints.{greatest_spacing}
+use Rattle.unit_blocks.proofs.StackLemmas.{facing_within}
 use Rattle.ns_place.specs.declared.least.PairFlow.{PairFlow}
 use Rattle.ns_place.specs.Pairs.{all_pairs, distance, IsPair}
 use Rattle.ns_place.specs.Heights.{heights_together, pins_together, without_flow, IsUnitFlow, KeepDistances, IsLeastPlacing}

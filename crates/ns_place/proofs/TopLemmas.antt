@@ -10,8 +10,8 @@ use Rattle.elk_layers.specs.declared.units.Unit.{Unit as LayerUnit}
 use Rattle.elk_layers.specs.Layered.{Plain, IsSound, unit_at, link_at}
 use Rattle.elk_layers.proofs.HeightLemmas.{height_below}
 use Rattle.elk_layers.specs.Lines.{top_of}
-use Rattle.row_blocks.specs.Constraints.{greatest_spacing, stacked_height}
-use Rattle.row_blocks.proofs.SumLemmas.{stacked_bound}
+use Rattle.unit_blocks.specs.Constraints.{greatest_spacing, stacked_height}
+use Rattle.unit_blocks.proofs.SumLemmas.{stacked_bound}
 use Rattle.ns_place.specs.declared.closing.Standing.{Standing}
 use Rattle.ns_place.specs.Heights.{size, IsNearLink}
 use Rattle.ns_place.specs.Closing.{standing_at, StaysApart, AreStandings, IsClosedUp}

@@ -3,7 +3,7 @@ use Rattle.std.specs.Prelude.{◌≡◌, ℕ, ◌<◌, ◌≤◌, ℤ, pos, ◌+
 use Rattle.elk_layers.specs.declared.units.Link.{Link}
 use Rattle.elk_layers.specs.Layered.{Plain, unit_at, IsFromZero}
 use Rattle.elk_layers.specs.Lines.{top_of}
-use Rattle.row_blocks.specs.Constraints.{greatest_spacing, EndsWithinStack}
+use Rattle.unit_blocks.specs.Constraints.{greatest_spacing, EndsWithinStack}
 use Rattle.ns_place.specs.Heights.{link_height}
 
 -- units are as far apart as they were, up to the height of the upper one and a spacing; no link gets higher

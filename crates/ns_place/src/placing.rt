@@ -3,7 +3,7 @@
 ghost use Rattle.std.specs.Prelude.{◌≡◌, ℕ, ◌<◌, ◌≤◌, ◌^◌, pos, ◌+ℤ◌, ◌≤ℤ◌, ◌<ℤ◌, length, IfOk};
 ghost use Rattle.elk_layers.specs.Layered.{plain, rows_of, IsSound, AreRows, total_height};
 ghost use Rattle.network_laws.specs.Layering.{layer_of};
-ghost use Rattle.row_blocks.specs.Constraints.{greatest_spacing, EndsWithinStack};
+ghost use Rattle.unit_blocks.specs.Constraints.{greatest_spacing, EndsWithinStack};
 ghost use Rattle.ns_place.specs.Heights.{pins_together, IsLeastPlacing};
 ghost use Rattle.ns_place.specs.Tops.{AreClosedTops};
 

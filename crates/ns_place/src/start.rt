@@ -9,7 +9,7 @@ ghost use Rattle.ns_place.specs.Start.{lowered, AreFirst};
 ghost use Rattle.ns_place.specs.Start as start;
 
 use bk_place::place;
-use elk_doc::document::Sweep;
+use drawing_types::sweep::Sweep;
 use elk_layers::{Layered, Link, Order};
 use std::alloc::{AllocError, Global};
 

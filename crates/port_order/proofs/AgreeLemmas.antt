@@ -1,7 +1,7 @@
 -- Two orders of one side are equal.
 use Rattle.std.proofs.Common.{◌≡◌, ◌<◌, ℕ, zero, suc, List, [], ◌∷◌, length, arith, sym, refl, ◌∙◌, subst, inl, inr, ◌⊎◌}
 use Rattle.std.specs.Prelude.{slice_index}
-use Rattle.elk_doc.specs.declared.shape.Side.{Side}
+use Rattle.drawing_types.specs.declared.shape.Side.{Side}
 use Rattle.port_order.specs.declared.children.Child.{Child}
 use Rattle.port_order.specs.declared.spots.Spot.{Spot}
 use Rattle.port_order.specs.Child.{spot_at}

@@ -1,12 +1,13 @@
 -- Bounds on what a child gives its ports.
 use Rattle.std.proofs.Common.{◌^◌, ℕ, ℤ, pos, neg_ℤ, ◌+ℤ◌, arith, w64, FitsSigned}
 use Rattle.std.proofs.lemmas.Int.{ints}
-use Rattle.elk_doc.specs.declared.shape.Point.{Point}
-use Rattle.elk_doc.specs.declared.shape.Size.{Size}
-use Rattle.elk_doc.specs.declared.shape.Side.{Side}
-use Rattle.elk_doc.specs.declared.shape.Side.TheVariants.{North, East, South, West}
+use Rattle.drawing_types.specs.declared.shape.Point.{Point}
+use Rattle.drawing_types.specs.declared.shape.Size.{Size}
+use Rattle.drawing_types.specs.declared.shape.Side.{Side}
+use Rattle.drawing_types.specs.declared.shape.Side.TheVariants.{North, East, South, West}
 use Rattle.elk_doc.specs.PortsKept.{size_along}
-use Rattle.elk_doc.specs.Sound.{IsWithin, IsPlaceWithin, along}
+use Rattle.elk_doc.specs.Sound.{along}
+use Rattle.drawing_types.specs.Ranges.{IsWithin, IsPlaceWithin}
 use Rattle.port_order.specs.declared.children.Child.{Child}
 use Rattle.port_order.specs.Child.{port_at}
 use Rattle.port_order.specs.Conditions.{IsChildPort, IsSmall}

@@ -3,15 +3,16 @@ use Rattle.std.proofs.Common.{◌≡◌, ◌<◌, ◌≤◌, ℕ, ℤ, pos, ◌�
 use Rattle.std.proofs.lemmas.Int.{ints}
 use Rattle.std.proofs.lemmas.Bool.{cases_lt}
 use Rattle.std.specs.Prelude.{Option, None, Some, is_some, IfSome, IsSomeAnd, IsTrue, IsFalse, ◌&&◌}
-use Rattle.elk_doc.specs.declared.shape.Point.{Point}
-use Rattle.elk_doc.specs.declared.shape.Size.{Size}
-use Rattle.elk_doc.specs.declared.shape.Side.{Side}
-use Rattle.elk_doc.specs.declared.shape.Side.TheVariants.{North, East, South, West}
+use Rattle.drawing_types.specs.declared.shape.Point.{Point}
+use Rattle.drawing_types.specs.declared.shape.Size.{Size}
+use Rattle.drawing_types.specs.declared.shape.Side.{Side}
+use Rattle.drawing_types.specs.declared.shape.Side.TheVariants.{North, East, South, West}
 use Rattle.elk_doc.specs.declared.document.PortRule.{PortRule}
 use Rattle.elk_doc.specs.declared.document.PortRule.TheVariants.{Free, FixedSide, FixedOrder, FixedPos}
-use Rattle.elk_doc.specs.Document.{origin, no_size}
-use Rattle.elk_doc.specs.Shapes.{rect_at}
-use Rattle.elk_doc.specs.Sound.{IsWithin, IsOutside, along}
+use Rattle.drawing_types.specs.Shapes.{origin, no_size}
+use Rattle.drawing_types.specs.Shapes.{rect_at}
+use Rattle.elk_doc.specs.Sound.{IsOutside, along}
+use Rattle.drawing_types.specs.Ranges.{IsWithin}
 use Rattle.elk_doc.specs.PortsKept.{size_along, across, flush, pins, counted}
 use Rattle.port_order.specs.declared.children.Child.{Child}
 use Rattle.port_order.specs.declared.spots.Spot.{Spot}

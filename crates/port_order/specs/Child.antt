@@ -1,6 +1,6 @@
 -- The ports and spots of a child by number. A number past the end names an empty part.
 use Rattle.std.specs.Prelude.{ℕ, Bool, false, not, List, pos, Option, None, Some, slice_index_or, is_some}
-use Rattle.elk_doc.specs.Document.{origin, no_size}
+use Rattle.drawing_types.specs.Shapes.{origin, no_size}
 use Rattle.elk_doc.specs.PortsKept.{pins}
 use Rattle.port_order.specs.declared.children.ChildPort.{ChildPort}
 use Rattle.port_order.specs.declared.children.Child.{Child}

@@ -1,8 +1,9 @@
 -- What is true of every child and of its spots.
 use Rattle.std.specs.Prelude.{◌≡◌, ℕ, ◌<◌, ◌≤◌, ◌^◌, ◌&&◌, false, List, pos, length, IfSome, IsSomeAnd, IsNone, IsFalse}
-use Rattle.elk_doc.specs.declared.shape.Size.{Size}
+use Rattle.drawing_types.specs.declared.shape.Size.{Size}
 use Rattle.elk_doc.specs.declared.document.PortRule.TheVariants.{FixedPos}
-use Rattle.elk_doc.specs.Sound.{IsWithin, IsPlaceWithin, IsOutside}
+use Rattle.elk_doc.specs.Sound.{IsOutside}
+use Rattle.drawing_types.specs.Ranges.{IsWithin, IsPlaceWithin}
 use Rattle.elk_doc.specs.PortsKept.{size_along}
 use Rattle.port_order.specs.declared.children.Child.{Child}
 use Rattle.port_order.specs.declared.spots.Spot.{Spot}

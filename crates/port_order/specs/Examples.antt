@@ -1,7 +1,7 @@
 -- The ports of small children in tests.
 use Rattle.std.specs.Prelude.{◌≡◌, ◌^◌, false, pos, length}
 use Rattle.elk_doc.specs.declared.document.PortRule.TheVariants.{FixedPos}
-use Rattle.elk_doc.specs.Sound.{IsPlaceWithin}
+use Rattle.drawing_types.specs.Ranges.{IsPlaceWithin}
 use Rattle.port_order.specs.declared.children.ChildPort.{ChildPort}
 use Rattle.port_order.specs.declared.children.Child.{Child}
 use Rattle.port_order.specs.Conditions.{IsChild}

@@ -1,13 +1,14 @@
 -- What follows from orders and offsets: the order of a side is determined, and ports and ends obey their constraints.
 use Rattle.std.specs.Prelude.{◌≡◌, ◌≢◌, ◌⊎◌, ℕ, ◌<◌, ◌≤◌, ◌&&◌, not, List, ℤ, pos, ◌≤ℤ◌, ◌<ℤ◌, Some, length, IsTrue, IsFalse}
-use Rattle.elk_doc.specs.declared.shape.Point.{Point}
-use Rattle.elk_doc.specs.declared.shape.Size.{Size}
-use Rattle.elk_doc.specs.declared.shape.Side.{Side}
-use Rattle.elk_doc.specs.declared.shape.Side.TheVariants.{North, East, South, West}
+use Rattle.drawing_types.specs.declared.shape.Point.{Point}
+use Rattle.drawing_types.specs.declared.shape.Size.{Size}
+use Rattle.drawing_types.specs.declared.shape.Side.{Side}
+use Rattle.drawing_types.specs.declared.shape.Side.TheVariants.{North, East, South, West}
 use Rattle.elk_doc.specs.declared.document.PortRule.TheVariants.{FixedOrder}
-use Rattle.elk_doc.specs.Document.{origin}
-use Rattle.elk_doc.specs.Shapes.{rect_at}
-use Rattle.elk_doc.specs.Sound.{IsWithin, along}
+use Rattle.drawing_types.specs.Shapes.{origin}
+use Rattle.drawing_types.specs.Shapes.{rect_at}
+use Rattle.elk_doc.specs.Sound.{along}
+use Rattle.drawing_types.specs.Ranges.{IsWithin}
 use Rattle.elk_doc.specs.PortsKept.{size_along, across, flush, counted}
 use Rattle.port_order.specs.declared.children.Child.{Child}
 use Rattle.port_order.specs.declared.spots.Spot.{Spot}

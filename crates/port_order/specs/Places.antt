@@ -1,11 +1,11 @@
 -- Offsets of docks, places of ports, and anchors, relative to the child's box in the working frame.
 use Rattle.std.specs.Prelude.{◌≡◌, ℕ, ◌+◌, ◌-◌, ◌*◌, ◌/◌, ◌<◌, ◌==◌, cond, Bool, true, false, ◌&&◌, not, List, [], ◌∷◌, ℤ, pos, negsuc}
 use Rattle.std.specs.Prelude.{neg_ℤ, ◌+ℤ◌, ◌-ℤ◌, ◌<ℤ◌, ◌≤ℤ◌, Option, None, Some, length, slice_index, slice_index_or}
-use Rattle.elk_doc.specs.declared.shape.Point.{Point}
-use Rattle.elk_doc.specs.declared.shape.Size.{Size}
-use Rattle.elk_doc.specs.declared.shape.Side.{Side}
-use Rattle.elk_doc.specs.declared.shape.Side.TheVariants.{North, East, South, West}
-use Rattle.elk_doc.specs.Document.{no_size}
+use Rattle.drawing_types.specs.declared.shape.Point.{Point}
+use Rattle.drawing_types.specs.declared.shape.Size.{Size}
+use Rattle.drawing_types.specs.declared.shape.Side.{Side}
+use Rattle.drawing_types.specs.declared.shape.Side.TheVariants.{North, East, South, West}
+use Rattle.drawing_types.specs.Shapes.{no_size}
 use Rattle.elk_doc.specs.Sound.{along}
 use Rattle.elk_doc.specs.PortsKept.{size_along}
 use Rattle.port_order.specs.declared.children.Child.{Child}

@@ -1,12 +1,13 @@
 -- Where a spot stands among those of its side, as a key.
 use Rattle.std.specs.Prelude.{ℕ, ◌*◌, ◌/◌, ◌^◌, Bool, not, ◌&&◌, List, pos, ◌+ℤ◌, Option, None, Some, map, length, ◌<◌, ◌≤◌, IfSome, IsTrue}
 use Rattle.std.specs.List.{filter}
-use Rattle.elk_doc.specs.declared.shape.Side.{Side}
-use Rattle.elk_doc.specs.declared.shape.Side.TheVariants.{North, East, South, West}
+use Rattle.drawing_types.specs.declared.shape.Side.{Side}
+use Rattle.drawing_types.specs.declared.shape.Side.TheVariants.{North, East, South, West}
 use Rattle.elk_doc.specs.declared.document.PortRule.{PortRule}
 use Rattle.elk_doc.specs.declared.document.PortRule.TheVariants.{Free, FixedSide, FixedOrder, FixedPos}
 use Rattle.elk_doc.specs.Sound.{along}
-use Rattle.elk_doc.specs.PortsKept.{is_side, counted}
+use Rattle.elk_doc.specs.PortsKept.{counted}
+use Rattle.drawing_types.specs.Shapes.{is_side}
 use Rattle.port_order.specs.declared.children.Child.{Child}
 use Rattle.port_order.specs.declared.spots.Mean.{Mean}
 use Rattle.port_order.specs.declared.spots.Spot.{Spot}

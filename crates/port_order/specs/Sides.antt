@@ -1,10 +1,10 @@
 -- The side of a spot in the working frame, and the directions that mirror a side there.
 use Rattle.std.specs.Prelude.{ℕ, Bool, true, false, not, ◌&&◌, List, [], ◌∷◌, pos, ◌+ℤ◌, int_lt, Option, None, Some, if◌then◌else◌}
 use Rattle.std.specs.Ordering.{int_eq}
-use Rattle.elk_doc.specs.declared.shape.Point.{Point}
-use Rattle.elk_doc.specs.declared.shape.Size.{Size}
-use Rattle.elk_doc.specs.declared.shape.Side.{Side}
-use Rattle.elk_doc.specs.declared.shape.Side.TheVariants.{North, East, South, West}
+use Rattle.drawing_types.specs.declared.shape.Point.{Point}
+use Rattle.drawing_types.specs.declared.shape.Size.{Size}
+use Rattle.drawing_types.specs.declared.shape.Side.{Side}
+use Rattle.drawing_types.specs.declared.shape.Side.TheVariants.{North, East, South, West}
 use Rattle.elk_doc.specs.declared.document.Direction.{Direction}
 use Rattle.elk_doc.specs.declared.document.Direction.TheVariants.{Right, Left, Down, Up}
 use Rattle.elk_doc.specs.Sides.{side_from}

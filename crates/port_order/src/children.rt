@@ -5,9 +5,9 @@ ghost use Rattle.port_order.specs.Child.{is_pinned, is_pinned_spot, port_at};
 ghost use Rattle.port_order.specs.Conditions.{IsChild, IsSpot};
 
 use crate::spots::Spot;
+use drawing_types::list::Items;
+use drawing_types::shape::{Point, Side, Size};
 use elk_doc::document::{Direction, PortRule};
-use elk_doc::list::Items;
-use elk_doc::shape::{Point, Side, Size};
 use elk_doc::sides::along;
 
 /// A port of a child. `half` is the anchor's offset within the port along its side; `side` is the side that it asks for.

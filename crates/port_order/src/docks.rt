@@ -1,7 +1,7 @@
 //! The offsets of spots along their sides.
 ghost use Rattle.std.specs.Prelude.{◌≡◌, ◌<◌, ◌^◌, pos, length, IsFalse};
 ghost use Rattle.elk_doc.specs.PortsKept.{size_along};
-ghost use Rattle.elk_doc.specs.Sound.{IsWithin};
+ghost use Rattle.drawing_types.specs.Ranges.{IsWithin};
 ghost use Rattle.port_order.specs.Child.{is_pinned_spot};
 ghost use Rattle.port_order.specs.Conditions.{IsChild, IsSmall, IsSpot};
 ghost use Rattle.port_order.specs.Sides.{side_of};
@@ -11,7 +11,7 @@ use crate::children::{Child, given_offset, is_pinned_spot};
 use crate::sides::{is_mirrored, side_of};
 use crate::spots::Spot;
 use crate::spreading::part_at;
-use elk_doc::shape::{Side, Size};
+use drawing_types::shape::{Side, Size};
 use elk_doc::sides;
 
 /// The offset of a spot's anchor along its side, in the working frame: that of its given place where its port is pinned,

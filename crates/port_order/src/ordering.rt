@@ -10,7 +10,7 @@ use crate::children::{Child, is_pinned_spot};
 use crate::ranks::{Rank, rank_of};
 use crate::sides::side_of;
 use crate::spots::Spot;
-use elk_doc::shape::Side;
+use drawing_types::shape::Side;
 use std::alloc::{AllocError, Global};
 
 /// The numbers of the spread spots of a side, from the top or left in the working frame. Under a fixed order the ports

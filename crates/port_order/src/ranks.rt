@@ -9,8 +9,8 @@ ghost use Rattle.port_order.specs.Ranks.{IsCounted, fine_mean, fixed_rank, flow_
 use crate::children::{Child, given_offset, port_at};
 use crate::sides::is_forward;
 use crate::spots::{Mean, Spot};
+use drawing_types::shape::Side;
 use elk_doc::document::PortRule;
-use elk_doc::shape::Side;
 
 /// Where a spot stands among those of its side, by what counts first: its group, then a port's index and given place in a
 /// fixed order, the mean of positions, and document order.

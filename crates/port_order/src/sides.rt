@@ -1,15 +1,15 @@
 //! The side of a spot.
 ghost use Rattle.std.specs.Prelude.{◌≡◌, ◌<◌, ◌^◌, length};
 ghost use Rattle.elk_doc.specs.Sides.{side_from};
-ghost use Rattle.elk_doc.specs.Sound.{IsPlaceWithin};
+ghost use Rattle.drawing_types.specs.Ranges.{IsPlaceWithin};
 ghost use Rattle.port_order.specs.Conditions.{IsChild, IsSmall, IsSpot};
 ghost use Rattle.elk_doc.specs.PortsKept.{runs_forward};
 ghost use Rattle.port_order.specs.Sides.{first_side, given_side, is_forward, is_mirrored, side_else, side_of, side_of_place, sticks_out, touches, tried_sides};
 
 use crate::children::{Child, port_at};
 use crate::spots::Spot;
+use drawing_types::shape::{Point, Side, Size};
 use elk_doc::document::Direction;
-use elk_doc::shape::{Point, Side, Size};
 use elk_doc::sides::side_from;
 
 /// The side of a spot in the working frame. A port lies on the side that its child's rule gives it; every other port,

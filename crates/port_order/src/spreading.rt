@@ -1,6 +1,6 @@
 //! Offsets that spread spots over a side.
 ghost use Rattle.std.specs.Prelude.{◌≡◌, ◌<◌, ◌^◌, pos, IfOk};
-ghost use Rattle.elk_doc.specs.Sound.{IsWithin};
+ghost use Rattle.drawing_types.specs.Ranges.{IsWithin};
 ghost use Rattle.port_order.specs.Places.{AreSpread, spread_at};
 
 use std::alloc::{AllocError, Global};

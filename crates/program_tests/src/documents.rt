@@ -1,10 +1,10 @@
 //! Documents by the calls that the program makes of them: options, a refusal, a placed document that is judged and written again, and
 //! the drawing of a demo. Helpers make the calls with large contracts and promise nothing, so that the tests know little.
 use compound::lay_out;
-use elk_demo::demo;
+use drawing_types::shape::{Dock, Rect, Side};
 use elk_doc::form::fits;
 use elk_doc::places::{dock_at, outline};
-use elk_doc::shape::{Dock, Rect, Side};
+use elk_engine::demo;
 use elk_json::{DocFault, parse, read_doc, rule_name, rule_number};
 use elk_options::{Role, read_options, read_padding};
 use elk_write::{answer_value, id_text, placed_of, text_of};

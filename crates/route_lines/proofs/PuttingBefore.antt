@@ -3,9 +3,9 @@ use Rattle.std.proofs.Common.{◌≡◌, ◌≢◌, ⊎_elim, inl, inr, List, []
 use Rattle.std.specs.Prelude.{option_to_list, unwrap_or}
 use Rattle.std.proofs.lemmas.Int.{ints, clamps}
 use Rattle.std.proofs.lemmas.List.{drop_more, drop_all, nil_from_length}
-use Rattle.elk_doc.specs.declared.shape.Point.{Point}
-use Rattle.elk_doc.specs.declared.drawing.Section.{Section}
-use Rattle.elk_doc.specs.Segments.{IsBetween}
+use Rattle.drawing_types.specs.declared.shape.Point.{Point}
+use Rattle.drawing_types.specs.declared.section.Section.{Section}
+use Rattle.drawing_types.specs.Segments.{IsBetween}
 use Rattle.route_lines.specs.Tidied.{IsMiddle, IsMiddleBeforeFirst, Drops, equal, middle, later, DropsSome, none, more, IsTidied, IsSectionOf, one, many}
 
 some_later : (p : Point) (ps qs : List Point) → DropsSome ps qs → DropsSome (p ∷ ps) (p ∷ qs)

@@ -3,8 +3,8 @@ use Rattle.std.proofs.Common.{◌≡◌, ◌≤◌, ◌^◌, ℕ, List, [], ◌�
 use Rattle.std.proofs.lemmas.Int.{ints}
 use Rattle.std.specs.List.{All}
 use Rattle.std.proofs.lemmas.List.Elements.{All-nil, All-cons, All-from_recursion}
-use Rattle.elk_doc.specs.Fits.{IsNear}
-use Rattle.route_slots.specs.declared.NetRoute.TheVariants.{One, Two}
+use Rattle.drawing_types.specs.Ranges.{IsNear}
+use Rattle.net_routes.specs.declared.NetRoute.TheVariants.{One, Two}
 use Rattle.route_lines.specs.declared.Gap.{Gap}
 use Rattle.route_lines.specs.declared.Step.{Step}
 use Rattle.route_lines.specs.declared.Step.TheVariants.{Lane, Leg}

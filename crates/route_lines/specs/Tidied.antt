@@ -1,9 +1,9 @@
 -- Paths of points, and how they are tidied.
 use Rattle.std.specs.Prelude.{◌≡◌, ◌≢◌, ◌⊎◌, List, [], ◌∷◌, ◌++◌, ◌<ℤ◌}
-use Rattle.elk_doc.specs.declared.shape.Point.{Point}
-use Rattle.elk_doc.specs.declared.shape.Rect.{Rect}
-use Rattle.elk_doc.specs.declared.drawing.Section.{Section}
-use Rattle.elk_doc.specs.Segments.{IsAxisParallel, IsOnSegment, Share, MeetsRect, EntersRect}
+use Rattle.drawing_types.specs.declared.shape.Point.{Point}
+use Rattle.drawing_types.specs.declared.shape.Rect.{Rect}
+use Rattle.drawing_types.specs.declared.section.Section.{Section}
+use Rattle.drawing_types.specs.Segments.{IsAxisParallel, IsOnSegment, Share, MeetsRect, EntersRect}
 
 -- b lies on the segment from a to c, which is parallel to an axis
 pub record IsMiddle (a b c : Point) : Type 0 where

@@ -1,6 +1,6 @@
 -- The points of a trace as they are gathered.
 use Rattle.std.specs.Prelude.{List, map}
-use Rattle.elk_doc.specs.declared.shape.Point.{Point}
+use Rattle.drawing_types.specs.declared.shape.Point.{Point}
 use Rattle.route_lines.specs.declared.joining.Waypoint.{Waypoint}
 
 abbrev pub waypoint_at : Waypoint → Point

@@ -1,9 +1,9 @@
 //! The section of a trace.
 ghost use Rattle.std.specs.Prelude.{◌≡◌, ◌+◌, ◌<◌, List, [], ◌∷◌, ◌++◌, map, length, ℕ, ℤ, drop, OnOk, IfOk};
 ghost use Rattle.std.specs.List.{All};
-ghost use Rattle.elk_doc.specs.declared.shape.Point.{Point};
-ghost use Rattle.elk_doc.specs.Fits.{IsNear};
-ghost use Rattle.route_slots.specs.Pieces.{slot};
+ghost use Rattle.drawing_types.specs.declared.shape.Point.{Point};
+ghost use Rattle.drawing_types.specs.Ranges.{IsNear};
+ghost use Rattle.net_routes.specs.Pieces.{slot};
 ghost use Rattle.route_lines.specs.Tidied.{IsTidied, IsSectionOf};
 ghost use Rattle.route_lines.specs.Points.{PlainGap, plain_gap, stand, leg_points, net_leg, last_point, points_on, step_points, point_at, trace_points, height_next, IsStepIn, IsTrace, IsInRange, IsGapInRange, IsJoinOf};
 ghost use Rattle.route_lines.specs.Waypoints.{points_in, waypoint_at};
@@ -12,9 +12,9 @@ ghost use Rattle.smallvec.specs.SmallVec.{small_vec_len};
 
 use crate::tidying::Path;
 use crate::{Gap, Step, Trace};
-use elk_doc::drawing::Section;
-use elk_doc::shape::Point;
-use route_slots::NetRoute;
+use drawing_types::section::Section;
+use drawing_types::shape::Point;
+use net_routes::NetRoute;
 use smallvec::SmallVec;
 use std::alloc::{AllocError, Global};
 

@@ -1,8 +1,8 @@
 //! The points of a route, from the slots of gaps and the heights of lanes.
 #![tactic(auto)]
 
-use elk_doc::shape::Point;
-use route_slots::{Net, Slots};
+use drawing_types::shape::Point;
+use net_routes::{Net, Slots};
 
 /// A gap between columns. Slot s stands at `first + s * step`, and `slots` has one route for each net.
 #[derive(Drop)]

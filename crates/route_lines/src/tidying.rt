@@ -1,11 +1,11 @@
 //! Dropping the points of a path at which nothing turns.
 ghost use Rattle.std.specs.Prelude.{◌≡◌, ◌↔◌, List, [], ◌∷◌, reverse, IsTrue, IfOk, OnOk};
-ghost use Rattle.elk_doc.specs.Segments.{IsAxisParallel, IsBetween};
+ghost use Rattle.drawing_types.specs.Segments.{IsAxisParallel, IsBetween};
 ghost use Rattle.route_lines.specs.Tidied.{IsMiddle, IsTidied, IsSectionOf, IsMiddleBeforeFirst};
 
-use elk_doc::drawing::Section;
-use elk_doc::list::Items;
-use elk_doc::shape::Point;
+use drawing_types::list::Items;
+use drawing_types::section::Section;
+use drawing_types::shape::Point;
 use std::alloc::{AllocError, Global};
 
 // Whether the segment from `a` to `b` is parallel to an axis.

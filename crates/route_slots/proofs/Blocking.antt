@@ -3,12 +3,12 @@ use Rattle.std.proofs.Common.{◌≡◌, ◌≢◌, ◌∙◌, ◌⊎◌, ⊎_el
 use Rattle.std.proofs.lemmas.Bool.{cases_eq, eqb-true, ne_eqb, eq-eqb, and_parts, and_from, or_cases, or_left, or_right}
 use Rattle.std.proofs.lemmas.Bool.Decides.{Decides-int_eq}
 use Rattle.std.specs.Ordering.{int_eq}
-use Rattle.route_slots.specs.declared.Pin.{Pin}
-use Rattle.route_slots.specs.declared.Net.{Net}
-use Rattle.route_slots.specs.declared.NetRoute.{NetRoute}
-use Rattle.route_slots.specs.declared.NetRoute.TheVariants.{Straight, One, Two}
-use Rattle.route_slots.specs.Pieces.{net_at, route_at}
-use Rattle.route_slots.specs.Standing.{StandsAt}
+use Rattle.net_routes.specs.declared.Pin.{Pin}
+use Rattle.net_routes.specs.declared.Net.{Net}
+use Rattle.net_routes.specs.declared.NetRoute.{NetRoute}
+use Rattle.net_routes.specs.declared.NetRoute.TheVariants.{Straight, One, Two}
+use Rattle.net_routes.specs.Pieces.{net_at, route_at}
+use Rattle.net_routes.specs.Standing.{StandsAt}
 use Rattle.route_slots.specs.Exchanges.{Blocks, at_a, at_b, meets, meets_in, blocks, holds_back}
 
 abbrev pub Meet : Pin → Pin → Type 0

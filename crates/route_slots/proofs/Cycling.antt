@@ -3,14 +3,14 @@ use Rattle.std.proofs.Common.{◌≡◌, ◌≢◌, ◌∙◌, ◌⊎◌, ⊎_el
 use Rattle.std.specs.Prelude.{unwrap_or, IsSome}
 use Rattle.std.specs.Ordering.{int_cmp}
 use Rattle.std.specs.BTreeMap.{BTreeMap, get}
-use Rattle.gap_cycles.specs.declared.Link.{Link}
-use Rattle.gap_cycles.specs.Links.{link_at, Leads, ClosesCycle, CutsOnCycles, LeadsLessDeep, number_at}
-use Rattle.route_slots.specs.declared.Pin.{Pin}
-use Rattle.route_slots.specs.declared.Net.{Net}
+use Rattle.route_slots.specs.declared.links.Link.{Link}
+use Rattle.route_slots.specs.Links.{link_at, Leads, ClosesCycle, CutsOnCycles, LeadsLessDeep, number_at}
+use Rattle.net_routes.specs.declared.Pin.{Pin}
+use Rattle.net_routes.specs.declared.Net.{Net}
 use Rattle.route_slots.specs.declared.heights.Heights.{Heights}
-use Rattle.route_slots.specs.Pieces.{net_at}
-use Rattle.route_slots.specs.GapFree.{HasPin, IsLevelNet}
-use Rattle.route_slots.specs.Conflicts.{Conflict, AreInConflict, LiesOnCycle}
+use Rattle.net_routes.specs.Pieces.{net_at}
+use Rattle.net_routes.specs.GapFree.{HasPin, IsLevelNet}
+use Rattle.net_routes.specs.Conflicts.{Conflict, AreInConflict, LiesOnCycle}
 use Rattle.route_slots.specs.Numbers.{AreHeightNumbers, AreSides, HasNoSides, IsLinkOf, idle, across, AreLinks}
 use Rattle.route_slots.specs.Depths.{depth_by, AreDepths}
 use Rattle.route_slots.proofs.Sides.{sides_differ, level_by}

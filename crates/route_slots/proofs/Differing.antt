@@ -1,15 +1,16 @@
 -- What the exchange of two neighbouring slots changes of the crossings.
 use Rattle.std.proofs.Common.{◌≡◌, ◌≢◌, ◌∙◌, ⊎_elim, ℕ, ◌+◌, ◌<◌, ◌≤◌, Bool, true, false, ◌&&◌, List, ℤ, length, refl, sym, ap, subst, arith, if◌then◌else◌, nat_lt, ◌==◌}
 use Rattle.std.proofs.lemmas.Bool.{cases_lt, cases_eq, eq-eqb, lt-ltb, le-ltb}
-use Rattle.route_slots.specs.declared.Pin.{Pin}
-use Rattle.route_slots.specs.declared.Net.{Net}
-use Rattle.route_slots.specs.declared.NetRoute.{NetRoute}
-use Rattle.route_slots.specs.declared.NetRoute.TheVariants.{Straight, One, Two}
-use Rattle.route_slots.specs.Pieces.{net_at, route_at}
-use Rattle.route_slots.specs.Crossings.{sum_to, is_over, passes, is_between, one, pin_cut, bar_cut, cuts, cut, cut_at, upright, crossings}
-use Rattle.route_slots.specs.Exchanges.{swapped, exchanged, AreExchanged, is_near, touches, near_before, near_after, row_before, row_after, all_before, all_after}
+use Rattle.net_routes.specs.declared.Pin.{Pin}
+use Rattle.net_routes.specs.declared.Net.{Net}
+use Rattle.net_routes.specs.declared.NetRoute.{NetRoute}
+use Rattle.net_routes.specs.declared.NetRoute.TheVariants.{Straight, One, Two}
+use Rattle.net_routes.specs.Pieces.{net_at, route_at}
+use Rattle.net_routes.specs.Crossings.{sum_to, is_over, passes, is_between, one, pin_cut, bar_cut, cuts, cut, cut_at, upright, crossings}
+use Rattle.route_slots.specs.Exchanges.{is_near, touches, near_before, near_after, row_before, row_after, all_before, all_after}
+use Rattle.net_routes.specs.Exchanges.{swapped, exchanged, AreExchanged}
 use Rattle.route_slots.proofs.Swapping.{Place, at_first, at_second, at_other, place}
-use Rattle.route_slots.proofs.Summing.{sum_moved, sum_same}
+use Rattle.net_routes.proofs.Summing.{sum_moved, sum_same}
 
 -- neither of the two slots
 abbrev IsOff : ℕ → ℕ → Type 0

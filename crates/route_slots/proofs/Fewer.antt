@@ -2,7 +2,7 @@
 use Rattle.std.proofs.Common.{◌≡◌, List, ℕ, ◌<◌, ◌≤◌, length, get_or, ap, subst, arith}
 use Rattle.route_slots.specs.declared.slotting.Piece.{Piece}
 use Rattle.route_slots.specs.Slotting.{AreSlots}
-use Rattle.route_slots.proofs.Lists.{one_each, few_below}
+use Rattle.net_routes.proofs.Lists.{one_each, few_below}
 
 module _ (ps : List Piece) (ss : List ℕ) (count : ℕ) (slots : AreSlots ps ss count) where
   abbrev In : ℕ → ℕ → Type 0

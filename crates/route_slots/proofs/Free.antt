@@ -2,14 +2,14 @@
 use Rattle.std.proofs.Common.{◌≡◌, ◌≢◌, ◌⊎◌, ⊎_elim, inl, inr, ℕ, zero, suc, ◌+◌, ◌<◌, ◌≤◌, Bool, true, false, List, ℤ, pos, ◌<ℤ◌, ◌≤ℤ◌, refl, sym, ap, ◌∙◌, subst, length, arith}
 use Rattle.std.proofs.lemmas.Int.{ints, clamps}
 use Rattle.std.specs.Int.{int_min, int_max}
-use Rattle.route_slots.specs.declared.Pin.{Pin}
-use Rattle.route_slots.specs.declared.Net.{Net}
-use Rattle.route_slots.specs.declared.NetRoute.{NetRoute}
-use Rattle.route_slots.specs.declared.NetRoute.TheVariants.{Straight, One, Two}
-use Rattle.route_slots.specs.Pieces.{Abscissa, slot, rank, Corner, corner_at, corners, border_of, net_at, route_at, LevelOverlap, UprightOverlap, RoutesOverlap}
-use Rattle.route_slots.specs.GapFree.{HasPin, CommonPin, IsLevelNet, IsFresh, IsAtHeight, StandsIn}
-use Rattle.route_slots.specs.Standing.{StandsAt, IsUpright, AreApart}
-use Rattle.route_slots.proofs.Turning.{level_exchanged}
+use Rattle.net_routes.specs.declared.Pin.{Pin}
+use Rattle.net_routes.specs.declared.Net.{Net}
+use Rattle.net_routes.specs.declared.NetRoute.{NetRoute}
+use Rattle.net_routes.specs.declared.NetRoute.TheVariants.{Straight, One, Two}
+use Rattle.net_routes.specs.Pieces.{Abscissa, slot, rank, Corner, corner_at, corners, border_of, net_at, route_at, LevelOverlap, UprightOverlap, RoutesOverlap}
+use Rattle.net_routes.specs.GapFree.{HasPin, CommonPin, IsLevelNet, IsFresh, IsAtHeight, StandsIn}
+use Rattle.net_routes.specs.Standing.{StandsAt, IsUpright, AreApart}
+use Rattle.net_routes.proofs.Turning.{level_exchanged}
 
 -- a level piece between the border at the pin's side and its slot
 abbrev IsSpan : Pin → ℕ → Abscissa → Abscissa → Type 0

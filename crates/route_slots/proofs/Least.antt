@@ -1,18 +1,18 @@
 -- Where each two nets cross as their pins ask, no exchange of two neighbouring slots gives fewer crossings.
 use Rattle.std.proofs.Common.{◌≡◌, ◌≢◌, ◌∙◌, ◌⊎◌, ⊎_elim, inl, inr, ℕ, ◌+◌, ◌<◌, ◌≤◌, List, ℤ, length, refl, sym, ap, ap₂, subst, arith}
 use Rattle.std.proofs.lemmas.Bool.{cases_eq, cases_lt}
-use Rattle.route_slots.specs.declared.Net.{Net}
-use Rattle.route_slots.specs.declared.NetRoute.{NetRoute}
-use Rattle.route_slots.specs.declared.NetRoute.TheVariants.{Straight, One, Two}
-use Rattle.route_slots.specs.Pieces.{net_at, route_at}
-use Rattle.route_slots.specs.GapFree.{IsLevelNet, GapFree}
-use Rattle.route_slots.specs.Standing.{StandsAt, AreApart}
-use Rattle.route_slots.specs.Crossings.{cut, cut_at}
-use Rattle.route_slots.specs.Exchanges.{swapped, exchanged, AreExchanged, NoBetterExchange}
-use Rattle.route_slots.specs.Uncrossed.{asked, crossed, CrossAsAsked}
-use Rattle.route_slots.proofs.Summing.{pairs_most}
+use Rattle.net_routes.specs.declared.Net.{Net}
+use Rattle.net_routes.specs.declared.NetRoute.{NetRoute}
+use Rattle.net_routes.specs.declared.NetRoute.TheVariants.{Straight, One, Two}
+use Rattle.net_routes.specs.Pieces.{net_at, route_at}
+use Rattle.net_routes.specs.GapFree.{IsLevelNet, GapFree}
+use Rattle.net_routes.specs.Standing.{StandsAt, AreApart}
+use Rattle.net_routes.specs.Crossings.{cut, cut_at}
+use Rattle.net_routes.specs.Exchanges.{swapped, exchanged, AreExchanged, NoBetterExchange}
+use Rattle.net_routes.specs.Uncrossed.{asked, crossed, CrossAsAsked}
+use Rattle.net_routes.proofs.Summing.{pairs_most}
 use Rattle.route_slots.proofs.Swapping.{swap_back}
-use Rattle.route_slots.proofs.Asking.{asked_turned, AreUnmet, least_cut, slot_count}
+use Rattle.net_routes.proofs.Asking.{asked_turned, AreUnmet, least_cut, slot_count}
 use Rattle.route_slots.proofs.Ordered.{beside, straight_cut}
 
 swapped_straight : (s : ℕ) (r q : NetRoute) → q ≡ exchanged s r → r ≡ Straight → q ≡ Straight

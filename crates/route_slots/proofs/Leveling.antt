@@ -1,14 +1,14 @@
 -- Levels from depths.
 use Rattle.std.proofs.Common.{◌≡◌, ◌∙◌, ⊎_elim, inl, inr, List, [], ◌∷◌, ℕ, ◌<◌, ◌≤◌, max, Bool, true, false, ℤ, length, refl, sym, ap, subst, arith, if◌then◌else◌}
 use Rattle.std.proofs.lemmas.Bool.{cases_lt, false_from_ne_true}
-use Rattle.route_slots.specs.declared.Pin.{Pin}
-use Rattle.route_slots.specs.declared.Net.{Net}
+use Rattle.net_routes.specs.declared.Pin.{Pin}
+use Rattle.net_routes.specs.declared.Net.{Net}
 use Rattle.route_slots.proofs.Sides.{level_by}
 use Rattle.route_slots.specs.declared.marks.Mark.{Mark}
-use Rattle.route_slots.specs.Pieces.{net_at}
-use Rattle.route_slots.specs.GapFree.{HasPin, IsLevelNet}
+use Rattle.net_routes.specs.Pieces.{net_at}
+use Rattle.net_routes.specs.GapFree.{HasPin, IsLevelNet}
 use Rattle.route_slots.specs.Depths.{depth_of, is_split, AreDepths, AreHeld}
-use Rattle.route_slots.specs.Conflicts.{AreInConflict, LiesOnCycle, HasNoConflict}
+use Rattle.net_routes.specs.Conflicts.{AreInConflict, LiesOnCycle, HasNoConflict}
 use Rattle.route_slots.specs.Marks.{mark_at, LevelAt, AreMarked, AreNetMarks, AreFlat}
 
 left_depth : (m : ℤ → ℕ) (p : Pin) → p.on_left ≡ true → depth_of m p ≡ 0

@@ -5,12 +5,12 @@ use Rattle.std.proofs.lemmas.List.{length_push, get_or_append_left, get_or_push}
 use Rattle.std.proofs.lemmas.Int.{ints, clamps}
 use Rattle.std.specs.Int.{int_min, int_max}
 use Rattle.std.specs.BTreeSet.{BTreeSet}
-use Rattle.route_slots.specs.declared.Net.{Net}
+use Rattle.net_routes.specs.declared.Net.{Net}
 use Rattle.route_slots.specs.declared.middles.Height.{Height}
-use Rattle.route_slots.specs.Pieces.{net_at}
-use Rattle.route_slots.specs.GapFree.{IsAtHeight}
+use Rattle.net_routes.specs.Pieces.{net_at}
+use Rattle.net_routes.specs.GapFree.{IsAtHeight}
 use Rattle.route_slots.specs.Middles.{height_at, AreMiddles, IsTop, above_top, holds, HoldPins, IsTaken, IsMiddle}
-use Rattle.route_slots.proofs.Lists.{each_pushed}
+use Rattle.net_routes.proofs.Lists.{each_pushed}
 
 -- the height of a net above all pins, or one that is taken between its pins
 abbrev pub IsMet : List Net → ℤ → BTreeSet ℤ → ℕ → ℤ → Type 0

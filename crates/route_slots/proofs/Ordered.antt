@@ -5,25 +5,26 @@ use Rattle.std.specs.Int.{int_min, int_max}
 use Rattle.std.proofs.lemmas.Int.{ints, clamps}
 use Rattle.std.specs.List.{All}
 use Rattle.std.proofs.lemmas.List.Elements.{All-get_or}
-use Rattle.gap_cycles.specs.declared.Link.{Link}
-use Rattle.gap_cycles.specs.Links.{link_at, Leads}
-use Rattle.route_slots.specs.declared.Pin.{Pin}
-use Rattle.route_slots.specs.declared.Net.{Net}
-use Rattle.route_slots.specs.declared.NetRoute.{NetRoute}
-use Rattle.route_slots.specs.declared.NetRoute.TheVariants.{Straight, One, Two}
+use Rattle.route_slots.specs.declared.links.Link.{Link}
+use Rattle.route_slots.specs.Links.{link_at, Leads}
+use Rattle.net_routes.specs.declared.Pin.{Pin}
+use Rattle.net_routes.specs.declared.Net.{Net}
+use Rattle.net_routes.specs.declared.NetRoute.{NetRoute}
+use Rattle.net_routes.specs.declared.NetRoute.TheVariants.{Straight, One, Two}
 use Rattle.route_slots.specs.declared.marks.Mark.{Mark}
-use Rattle.route_slots.specs.Pieces.{net_at, route_at}
-use Rattle.route_slots.specs.GapFree.{HasPin, IsNet, IsLevelNet, GapFree}
-use Rattle.route_slots.specs.Standing.{IsUpright, AreApart}
+use Rattle.net_routes.specs.Pieces.{net_at, route_at}
+use Rattle.net_routes.specs.GapFree.{HasPin, IsNet, IsLevelNet, GapFree}
+use Rattle.net_routes.specs.Standing.{IsUpright, AreApart}
 use Rattle.route_slots.specs.Exchanges.{meets}
 use Rattle.route_slots.specs.Marks.{mark_at, LevelAt, AreNetMarks, SplitsByMarks}
-use Rattle.route_slots.specs.Crossings.{is_over, one, cuts, cut}
-use Rattle.route_slots.specs.Uncrossed.{asked, in_order, Precedes, crossed, CrossAsAsked, level_of, AreLevels, conflicts, stands_first, is_past, KeepApart, IsLevelMark, AreLevelMarks, StandByLevels}
+use Rattle.net_routes.specs.Crossings.{is_over, one, cuts, cut}
+use Rattle.route_slots.specs.Levels.{level_of, AreLevels, conflicts, stands_first, is_past, KeepApart, IsLevelMark, AreLevelMarks, StandByLevels}
+use Rattle.net_routes.specs.Uncrossed.{asked, in_order, Precedes, crossed, CrossAsAsked}
 use Rattle.route_slots.proofs.Sides.{level_by}
-use Rattle.route_slots.proofs.Turns.{true_false, lt_less}
+use Rattle.net_routes.proofs.Turns.{true_false, lt_less}
 use Rattle.route_slots.proofs.Blocking.{Meet, meet, meet_back}
-use Rattle.route_slots.proofs.Asking.{order_count, asked_turned, asked_is, AreUnmet, in_two_slots, in_one_slot, uneven}
-use Rattle.route_slots.proofs.Straight.{over_parts, alternate_level}
+use Rattle.net_routes.proofs.Asking.{order_count, asked_turned, asked_is, AreUnmet, in_two_slots, in_one_slot, uneven}
+use Rattle.net_routes.proofs.Straight.{over_parts, alternate_level}
 
 abbrev Met : Net → Net → Type 0
 Met m n = (p : Pin) × (q : Pin) × HasPin m p × HasPin n q × Meet p q

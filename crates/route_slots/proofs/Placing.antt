@@ -4,23 +4,23 @@ use Rattle.std.proofs.lemmas.Bool.{cases_lt, false_from_ne_true}
 use Rattle.std.proofs.lemmas.List.{length-map, get_or-map}
 use Rattle.std.proofs.lemmas.Int.{ints, clamps}
 use Rattle.std.specs.Int.{int_min, int_max}
-use Rattle.route_slots.specs.declared.Pin.{Pin}
-use Rattle.route_slots.specs.declared.Net.{Net}
-use Rattle.route_slots.specs.declared.NetRoute.{NetRoute}
-use Rattle.route_slots.specs.declared.NetRoute.TheVariants.{Straight, One, Two}
+use Rattle.net_routes.specs.declared.Pin.{Pin}
+use Rattle.net_routes.specs.declared.Net.{Net}
+use Rattle.net_routes.specs.declared.NetRoute.{NetRoute}
+use Rattle.net_routes.specs.declared.NetRoute.TheVariants.{Straight, One, Two}
 use Rattle.route_slots.specs.declared.marks.Mark.{Mark}
 use Rattle.route_slots.specs.declared.slotting.Piece.{Piece}
-use Rattle.route_slots.specs.Pieces.{net_at, route_at}
-use Rattle.route_slots.specs.GapFree.{IsLevelNet, IsAtHeight, StandsIn, IsNearPins, IsFresh, GapFree}
-use Rattle.route_slots.specs.Standing.{StandsAt, IsUpright, AreApart}
+use Rattle.net_routes.specs.Pieces.{net_at, route_at}
+use Rattle.net_routes.specs.GapFree.{IsLevelNet, IsAtHeight, StandsIn, IsNearPins, IsFresh, GapFree}
+use Rattle.net_routes.specs.Standing.{StandsAt, IsUpright, AreApart}
 use Rattle.route_slots.specs.Slotting.{piece_at, IsReal, AreSlots, AreAtOneLevel, MeetInEach}
-use Rattle.route_slots.specs.Density.{Contains, MeetAt, IsDensity}
+use Rattle.net_routes.specs.Density.{Contains, MeetAt, IsDensity}
 use Rattle.route_slots.specs.Marks.{mark_at, LevelAt, AreNetMarks, other_end, piece_a, piece_b, height_of, ArePieces, route_by, HaveSlots, AreFlat}
 use Rattle.route_slots.specs.declared.middles.Height.{Height}
 use Rattle.route_slots.specs.Middles.{AreMiddles}
-use Rattle.route_slots.specs.Uncrossed.{StandByLevels}
+use Rattle.route_slots.specs.Levels.{StandByLevels}
 use Rattle.route_slots.proofs.Free.{AreKept, free}
-use Rattle.route_slots.proofs.Lists.{one_each, few_below}
+use Rattle.net_routes.proofs.Lists.{one_each, few_below}
 
 -- a place in the list of pieces is one of the two of some net
 halved : (i n : ℕ) → i < n + n → (k : ℕ) × (k < n) × ((i ≡ k + k) ⊎ (i ≡ k + k + 1))

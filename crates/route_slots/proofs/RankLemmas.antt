@@ -3,11 +3,12 @@ use Rattle.std.proofs.Common.{◌≡◌, ◌≢◌, ◌∙◌, ◌⊎◌, ⊎_el
 use Rattle.std.proofs.lemmas.Bool.{cases_eq, eq-eqb, ne_eqb}
 use Rattle.std.proofs.Math.ListN.{length-set}
 use Rattle.std.proofs.lemmas.List.{get_or-replicate, length-replicate}
-use Rattle.route_slots.specs.declared.Net.{Net}
-use Rattle.route_slots.specs.Crossings.{one}
-use Rattle.route_slots.specs.Uncrossed.{Precedes, IsOrderable, AreLevels, level_of}
+use Rattle.net_routes.specs.declared.Net.{Net}
+use Rattle.net_routes.specs.Crossings.{one}
+use Rattle.route_slots.specs.Levels.{AreLevels, level_of}
+use Rattle.net_routes.specs.Uncrossed.{Precedes, IsOrderable}
 use Rattle.route_slots.specs.Ranks.{no_rank, waits, AreRanks, AreHeldBack}
-use Rattle.route_slots.proofs.Summing.{sum_changed, sum_ones}
+use Rattle.net_routes.proofs.Summing.{sum_changed, sum_ones}
 use Rattle.route_slots.proofs.Ordered.{two_bent}
 
 waits_not : (levels : List ℕ) (k : ℕ) → level_of levels k ≢ no_rank → waits levels k ≡ 0

@@ -9,16 +9,16 @@ use Rattle.std.specs.Prelude.{int_lt}
 use Rattle.std.specs.List.{All}
 use Rattle.std.proofs.lemmas.List.Elements.{All-get_or}
 use Rattle.std.proofs.lemmas.Int.{ints, by_lt_z}
-use Rattle.route_slots.specs.declared.Pin.{Pin}
-use Rattle.route_slots.specs.declared.Net.{Net}
-use Rattle.route_slots.specs.Pieces.{net_at}
-use Rattle.route_slots.specs.GapFree.{IsNet, AreHeights, IsLevelNet}
-use Rattle.route_slots.specs.Conflicts.{Conflict, HasNoConflict, HasOneConflict}
-use Rattle.route_slots.specs.Crossings.{is_over, one}
-use Rattle.route_slots.specs.Uncrossed.{is_before, first_pin, last_pin, asked, in_order, CrossMore, Precedes, IsOrderable}
-use Rattle.route_slots.proofs.Turns.{true_false, lt_true, lt_false, tri, Comes, comes, before, over, ends, either_back}
-use Rattle.route_slots.proofs.Asking.{pin, left_in, right_in, counted, order_count, asked_is, asked_turned, uneven}
-use Rattle.route_slots.proofs.Straight.{over_parts, same_bool, by_way, both_ends}
+use Rattle.net_routes.specs.declared.Pin.{Pin}
+use Rattle.net_routes.specs.declared.Net.{Net}
+use Rattle.net_routes.specs.Pieces.{net_at}
+use Rattle.net_routes.specs.GapFree.{IsNet, AreHeights, IsLevelNet}
+use Rattle.net_routes.specs.Conflicts.{Conflict, HasNoConflict, HasOneConflict}
+use Rattle.net_routes.specs.Crossings.{is_over, one}
+use Rattle.net_routes.specs.Uncrossed.{is_before, first_pin, last_pin, asked, in_order, CrossMore, Precedes, IsOrderable}
+use Rattle.net_routes.proofs.Turns.{true_false, lt_true, lt_false, tri, Comes, comes, before, over, ends, either_back}
+use Rattle.net_routes.proofs.Asking.{pin, left_in, right_in, counted, order_count, asked_is, asked_turned, uneven}
+use Rattle.net_routes.proofs.Straight.{over_parts, same_bool, by_way, both_ends}
 use Rattle.route_slots.proofs.Ordered.{all_proper}
 
 one_is : (b : Bool) → one b ≡ (if b then 1 else 0)

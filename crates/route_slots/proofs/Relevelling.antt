@@ -1,11 +1,11 @@
 -- Marks with other levels that keep all conflicts.
 use Rattle.std.proofs.Common.{◌≡◌, ◌∙◌, ⊎_elim, ℕ, ◌<◌, Bool, true, List, ℤ, length, sym, subst}
-use Rattle.route_slots.specs.declared.Pin.{Pin}
-use Rattle.route_slots.specs.declared.Net.{Net}
-use Rattle.route_slots.specs.declared.NetRoute.{NetRoute}
+use Rattle.net_routes.specs.declared.Pin.{Pin}
+use Rattle.net_routes.specs.declared.Net.{Net}
+use Rattle.net_routes.specs.declared.NetRoute.{NetRoute}
 use Rattle.route_slots.specs.declared.marks.Mark.{Mark}
-use Rattle.route_slots.specs.Pieces.{net_at}
-use Rattle.route_slots.specs.Conflicts.{LiesOnCycle}
+use Rattle.net_routes.specs.Pieces.{net_at}
+use Rattle.net_routes.specs.Conflicts.{LiesOnCycle}
 use Rattle.route_slots.specs.Depths.{is_split}
 use Rattle.route_slots.specs.Exchanges.{AreLaid}
 use Rattle.route_slots.specs.Marks.{mark_at, LevelAt, AreNetMarks, AreMarked}

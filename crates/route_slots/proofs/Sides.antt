@@ -1,8 +1,8 @@
 -- Pins of a net on both sides.
 use Rattle.std.proofs.Common.{◌≡◌, ◌≢◌, ◌∙◌, ⊎_elim, true, false, sym, ap}
-use Rattle.route_slots.specs.declared.Pin.{Pin}
-use Rattle.route_slots.specs.declared.Net.{Net}
-use Rattle.route_slots.specs.GapFree.{HasPin, IsLevelNet}
+use Rattle.net_routes.specs.declared.Pin.{Pin}
+use Rattle.net_routes.specs.declared.Net.{Net}
+use Rattle.net_routes.specs.GapFree.{HasPin, IsLevelNet}
 
 true_false : true ≡ false → ⊥
 true_false e = cc

@@ -1,10 +1,11 @@
 -- Exchanges one after another.
 use Rattle.std.proofs.Common.{◌≡◌, ◌∙◌, ◌⊎◌, ⊎_elim, ℕ, ◌+◌, ◌-◌, ◌<◌, ◌≤◌, Bool, true, false, List, refl, sym, ap, subst, arith}
 use Rattle.std.proofs.lemmas.Bool.{cases_lt}
-use Rattle.route_slots.specs.declared.Net.{Net}
-use Rattle.route_slots.specs.declared.NetRoute.{NetRoute}
-use Rattle.route_slots.specs.Crossings.{crossings}
-use Rattle.route_slots.specs.Exchanges.{AreExchanged, AreLaid, IsBetterAt, NoBetterAt, IsStep, AreSteps}
+use Rattle.net_routes.specs.declared.Net.{Net}
+use Rattle.net_routes.specs.declared.NetRoute.{NetRoute}
+use Rattle.net_routes.specs.Crossings.{crossings}
+use Rattle.route_slots.specs.Exchanges.{AreLaid, IsBetterAt, IsStep, AreSteps}
+use Rattle.net_routes.specs.Exchanges.{AreExchanged, NoBetterAt}
 use Rattle.route_slots.proofs.Swapping.{laid_after}
 
 true_false : {X : Type 0} → true ≡ false → X

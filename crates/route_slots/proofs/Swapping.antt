@@ -1,14 +1,15 @@
 -- The exchange of two neighbouring slots: what stays, and what it changes of the crossings.
 use Rattle.std.proofs.Common.{◌≡◌, ◌≢◌, ◌∙◌, ◌⊎◌, ⊎_elim, inl, inr, ℕ, ◌+◌, ◌<◌, ◌≤◌, Bool, true, false, List, ℤ, length, refl, sym, ap, subst, arith, if◌then◌else◌, ◌==◌}
 use Rattle.std.proofs.lemmas.Bool.{cases_eq, ne_eqb, eq-eqb}
-use Rattle.route_slots.specs.declared.Pin.{Pin}
-use Rattle.route_slots.specs.declared.Net.{Net}
-use Rattle.route_slots.specs.declared.NetRoute.{NetRoute}
-use Rattle.route_slots.specs.declared.NetRoute.TheVariants.{Straight, One, Two}
-use Rattle.route_slots.specs.Pieces.{net_at, route_at}
-use Rattle.route_slots.specs.GapFree.{StandsIn, IsFresh}
-use Rattle.route_slots.specs.Standing.{StandsAt, IsUpright, AreApart}
-use Rattle.route_slots.specs.Exchanges.{swapped, exchanged, AreExchanged, AreLaid, Blocks}
+use Rattle.net_routes.specs.declared.Pin.{Pin}
+use Rattle.net_routes.specs.declared.Net.{Net}
+use Rattle.net_routes.specs.declared.NetRoute.{NetRoute}
+use Rattle.net_routes.specs.declared.NetRoute.TheVariants.{Straight, One, Two}
+use Rattle.net_routes.specs.Pieces.{net_at, route_at}
+use Rattle.net_routes.specs.GapFree.{StandsIn, IsFresh}
+use Rattle.net_routes.specs.Standing.{StandsAt, IsUpright, AreApart}
+use Rattle.route_slots.specs.Exchanges.{AreLaid, Blocks}
+use Rattle.net_routes.specs.Exchanges.{swapped, exchanged, AreExchanged}
 use Rattle.route_slots.proofs.Free.{AreKept, free}
 
 -- the three cases of a slot

@@ -1,11 +1,11 @@
 -- Other levels for the pieces of nets, and slots that are chosen by them.
 use Rattle.std.specs.Prelude.{◌≡◌, ℕ, ◌+◌, ◌<◌, ◌≤◌, true, false, List, length}
-use Rattle.route_slots.specs.declared.Pin.{Pin}
-use Rattle.route_slots.specs.declared.Net.{Net}
-use Rattle.route_slots.specs.declared.NetRoute.{NetRoute}
+use Rattle.net_routes.specs.declared.Pin.{Pin}
+use Rattle.net_routes.specs.declared.Net.{Net}
+use Rattle.net_routes.specs.declared.NetRoute.{NetRoute}
 use Rattle.route_slots.specs.declared.marks.Mark.{Mark}
-use Rattle.route_slots.specs.GapFree.{GapFree}
-use Rattle.route_slots.specs.Standing.{AreApart}
+use Rattle.net_routes.specs.GapFree.{GapFree}
+use Rattle.net_routes.specs.Standing.{AreApart}
 use Rattle.route_slots.specs.Marks.{mark_at, SplitsByMarks}
 
 -- the mark of the same net with other levels

@@ -3,11 +3,11 @@ use Rattle.std.specs.Prelude.{◌≡◌, ◌≢◌, ℕ, ◌+◌, ◌<◌, ◌^�
 use Rattle.std.specs.Prelude.{slice_index_or, if◌then◌else◌}
 use Rattle.std.specs.Ordering.{int_cmp}
 use Rattle.std.specs.BTreeMap.{get}
-use Rattle.route_slots.specs.declared.Pin.{Pin}
-use Rattle.route_slots.specs.declared.Net.{Net}
+use Rattle.net_routes.specs.declared.Pin.{Pin}
+use Rattle.net_routes.specs.declared.Net.{Net}
 use Rattle.route_slots.specs.declared.depths.Depths.{Depths}
-use Rattle.route_slots.specs.Pieces.{net_at}
-use Rattle.route_slots.specs.GapFree.{HasPin, IsLevelNet}
+use Rattle.net_routes.specs.Pieces.{net_at}
+use Rattle.net_routes.specs.GapFree.{HasPin, IsLevelNet}
 use Rattle.route_slots.specs.Numbers.{HasLeftAt}
 
 -- a height without a number has depth 0, and every other is deeper

@@ -2,14 +2,14 @@
 use Rattle.std.specs.Prelude.{◌≡◌, ◌⊎◌, ℕ, ◌+◌, ◌<◌, max, Bool, true, false, not, List, ℤ, length, slice_index, slice_index_or}
 use Rattle.std.specs.Prelude.{if◌then◌else◌}
 use Rattle.std.specs.Int.{int_min, int_max}
-use Rattle.route_slots.specs.declared.Pin.{Pin}
-use Rattle.route_slots.specs.declared.Net.{Net}
-use Rattle.route_slots.specs.declared.NetRoute.{NetRoute}
-use Rattle.route_slots.specs.declared.NetRoute.TheVariants.{Straight, One, Two}
+use Rattle.net_routes.specs.declared.Pin.{Pin}
+use Rattle.net_routes.specs.declared.Net.{Net}
+use Rattle.net_routes.specs.declared.NetRoute.{NetRoute}
+use Rattle.net_routes.specs.declared.NetRoute.TheVariants.{Straight, One, Two}
 use Rattle.route_slots.specs.declared.marks.Mark.{Mark}
 use Rattle.route_slots.specs.declared.slotting.Piece.{Piece}
-use Rattle.route_slots.specs.Pieces.{net_at, route_at}
-use Rattle.route_slots.specs.GapFree.{IsLevelNet}
+use Rattle.net_routes.specs.Pieces.{net_at, route_at}
+use Rattle.net_routes.specs.GapFree.{IsLevelNet}
 use Rattle.route_slots.specs.Depths.{depth_of, is_split}
 use Rattle.route_slots.specs.Slotting.{piece_at}
 use Rattle.route_slots.specs.declared.middles.Height.{Height}

@@ -3,10 +3,10 @@ use Rattle.std.specs.Prelude.{◌≡◌, ◌⊎◌, ℕ, ◌+◌, ◌<◌, Bool,
 use Rattle.std.specs.Int.{int_min, int_max}
 use Rattle.std.specs.Ordering.{int_cmp}
 use Rattle.std.specs.BTreeSet.{BTreeSet, contains}
-use Rattle.route_slots.specs.declared.Net.{Net}
+use Rattle.net_routes.specs.declared.Net.{Net}
 use Rattle.route_slots.specs.declared.middles.Height.{Height}
-use Rattle.route_slots.specs.Pieces.{net_at}
-use Rattle.route_slots.specs.GapFree.{IsAtHeight, IsNearPins}
+use Rattle.net_routes.specs.Pieces.{net_at}
+use Rattle.net_routes.specs.GapFree.{IsAtHeight, IsNearPins}
 
 abbrev pub height_at : List Height → ℕ → Height
 height_at hs k = slice_index_or hs k (record { value = pos 0 })

@@ -1,8 +1,9 @@
 -- Nets of a gap that are ranked one after another, each once none without a rank precedes it.
 use Rattle.std.specs.Prelude.{◌≡◌, ◌⊎◌, ℕ, ◌+◌, ◌<◌, List, ◌==◌, length}
-use Rattle.route_slots.specs.declared.Net.{Net}
-use Rattle.route_slots.specs.Crossings.{one, sum_to}
-use Rattle.route_slots.specs.Uncrossed.{Precedes, level_of}
+use Rattle.net_routes.specs.declared.Net.{Net}
+use Rattle.net_routes.specs.Crossings.{one, sum_to}
+use Rattle.route_slots.specs.Levels.{level_of}
+use Rattle.net_routes.specs.Uncrossed.{Precedes}
 
 -- in place of the level of a net without a rank
 abbrev pub no_rank : ℕ

@@ -1,24 +1,24 @@
 //! Routes for the nets of a gap.
 ghost use Rattle.std.specs.Prelude.{◌≡◌, ◌+◌, ◌≤◌, ◌^◌, length, IfOk};
 ghost use Rattle.std.specs.List.{All};
-ghost use Rattle.route_slots.specs.GapFree.{IsNet, AreHeights, GapFree};
-ghost use Rattle.route_slots.specs.Conflicts.{HasNoConflict, SplitsOnCycles};
-ghost use Rattle.route_slots.specs.Density.{IsDensity};
+ghost use Rattle.net_routes.specs.GapFree.{IsNet, AreHeights, GapFree};
+ghost use Rattle.net_routes.specs.Conflicts.{HasNoConflict, SplitsOnCycles};
+ghost use Rattle.net_routes.specs.Density.{IsDensity};
 ghost use Rattle.route_slots.specs.Choosing.{AreGood};
-ghost use Rattle.route_slots.specs.Standing.{AreApart};
-ghost use Rattle.route_slots.specs.Promised.{AreFewest};
-ghost use Rattle.route_slots.specs.Exchanges.{NoBetterExchange};
+ghost use Rattle.net_routes.specs.Standing.{AreApart};
+ghost use Rattle.net_routes.specs.Promised.{AreFewest};
+ghost use Rattle.net_routes.specs.Exchanges.{NoBetterExchange};
 ghost use Rattle.route_slots.specs.Middles.{AreMiddles};
-ghost use Rattle.route_slots.specs.Uncrossed.{StandByLevels};
+ghost use Rattle.route_slots.specs.Levels.{StandByLevels};
 ghost use Rattle.route_slots.specs.Marks.{AreNetMarks, AreFlat, SplitsByMarks, ArePieces, HaveSlots, piece_a, piece_b, other_end, route_by};
 
 use crate::choosing::choose;
 use crate::depths::depths_of;
-use crate::marks::{Mark, marks_of};
+use crate::marks::{Mark, net_marks};
 use crate::middles::{Height, middles_of};
 use crate::settling::settle;
 use crate::slotting::{Piece, slots_of};
-use crate::{Net, NetRoute, Slots};
+use net_routes::{Net, NetRoute, Slots};
 use std::alloc::{AllocError, Global};
 
 // The height to which the piece at the pin `a` leads.
@@ -173,7 +173,7 @@ pub fn assign(alloc: Global, nets: &[Net]) -> Result<Slots, AllocError>
     ensures exchanges { IfOk result (λ slots. length nets.now ≤ 1024 → NoBetterExchange nets.now slots.count slots.routes.items) }
 {
     let depths = depths_of(alloc, nets)?;
-    let marks = marks_of(alloc, nets, &depths)?;
+    let marks = net_marks(alloc, nets, &depths)?;
     let middles = middles_of(alloc, nets, marks.as_slice())?;
     let slots = place(alloc, nets, marks.as_slice(), middles.as_slice())?;
     let chosen = choose(alloc, nets, marks.as_slice(), middles.as_slice(), slots)?;

@@ -1,7 +1,7 @@
 //! Slots of few crossings in place of those by low ends.
 ghost use Rattle.std.specs.Prelude.{◌≡◌, ◌<◌, ◌≤◌, ◌+◌, ◌^◌, ℕ, List, true, false, length, IfOk};
-ghost use Rattle.route_slots.specs.Pieces.{net_at};
-ghost use Rattle.route_slots.specs.Crossings.{crossings};
+ghost use Rattle.net_routes.specs.Pieces.{net_at};
+ghost use Rattle.net_routes.specs.Crossings.{crossings};
 ghost use Rattle.route_slots.specs.Middles.{AreMiddles};
 ghost use Rattle.route_slots.specs.Marks.{mark_at, AreNetMarks, AreFlat};
 ghost use Rattle.route_slots.specs.Choosing.{IsRelevelled, AreRelevelled, KeepsOrder, AreInOrder, AreGood};
@@ -15,7 +15,7 @@ use crate::middles::Height;
 use crate::sifting::sift;
 use crate::strips::{levels_of, strips_of};
 use crate::tracks::exchange_tracks;
-use crate::{Net, Pin, Slots};
+use net_routes::{Net, Pin, Slots};
 use std::alloc::{AllocError, Global};
 
 // The mark with other levels, with one where the net is not split.

@@ -1,20 +1,12 @@
 //! How many pieces of nets cross.
 ghost use Rattle.std.specs.Prelude.{◌≡◌, ◌≤◌, ◌<◌, length};
-ghost use Rattle.route_slots.specs.Crossings as count;
-ghost use Rattle.route_slots.specs.Crossings.{sum_to, cut_at, crossings};
+ghost use Rattle.net_routes.specs.Crossings as count;
+ghost use Rattle.net_routes.specs.Crossings.{sum_to, cut_at, crossings};
 
-use crate::{Net, NetRoute, Pin};
-
-/// An upright piece between two heights in a slot.
-#[derive(Clone, Copy)]
-pub struct Upright {
-    pub slot: u32,
-    pub from: i64,
-    pub to: i64,
-}
+use net_routes::{Net, NetRoute, Pin, Upright};
 
 // Whether the height lies between the two others.
-#[tactic(auto, unfolding(crate::specs::Crossings::is_over))]
+#[tactic(auto, unfolding(net_routes::specs::Crossings::is_over))]
 fn is_over(x: i64, y: i64, height: i64) -> bool
     ensures { result ≡ count.is_over x y height }
 {
@@ -22,7 +14,7 @@ fn is_over(x: i64, y: i64, height: i64) -> bool
 }
 
 // Whether the line between a border and a slot passes the other slot.
-#[tactic(auto, unfolding(crate::specs::Crossings::passes))]
+#[tactic(auto, unfolding(net_routes::specs::Crossings::passes))]
 fn passes(on_left: bool, slot: u32, other: u32) -> bool
     ensures { result ≡ count.passes on_left slot other }
 {
@@ -30,7 +22,7 @@ fn passes(on_left: bool, slot: u32, other: u32) -> bool
 }
 
 // Whether the line between two slots passes the other slot.
-#[tactic(auto, unfolding(crate::specs::Crossings::is_between))]
+#[tactic(auto, unfolding(net_routes::specs::Crossings::is_between))]
 fn is_between(first: u32, second: u32, other: u32) -> bool
     ensures { result ≡ count.is_between first second other }
 {
@@ -41,7 +33,7 @@ fn is_between(first: u32, second: u32, other: u32) -> bool
     }
 }
 
-#[tactic(auto, unfolding(crate::specs::Crossings::one))]
+#[tactic(auto, unfolding(net_routes::specs::Crossings::one))]
 fn one(crosses: bool) -> u64
     ensures one { result ≡ count.one crosses }
     ensures few { result ≤ 1 }
@@ -50,7 +42,7 @@ fn one(crosses: bool) -> u64
 }
 
 // Crossings of the line at a pin, whose upright piece stands in this slot, with another upright piece.
-#[tactic(auto, unfolding(crate::specs::Crossings::pin_cut))]
+#[tactic(auto, unfolding(net_routes::specs::Crossings::pin_cut))]
 fn pin_cut(pin: Pin, slot: u32, upright: Upright) -> u64
     ensures cut { result ≡ count.pin_cut pin slot upright }
     ensures few { result ≤ 1 }
@@ -62,7 +54,7 @@ fn pin_cut(pin: Pin, slot: u32, upright: Upright) -> u64
 }
 
 // Crossings of the line between the two pieces of a split net.
-#[tactic(auto, unfolding(crate::specs::Crossings::bar_cut))]
+#[tactic(auto, unfolding(net_routes::specs::Crossings::bar_cut))]
 fn bar_cut(first: u32, height: i64, second: u32, upright: Upright) -> u64
     ensures cut { result ≡ count.bar_cut first height second upright }
     ensures few { result ≤ 1 }
@@ -74,7 +66,7 @@ fn bar_cut(first: u32, height: i64, second: u32, upright: Upright) -> u64
 }
 
 // Crossings of a net's level lines with an upright piece.
-#[tactic(auto, unfolding(crate::specs::Crossings::cuts))]
+#[tactic(auto, unfolding(net_routes::specs::Crossings::cuts))]
 fn cuts(net: Net, route: NetRoute, upright: Upright) -> u64
     ensures cuts { result ≡ count.cuts net route upright }
     ensures few { result ≤ 3 }
@@ -95,7 +87,7 @@ fn cuts(net: Net, route: NetRoute, upright: Upright) -> u64
 }
 
 /// Crossings of the second net's level lines with upright pieces of the first.
-#[tactic(auto, unfolding(crate::specs::Crossings::cut))]
+#[tactic(auto, unfolding(net_routes::specs::Crossings::cut))]
 pub fn cut(net: Net, route: NetRoute, other: Net, other_route: NetRoute) -> u64
     ensures cut { result ≡ count.cut net route other other_route }
     ensures few { result ≤ 6 }

@@ -4,7 +4,7 @@ ghost use Rattle.std.specs.Prelude.{◌≡◌, ◌<◌, length};
 
 use crate::marks::{Mark, is_level};
 use crate::middles::Height;
-use crate::{Net, Pin};
+use net_routes::{Net, Pin};
 use std::alloc::{AllocError, Global};
 
 /// An upright piece with its pin and its other end, as a net of its own. Its place is twice the number of its net, or one more

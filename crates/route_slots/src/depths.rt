@@ -2,14 +2,14 @@
 ghost use Rattle.std.specs.Prelude.{◌≡◌, ◌<◌, ◌≤◌, ◌^◌, ℕ, true, length, IfOk, IfSome, IfNone, unwrap_or};
 ghost use Rattle.std.specs.Ordering.{int_cmp};
 ghost use Rattle.std.specs.BTreeMap.{get};
-ghost use Rattle.route_slots.specs.Conflicts.{LiesOnCycle};
+ghost use Rattle.net_routes.specs.Conflicts.{LiesOnCycle};
 ghost use Rattle.route_slots.specs.Numbers.{AreSides, HasNoSides, IsLinkOf, AreLinks};
 ghost use Rattle.route_slots.specs.Depths.{depth, is_split, AreDepths, AreHeld, AreSized};
 
 use crate::heights::{Heights, heights_of};
 use crate::marks::is_level;
-use crate::{Net, Pin};
-use gap_cycles::{Link, cut_cycles};
+use crate::{Link, cut_cycles};
+use net_routes::{Net, Pin};
 use std::alloc::{AllocError, Global};
 use std::collections::BTreeMap;
 

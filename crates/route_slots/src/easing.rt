@@ -1,20 +1,20 @@
 //! Slots by which fewer lines run side by side too near each other, where that costs no crossing and no slot.
 ghost use Rattle.std.specs.Prelude.{◌≡◌, ◌⊎◌, ◌≤◌, ◌^◌, length, IfOk};
 ghost use Rattle.std.specs.List.{All};
-ghost use Rattle.route_slots.specs.GapFree.{IsNet, AreHeights, GapFree};
-ghost use Rattle.route_slots.specs.Conflicts.{HasNoConflict, SplitsOnCycles};
-ghost use Rattle.route_slots.specs.Density.{IsDensity};
-ghost use Rattle.route_slots.specs.Crossings.{crossings};
-ghost use Rattle.route_slots.specs.Standing.{AreApart};
-ghost use Rattle.route_slots.specs.Exchanges.{NoBetterExchange};
-ghost use Rattle.route_slots.specs.Promised.{AreFewest};
+ghost use Rattle.net_routes.specs.GapFree.{IsNet, AreHeights, GapFree};
+ghost use Rattle.net_routes.specs.Conflicts.{HasNoConflict, SplitsOnCycles};
+ghost use Rattle.net_routes.specs.Density.{IsDensity};
+ghost use Rattle.net_routes.specs.Crossings.{crossings};
+ghost use Rattle.net_routes.specs.Standing.{AreApart};
+ghost use Rattle.net_routes.specs.Exchanges.{NoBetterExchange};
+ghost use Rattle.net_routes.specs.Promised.{AreFewest};
 
 use crate::assigning::assign;
 use crate::crossings::crossings_of;
 use crate::lanes::near_lanes;
 use crate::settling::settle;
 use crate::untangling::relaid;
-use crate::{Net, Slots};
+use net_routes::{Net, Slots};
 use std::alloc::{AllocError, Global};
 
 // The other slots, if they are as many and cross no more.

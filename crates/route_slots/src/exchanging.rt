@@ -1,20 +1,22 @@
 //! What the exchange of two neighbouring slots changes.
 ghost use Rattle.std.specs.Prelude.{◌≡◌, ◌≢◌, ◌<◌, ◌≤◌, ◌+◌, ◌^◌, ℕ, List, true, false, length, IfOk, if◌then◌else◌};
-ghost use Rattle.route_slots.specs.Pieces.{net_at, route_at};
-ghost use Rattle.route_slots.specs.Standing.{AreApart};
-ghost use Rattle.route_slots.specs.Crossings.{crossings};
+ghost use Rattle.net_routes.specs.Pieces.{net_at, route_at};
+ghost use Rattle.net_routes.specs.Standing.{AreApart};
+ghost use Rattle.net_routes.specs.Crossings.{crossings};
 ghost use Rattle.route_slots.specs.Exchanges as swap;
-ghost use Rattle.route_slots.specs.Exchanges.{AreExchanged, NoBetterAt, IsBetterAt, row_before, row_after, all_before, all_after};
+ghost use Rattle.net_routes.specs.Exchanges as exchanges;
+ghost use Rattle.route_slots.specs.Exchanges.{IsBetterAt, row_before, row_after, all_before, all_after};
+ghost use Rattle.net_routes.specs.Exchanges.{AreExchanged, NoBetterAt};
 
 use crate::crossings::cut;
-use crate::{Net, NetRoute, Pin};
+use net_routes::{Net, NetRoute, Pin};
 use std::alloc::{AllocError, Global};
 
 // The slot's number after the exchange.
-#[tactic(auto, unfolding(crate::specs::Exchanges::swapped))]
+#[tactic(auto, unfolding(net_routes::specs::Exchanges::swapped))]
 fn swapped(slot: u32, other: u32) -> u32
     requires { slot < 2 ^ 31 }
-    ensures { result ≡ swap.swapped slot other }
+    ensures { result ≡ exchanges.swapped slot other }
 {
     if other == slot {
         slot + 1
@@ -26,10 +28,10 @@ fn swapped(slot: u32, other: u32) -> u32
 }
 
 // The route after the exchange.
-#[tactic(auto, unfolding(crate::specs::Exchanges::exchanged))]
+#[tactic(auto, unfolding(net_routes::specs::Exchanges::exchanged))]
 fn exchanged(slot: u32, route: NetRoute) -> NetRoute
     requires { slot < 2 ^ 31 }
-    ensures { result ≡ swap.exchanged slot route }
+    ensures { result ≡ exchanges.exchanged slot route }
 {
     match route {
         NetRoute::Straight => NetRoute::Straight,

@@ -1,13 +1,13 @@
 //! Levels of the pieces of a gap for few slots, by the demands that an order keeps. Nothing is promised of them: who takes them
 //! judges them.
 ghost use Rattle.std.specs.Prelude.{◌≡◌, length};
-ghost use Rattle.route_slots.specs.Uncrossed.{level_of};
+ghost use Rattle.route_slots.specs.Levels.{level_of};
 
-use crate::Net;
 use crate::demands::{Demands, Part, demands_of, meet, parts_of, wanted, whole_parts};
 use crate::dropping::order_of;
 use crate::marks::Mark;
 use crate::middles::Height;
+use net_routes::Net;
 use std::alloc::{AllocError, Global};
 
 // A part in the order in which parts take their levels.

@@ -2,11 +2,11 @@
 ghost use Rattle.std.specs.Prelude.{◌≡◌, ◌+◌, ◌<◌, ◌≤◌, ◌^◌, ◌⊎◌, ℕ, ℤ, true, length, IfOk, OnOk, Some, IsSome};
 ghost use Rattle.std.specs.Ordering.{int_cmp};
 ghost use Rattle.std.specs.BTreeMap.{get};
-ghost use Rattle.route_slots.specs.GapFree.{HasPin, IsLevelNet};
+ghost use Rattle.net_routes.specs.GapFree.{HasPin, IsLevelNet};
 ghost use Rattle.route_slots.specs.Numbers.{AreNumbers, AreHeightNumbers, HasLeftAt};
 
 use crate::marks::is_level;
-use crate::{Net, Pin};
+use net_routes::{Net, Pin};
 use std::alloc::{AllocError, Global};
 use std::collections::BTreeMap;
 

@@ -2,7 +2,7 @@
 //! who takes them judges them.
 use crate::demands::{Part, in_order, lanes, part_of, split_parts};
 use crate::fitting::level_at;
-use crate::{Net, NetRoute, Slots};
+use net_routes::{Net, NetRoute, Slots};
 use std::alloc::{AllocError, Global};
 
 // What a crossing weighs where a lane too near weighs 1, and what an order that may not be does.

@@ -1,9 +1,14 @@
 //! Routes of nets in one gap: which vertical piece stands in which slot.
+//!
+//! Cycles of conflicts are cut by a search in depth, which goes from net to net and cuts the links that lead back to a net on the
+//! way by which it came. Slots of few crossings are looked for by code that promises nothing, and judged.
 #![tactic(auto)]
 
 mod assigning;
+mod chains;
 mod choosing;
 mod crossings;
+mod cutting;
 mod demands;
 mod depths;
 mod dropping;
@@ -14,6 +19,7 @@ mod fitting;
 mod heights;
 mod lanes;
 pub mod laws;
+mod links;
 mod marks;
 mod middles;
 mod precedence;
@@ -25,42 +31,10 @@ mod strips;
 mod tracks;
 mod uncrossing;
 mod untangling;
+mod walking;
 
 pub use assigning::assign;
+pub use cutting::cut_cycles;
 pub use easing::assign_near;
+pub use links::Link;
 pub use uncrossing::{assign_uncrossed, assign_uncrossed_near};
-
-/// The end of a net at the gap's left or right border, at this height.
-#[derive(Clone, Copy)]
-pub struct Pin {
-    pub on_left: bool,
-    pub height: i64,
-}
-
-/// Two pins to be joined.
-#[derive(Clone, Copy)]
-pub struct Net {
-    pub a: Pin,
-    pub b: Pin,
-}
-
-/// How a net passes its gap. The first slot of a `Two` belongs to the pin `a`.
-#[derive(Clone, Copy)]
-pub enum NetRoute {
-    Straight,
-    One {
-        slot: u32,
-    },
-    Two {
-        first: u32,
-        height: i64,
-        second: u32,
-    },
-}
-
-/// The number of slots of a gap, and a route for each net.
-#[derive(Drop)]
-pub struct Slots {
-    pub count: u32,
-    pub routes: Vec<NetRoute>,
-}

@@ -1,11 +1,11 @@
 //! Which nets have a piece in a slot, which two, and at which levels.
 ghost use Rattle.std.specs.Prelude.{◌≡◌, ◌↔◌, length, IsTrue, IfOk};
-ghost use Rattle.route_slots.specs.GapFree.{IsLevelNet};
+ghost use Rattle.net_routes.specs.GapFree.{IsLevelNet};
 ghost use Rattle.route_slots.specs.Depths.{depth, depth_of, AreDepths, AreSized};
 ghost use Rattle.route_slots.specs.Marks.{IsMarkOf, AreMarked, AreNetMarks};
 
 use crate::depths::Depths;
-use crate::{Net, Pin};
+use net_routes::{Net, Pin};
 use std::alloc::{AllocError, Global};
 
 /// What becomes of a net: it is straight, or it has one piece, or one at each pin; and the levels of its pieces.
@@ -63,7 +63,7 @@ fn mark_of(net: Net, depth_a: u32, depth_b: u32, split: bool) -> Mark
 }
 
 /// The marks of all nets.
-pub fn marks_of(alloc: Global, nets: &[Net], depths: &Depths) -> Result<Vec<Mark>, AllocError>
+pub fn net_marks(alloc: Global, nets: &[Net], depths: &Depths) -> Result<Vec<Mark>, AllocError>
     requires depths { AreDepths nets.now depths.now.splits.items (depth depths.now) }
     requires sized { AreSized depths.now }
     ensures marks { IfOk result (λ marks. AreNetMarks nets.now marks.items) }

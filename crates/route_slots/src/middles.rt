@@ -2,11 +2,11 @@
 ghost use Rattle.std.specs.Prelude.{◌≡◌, ◌⊎◌, ◌<◌, ◌≤◌, ◌^◌, ◌≤ℤ◌, pos, ◌+ℤ◌, ℤ, true, false, length, slice_index, IfOk, OnOk};
 ghost use Rattle.std.specs.List.{All};
 ghost use Rattle.std.specs.Int.{int_min, int_max};
-ghost use Rattle.route_slots.specs.GapFree.{IsHeight, AreHeights};
+ghost use Rattle.net_routes.specs.GapFree.{IsHeight, AreHeights};
 ghost use Rattle.route_slots.specs.Middles.{IsTop, above_top, holds, HoldPins, IsMiddle, AreMiddles};
 
-use crate::Net;
 use crate::marks::Mark;
+use net_routes::Net;
 use std::alloc::{AllocError, Global};
 use std::collections::BTreeSet;
 

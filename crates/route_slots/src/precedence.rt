@@ -1,17 +1,19 @@
 //! Which nets have to stand before which, lest they overlap or cross more often than they have to.
 ghost use Rattle.std.specs.Prelude.{◌≡◌, ◌<◌, true, false, length};
-ghost use Rattle.route_slots.specs.Uncrossed as order;
-ghost use Rattle.route_slots.specs.Uncrossed.{Precedes, KeepApart};
+ghost use Rattle.route_slots.specs.Levels as order;
+ghost use Rattle.net_routes.specs.Uncrossed as uncrossed;
+ghost use Rattle.route_slots.specs.Levels.{KeepApart};
+ghost use Rattle.net_routes.specs.Uncrossed.{Precedes};
 
 use crate::crossings::cut;
 use crate::exchanging::meets;
 use crate::marks::is_level;
-use crate::{Net, NetRoute, Pin};
+use net_routes::{Net, NetRoute, Pin};
 
 // Whether the first pin comes before the second on the way up the left border and down the right one.
-#[tactic(auto, unfolding(crate::specs::Uncrossed::is_before))]
+#[tactic(auto, unfolding(net_routes::specs::Uncrossed::is_before))]
 fn is_before(pin: Pin, other: Pin) -> bool
-    ensures { result ≡ order.is_before pin other }
+    ensures { result ≡ uncrossed.is_before pin other }
 {
     if pin.on_left {
         if other.on_left {
@@ -28,9 +30,9 @@ fn is_before(pin: Pin, other: Pin) -> bool
     }
 }
 
-#[tactic(auto, unfolding(crate::specs::Uncrossed::first_pin))]
+#[tactic(auto, unfolding(net_routes::specs::Uncrossed::first_pin))]
 fn first_pin(net: Net) -> Pin
-    ensures { result ≡ order.first_pin net }
+    ensures { result ≡ uncrossed.first_pin net }
 {
     if is_before(net.a, net.b) {
         net.a
@@ -39,9 +41,9 @@ fn first_pin(net: Net) -> Pin
     }
 }
 
-#[tactic(auto, unfolding(crate::specs::Uncrossed::last_pin))]
+#[tactic(auto, unfolding(net_routes::specs::Uncrossed::last_pin))]
 fn last_pin(net: Net) -> Pin
-    ensures { result ≡ order.last_pin net }
+    ensures { result ≡ uncrossed.last_pin net }
 {
     if is_before(net.a, net.b) {
         net.b
@@ -51,33 +53,33 @@ fn last_pin(net: Net) -> Pin
 }
 
 // Whether pins of the one net and the other come by turns, the first net's first.
-#[tactic(auto, unfolding(crate::specs::Uncrossed::take_turns))]
+#[tactic(auto, unfolding(net_routes::specs::Uncrossed::take_turns))]
 fn take_turns(net: Net, other: Net) -> bool
-    ensures { result ≡ order.take_turns net other }
+    ensures { result ≡ uncrossed.take_turns net other }
 {
     (is_before(first_pin(net), first_pin(other)) & is_before(first_pin(other), last_pin(net)))
         & is_before(last_pin(net), last_pin(other))
 }
 
-#[tactic(auto, unfolding(crate::specs::Uncrossed::alternate))]
+#[tactic(auto, unfolding(net_routes::specs::Uncrossed::alternate))]
 fn alternate(net: Net, other: Net) -> bool
-    ensures { result ≡ order.alternate net other }
+    ensures { result ≡ uncrossed.alternate net other }
 {
     take_turns(net, other) | take_turns(other, net)
 }
 
 // How often the nets have to cross.
-#[tactic(auto, unfolding(crate::specs::Uncrossed::asked, crate::specs::Crossings::one))]
+#[tactic(auto, unfolding(net_routes::specs::Uncrossed::asked, net_routes::specs::Crossings::one))]
 fn asked(net: Net, other: Net) -> u64
-    ensures { result ≡ order.asked net other }
+    ensures { result ≡ uncrossed.asked net other }
 {
     if alternate(net, other) { 1 } else { 0 }
 }
 
 // How often they cross with the first one before the second.
-#[tactic(auto, unfolding(crate::specs::Uncrossed::in_order))]
+#[tactic(auto, unfolding(net_routes::specs::Uncrossed::in_order))]
 fn in_order(net: Net, other: Net) -> u64
-    ensures { result ≡ order.in_order net other }
+    ensures { result ≡ uncrossed.in_order net other }
 {
     let first = NetRoute::One { slot: 0 };
     let second = NetRoute::One { slot: 1 };
@@ -85,7 +87,7 @@ fn in_order(net: Net, other: Net) -> u64
 }
 
 // Whether the first net has a pin on the left as high as one of the second's on the right.
-#[tactic(auto, unfolding(crate::specs::Uncrossed::conflicts))]
+#[tactic(auto, unfolding(crate::specs::Levels::conflicts))]
 fn conflicts(net: Net, other: Net) -> bool
     ensures { result ≡ order.conflicts net other }
 {
@@ -94,7 +96,7 @@ fn conflicts(net: Net, other: Net) -> bool
 }
 
 // Whether the first net's piece has to stand before the second's, if both have one.
-#[tactic(auto, unfolding(crate::specs::Uncrossed::stands_first))]
+#[tactic(auto, unfolding(crate::specs::Levels::stands_first))]
 fn stands_first(net: Net, other: Net) -> bool
     ensures { result ≡ order.stands_first net other }
 {
@@ -106,7 +108,7 @@ fn stands_first(net: Net, other: Net) -> bool
 }
 
 // Whether all of the first net lies at lower heights than all of the second.
-#[tactic(auto, unfolding(crate::specs::Uncrossed::is_past))]
+#[tactic(auto, unfolding(crate::specs::Levels::is_past))]
 fn is_past(net: Net, other: Net) -> bool
     ensures { result ≡ order.is_past net other }
 {

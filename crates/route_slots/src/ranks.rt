@@ -1,10 +1,11 @@
 //! Nets are ranked one after another, each once all that precede it are.
 ghost use Rattle.std.specs.Prelude.{◌≡◌, ◌+◌, ◌<◌, ◌≤◌, ◌^◌, ℕ, true, false, length, IfOk, IfSome, IfNone};
-ghost use Rattle.route_slots.specs.Uncrossed.{Precedes, IsOrderable, AreLevels, level_of};
+ghost use Rattle.route_slots.specs.Levels.{AreLevels, level_of};
+ghost use Rattle.net_routes.specs.Uncrossed.{Precedes, IsOrderable};
 ghost use Rattle.route_slots.specs.Ranks.{no_rank, AreRanks, IsHeldBack, AreHeldBack};
 
-use crate::Net;
 use crate::precedence::precedes;
+use net_routes::Net;
 use std::alloc::{AllocError, Global};
 
 // In place of the level of a net without a rank.

@@ -1,10 +1,11 @@
 //! Neighbouring slots are exchanged until no exchange lessens the crossings.
 ghost use Rattle.std.specs.Prelude.{◌≡◌, ◌<◌, ◌≤◌, ◌+◌, ◌^◌, ◌⊎◌, true, false, length, IfOk};
-ghost use Rattle.route_slots.specs.Crossings.{crossings};
-ghost use Rattle.route_slots.specs.Exchanges.{AreLaid, IsStep, AreSteps, NoBetterExchange};
+ghost use Rattle.net_routes.specs.Crossings.{crossings};
+ghost use Rattle.route_slots.specs.Exchanges.{AreLaid, IsStep, AreSteps};
+ghost use Rattle.net_routes.specs.Exchanges.{NoBetterExchange};
 
 use crate::exchanging::{exchange, improves};
-use crate::{Net, NetRoute, Slots};
+use net_routes::{Net, NetRoute, Slots};
 use std::alloc::{AllocError, Global};
 
 // Routes, and whether any slots were exchanged.

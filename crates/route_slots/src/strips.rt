@@ -3,7 +3,7 @@ ghost use Rattle.std.specs.Prelude.{◌≡◌, ◌≤◌, length};
 
 use crate::marks::Mark;
 use crate::middles::Height;
-use crate::{Net, Pin};
+use net_routes::{Net, Pin};
 use std::alloc::{AllocError, Global};
 
 /// An end that leads on to the left or to the right. Its rank is the number of ends at lower heights.

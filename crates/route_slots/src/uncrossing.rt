@@ -1,13 +1,14 @@
 //! Slots along which each two nets cross no more often than they have to.
 ghost use Rattle.std.specs.Prelude.{◌≡◌, ◌<◌, ◌≤◌, ◌^◌, ℕ, true, length, IfOk, IfSome, IfNone};
 ghost use Rattle.std.specs.List.{All};
-ghost use Rattle.route_slots.specs.Pieces.{net_at};
-ghost use Rattle.route_slots.specs.GapFree.{IsNet, AreHeights, GapFree};
-ghost use Rattle.route_slots.specs.Conflicts.{HasNoConflict, HasOneConflict, SplitsOnCycles};
-ghost use Rattle.route_slots.specs.Standing.{AreApart};
-ghost use Rattle.route_slots.specs.Exchanges.{NoBetterExchange};
-ghost use Rattle.route_slots.specs.Promised.{AreUncrossed};
-ghost use Rattle.route_slots.specs.Uncrossed.{Precedes, IsOrderable, CrossAsAsked, AreLevels, IsLevelMark, AreLevelMarks, level_of};
+ghost use Rattle.net_routes.specs.Pieces.{net_at};
+ghost use Rattle.net_routes.specs.GapFree.{IsNet, AreHeights, GapFree};
+ghost use Rattle.net_routes.specs.Conflicts.{HasNoConflict, HasOneConflict, SplitsOnCycles};
+ghost use Rattle.net_routes.specs.Standing.{AreApart};
+ghost use Rattle.net_routes.specs.Exchanges.{NoBetterExchange};
+ghost use Rattle.net_routes.specs.Promised.{AreUncrossed};
+ghost use Rattle.route_slots.specs.Levels.{AreLevels, IsLevelMark, AreLevelMarks, level_of};
+ghost use Rattle.net_routes.specs.Uncrossed.{Precedes, IsOrderable, CrossAsAsked};
 
 use crate::assigning::{assign, place};
 use crate::fitting::{fitted_nets, level_at};
@@ -16,7 +17,7 @@ use crate::middles::middles_of;
 use crate::precedence::precedes;
 use crate::ranks::ranked;
 use crate::untangling::untangle;
-use crate::{Net, Slots};
+use net_routes::{Net, Slots};
 use std::alloc::{AllocError, Global};
 
 // Whether the first net's level is below those of all that it precedes.

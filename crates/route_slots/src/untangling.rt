@@ -1,8 +1,8 @@
 //! Slots by the demands of nets where not all can be met.
 ghost use Rattle.std.specs.Prelude.{◌≡◌, ◌⊎◌, ◌≤◌, ◌+◌, length, IfOk, IfSome};
 ghost use Rattle.std.specs.List.{All};
-ghost use Rattle.route_slots.specs.GapFree.{IsNet, AreHeights};
-ghost use Rattle.route_slots.specs.Crossings.{crossings};
+ghost use Rattle.net_routes.specs.GapFree.{IsNet, AreHeights};
+ghost use Rattle.net_routes.specs.Crossings.{crossings};
 ghost use Rattle.route_slots.specs.Exchanges.{AreLaid, AreSettled};
 
 use crate::assigning::{assign, place};
@@ -11,10 +11,10 @@ use crate::crossings::crossings_of;
 use crate::depths::depths_of;
 use crate::fitting::fitted_pieces;
 use crate::lanes::eased_pieces;
-use crate::marks::{Mark, marks_of};
+use crate::marks::{Mark, net_marks};
 use crate::middles::{Height, middles_of};
 use crate::settling::settle;
-use crate::{Net, Slots};
+use net_routes::{Net, Slots};
 use std::alloc::{AllocError, Global};
 
 // The slots with fewer crossings, the first where they are as many.
@@ -66,7 +66,7 @@ pub fn relaid(
     ensures few { IfOk result (λ found. IfSome found (λ slots. slots.count ≤ length nets.now + length nets.now)) }
 {
     let depths = depths_of(alloc, nets)?;
-    let marks = marks_of(alloc, nets, &depths)?;
+    let marks = net_marks(alloc, nets, &depths)?;
     let middles = middles_of(alloc, nets, marks.as_slice())?;
     let levels = levels_from(
         alloc,

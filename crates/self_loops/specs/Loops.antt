@@ -1,9 +1,9 @@
 -- The lanes and gaps of self-loops, by the sides of their two docks.
 use Rattle.std.specs.Prelude.{Bool, true, false, ◌&&◌, ◌||◌, not, List, [], ◌∷◌, ◌++◌, map}
 use Rattle.std.specs.Ordering.{int_eq}
-use Rattle.elk_doc.specs.declared.shape.Side.{Side}
-use Rattle.elk_doc.specs.declared.shape.Side.TheVariants.{North, East, South, West}
-use Rattle.elk_doc.specs.PortsKept.{is_side}
+use Rattle.drawing_types.specs.declared.shape.Side.{Side}
+use Rattle.drawing_types.specs.declared.shape.Side.TheVariants.{North, East, South, West}
+use Rattle.drawing_types.specs.Shapes.{is_side}
 use Rattle.self_loops.specs.declared.lanes.LoopEnds.{LoopEnds}
 use Rattle.self_loops.specs.declared.lanes.LoopLane.{LoopLane}
 

@@ -1,9 +1,9 @@
 //! The lanes and gaps of self-loops.
 ghost use Rattle.std.specs.Prelude.{◌≡◌, ◌++◌, IfOk, OnErr, if◌then◌else◌, map, is_ok};
-ghost use Rattle.elk_doc.specs.PortsKept.{is_side};
+ghost use Rattle.drawing_types.specs.Shapes.{is_side};
 ghost use Rattle.self_loops.specs.Loops.{crosses, has_one_dock, lanes_of, lanes_of_all, passes_left, passes_right, sides_of_lanes, sides_of_pair};
 
-use elk_doc::shape::Side;
+use drawing_types::shape::Side;
 use std::alloc::{AllocError, Global};
 
 /// The two ends of a self-loop, by the sides of their docks and the offsets along them, from the left or the top.

@@ -1,6 +1,6 @@
 use Rattle.std.proofs.Common.{subst}
 use Rattle.elk_layers.specs.Lines.{IsLevel}
-use Rattle.row_alignment.proofs.LaneLemmas.{lanes_are_chosen}
+use Rattle.bk_place.proofs.LaneLemmas.{lanes_are_chosen}
 use Rattle.bk_place.proofs.laws.lanes_are_level.Goals as goal
 
 pub returns : goal.returns

@@ -1,6 +1,6 @@
 use Rattle.std.proofs.Common.{◌≡◌, ◌∙◌, sym, ap, subst, length, List, w64}
 use Rattle.std.proofs.lemmas.Int.{to_z-of_z}
-use Rattle.elk_doc.specs.declared.shape.Point.{Point}
+use Rattle.drawing_types.specs.declared.shape.Point.{Point}
 use Rattle.box_pack.specs.declared.walk.Measured.{Measured}
 use Rattle.box_pack.specs.declared.walk.Strip.{Strip}
 use Rattle.box_pack.specs.Walk.{measured_to, strip_of, AreSpots, IsStrip}

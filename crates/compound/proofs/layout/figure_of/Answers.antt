@@ -1,7 +1,7 @@
 use Rattle.std.proofs.Common.{sym, subst}
 use Rattle.std.proofs.lemmas.Result.{IfOk-weaker}
-use Rattle.document_levels.specs.Read.{AreSizes}
-use Rattle.document_levels.specs.Canvas.{drawing_of}
+use Rattle.level_io.specs.Read.{AreSizes}
+use Rattle.level_io.specs.Canvas.{drawing_of}
 use Rattle.compound.proofs.LayoutLemmas.{are_sizes, component, is_level, level_read}
 use Rattle.compound.proofs.layout.figure_of.Goals as goal
 

@@ -1,8 +1,8 @@
 use Rattle.std.proofs.Common.{◌∙◌, ap, map, subst, sym}
 use Rattle.elk_doc.specs.Drawn.{Drawn}
 use Rattle.elk_doc.specs.Fitted.{Fitted}
-use Rattle.document_levels.specs.Canvas.{drawing_of}
-use Rattle.document_plan.specs.Planned.{Planned}
+use Rattle.level_io.specs.Canvas.{drawing_of}
+use Rattle.compound.specs.Planned.{Planned}
 use Rattle.drawing_laws.specs.Held.{HasSmallCoordinates}
 use Rattle.compound.specs.Work.{given_size}
 use Rattle.compound.proofs.EndLemmas.{laid_out, root_box, well_drawn}

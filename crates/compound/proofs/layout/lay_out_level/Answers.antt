@@ -1,7 +1,7 @@
 use Rattle.std.proofs.Common.{ap, subst, set}
 use Rattle.std.specs.Prelude.{Option, IfSome}
 use Rattle.elk_doc.specs.declared.document.LevelOptions.{LevelOptions}
-use Rattle.document_levels.specs.Canvas.{drawing_of}
+use Rattle.level_io.specs.Canvas.{drawing_of}
 use Rattle.compound.specs.Work.{IsFramedRound}
 use Rattle.compound.proofs.FrameLemmas.{worked}
 use Rattle.compound.proofs.LayoutLemmas.{figure_writable}

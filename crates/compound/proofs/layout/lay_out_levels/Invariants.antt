@@ -1,5 +1,5 @@
 use Rattle.std.proofs.Common.{◌≤◌, length}
-use Rattle.document_levels.specs.Canvas.{drawing_of}
+use Rattle.level_io.specs.Canvas.{drawing_of}
 use Rattle.compound.specs.Work.{IsWork}
 use Rattle.compound.proofs.layout.lay_out_levels.Given as goal
 

@@ -1,7 +1,7 @@
 use Rattle.std.proofs.Common.{◌≡◌, ◌∙◌, None, IsNone, ap, refl, subst, sym}
 use Rattle.elk_doc.specs.declared.document.Node.{Node}
 use Rattle.elk_doc.specs.Document.{node_at}
-use Rattle.document_levels.specs.Canvas.{drawing_of}
+use Rattle.level_io.specs.Canvas.{drawing_of}
 use Rattle.compound.proofs.FrameLemmas.{leaf_worked}
 use Rattle.compound.proofs.layout.lay_out_node.Goals as goal
 

@@ -1,5 +1,5 @@
 use Rattle.elk_doc.specs.Document.{node_at}
-use Rattle.document_levels.specs.Canvas.{drawing_of}
+use Rattle.level_io.specs.Canvas.{drawing_of}
 use Rattle.compound.proofs.WrittenLemmas.{framed_round, still_complete}
 use Rattle.compound.proofs.layout.write_layout.Goals as goal
 

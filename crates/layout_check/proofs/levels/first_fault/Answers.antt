@@ -1,5 +1,5 @@
 use Rattle.std.proofs.Common.{MatchOption, Option, subst, below_more}
-use Rattle.check_faults.specs.declared.fault.Fault.{Fault}
+use Rattle.layout_check.specs.declared.fault.Fault.{Fault}
 use Rattle.layout_check.specs.Definitions.{FailsAt, HoldsAt}
 use Rattle.layout_check.proofs.levels.first_fault.Goals as goal
 

@@ -1,7 +1,7 @@
 use Rattle.std.proofs.Common.{◌≡◌, ℕ, ◌+◌, ◌<◌, List, MatchOption, Option, arith, ap, length, refl, slice_index_or, subst, sym, below_more}
 use Rattle.elk_doc.specs.declared.drawing.Placed.{Placed}
 use Rattle.elk_doc.specs.Document.{Document}
-use Rattle.check_faults.specs.declared.fault.Fault.{Fault}
+use Rattle.layout_check.specs.declared.fault.Fault.{Fault}
 use Rattle.layout_check.specs.declared.definition.Definition.{Definition}
 use Rattle.layout_check.specs.declared.definition.Definition.TheVariants.{Apart}
 use Rattle.layout_check.specs.Definitions.{Everywhere, FailsFirst, definition_at, definitions}

@@ -1,8 +1,8 @@
 use Rattle.std.proofs.Common.{ℕ, Bool, [], List, length, sym, subst}
-use Rattle.level_plan.specs.Conditions.{plain_level, plain_plan}
-use Rattle.level_plan.specs.Marks.{AreMarks}
-use Rattle.level_plan.specs.Units.{AreLinked}
-use Rattle.level_units.specs.Tabled.{IsTableOf}
+use Rattle.level_model.specs.Conditions.{plain_level, plain_plan}
+use Rattle.level_model.specs.Marks.{AreMarks}
+use Rattle.level_model.specs.Units.{AreLinked}
+use Rattle.layer_units.specs.Tabled.{IsTableOf}
 use Rattle.level_draw.specs.Drawing.{plan_from}
 use Rattle.level_draw.proofs.Planned.{linked_kept, tabled}
 use Rattle.level_draw.proofs.drawing.draw.Goals as goal

@@ -1,7 +1,7 @@
 use Rattle.std.proofs.Common.{ℕ, List, length, refl, sym, subst}
-use Rattle.level_plan.specs.Conditions.{plain_level, plain_plan}
-use Rattle.level_plan.specs.Marks.{AreMarks}
-use Rattle.level_units.specs.Tabled.{IsTableOf}
+use Rattle.level_model.specs.Conditions.{plain_level, plain_plan}
+use Rattle.level_model.specs.Marks.{AreMarks}
+use Rattle.layer_units.specs.Tabled.{IsTableOf}
 use Rattle.level_draw.specs.Drawing.{IsDrawable, plan_from}
 use Rattle.level_draw.specs.Sketched.{IsSketch}
 use Rattle.level_draw.proofs.Answering.{answered}

@@ -1,5 +1,5 @@
 use Rattle.std.proofs.Common.{pos, ◌+ℤ◌}
-use Rattle.level_plan.specs.Conditions.{plain_level}
+use Rattle.level_model.specs.Conditions.{plain_level}
 use Rattle.level_draw.specs.Draft.{plan_in}
 use Rattle.level_draw.proofs.Sketching.{moved_drawn, moved_tight}
 use Rattle.level_draw.proofs.drawing.sketch_of.Goals as goal

@@ -1,6 +1,6 @@
 use Rattle.std.proofs.Common.{arith}
 use Rattle.std.proofs.lemmas.Int.{ints}
-use Rattle.elk_doc.proofs.ShapeLaws.{same_rect}
+use Rattle.drawing_types.proofs.SameShapes.{same_rect}
 use Rattle.level_draw.proofs.outlines.outline_from.Goals as goal
 
 pub returns : goal.returns

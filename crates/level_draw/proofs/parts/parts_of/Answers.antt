@@ -1,12 +1,12 @@
 use Rattle.std.proofs.Common.{ℤ, refl, sym, subst, ap, ◌∙◌, List, length}
 use Rattle.elk_layers.specs.Layered.{rows_of}
-use Rattle.elk_doc.specs.declared.shape.Point.{Point}
+use Rattle.drawing_types.specs.declared.shape.Point.{Point}
 use Rattle.route_lines.specs.declared.Gap.{Gap}
 use Rattle.route_lines.specs.declared.Trace.{Trace}
-use Rattle.level_plan.specs.declared.table.ChildAt.{ChildAt}
+use Rattle.level_model.specs.declared.table.ChildAt.{ChildAt}
 use Rattle.level_nets.specs.Parts.{parts, IsGiven}
 use Rattle.level_nets.specs.Routed.{AreGapsOf, AreLegsOf}
-use Rattle.level_traces.specs.Traced.{AreRoutesOf}
+use Rattle.level_draw.specs.Traced.{AreRoutesOf}
 use Rattle.level_draw.specs.Joined.{AreJoinable, AreJoined}
 use Rattle.level_draw.specs.Outlines.{AreNearby, AreOutlines}
 use Rattle.level_draw.specs.Parts.{ports_in}

@@ -1,8 +1,8 @@
 use Rattle.std.proofs.Common.{sym, subst}
 use Rattle.std.specs.List.{All}
-use Rattle.elk_doc.specs.Fits.{IsNear}
+use Rattle.drawing_types.specs.Ranges.{IsNear}
 use Rattle.route_lines.specs.Points.{IsTrace, IsJoinOf}
-use Rattle.level_plan.specs.FromPlan.{PlainTrace}
+use Rattle.level_model.specs.FromPlan.{PlainTrace}
 use Rattle.level_nets.specs.Held.{plain_gaps}
 use Rattle.level_draw.specs.Joined.{points_through}
 use Rattle.level_draw.proofs.SectionLemmas.{trace_read, joined_more}

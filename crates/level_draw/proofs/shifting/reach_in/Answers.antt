@@ -1,7 +1,7 @@
 use Rattle.std.proofs.Common.{◌≡◌, [], sym, subst, List, IfSome}
-use Rattle.elk_doc.specs.declared.shape.Rect.{Rect}
-use Rattle.elk_doc.specs.declared.drawing.Section.{Section}
-use Rattle.level_frame.specs.Reach.{IsReach, reached}
+use Rattle.drawing_types.specs.declared.shape.Rect.{Rect}
+use Rattle.drawing_types.specs.declared.section.Section.{Section}
+use Rattle.working_frame.specs.Reach.{IsReach, reached}
 use Rattle.level_draw.proofs.ReachFar.{reach_far, reach_of_all}
 use Rattle.level_draw.proofs.shifting.reach_in.Goals as goal
 

@@ -1,10 +1,10 @@
 use Rattle.std.proofs.Common.{ℕ, Bool, List, length, sym, subst}
-use Rattle.level_plan.specs.Conditions.{plain_level, plain_plan}
-use Rattle.level_plan.specs.Marks.{AreMarks}
-use Rattle.level_units.specs.Tabled.{IsTableOf}
+use Rattle.level_model.specs.Conditions.{plain_level, plain_plan}
+use Rattle.level_model.specs.Marks.{AreMarks}
+use Rattle.layer_units.specs.Tabled.{IsTableOf}
 use Rattle.level_draw.specs.Drawing.{IsDrawn, IsMadeFrom, plan_from}
 use Rattle.level_layout.specs.Layout.{IsLaidOut}
-use Rattle.level_units.proofs.UnitLemmas.{make_units}
+use Rattle.layer_units.proofs.UnitLemmas.{make_units}
 use Rattle.level_layout.proofs.LayoutLemmas.{drawable, if_both, laid_out, linked_by, pinned_by, pins_small, units_few}
 use Rattle.level_layout.proofs.layout.layout_level.Goals as goal
 

@@ -1,6 +1,6 @@
 use Rattle.elk_layers.specs.declared.units.Lines.{Lines}
 use Rattle.elk_layers.specs.Layered.{plain, rows_of}
-use Rattle.row_blocks.specs.Constraints.{EndsWithinStack}
+use Rattle.unit_blocks.specs.Constraints.{EndsWithinStack}
 use Rattle.bk_place.specs.Placement.{AreLinesOf}
 use Rattle.level_layout.specs.Chosen.{AreLeastHigh, AreChosenLines}
 use Rattle.level_layout.proofs.LayoutLemmas.{if_both}

@@ -1,7 +1,7 @@
 use Rattle.std.proofs.Common.{ℕ, List, [], length, sym, subst}
 use Rattle.elk_layers.specs.Layered.{plain, rows_of}
-use Rattle.level_plan.specs.Conditions.{plain_level}
-use Rattle.level_plan.specs.Marks.{AreMarks}
+use Rattle.level_model.specs.Conditions.{plain_level}
+use Rattle.level_model.specs.Marks.{AreMarks}
 use Rattle.level_layout.proofs.LayerLemmas.{layers_from}
 use Rattle.level_layout.proofs.UnitsLemmas.{started, units_ranked}
 use Rattle.level_layout.proofs.phases.start_for.Goals as goal

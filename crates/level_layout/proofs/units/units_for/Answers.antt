@@ -1,8 +1,8 @@
 use Rattle.std.proofs.Common.{List, Option, subst, sym}
 use Rattle.graph_arena.specs.declared.keys.EdgeKey.{EdgeKey}
-use Rattle.level_plan.specs.Conditions.{plain_level}
-use Rattle.level_units.specs.Layering.{layering}
-use Rattle.level_units.specs.Chained.{AreChained}
+use Rattle.level_model.specs.Conditions.{plain_level}
+use Rattle.layer_units.specs.Layering.{layering}
+use Rattle.layer_units.specs.Chained.{AreChained}
 use Rattle.level_layout.proofs.ChainLemmas.{lengths, onward}
 use Rattle.level_layout.proofs.units.units_for.Goals as goal
 

@@ -1,8 +1,8 @@
 use Rattle.std.proofs.Common.{List, w64, subst, arith}
 use Rattle.std.proofs.lemmas.Int.{ints, to_z-of_z}
-use Rattle.route_slots.specs.declared.Net.{Net}
-use Rattle.route_slots.specs.GapFree.{GapFree}
-use Rattle.level_plan.specs.FromPlan.{AreSlots}
+use Rattle.net_routes.specs.declared.Net.{Net}
+use Rattle.net_routes.specs.GapFree.{GapFree}
+use Rattle.level_model.specs.FromPlan.{AreSlots}
 use Rattle.level_nets.proofs.borders.place_gap.Goals as goal
 
 pub returns-clause-placed : goal.returns-clause-placed

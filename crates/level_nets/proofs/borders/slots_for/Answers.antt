@@ -1,5 +1,5 @@
 use Rattle.std.proofs.Common.{IfOk, sym, subst}
-use Rattle.level_plan.specs.FromPlan.{AreSlots}
+use Rattle.level_model.specs.FromPlan.{AreSlots}
 use Rattle.level_nets.proofs.borders.slots_for.Goals as goal
 
 pub returns-in-Fewest-clause-asked : goal.returns-in-Fewest-clause-asked

@@ -2,8 +2,8 @@ use Rattle.std.proofs.Common.{◌≡◌, ◌∙◌, ◌<◌, ◌+◌, ◌-◌, l
 use Rattle.std.proofs.lemmas.Int.{to_z-of_z}
 use Rattle.elk_layers.specs.declared.units.Unit.{Unit as LayerUnit}
 use Rattle.elk_layers.specs.Layered.{layer_of, unit_at}
-use Rattle.level_plan.specs.declared.table.ChildAt.{ChildAt}
-use Rattle.level_plan.specs.Table.{child_in}
+use Rattle.level_model.specs.declared.table.ChildAt.{ChildAt}
+use Rattle.level_model.specs.Table.{child_in}
 use Rattle.level_nets.specs.Reach.{parts_in}
 use Rattle.level_nets.specs.Placed.{AreWidest}
 use Rattle.level_nets.proofs.BorderLemmas.{widest_more, widest_all}

@@ -1,7 +1,7 @@
 use Rattle.std.proofs.Common.{◌≡◌, true, rules}
 use Rattle.std.proofs.lemmas.Result.{IfOk-weaker, on_ok_weaker}
-use Rattle.level_plan.specs.Level.{end_at}
-use Rattle.level_plan.specs.Nets.{of_dock}
+use Rattle.level_model.specs.Level.{end_at}
+use Rattle.level_model.specs.Nets.{of_dock}
 use Rattle.level_nets.specs.Read.{is_turned_back}
 use Rattle.level_nets.specs.Reach.{parts_in}
 use Rattle.level_nets.specs.Held.{plain_gaps}

@@ -1,6 +1,6 @@
 use Rattle.std.proofs.Common.{◌≡◌, ◌∙◌, ℕ, List, ◌++◌, ◌∷◌, [], length, true, subst, ap, arith}
-use Rattle.level_plan.specs.Level.{end_at}
-use Rattle.level_plan.specs.Nets.{Name}
+use Rattle.level_model.specs.Level.{end_at}
+use Rattle.level_model.specs.Nets.{Name}
 use Rattle.level_nets.specs.Read.{HoldNets, dock_names}
 use Rattle.level_nets.specs.Reach.{parts_in}
 use Rattle.level_nets.specs.Held.{plain_gaps, behind_docks}

@@ -1,6 +1,6 @@
 use Rattle.std.proofs.Common.{arith}
 use Rattle.std.proofs.lemmas.Result.{IfOk-weaker, on_ok_weaker}
-use Rattle.level_plan.specs.Nets.{of_link}
+use Rattle.level_model.specs.Nets.{of_link}
 use Rattle.level_nets.specs.Reach.{parts_in}
 use Rattle.level_nets.specs.Held.{plain_gaps}
 use Rattle.level_nets.proofs.Holding.{held_more, leg_is}

@@ -2,7 +2,7 @@ use Rattle.std.proofs.Common.{◌≡◌, ◌∙◌, List, length, sym, subst, ap
 use Rattle.level_nets.specs.Read.{HoldNets}
 use Rattle.level_nets.specs.Reach.{parts_in}
 use Rattle.level_nets.specs.Held.{plain_gaps}
-use Rattle.level_plan.specs.Nets.{Name}
+use Rattle.level_model.specs.Nets.{Name}
 use Rattle.level_nets.specs.Read.{link_names}
 use Rattle.level_nets.proofs.Holding.{link_names_more, behind_docks_none}
 use Rattle.level_nets.proofs.PushLemmas.{few_links, link_legs_more}

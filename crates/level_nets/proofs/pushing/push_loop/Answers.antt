@@ -1,6 +1,6 @@
 use Rattle.std.proofs.Common.{List, ◌++◌, subst, arith}
-use Rattle.elk_doc.specs.declared.shape.Side.TheVariants.{West}
-use Rattle.level_plan.specs.Nets.{Name, if_passed}
+use Rattle.drawing_types.specs.declared.shape.Side.TheVariants.{West}
+use Rattle.level_model.specs.Nets.{Name, if_passed}
 use Rattle.level_nets.specs.Read.{HoldNets, passes_west}
 use Rattle.level_nets.specs.Reach.{parts_in}
 use Rattle.level_nets.specs.Held.{plain_gaps, behind_loops}

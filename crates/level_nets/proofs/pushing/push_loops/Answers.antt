@@ -1,5 +1,5 @@
 use Rattle.std.proofs.Common.{◌≡◌, ◌∙◌, List, length, subst, ap, arith}
-use Rattle.level_plan.specs.Nets.{Name}
+use Rattle.level_model.specs.Nets.{Name}
 use Rattle.level_nets.specs.Read.{HoldNets}
 use Rattle.level_nets.specs.Reach.{parts_in}
 use Rattle.level_nets.specs.Held.{plain_gaps, behind_loops}

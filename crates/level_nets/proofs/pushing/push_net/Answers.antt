@@ -1,5 +1,5 @@
 use Rattle.std.proofs.Common.{List, length, get_or, ap, arith}
-use Rattle.route_slots.specs.declared.Net.{Net}
+use Rattle.net_routes.specs.declared.Net.{Net}
 use Rattle.route_lines.specs.Points.{PlainGap}
 use Rattle.level_nets.proofs.PushLemmas.{pushed_is, few_here}
 use Rattle.level_nets.proofs.pushing.push_net.Goals as goal

@@ -2,7 +2,7 @@ use Rattle.std.proofs.Common.{◌∙◌, ap, arith}
 use Rattle.std.proofs.lemmas.Int.{ints}
 use Rattle.elk_layers.specs.declared.units.Unit.{Unit as LayerUnit}
 use Rattle.elk_layers.specs.Layered.{unit_at}
-use Rattle.level_plan.specs.declared.table.ChildAt.{ChildAt}
+use Rattle.level_model.specs.declared.table.ChildAt.{ChildAt}
 use Rattle.level_nets.specs.Reach.{parts_in}
 use Rattle.level_nets.proofs.reading.anchor_below.Goals as goal
 

@@ -1,5 +1,5 @@
 use Rattle.std.proofs.Common.{◌∙◌, ap}
-use Rattle.level_plan.specs.declared.table.EndAt.{EndAt}
+use Rattle.level_model.specs.declared.table.EndAt.{EndAt}
 use Rattle.level_nets.specs.Read.{gap_named, gap_at}
 use Rattle.level_nets.specs.Reach.{parts_in}
 use Rattle.level_nets.proofs.reading.dock_gap.Goals as goal

@@ -1,5 +1,5 @@
 use Rattle.std.proofs.Common.{◌∙◌, ap, sym, subst, true}
-use Rattle.level_plan.specs.declared.table.EndAt.{EndAt}
+use Rattle.level_model.specs.declared.table.EndAt.{EndAt}
 use Rattle.level_nets.specs.Read.{gap_named, gap_at}
 use Rattle.level_nets.specs.Reach.{parts_in, IsDockIn}
 use Rattle.level_nets.proofs.reading.loop_gap.Goals as goal

@@ -1,9 +1,9 @@
 use Rattle.std.proofs.Common.{◌∙◌, FitsSigned, w64, sym, subst, ap, rules}
 use Rattle.std.proofs.lemmas.Int.{to_z-of_z}
-use Rattle.elk_doc.specs.declared.shape.Side.TheVariants.{East}
-use Rattle.elk_doc.specs.PortsKept.{is_side}
-use Rattle.level_plan.specs.declared.table.EndAt.{EndAt}
-use Rattle.level_plan.specs.Level.{end_at}
+use Rattle.drawing_types.specs.declared.shape.Side.TheVariants.{East}
+use Rattle.drawing_types.specs.Shapes.{is_side}
+use Rattle.level_model.specs.declared.table.EndAt.{EndAt}
+use Rattle.level_model.specs.Level.{end_at}
 use Rattle.level_nets.specs.Read.{dock_at, below_unit, loop_below}
 use Rattle.level_nets.specs.Reach.{parts_in, IsDockIn, IsPassing}
 use Rattle.level_nets.proofs.PinLemmas.{pin_is, passes_beside}

@@ -1,6 +1,6 @@
 use Rattle.std.proofs.Common.{◌≡◌, map, take, slice_index}
-use Rattle.level_plan.specs.Conditions.{plain_level}
-use Rattle.level_plan.specs.Level.{edge_at}
+use Rattle.level_model.specs.Conditions.{plain_level}
+use Rattle.level_model.specs.Level.{edge_at}
 use Rattle.level_parts.specs.Divided.{placed_at}
 use Rattle.level_parts.proofs.copying.edges_in.Given as goal
 

@@ -3,7 +3,7 @@ use Rattle.std.proofs.lemmas.Result.{IfOk-weaker}
 use Rattle.network_laws.specs.declared.network.NetEdge.{NetEdge}
 use Rattle.network_laws.specs.Network.{EndsBelow}
 use Rattle.network_laws.specs.Parts.{ArePartNumbers}
-use Rattle.level_plan.specs.Conditions.{plain_level}
+use Rattle.level_model.specs.Conditions.{plain_level}
 use Rattle.level_parts.specs.Parts.{join}
 use Rattle.level_parts.proofs.PartLemmas.{are_parts, ends_below}
 use Rattle.level_parts.proofs.numbering.numbers_of.Goals as goal

@@ -1,6 +1,6 @@
 use Rattle.std.proofs.Common.{◌≡◌, ◌<◌, ◌∙◌, ℕ, List, length, rules, slice_index, subst, sym}
 use Rattle.network_parts.specs.Dividing.{ArePlaces}
-use Rattle.level_plan.specs.Conditions.{plain_level}
+use Rattle.level_model.specs.Conditions.{plain_level}
 use Rattle.level_parts.specs.Divided.{edge_keys, members}
 use Rattle.level_parts.proofs.GroupLemmas.{row_found}
 use Rattle.level_parts.proofs.LevelLemmas.{child_in, edge_in}

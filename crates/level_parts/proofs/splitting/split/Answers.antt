@@ -1,5 +1,5 @@
 use Rattle.std.proofs.Common.{◌≡◌, ◌<◌, ◌∙◌, ℕ, List, ap, arith, length, slice_index, subst, sym}
-use Rattle.level_plan.specs.Conditions.{plain_level, IsLevel}
+use Rattle.level_model.specs.Conditions.{plain_level, IsLevel}
 use Rattle.network_parts.specs.Dividing.{AreCounted}
 use Rattle.level_parts.specs.declared.levels.PartLevel.{PartLevel}
 use Rattle.level_parts.specs.Divided.{edge_keys}

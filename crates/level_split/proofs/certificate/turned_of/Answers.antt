@@ -5,8 +5,8 @@ use Rattle.level_parts.specs.Split.{part_at}
 use Rattle.level_split.proofs.StepLemmas.{certificate_read, part_read, turned_more}
 use Rattle.level_split.proofs.certificate.turned_of.Goals as goal
 
-pub marks_of-requires : goal.marks_of-requires
-marks_of-requires c =
+pub listed_marks-requires : goal.listed_marks-requires
+listed_marks-requires c =
     let i = c.loop-i.i in
     let test = c.loop-i-test.true in
     let many = c.requires.same in
@@ -21,6 +21,6 @@ loop-i-preserved c =
     let test = c.loop-i-test.true in
     let many = c.requires.same in
     let inside : i < length c.args.outs.now = omega (arith, test, many) in
-    turned_more c.args.outs.now (λ k. length (part_at c.args.parts.now k).edges) i c.loop-i.marks.items c.push.new.self.items c.in_ok-marks_of.field-0 c.as_slice-listed.result.now c.len.result c.loop-i.invariant c.in_ok-push.ensures.items
+    turned_more c.args.outs.now (λ k. length (part_at c.args.parts.now k).edges) i c.loop-i.marks.items c.push.new.self.items c.in_ok-listed_marks.field-0 c.as_slice-listed.result.now c.len.result c.loop-i.invariant c.in_ok-push.ensures.items
     (c.as_slice-listed.ensures.value ∙ ap (λ (x : Certificate). x.reversed) (certificate_read c.args.outs.now i _ inside))
-    (c.len.ensures ∙ ap (λ (x : PartLevel). length x.edges) (part_read c.args.parts.now i _ test)) c.in_ok-marks_of.ensures
+    (c.len.ensures ∙ ap (λ (x : PartLevel). length x.edges) (part_read c.args.parts.now i _ test)) c.in_ok-listed_marks.ensures

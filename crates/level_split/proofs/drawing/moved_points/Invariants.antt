@@ -1,5 +1,5 @@
 use Rattle.std.proofs.Common.{◌≡◌, map, take}
-use Rattle.level_frame.specs.Drawing.{plus}
+use Rattle.working_frame.specs.Drawing.{plus}
 use Rattle.level_split.proofs.drawing.moved_points.Given as goal
 
 abbrev pub invariant-loop-point : goal.invariant-loop-point

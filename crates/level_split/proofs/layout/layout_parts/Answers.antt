@@ -1,7 +1,7 @@
 use Rattle.std.proofs.Common.{◌≤◌, List, length, subst, subst₂, sym, w64}
 use Rattle.std.proofs.lemmas.Int.{to_z-of_z}
 use Rattle.box_pack.specs.Boxes.{AreSizes}
-use Rattle.elk_doc.specs.declared.shape.Point.{Point}
+use Rattle.drawing_types.specs.declared.shape.Point.{Point}
 use Rattle.level_draw.specs.declared.drawing.LevelOut.{LevelOut}
 use Rattle.level_parts.specs.declared.levels.PartLevel.{PartLevel}
 use Rattle.level_split.specs.Gathered.{AreLayouts, ArePartDrawings, AreSeated, drawing_at, extents_of}

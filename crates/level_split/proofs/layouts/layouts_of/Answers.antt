@@ -1,6 +1,6 @@
 use Rattle.std.proofs.Common.{subst, sym}
 use Rattle.level_layout.specs.Layout.{IsLaidOut}
-use Rattle.level_plan.specs.Conditions.{IsLevel, plain_level}
+use Rattle.level_model.specs.Conditions.{IsLevel, plain_level}
 use Rattle.level_parts.specs.declared.levels.PartLevel.{PartLevel}
 use Rattle.level_split.proofs.StepLemmas.{layouts_more, part_read}
 use Rattle.level_split.proofs.layouts.layouts_of.Goals as goal

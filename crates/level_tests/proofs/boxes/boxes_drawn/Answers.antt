@@ -1,5 +1,5 @@
-use Rattle.level_plan.specs.Conditions.{plain_level}
-use Rattle.level_boxes.proofs.ExampleLemmas.{level_is}
+use Rattle.level_model.specs.Conditions.{plain_level}
+use Rattle.level_split.proofs.ExampleLemmas.{level_is}
 use Rattle.level_tests.proofs.boxes.boxes_drawn.Goals as goal
 
 pub layout_boxes-requires : goal.layout_boxes-requires

@@ -1,5 +1,5 @@
 use Rattle.elk_layers.specs.Layered.{plain, rows_of}
-use Rattle.level_plan.specs.Conditions.{plain_level}
+use Rattle.level_model.specs.Conditions.{plain_level}
 use Rattle.level_tests.proofs.ChainedDrawn.{drawable_from}
 use Rattle.level_tests.proofs.drawn.chained_drawn.Goals as goal
 

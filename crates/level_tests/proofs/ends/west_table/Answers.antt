@@ -1,8 +1,8 @@
 use Rattle.std.proofs.Common.{ℕ, Bool, List, [], length, sym, subst}
-use Rattle.level_plan.specs.Marks.{AreMarks}
+use Rattle.level_model.specs.Marks.{AreMarks}
 use Rattle.elk_layers.specs.Layered.{plain, rows_of}
-use Rattle.level_plan.specs.Conditions.{plain_level}
-use Rattle.level_ends.proofs.WestLemmas.{level_is, linked_is, rows_are, sound_is}
+use Rattle.level_model.specs.Conditions.{plain_level}
+use Rattle.dock_table.proofs.WestLemmas.{level_is, linked_is, rows_are, sound_is}
 use Rattle.level_tests.proofs.ends.west_table.Goals as goal
 
 pub table_of-requires-clause-level : goal.table_of-requires-clause-level

@@ -1,5 +1,5 @@
 use Rattle.std.proofs.Common.{ℕ, Bool, List, [], length, sym, subst, refl}
-use Rattle.level_plan.specs.Marks.{AreMarks}
+use Rattle.level_model.specs.Marks.{AreMarks}
 use Rattle.level_nets.specs.Parts.{IsGiven}
 use Rattle.level_nets.proofs.WorkedLemmas.{worked_parts, parallel_given}
 use Rattle.level_tests.proofs.gaps.routing.Goals as goal

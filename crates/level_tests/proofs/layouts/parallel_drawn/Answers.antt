@@ -1,5 +1,5 @@
 use Rattle.std.proofs.Common.{subst, sym}
-use Rattle.level_plan.specs.Conditions.{IsLevel}
+use Rattle.level_model.specs.Conditions.{IsLevel}
 use Rattle.level_nets.proofs.WorkedLemmas.{parallel_given}
 use Rattle.level_tests.proofs.layouts.parallel_drawn.Goals as goal
 

@@ -1,4 +1,4 @@
-use Rattle.level_plan.specs.Conditions.{plain_level}
+use Rattle.level_model.specs.Conditions.{plain_level}
 use Rattle.level_tests.proofs.SmallLevels.{mixed_is}
 use Rattle.level_tests.proofs.parts.parts_of_mixed.Goals as goal
 

@@ -1,6 +1,6 @@
 use Rattle.std.proofs.Common.{◌≡◌, [], rules}
-use Rattle.document_plan.specs.Examples.{rooted}
-use Rattle.document_plan.proofs.ExampleLemmas.{rooted_sound}
+use Rattle.compound.specs.Examples.{rooted}
+use Rattle.compound.proofs.ExampleLemmas.{rooted_sound}
 use Rattle.level_tests.proofs.roots.make_document.Goals as goal
 
 pub new-requires-2 : goal.new-requires-2

@@ -1,6 +1,6 @@
 use Rattle.std.proofs.Common.{arith}
 use Rattle.std.proofs.lemmas.Int.{ints}
-use Rattle.level_plan.specs.Conditions.{plain_level}
+use Rattle.level_model.specs.Conditions.{plain_level}
 use Rattle.level_tests.proofs.SmallLevels.{mixed_is}
 use Rattle.level_tests.proofs.rows.parts_drawn.Goals as goal
 

@@ -1,6 +1,6 @@
 use Rattle.std.proofs.Common.{◌≡◌, refl, rules}
 use Rattle.elk_doc.specs.declared.document.Direction.TheVariants.{Right}
-use Rattle.document_levels.specs.Written.{rows_in}
+use Rattle.level_io.specs.Written.{rows_in}
 use Rattle.level_tests.specs.Turning.{port_rows}
 use Rattle.level_tests.proofs.TurningLemmas.{are_numbers}
 use Rattle.level_tests.proofs.writing.framed.Goals as goal

@@ -1,6 +1,6 @@
 use Rattle.std.proofs.Common.{◌≡◌, refl, arith, rules}
-use Rattle.document_levels.specs.Canvas.{drawing_of}
-use Rattle.document_levels.specs.Written.{rows_in}
+use Rattle.level_io.specs.Canvas.{drawing_of}
+use Rattle.level_io.specs.Written.{rows_in}
 use Rattle.level_tests.specs.Turning.{port_rows}
 use Rattle.level_tests.proofs.TurningLemmas.{are_numbers, is_writable}
 use Rattle.level_tests.proofs.writing.written.Goals as goal

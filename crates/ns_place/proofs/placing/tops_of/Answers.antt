@@ -5,7 +5,7 @@ use Rattle.std.specs.List.{All}
 use Rattle.elk_layers.specs.Layered.{plain, unit_at}
 use Rattle.elk_layers.proofs.HeightLemmas.{height_below}
 use Rattle.network_laws.specs.Layering.{layer_of}
-use Rattle.row_blocks.specs.Constraints.{greatest_spacing}
+use Rattle.unit_blocks.specs.Constraints.{greatest_spacing}
 use Rattle.ns_place.specs.Closing.{AreStandings}
 use Rattle.ns_place.specs.Tops.{AreClosedTops}
 use Rattle.ns_place.proofs.TopLemmas.{spacing_bounds, spans_small, closed_small, closed_tops}

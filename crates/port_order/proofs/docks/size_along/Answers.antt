@@ -1,6 +1,6 @@
 use Rattle.std.proofs.Common.{◌^◌, pos, w64, subst, sym}
 use Rattle.std.proofs.lemmas.Int.{to_z-of_z}
-use Rattle.elk_doc.specs.Sound.{IsWithin}
+use Rattle.drawing_types.specs.Ranges.{IsWithin}
 use Rattle.port_order.proofs.ChildLemmas.{size_along_small, small_fits}
 use Rattle.port_order.proofs.docks.size_along.Goals as goal
 

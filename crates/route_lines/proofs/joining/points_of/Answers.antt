@@ -1,6 +1,6 @@
 use Rattle.std.proofs.Common.{◌∷◌, [], map, drop, sym, subst, w64, to_z}
 use Rattle.std.specs.List.{All}
-use Rattle.elk_doc.specs.Fits.{IsNear}
+use Rattle.drawing_types.specs.Ranges.{IsNear}
 use Rattle.route_lines.specs.Points.{plain_gap, points_on, step_points}
 use Rattle.route_lines.proofs.Gathering.{All_left, All_right}
 use Rattle.route_lines.proofs.joining.points_of.Goals as goal

@@ -2,7 +2,7 @@ use Rattle.std.proofs.Common.{◌≡◌, ◌++◌, ◌+◌, map, drop, sym, ap, 
 use Rattle.std.proofs.lemmas.Int.{to_z-of_z}
 use Rattle.std.proofs.lemmas.List.{append_assoc}
 use Rattle.std.specs.List.{All}
-use Rattle.elk_doc.specs.Fits.{IsNear}
+use Rattle.drawing_types.specs.Ranges.{IsNear}
 use Rattle.route_lines.specs.Waypoints.{points_in}
 use Rattle.route_lines.specs.Points.{plain_gap, net_leg, points_on, height_next}
 use Rattle.route_lines.proofs.Gathering.{from_leg, All_left}

@@ -1,13 +1,14 @@
 use Rattle.std.proofs.Common.{◌∙◌, ◌≤◌, List, length, Result, Ok, Err, IfOk, sym, subst, arith}
-use Rattle.route_slots.specs.declared.Net.{Net}
+use Rattle.net_routes.specs.declared.Net.{Net}
 use Rattle.std.proofs.lemmas.Result.{IfOk-weaker}
 use Rattle.std.specs.declared.alloc.AllocError.{AllocError}
-use Rattle.route_slots.specs.declared.Slots.{Slots}
-use Rattle.route_slots.specs.Promised.{AreFewest}
-use Rattle.route_slots.specs.Exchanges.{AreLaid, NoBetterExchange}
+use Rattle.net_routes.specs.declared.Slots.{Slots}
+use Rattle.net_routes.specs.Promised.{AreFewest}
+use Rattle.route_slots.specs.Exchanges.{AreLaid}
+use Rattle.net_routes.specs.Exchanges.{NoBetterExchange}
 use Rattle.route_slots.specs.Depths.{depth}
-use Rattle.route_slots.specs.Conflicts.{HasNoConflict}
-use Rattle.route_slots.specs.Density.{IsDensity}
+use Rattle.net_routes.specs.Conflicts.{HasNoConflict}
+use Rattle.net_routes.specs.Density.{IsDensity}
 use Rattle.route_slots.specs.Marks.{AreFlat}
 use Rattle.route_slots.specs.Choosing.{AreGood}
 use Rattle.route_slots.proofs.Leveling.{are_flat}

@@ -1,9 +1,9 @@
 use Rattle.std.proofs.Common.{◌≡◌, ◌++◌, ◌∷◌, [], false, pos, length, ap, arith, rules}
 use Rattle.std.proofs.lemmas.List.{length_push}
 use Rattle.route_slots.specs.declared.slotting.Piece.{Piece}
-use Rattle.route_slots.specs.Pieces.{net_at}
+use Rattle.net_routes.specs.Pieces.{net_at}
 use Rattle.route_slots.specs.Marks.{mark_at, height_of, piece_a, piece_b}
-use Rattle.route_slots.proofs.Lists.{two_pushed}
+use Rattle.net_routes.proofs.Lists.{two_pushed}
 use Rattle.route_slots.proofs.assigning.pieces_of.Goals as goal
 
 pub nets-preserved : goal.nets-preserved

@@ -1,5 +1,5 @@
 use Rattle.std.proofs.Common.{◌≡◌, ℕ, ◌+◌, ◌<◌, length}
-use Rattle.route_slots.specs.Pieces.{net_at}
+use Rattle.net_routes.specs.Pieces.{net_at}
 use Rattle.route_slots.specs.Slotting.{piece_at}
 use Rattle.route_slots.specs.Marks.{mark_at, piece_a, piece_b, height_of}
 use Rattle.route_slots.proofs.assigning.pieces_of.Given as goal

@@ -1,8 +1,8 @@
 use Rattle.std.proofs.Common.{◌≡◌, ◌++◌, ◌∷◌, [], ◌+◌, get_or, rules}
-use Rattle.route_slots.specs.declared.NetRoute.{NetRoute}
-use Rattle.route_slots.specs.declared.NetRoute.TheVariants.{Straight}
+use Rattle.net_routes.specs.declared.NetRoute.{NetRoute}
+use Rattle.net_routes.specs.declared.NetRoute.TheVariants.{Straight}
 use Rattle.route_slots.specs.Marks.{mark_at, height_of, route_by}
-use Rattle.route_slots.proofs.Lists.{each_pushed}
+use Rattle.net_routes.proofs.Lists.{each_pushed}
 use Rattle.route_slots.proofs.assigning.routes_of.Goals as goal
 
 pub nets-preserved : goal.nets-preserved

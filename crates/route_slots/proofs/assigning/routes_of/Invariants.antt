@@ -1,5 +1,5 @@
 use Rattle.std.proofs.Common.{◌≡◌, ℕ, ◌+◌, ◌<◌, length, get_or}
-use Rattle.route_slots.specs.Pieces.{route_at}
+use Rattle.net_routes.specs.Pieces.{route_at}
 use Rattle.route_slots.specs.Marks.{mark_at, height_of, route_by}
 use Rattle.route_slots.proofs.assigning.routes_of.Given as goal
 

@@ -1,5 +1,5 @@
 use Rattle.std.proofs.Common.{ℕ, ◌<◌}
-use Rattle.route_slots.specs.Pieces.{net_at}
+use Rattle.net_routes.specs.Pieces.{net_at}
 use Rattle.route_slots.specs.Marks.{mark_at}
 use Rattle.route_slots.specs.Choosing.{AreInOrder}
 use Rattle.route_slots.proofs.choosing.row_keeps_order.Given as goal

@@ -1,6 +1,6 @@
 use Rattle.std.proofs.Common.{length, sym, arith}
-use Rattle.route_slots.specs.Crossings.{sum_to, cut_at}
-use Rattle.route_slots.proofs.Summing.{sum_none, sum_more}
+use Rattle.net_routes.specs.Crossings.{sum_to, cut_at}
+use Rattle.net_routes.proofs.Summing.{sum_none, sum_more}
 use Rattle.route_slots.proofs.crossings.crossings_of.Goals as goal
 
 pub nets-init : goal.nets-init

@@ -1,6 +1,6 @@
 use Rattle.std.proofs.Common.{sym, arith}
-use Rattle.route_slots.specs.Crossings.{cut_at}
-use Rattle.route_slots.proofs.Summing.{sum_none, sum_more}
+use Rattle.net_routes.specs.Crossings.{cut_at}
+use Rattle.net_routes.proofs.Summing.{sum_none, sum_more}
 use Rattle.route_slots.proofs.crossings.row_crossings.Goals as goal
 
 pub nets-init : goal.nets-init

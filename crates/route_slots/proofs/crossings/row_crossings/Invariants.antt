@@ -1,5 +1,5 @@
 use Rattle.std.proofs.Common.{◌≡◌, ◌≤◌, ◌*◌}
-use Rattle.route_slots.specs.Crossings.{sum_to, cut_at}
+use Rattle.net_routes.specs.Crossings.{sum_to, cut_at}
 use Rattle.route_slots.proofs.crossings.row_crossings.Given as goal
 
 abbrev pub invariant-nets : goal.invariant-nets

@@ -1,6 +1,6 @@
 use Rattle.std.proofs.Common.{◌∙◌, List, ap, subst, length, arith}
-use Rattle.gap_cycles.specs.declared.Link.{Link}
-use Rattle.gap_cycles.specs.Links.{CutsOnCycles, LeadsLessDeep}
+use Rattle.route_slots.specs.declared.links.Link.{Link}
+use Rattle.route_slots.specs.Links.{CutsOnCycles, LeadsLessDeep}
 use Rattle.route_slots.proofs.Cycling.{lies_on_cycle, are_depths}
 use Rattle.route_slots.proofs.depths.depths_of.Goals as goal
 

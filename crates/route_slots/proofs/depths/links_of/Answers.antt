@@ -1,8 +1,8 @@
 use Rattle.std.proofs.Common.{◌≡◌, ◌++◌, ◌∷◌, [], rules}
-use Rattle.gap_cycles.specs.declared.Link.{Link}
-use Rattle.route_slots.specs.Pieces.{net_at}
+use Rattle.route_slots.specs.declared.links.Link.{Link}
+use Rattle.net_routes.specs.Pieces.{net_at}
 use Rattle.route_slots.specs.Numbers.{IsLinkOf}
-use Rattle.route_slots.proofs.Lists.{each_pushed}
+use Rattle.net_routes.proofs.Lists.{each_pushed}
 use Rattle.route_slots.proofs.depths.links_of.Goals as goal
 
 pub nets-preserved : goal.nets-preserved

@@ -1,10 +1,11 @@
 use Rattle.std.proofs.Common.{◌≡◌, ◌⊎◌, ⊎_elim, ◌≤◌, List, length, Result, Ok, Err, IfOk, sym, subst}
 use Rattle.std.specs.declared.alloc.AllocError.{AllocError}
-use Rattle.route_slots.specs.declared.Net.{Net}
-use Rattle.route_slots.specs.declared.Slots.{Slots}
-use Rattle.route_slots.specs.Density.{IsDensity}
-use Rattle.route_slots.specs.Exchanges.{AreLaid, NoBetterExchange}
-use Rattle.route_slots.specs.Promised.{AreFewest}
+use Rattle.net_routes.specs.declared.Net.{Net}
+use Rattle.net_routes.specs.declared.Slots.{Slots}
+use Rattle.net_routes.specs.Density.{IsDensity}
+use Rattle.route_slots.specs.Exchanges.{AreLaid}
+use Rattle.net_routes.specs.Exchanges.{NoBetterExchange}
+use Rattle.net_routes.specs.Promised.{AreFewest}
 use Rattle.route_slots.proofs.easing.ease.Goals as goal
 
 -- one of two answers, as many slots as the first has

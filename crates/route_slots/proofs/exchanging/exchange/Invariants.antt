@@ -1,6 +1,6 @@
 use Rattle.std.proofs.Common.{◌≡◌, ℕ, ◌<◌, length}
-use Rattle.route_slots.specs.Pieces.{route_at}
-use Rattle.route_slots.specs.Exchanges.{exchanged}
+use Rattle.net_routes.specs.Pieces.{route_at}
+use Rattle.net_routes.specs.Exchanges.{exchanged}
 use Rattle.route_slots.proofs.exchanging.exchange.Given as goal
 
 abbrev pub invariant-routes : goal.invariant-routes

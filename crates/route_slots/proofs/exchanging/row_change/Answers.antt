@@ -1,7 +1,7 @@
 use Rattle.std.proofs.Common.{sym, arith}
 use Rattle.route_slots.specs.Exchanges.{near_before, near_after}
-use Rattle.route_slots.specs.Pieces.{net_at, route_at}
-use Rattle.route_slots.proofs.Summing.{sum_none, sum_more}
+use Rattle.net_routes.specs.Pieces.{net_at, route_at}
+use Rattle.net_routes.proofs.Summing.{sum_none, sum_more}
 use Rattle.route_slots.proofs.exchanging.row_change.Goals as goal
 
 pub nets-init : goal.nets-init

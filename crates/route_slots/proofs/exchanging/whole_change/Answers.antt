@@ -1,7 +1,7 @@
 use Rattle.std.proofs.Common.{sym, arith, length, if◌then◌else◌}
 use Rattle.route_slots.specs.Exchanges.{touches, row_before, row_after}
-use Rattle.route_slots.specs.Pieces.{route_at}
-use Rattle.route_slots.proofs.Summing.{sum_none, sum_more}
+use Rattle.net_routes.specs.Pieces.{route_at}
+use Rattle.net_routes.proofs.Summing.{sum_none, sum_more}
 use Rattle.route_slots.proofs.exchanging.whole_change.Goals as goal
 
 pub nets-init : goal.nets-init

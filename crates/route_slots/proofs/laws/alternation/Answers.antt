@@ -1,6 +1,6 @@
 use Rattle.route_slots.proofs.Ordered.{as_asked}
-use Rattle.route_slots.proofs.Straight.{common, alternate_level}
-use Rattle.route_slots.proofs.Asking.{alternate_turned}
+use Rattle.net_routes.proofs.Straight.{common, alternate_level}
+use Rattle.net_routes.proofs.Asking.{alternate_turned}
 use Rattle.route_slots.proofs.laws.alternation.Goals as goal
 
 pub returns-clause-common : goal.returns-clause-common

@@ -1,4 +1,4 @@
-use Rattle.route_slots.proofs.Asking.{least_cut}
+use Rattle.net_routes.proofs.Asking.{least_cut}
 use Rattle.route_slots.proofs.laws.alternation_crosses.Goals as goal
 
 pub returns : goal.returns

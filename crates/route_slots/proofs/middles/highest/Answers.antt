@@ -2,8 +2,8 @@ use Rattle.std.proofs.Common.{◌≡◌, ◌∙◌, ⊎_elim, inl, inr, ℕ, ◌
 use Rattle.std.proofs.lemmas.Int.{ints}
 use Rattle.std.specs.Int.{int_max}
 use borrow.Author.Count.{below_more}
-use Rattle.route_slots.specs.Pieces.{net_at}
-use Rattle.route_slots.specs.GapFree.{AreHeights}
+use Rattle.net_routes.specs.Pieces.{net_at}
+use Rattle.net_routes.specs.GapFree.{AreHeights}
 use Rattle.route_slots.proofs.Raising.{raised_above, raised_here, raised_is, raised_below}
 use Rattle.route_slots.proofs.middles.highest.Goals as goal
 

@@ -1,6 +1,6 @@
 use Rattle.std.proofs.Common.{◌≡◌, ◌++◌, ◌∷◌, [], length, subst, rules, arith}
 use Rattle.route_slots.specs.Middles.{IsMiddle}
-use Rattle.route_slots.specs.Pieces.{net_at}
+use Rattle.net_routes.specs.Pieces.{net_at}
 use Rattle.route_slots.proofs.Meeting.{AreMet, none_met, met_more, all_met}
 use Rattle.route_slots.proofs.middles.middles_of.Goals as goal
 

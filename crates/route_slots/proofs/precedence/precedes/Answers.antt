@@ -1,6 +1,6 @@
 use Rattle.std.proofs.Common.{◌≡◌, ◌≢◌, ◌∙◌, true, sym, rules}
-use Rattle.route_slots.specs.Pieces.{net_at}
-use Rattle.route_slots.specs.GapFree.{IsLevelNet}
+use Rattle.net_routes.specs.Pieces.{net_at}
+use Rattle.net_routes.specs.GapFree.{IsLevelNet}
 use Rattle.route_slots.proofs.Ordered.{precedes_by, precedes_not, not_apart}
 use Rattle.route_slots.proofs.precedence.precedes.Goals as goal
 

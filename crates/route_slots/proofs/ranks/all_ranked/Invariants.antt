@@ -1,5 +1,5 @@
 use Rattle.std.proofs.Common.{◌≡◌, ℕ, ◌<◌}
-use Rattle.route_slots.specs.Uncrossed.{level_of}
+use Rattle.route_slots.specs.Levels.{level_of}
 use Rattle.route_slots.specs.Ranks.{no_rank}
 use Rattle.route_slots.proofs.ranks.all_ranked.Given as goal
 

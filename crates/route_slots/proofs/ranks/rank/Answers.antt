@@ -1,5 +1,5 @@
 use Rattle.std.proofs.Common.{◌≡◌, false, rules}
-use Rattle.route_slots.specs.Uncrossed.{level_of}
+use Rattle.route_slots.specs.Levels.{level_of}
 use Rattle.route_slots.specs.Ranks.{no_rank}
 use Rattle.route_slots.proofs.RankLemmas.{one_more}
 use Rattle.route_slots.proofs.ranks.rank.Goals as goal

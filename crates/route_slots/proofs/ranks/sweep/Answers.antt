@@ -1,5 +1,5 @@
 use Rattle.std.proofs.Common.{◌≡◌, ◌+◌, ◌<◌, ℕ, List, refl, sym, subst, arith}
-use Rattle.route_slots.specs.Uncrossed.{level_of}
+use Rattle.route_slots.specs.Levels.{level_of}
 use Rattle.route_slots.specs.Ranks.{no_rank, AreRanks, IsHeldBack}
 use Rattle.route_slots.proofs.ranks.sweep.Goals as goal
 use Rattle.route_slots.proofs.ranks.sweep.Goals.{then-rank, else-rank}

@@ -1,6 +1,6 @@
 use Rattle.std.proofs.Common.{◌≤◌}
 use Rattle.route_slots.specs.Exchanges.{AreLaid}
-use Rattle.route_slots.specs.Crossings.{crossings}
+use Rattle.net_routes.specs.Crossings.{crossings}
 use Rattle.route_slots.proofs.settling.settle.Given as goal
 
 abbrev pub invariant-sweeps : goal.invariant-sweeps

@@ -1,5 +1,6 @@
 use Rattle.std.proofs.Common.{◌≡◌, true, refl, rules, subst}
-use Rattle.route_slots.specs.Exchanges.{IsBetterAt, AreExchanged}
+use Rattle.route_slots.specs.Exchanges.{IsBetterAt}
+use Rattle.net_routes.specs.Exchanges.{AreExchanged}
 use Rattle.route_slots.proofs.Stepping.{made_step}
 use Rattle.route_slots.proofs.settling.step.Goals as goal
 

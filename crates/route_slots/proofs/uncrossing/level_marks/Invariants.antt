@@ -1,4 +1,4 @@
-use Rattle.route_slots.specs.Uncrossed.{AreLevelMarks}
+use Rattle.route_slots.specs.Levels.{AreLevelMarks}
 use Rattle.route_slots.proofs.uncrossing.level_marks.Given as goal
 
 abbrev pub invariant-nets : goal.invariant-nets

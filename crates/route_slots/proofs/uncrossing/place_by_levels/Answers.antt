@@ -1,7 +1,7 @@
 use Rattle.std.proofs.Common.{subst, sym}
 use Rattle.route_slots.specs.Marks.{AreNetMarks}
 use Rattle.route_slots.specs.Choosing.{AreGood}
-use Rattle.route_slots.specs.Uncrossed.{StandByLevels}
+use Rattle.route_slots.specs.Levels.{StandByLevels}
 use Rattle.route_slots.proofs.Ordered.{are_marks, none_split, all_proper, as_asked}
 use Rattle.route_slots.proofs.Least.{no_better}
 use Rattle.route_slots.proofs.uncrossing.place_by_levels.Goals as goal

@@ -1,5 +1,6 @@
 use Rattle.std.proofs.Common.{◌≡◌, ◌<◌, ℕ, true, length, rules, arith}
-use Rattle.route_slots.specs.Uncrossed.{Precedes, level_of}
+use Rattle.route_slots.specs.Levels.{level_of}
+use Rattle.net_routes.specs.Uncrossed.{Precedes}
 use Rattle.route_slots.proofs.Ordered.{two_bent}
 use Rattle.route_slots.proofs.uncrossing.rise.Goals as goal
 use borrow.Author.Count.{below_more}

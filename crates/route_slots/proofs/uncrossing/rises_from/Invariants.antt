@@ -1,5 +1,6 @@
 use Rattle.std.proofs.Common.{ℕ, ◌<◌}
-use Rattle.route_slots.specs.Uncrossed.{Precedes, level_of}
+use Rattle.route_slots.specs.Levels.{level_of}
+use Rattle.net_routes.specs.Uncrossed.{Precedes}
 use Rattle.route_slots.proofs.uncrossing.rises_from.Given as goal
 
 abbrev pub invariant-nets : goal.invariant-nets

@@ -1,6 +1,6 @@
 use Rattle.std.proofs.Common.{subst, IfNone, arith}
 use Rattle.std.proofs.lemmas.Result.{IfOk-weaker}
-use Rattle.route_slots.specs.Uncrossed.{IsOrderable}
+use Rattle.net_routes.specs.Uncrossed.{IsOrderable}
 use Rattle.route_slots.proofs.Ranking.{orderable, one_orderable}
 use Rattle.route_slots.proofs.uncrossing.slots_of.Goals as goal
 

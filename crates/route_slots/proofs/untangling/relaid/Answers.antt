@@ -1,6 +1,6 @@
 use Rattle.std.proofs.Common.{subst, sym, true, ◌≡◌, ◌<◌, ℕ, List, length, rules}
 use Rattle.route_slots.specs.declared.marks.Mark.{Mark}
-use Rattle.route_slots.specs.Pieces.{net_at}
+use Rattle.net_routes.specs.Pieces.{net_at}
 use Rattle.route_slots.specs.Depths.{depth}
 use Rattle.route_slots.specs.Marks.{mark_at, AreNetMarks}
 use Rattle.route_slots.specs.Choosing.{AreRelevelled, AreInOrder, AreGood}

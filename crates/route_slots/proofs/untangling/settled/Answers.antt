@@ -1,5 +1,5 @@
 use Rattle.std.proofs.Common.{◌≡◌, ⊎_elim, sym, subst}
-use Rattle.route_slots.specs.declared.Slots.{Slots}
+use Rattle.net_routes.specs.declared.Slots.{Slots}
 use Rattle.route_slots.specs.Exchanges.{AreSettled}
 use Rattle.route_slots.proofs.untangling.settled.Goals as goal
 

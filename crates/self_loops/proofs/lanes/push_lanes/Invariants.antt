@@ -1,6 +1,6 @@
 use Rattle.std.proofs.Common.{◌≡◌, ◌++◌, map, drop}
 use Rattle.std.specs.Prelude.{List, ℕ}
-use Rattle.elk_doc.specs.declared.shape.Side.{Side}
+use Rattle.drawing_types.specs.declared.shape.Side.{Side}
 use Rattle.self_loops.specs.declared.lanes.LoopLane.{LoopLane}
 use Rattle.self_loops.proofs.lanes.push_lanes.Given as goal
 

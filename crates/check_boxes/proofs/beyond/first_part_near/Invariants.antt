@@ -1,7 +1,0 @@
-use Rattle.std.proofs.Common.{ℕ, ◌<◌}
-use Rattle.check_boxes.specs.FirstApart.{PartsHold}
-use Rattle.check_boxes.specs.Levels.{at_level}
-use Rattle.check_boxes.proofs.beyond.first_part_near.Given as goal
-
-abbrev pub invariant-loop-other : goal.invariant-loop-other
-invariant-loop-other l = (k : ℕ) → k < l.other → at_level PartsHold l.level l.one k

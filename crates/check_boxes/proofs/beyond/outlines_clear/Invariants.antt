@@ -1,7 +1,0 @@
-use Rattle.std.proofs.Common.{ℕ, ◌<◌}
-use Rattle.check_boxes.specs.FirstApart.{OutlineClear}
-use Rattle.check_boxes.specs.Levels.{at_level}
-use Rattle.check_boxes.proofs.beyond.outlines_clear.Given as goal
-
-abbrev pub invariant-loop-child : goal.invariant-loop-child
-invariant-loop-child l = (k : ℕ) → k < l.child → at_level OutlineClear l.level l.across l.i l.j k

@@ -1,7 +1,0 @@
-use Rattle.std.proofs.Common.{ℕ, ◌<◌}
-use Rattle.check_boxes.specs.FirstApart.{PartsHold}
-use Rattle.check_boxes.specs.Levels.{at_level}
-use Rattle.check_boxes.proofs.beyond.part_fault.Given as goal
-
-abbrev pub invariant-loop-one : goal.invariant-loop-one
-invariant-loop-one l = (k : ℕ) → k < l.one → (b : ℕ) → at_level PartsHold l.level k b

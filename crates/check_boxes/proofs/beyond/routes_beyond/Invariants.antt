@@ -1,7 +1,0 @@
-use Rattle.std.proofs.Common.{ℕ, ◌<◌}
-use Rattle.check_boxes.specs.FirstApart.{RouteBeyond}
-use Rattle.check_boxes.specs.Levels.{at_level}
-use Rattle.check_boxes.proofs.beyond.routes_beyond.Given as goal
-
-abbrev pub invariant-loop-edge : goal.invariant-loop-edge
-invariant-loop-edge l = (k : ℕ) → k < l.edge → at_level RouteBeyond l.level l.across l.r l.j k

@@ -1,9 +1,0 @@
-use Rattle.std.proofs.Common.{ℕ, ◌<◌, get_or}
-use Rattle.elk_doc.specs.Document.{origin}
-use Rattle.elk_doc.specs.Drawing.{points_of}
-use Rattle.elk_doc.specs.Inside.{IsWithinPadding}
-use Rattle.elk_doc.specs.Shapes.{point_rect}
-use Rattle.check_boxes.proofs.inside.are_within.Given as goal
-
-abbrev pub invariant-loop-i : goal.invariant-loop-i
-invariant-loop-i l = (k : ℕ) → k < l.i → IsWithinPadding l.outer l.room (point_rect (get_or (points_of l.section) k origin))

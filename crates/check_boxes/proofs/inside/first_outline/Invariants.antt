@@ -1,6 +1,0 @@
-use Rattle.std.proofs.Common.{ℕ, ◌<◌}
-use Rattle.check_boxes.specs.FirstInside.{OutlineHolds}
-use Rattle.check_boxes.proofs.inside.first_outline.Given as goal
-
-abbrev pub invariant-loop-child : goal.invariant-loop-child
-invariant-loop-child l = (k : ℕ) → k < l.child → OutlineHolds l.scene.doc.now l.scene.placed.now l.node l.options k

@@ -1,9 +1,0 @@
-use Rattle.std.proofs.Common.{◌≡◌, length, ap, arith}
-use Rattle.check_faults.proofs.ListLaws.{Lists-all}
-use Rattle.check_boxes.proofs.NameLaws.{own_are}
-use Rattle.check_boxes.proofs.names.own_names.Goals as goal
-
-pub returns : goal.returns
-returns c =
-    let end : c.loop-node.node ≡ length c.args.doc.now.nodes = let e = ap length c.nodes-node-end.ensures.value in omega (arith, e) in
-    own_are c.args.doc.now c.args._node c.loop-node.names.items (Lists-all _ c.loop-node.node _ c.loop-node.names.items end c.loop-node.invariant)

@@ -1,9 +1,0 @@
-use Rattle.std.proofs.Common.{rules, below_more, IsTrue}
-use Rattle.check_boxes.specs.FirstApart.{LayersHold}
-use Rattle.check_boxes.specs.Levels.{at_level}
-use Rattle.check_boxes.proofs.pairs.first_near.Goals as goal
-
-pub loop-other-preserved : goal.loop-other-preserved
-loop-other-preserved c =
-    let t : IsTrue c.layers_hold-holds.result = search rules in
-    below_more (at_level LayersHold c.args.level.now c.args.one) _ c.loop-other.invariant (c.layers_hold-holds.ensures.0 t)

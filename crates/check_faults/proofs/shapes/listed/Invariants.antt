@@ -1,6 +1,0 @@
-use Rattle.elk_doc.specs.Drawing.{is_listed}
-use Rattle.check_faults.specs.Shapes.{Lists}
-use Rattle.check_faults.proofs.shapes.listed.Given as goal
-
-abbrev pub invariant-loop-edge : goal.invariant-loop-edge
-invariant-loop-edge l = Lists (is_listed l.doc l.placed) l.edge l.listed.items

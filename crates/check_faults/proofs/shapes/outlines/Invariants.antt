@@ -1,6 +1,0 @@
-use Rattle.elk_doc.specs.Places.{outline_of}
-use Rattle.check_faults.specs.Shapes.{Lists}
-use Rattle.check_faults.proofs.shapes.outlines.Given as goal
-
-abbrev pub invariant-loop-node : goal.invariant-loop-node
-invariant-loop-node l = Lists (outline_of l.doc l.placed) l.node l.rects.items

@@ -1,6 +1,0 @@
-use Rattle.elk_doc.specs.Sides.{side_of_port}
-use Rattle.check_faults.specs.Shapes.{Lists}
-use Rattle.check_faults.proofs.shapes.sides.Given as goal
-
-abbrev pub invariant-loop-port : goal.invariant-loop-port
-invariant-loop-port l = Lists (side_of_port l.doc l.placed) l.port l.sides.items

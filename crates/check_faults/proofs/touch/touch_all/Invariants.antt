@@ -1,5 +1,0 @@
-use Rattle.check_faults.specs.Shapes.{AreTouchedBelow}
-use Rattle.check_faults.proofs.touch.touch_all.Given as goal
-
-abbrev pub invariant-loop-edge : goal.invariant-loop-edge
-invariant-loop-edge l = AreTouchedBelow l.doc l.placed l.at_head l.edge l.marks

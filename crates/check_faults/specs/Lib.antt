@@ -1,4 +1,0 @@
-pub mod Faults
-pub mod Levels
-pub mod Scenes
-pub mod Shapes

@@ -1,4 +1,0 @@
-pub mod StepLaws
-pub mod SumLaws
-pub mod NodeSums
-pub mod ListedLaws

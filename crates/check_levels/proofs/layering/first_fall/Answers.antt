@@ -1,8 +1,0 @@
-use Rattle.std.proofs.Common.{rules, below_more, IsTrue}
-use Rattle.check_levels.specs.FirstLevels.{EdgeRises}
-use Rattle.check_levels.proofs.layering.first_fall.Goals as goal
-
-pub loop-edge-preserved : goal.loop-edge-preserved
-loop-edge-preserved c =
-    let t : IsTrue c.edge_rises.result = search rules in
-    below_more (EdgeRises c.args.scene.now.doc.now c.args.scene.now.placed.now c.args.node c.args.certificate.now) _ c.loop-edge.invariant (c.edge_rises.ensures.0 t)

@@ -1,6 +1,0 @@
-use Rattle.elk_doc.specs.FlowProof.{weight_at}
-use Rattle.check_faults.specs.Shapes.{Lists}
-use Rattle.check_levels.proofs.lists.weights.Given as goal
-
-abbrev pub invariant-loop-edge : goal.invariant-loop-edge
-invariant-loop-edge l = Lists (weight_at l.doc) l.edge l.weights.items

@@ -1,5 +1,0 @@
-use Rattle.check_levels.specs.Steps.{FollowsOnce}
-use Rattle.check_levels.proofs.paths.follow_once.Given as goal
-
-abbrev pub invariant-loop-step : goal.invariant-loop-step
-invariant-loop-step l = FollowsOnce l.steps l._start l.step-index l.fn.marks l.marks l.changed

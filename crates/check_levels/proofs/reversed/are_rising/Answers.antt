@@ -1,6 +1,0 @@
-use Rattle.std.proofs.Common.{arith}
-use Rattle.check_levels.proofs.ListedLaws.{rising_never}
-use Rattle.check_levels.proofs.reversed.are_rising.Goals as goal
-
-pub returns : goal.returns
-returns c = λ _. rising_never c.args.steps.now c.args.heights.now (λ i l. c.loop-step.invariant i (omega arith))

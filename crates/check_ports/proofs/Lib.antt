@@ -1,3 +1,0 @@
-pub mod SpotLaws
-pub mod LevelLaws
-pub mod BreakLaws

@@ -1,6 +1,0 @@
-use Rattle.std.proofs.Common.{ℕ, ◌<◌}
-use Rattle.check_ports.specs.FirstPorts.{EdgeClear}
-use Rattle.check_ports.proofs.ends.edges_clear.Given as goal
-
-abbrev pub invariant-loop-other : goal.invariant-loop-other
-invariant-loop-other l = (f : ℕ) → f < l.other → EdgeClear l.scene.doc.now l.scene.placed.now l.node l.edge l.at_source f

@@ -1,6 +1,0 @@
-use Rattle.std.proofs.Common.{ℕ, ◌<◌}
-use Rattle.check_ports.specs.FirstPorts.{PortHolds}
-use Rattle.check_ports.proofs.ports.first_port.Given as goal
-
-abbrev pub invariant-loop-port : goal.invariant-loop-port
-invariant-loop-port l = (k : ℕ) → k < l.port → PortHolds l.scene.doc.now l.scene.placed.now l.node k

@@ -1,3 +1,0 @@
-pub mod BoundsLaws
-pub mod EndLaws
-pub mod ParallelLaws

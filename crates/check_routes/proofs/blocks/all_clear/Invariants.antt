@@ -1,6 +1,0 @@
-use Rattle.std.proofs.Common.{ℕ, ◌*◌, ◌<◌}
-use Rattle.check_routes.specs.FirstRoutes.{ChildClear}
-use Rattle.check_routes.proofs.blocks.all_clear.Given as goal
-
-abbrev pub invariant-loop-block : goal.invariant-loop-block
-invariant-loop-block l = (k : ℕ) → k < l.block * 16 → k < l.count → ChildClear l.scene.doc.now l.scene.placed.now l.node l.edge k

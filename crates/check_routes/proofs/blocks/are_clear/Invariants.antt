@@ -1,6 +1,0 @@
-use Rattle.std.proofs.Common.{ℕ, ◌<◌}
-use Rattle.check_routes.specs.FirstRoutes.{ClearHolds}
-use Rattle.check_routes.proofs.blocks.are_clear.Given as goal
-
-abbrev pub invariant-loop-edge : goal.invariant-loop-edge
-invariant-loop-edge l = (k : ℕ) → k < l.edge → (a : ℕ) → ClearHolds l.scene.doc.now l.scene.placed.now l.node k a

@@ -1,6 +1,0 @@
-use Rattle.std.proofs.Common.{arith}
-use Rattle.std.proofs.lemmas.Int.{ints}
-use Rattle.check_routes.proofs.bounds.ends_before.Goals as goal
-
-pub returns : goal.returns
-returns c = λ _. omega (arith, ints)

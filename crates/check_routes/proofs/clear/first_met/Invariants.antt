@@ -1,6 +1,0 @@
-use Rattle.std.proofs.Common.{ℕ, ◌<◌}
-use Rattle.check_routes.specs.FirstRoutes.{ChildClear}
-use Rattle.check_routes.proofs.clear.first_met.Given as goal
-
-abbrev pub invariant-loop-child : goal.invariant-loop-child
-invariant-loop-child l = (k : ℕ) → k < l.child → ChildClear l.scene.doc.now l.scene.placed.now l.node l.edge k

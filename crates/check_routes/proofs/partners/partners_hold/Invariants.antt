@@ -1,6 +1,0 @@
-use Rattle.std.proofs.Common.{ℕ, ◌<◌}
-use Rattle.check_routes.specs.FirstRoutes.{SharingHolds}
-use Rattle.check_routes.proofs.partners.partners_hold.Given as goal
-
-abbrev pub invariant-loop-other : goal.invariant-loop-other
-invariant-loop-other l = (k : ℕ) → l.edge < k → k < l.other → SharingHolds l.scene.doc.now l.scene.placed.now l.node l.edge k

@@ -1,4 +1,0 @@
-pub mod Bounds
-pub mod Ends
-pub mod FirstRoutes
-pub mod Stretches

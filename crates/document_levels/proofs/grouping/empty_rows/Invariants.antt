@@ -1,6 +1,0 @@
-use Rattle.std.proofs.Common.{◌≡◌, ℕ, [], length}
-use Rattle.document_levels.specs.Grouping.{row_at, rows_in}
-use Rattle.document_levels.proofs.grouping.empty_rows.Given as goal
-
-abbrev pub invariant-loop : goal.invariant-loop
-invariant-loop l = (length l.rows.items ≡ l.counter) × ((k : ℕ) → row_at (rows_in l.rows.items) k ≡ [])

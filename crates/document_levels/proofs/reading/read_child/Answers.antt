@@ -1,7 +1,0 @@
-use Rattle.std.proofs.Common.{◌∙◌}
-use Rattle.document_levels.proofs.ReadLemmas.{port_numbers}
-use Rattle.document_levels.proofs.reading.read_child.Goals as goal
-
-pub read_ports-requires-clause-ports : goal.read_ports-requires-clause-ports
-read_ports-requires-clause-ports c =
-    port_numbers c.args.doc.now c.args.child c.row-numbers.result.now (c.row-numbers.ensures ∙ c.requires.index.ports.each c.args.child c.requires.child)

@@ -1,5 +1,0 @@
-use Rattle.document_levels.proofs.FramedLemmas.{framed}
-use Rattle.document_levels.proofs.writable.sizes_frame.Goals as goal
-
-pub returns : goal.returns
-returns c = λ d p n o v compound count solid kept size. framed d p n o compound kept v count solid size

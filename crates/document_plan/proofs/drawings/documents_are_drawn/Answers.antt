@@ -1,5 +1,0 @@
-use Rattle.document_plan.proofs.WholeLemmas.{documents_are_drawn}
-use Rattle.document_plan.proofs.drawings.documents_are_drawn.Goals as goal
-
-pub returns : goal.returns
-returns c = documents_are_drawn

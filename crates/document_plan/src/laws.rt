@@ -1,7 +1,0 @@
-//! What is true of drawings that come from layouts, as the contract of a function that does nothing.
-ghost use Rattle.document_plan.specs.Laws.{PlansStay};
-
-/// A level comes from a layout as long as its drawing, its certificate and the size of its node stay, whatever changes elsewhere.
-pub fn plans_stay()
-    ensures { PlansStay }
-{}

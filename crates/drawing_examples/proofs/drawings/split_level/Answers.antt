@@ -1,8 +1,0 @@
-use Rattle.drawing_examples.proofs.SplitLaws.{split_is_drawn, split_is_spoilt}
-use Rattle.drawing_examples.proofs.drawings.split_level.Goals as goal
-
-pub returns-clause-drawn : goal.returns-clause-drawn
-returns-clause-drawn c = split_is_drawn
-
-pub returns-clause-spoilt : goal.returns-clause-spoilt
-returns-clause-spoilt c = split_is_spoilt

@@ -1,4 +1,0 @@
-pub mod RoundTrip
-pub mod SplitLevel
-pub mod BoxLevel
-pub mod ParallelEdges

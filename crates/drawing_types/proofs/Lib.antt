@@ -1,0 +1,3 @@
+pub mod SameShapes
+pub mod SegmentBounds
+pub mod SmallNumbers

@@ -1,0 +1,4 @@
+pub mod Clearance
+pub mod Ranges
+pub mod Segments
+pub mod Shapes

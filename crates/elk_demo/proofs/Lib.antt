@@ -1,2 +1,0 @@
-pub mod DemoLaws
-mod GrownLists

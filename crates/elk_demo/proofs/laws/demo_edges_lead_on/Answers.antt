@@ -1,5 +1,0 @@
-use Rattle.elk_demo.proofs.DemoLaws.{edges_lead_on}
-use Rattle.elk_demo.proofs.laws.demo_edges_lead_on.Goals as goal
-
-pub returns : goal.returns
-returns c = edges_lead_on c.args._nodes

@@ -1,5 +1,0 @@
-use Rattle.elk_demo.proofs.DemoLaws.{demo_sound}
-use Rattle.elk_demo.proofs.laws.demo_is_sound.Goals as goal
-
-pub returns : goal.returns
-returns c = demo_sound c.args._nodes c.requires.some c.requires.few

@@ -1,5 +1,0 @@
-use Rattle.elk_demo.proofs.DemoLaws.{levels_plain}
-use Rattle.elk_demo.proofs.laws.demo_levels_are_plain.Goals as goal
-
-pub returns : goal.returns
-returns c = levels_plain c.args._nodes

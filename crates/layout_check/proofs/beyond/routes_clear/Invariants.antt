@@ -1,0 +1,7 @@
+use Rattle.std.proofs.Common.{ℕ, ◌<◌}
+use Rattle.layout_check.specs.FirstApart.{RouteClear}
+use Rattle.layout_check.specs.Levels.{at_level}
+use Rattle.layout_check.proofs.beyond.routes_clear.Given as goal
+
+abbrev pub invariant-loop-edge : goal.invariant-loop-edge
+invariant-loop-edge l = (k : ℕ) → k < l.edge → at_level RouteClear l.level l.across l.i l.j k

@@ -1,0 +1,15 @@
+use Rattle.std.proofs.Common.{◌≡◌, ◌∙◌, ap, get_or, below_more, subst, ℕ}
+use Rattle.drawing_types.specs.declared.shape.Rect.{Rect}
+use Rattle.drawing_types.specs.Shapes.{origin}
+use Rattle.elk_doc.specs.Drawing.{points_of}
+use Rattle.drawing_types.specs.Shapes.{point_rect}
+use Rattle.layout_check.specs.FirstApart.{IsBeyond}
+use Rattle.layout_check.proofs.beyond.section_beyond.Goals as goal
+
+pub loop-i-preserved : goal.loop-i-preserved
+loop-i-preserved c =
+    let o = c.args.options.now in
+    let e : c.point_rect.result ≡ point_rect (get_or (points_of c.args.section.now) c.loop-i.i origin) = c.point_rect.ensures ∙ ap point_rect c.point_at.ensures in
+    let P : Rect → Type 0 = λ s. IsBeyond c.args.across o.component o.direction c.args.r s in
+    let Q : ℕ → Type 0 = λ i. IsBeyond c.args.across o.component o.direction c.args.r (point_rect (get_or (points_of c.args.section.now) i origin)) in
+    below_more Q _ c.loop-i.invariant (subst P e (c.comes_beyond.ensures.0 c.if-not-comes_beyond.false))

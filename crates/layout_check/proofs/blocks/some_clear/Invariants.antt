@@ -1,0 +1,6 @@
+use Rattle.std.proofs.Common.{ℕ, ◌<◌, ◌≤◌}
+use Rattle.layout_check.specs.FirstRoutes.{ChildClear}
+use Rattle.layout_check.proofs.blocks.some_clear.Given as goal
+
+abbrev pub invariant-loop-child : goal.invariant-loop-child
+invariant-loop-child l = (k : ℕ) → l.from ≤ k → k < l.child → ChildClear l.scene.doc.now l.scene.placed.now l.node l.edge k

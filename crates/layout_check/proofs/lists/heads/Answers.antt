@@ -1,0 +1,6 @@
+use Rattle.layout_check.proofs.ListLaws.{Lists-push}
+use Rattle.layout_check.proofs.lists.heads.Goals as goal
+
+pub loop-edge-preserved : goal.loop-edge-preserved
+loop-edge-preserved c =
+    Lists-push _ c.loop-edge.edge c.loop-edge.ends.items _ _ c.loop-edge.invariant c.head_node.ensures.value c.in_ok-push.ensures.items

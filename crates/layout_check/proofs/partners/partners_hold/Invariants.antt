@@ -1,0 +1,6 @@
+use Rattle.std.proofs.Common.{ℕ, ◌<◌}
+use Rattle.layout_check.specs.FirstRoutes.{SharingHolds}
+use Rattle.layout_check.proofs.partners.partners_hold.Given as goal
+
+abbrev pub invariant-loop-other : goal.invariant-loop-other
+invariant-loop-other l = (k : ℕ) → l.edge < k → k < l.other → SharingHolds l.scene.doc.now l.scene.placed.now l.node l.edge k

@@ -1,0 +1,28 @@
+//! What the definitions say of the drawings, each as the contract of a function that does nothing.
+ghost use Rattle.layout_check.specs.BoxLevel.{BoxLevelDrawn, BoxLevelSpoilt};
+ghost use Rattle.layout_check.specs.ParallelEdges.{ParallelEdges};
+ghost use Rattle.layout_check.specs.RoundTrip.{RoundTripDrawn, RoundTripSpoilt};
+ghost use Rattle.layout_check.specs.SplitLevel.{SplitLevelDrawn, SplitLevelSpoilt};
+
+/// Edges to and fro between a port and a node.
+pub fn round_trip()
+    ensures drawn { RoundTripDrawn }
+    ensures spoilt { RoundTripSpoilt }
+{}
+
+/// Two edges that keep apart.
+pub fn parallel_edges()
+    ensures { ParallelEdges }
+{}
+
+/// A level of boxes.
+pub fn box_level()
+    ensures drawn { BoxLevelDrawn }
+    ensures spoilt { BoxLevelSpoilt }
+{}
+
+/// A level whose parts stand apart, with pinned and ordered ports.
+pub fn split_level()
+    ensures drawn { SplitLevelDrawn }
+    ensures spoilt { SplitLevelSpoilt }
+{}

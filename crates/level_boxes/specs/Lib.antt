@@ -1,4 +1,0 @@
-pub mod Outlines
-pub mod Placing
-pub mod Boxes
-pub mod Examples

@@ -1,6 +1,0 @@
-use Rattle.level_plan.specs.Conditions.{plain_level}
-use Rattle.level_ends.specs.Ends.{AreLoopLanes, upright}
-use Rattle.level_ends.proofs.loops.loop_lanes.Given as goal
-
-abbrev pub invariant-loop-e : goal.invariant-loop-e
-invariant-loop-e l = AreLoopLanes (plain_level l.level) l.ends (upright l.north) l.e l.lanes

@@ -1,8 +1,0 @@
-use Rattle.std.proofs.Common.{map}
-use Rattle.level_plan.specs.Conditions.{plain_level}
-use Rattle.level_ends.specs.Rows.{row_lists}
-use Rattle.level_ends.specs.Sides.{AreOrdersTo, four_of}
-use Rattle.level_ends.proofs.orders.orders_of.Given as goal
-
-abbrev pub invariant-loop-c : goal.invariant-loop-c
-invariant-loop-c l = AreOrdersTo (plain_level l.level) (row_lists l.rows) l.c (map four_of l.all.items)

@@ -1,7 +1,0 @@
-use Rattle.std.proofs.Common.{◌≡◌, map, Some}
-use Rattle.std.specs.List.{range_with_len}
-use Rattle.level_ends.specs.Rows.{bare}
-use Rattle.level_ends.proofs.spots.port_row.Given as goal
-
-abbrev pub invariant-loop-k : goal.invariant-loop-k
-invariant-loop-k l = l.row.items ≡ map (λ k. bare (Some k) k) (range_with_len 0 l.k)

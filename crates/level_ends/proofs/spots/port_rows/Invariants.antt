@@ -1,7 +1,0 @@
-use Rattle.std.proofs.Common.{map}
-use Rattle.level_plan.specs.Conditions.{plain_level}
-use Rattle.level_ends.specs.Rows.{ArePortRows}
-use Rattle.level_ends.proofs.spots.port_rows.Given as goal
-
-abbrev pub invariant-loop-child : goal.invariant-loop-child
-invariant-loop-child l = ArePortRows (plain_level l.level) l.child-index (map (λ v. v.items) l.lists.items)

@@ -1,6 +1,0 @@
-use Rattle.level_plan.specs.Conditions.{plain_level}
-use Rattle.level_ends.specs.Entries.{AreLoopEntries}
-use Rattle.level_ends.proofs.tables.loop_entries.Given as goal
-
-abbrev pub invariant-loop-e : goal.invariant-loop-e
-invariant-loop-e l = AreLoopEntries (plain_level l.level) l.entries l.north.places.items l.south.places.items l.e l.table.items

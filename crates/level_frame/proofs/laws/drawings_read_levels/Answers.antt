@@ -1,5 +1,0 @@
-use Rattle.level_frame.proofs.KeptLemmas.{drawings_read_levels}
-use Rattle.level_frame.proofs.laws.drawings_read_levels.Goals as goal
-
-pub returns : goal.returns
-returns c = drawings_read_levels

@@ -1,5 +1,0 @@
-use Rattle.level_frame.proofs.NumberedLemmas.{ends_match}
-use Rattle.level_frame.proofs.laws.ends_match.Goals as goal
-
-pub returns : goal.returns
-returns c = ends_match

@@ -1,5 +1,0 @@
-use Rattle.level_frame.proofs.NumberedLemmas.{levels_are_listed}
-use Rattle.level_frame.proofs.laws.levels_are_listed.Goals as goal
-
-pub returns : goal.returns
-returns c = levels_are_listed

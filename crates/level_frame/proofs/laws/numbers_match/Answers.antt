@@ -1,5 +1,0 @@
-use Rattle.level_frame.proofs.NumberedLemmas.{numbers_match}
-use Rattle.level_frame.proofs.laws.numbers_match.Goals as goal
-
-pub returns : goal.returns
-returns c = numbers_match

@@ -1,6 +1,0 @@
-use Rattle.std.proofs.Common.{◌≡◌, map}
-use Rattle.level_frame.specs.Moved as spec
-use Rattle.level_frame.proofs.moving.moved_sections.Given as goal
-
-abbrev pub invariant-loop-section : goal.invariant-loop-section
-invariant-loop-section l = l.moved.items ≡ map (spec.moved_section l.by.x l.by.y) l.yielded

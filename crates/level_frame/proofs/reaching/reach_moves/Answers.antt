@@ -1,5 +1,0 @@
-use Rattle.level_frame.proofs.Spanned.{moves}
-use Rattle.level_frame.proofs.reaching.reach_moves.Goals as goal
-
-pub returns : goal.returns
-returns c = λ x z zs. moves x z zs

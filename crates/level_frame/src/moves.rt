@@ -1,7 +1,0 @@
-//! What holds of moved drawings, as the contract of a function that does nothing.
-ghost use Rattle.level_frame.specs.Moved.{DrawingsMove};
-
-/// What is drawn from a plan and moved as a whole is drawn from that plan.
-pub fn drawings_move()
-    ensures { DrawingsMove }
-{}

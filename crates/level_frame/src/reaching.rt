@@ -1,7 +1,0 @@
-//! What holds of moved numbers, as the contract of a function that does nothing.
-ghost use Rattle.level_frame.specs.Reach.{ReachMoves};
-
-/// Numbers that are moved together have their least and their greatest moved with them.
-pub fn reach_moves()
-    ensures { ReachMoves }
-{}

@@ -1,5 +1,0 @@
-pub mod Certificate
-pub mod Chained
-pub mod Flows
-pub mod Low
-pub mod Marks

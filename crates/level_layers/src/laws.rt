@@ -1,8 +1,0 @@
-//! What holds of every network: each function has a fact as its contract and no body.
-
-ghost use Rattle.level_layers.specs.Low.{LayersStayLow};
-
-/// Where all lengths are 1, a layering of least cost whose parts begin at layer 0 has layers below the number of its nodes.
-pub fn layers_stay_low()
-    ensures { LayersStayLow }
-{}

@@ -1,0 +1,6 @@
+use Rattle.std.proofs.Common.{◌≡◌}
+use Rattle.level_layout.specs.Marks.{listed_to}
+use Rattle.level_layout.proofs.networks.list_marked.Given as goal
+
+abbrev pub invariant-loop-e : goal.invariant-loop-e
+invariant-loop-e l = l.numbers.items ≡ listed_to l.marks l.e

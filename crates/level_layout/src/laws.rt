@@ -1,0 +1,8 @@
+//! What holds of every network: each function has a fact as its contract and no body.
+
+ghost use Rattle.level_layout.specs.Low.{LayersStayLow};
+
+/// Where all lengths are 1, a layering of least cost whose parts begin at layer 0 has layers below the number of its nodes.
+pub fn layers_stay_low()
+    ensures { LayersStayLow }
+{}

@@ -1,0 +1,78 @@
+//! The network of a level's oriented edges.
+ghost use Rattle.std.specs.Prelude.{◌≡◌, ◌≤◌, ◌==◌, length, IfOk};
+ghost use Rattle.network_laws.specs.Network.{IsNetwork};
+ghost use Rattle.level_model.specs.Conditions.{plain_level, IsLevel};
+ghost use Rattle.level_layout.specs.Certificate.{AreReversed, network, oriented};
+ghost use Rattle.level_layout.specs.Marks.{listed};
+
+use level_model::{LevelEdge, LevelIn};
+use network_parts::{NetEdge, Network};
+use std::alloc::{AllocError, Global};
+
+/// The numbers of the marked edges, in ascending order.
+pub(crate) fn list_marked(alloc: Global, marks: &[bool]) -> Result<Vec<u32>, AllocError>
+    requires { length marks.now ≤ 2048 }
+    ensures { IfOk result (λ numbers. numbers.items ≡ listed marks.now) }
+{
+    let mut numbers = Vec::new(alloc);
+    for (e, mark) in marks.iter().enumerate() {
+        if *mark {
+            numbers.push(e as u32)?;
+        }
+    }
+    Ok(numbers)
+}
+
+/// Whether both ends of an edge are at one child.
+pub(crate) fn is_loop(edge: LevelEdge) -> bool
+    ensures { result ≡ (edge.source.child == edge.target.child) }
+{
+    let source = edge.source.child;
+    source == edge.target.child
+}
+
+/// The edge as one of a network, as given or turned round.
+pub(crate) fn net_edge(edge: LevelEdge, turned: bool) -> NetEdge
+    ensures { result ≡ oriented turned edge }
+{
+    let source = edge.source.child;
+    let target = edge.target.child;
+    NetEdge {
+        tail: if turned { target } else { source },
+        head: if turned { source } else { target },
+        least: 1,
+        weight: edge.weight,
+    }
+}
+
+// The oriented edges that are no self-loops, where the marked ones are turned round.
+fn net_edges(alloc: Global, level: &LevelIn, marks: &[bool]) -> Result<Vec<NetEdge>, AllocError>
+    requires { length marks.now ≡ length level.now.edges }
+    ensures { IfOk result (λ edges. edges.items ≡ network (plain_level level.now) (listed marks.now)) }
+{
+    let mut edges = Vec::new(alloc);
+    for (e, edge) in level.edges.as_slice().iter().enumerate() {
+        if !is_loop(*edge) {
+            edges.push(net_edge(*edge, marks[e]))?;
+        }
+    }
+    Ok(edges)
+}
+
+/// The network of a level whose marked edges are turned round.
+pub(crate) fn network_of(
+    alloc: Global,
+    level: &LevelIn,
+    marks: &[bool],
+) -> Result<Network, AllocError>
+    requires level { IsLevel (plain_level level.now) }
+    requires marks { length marks.now ≡ length level.now.edges }
+    requires reversed { AreReversed (plain_level level.now) (listed marks.now) }
+    ensures nodes { IfOk result (λ net. net.nodes ≡ length level.now.children) }
+    ensures edges { IfOk result (λ net. net.edges.items ≡ network (plain_level level.now) (listed marks.now)) }
+    ensures network { IfOk result (λ net. IsNetwork net.nodes net.edges.items) }
+{
+    let edges = net_edges(alloc, level, marks)?;
+    let nodes = level.children.len() as u32;
+    Ok(Network { nodes, edges })
+}

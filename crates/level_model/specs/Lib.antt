@@ -1,0 +1,17 @@
+pub mod Level
+pub mod Lanes
+pub mod Nets
+pub mod Traces
+pub mod Units
+pub mod FromPlan
+pub mod Drawing
+pub mod Conditions
+pub mod Table
+pub mod Examples
+pub mod Stage
+pub mod Law
+pub mod Ready
+pub mod Laws
+pub mod Apart
+pub mod PortsKept
+pub mod Marks

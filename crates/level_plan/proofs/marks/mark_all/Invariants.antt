@@ -1,6 +1,0 @@
-use Rattle.std.proofs.Common.{length, take}
-use Rattle.level_plan.specs.Marks.{AreMarks}
-use Rattle.level_plan.proofs.marks.mark_all.Given as goal
-
-abbrev pub invariant-loop-number : goal.invariant-loop-number
-invariant-loop-number l = AreMarks (take l.number-index l.numbers) (length l.initial.marks) l.marks

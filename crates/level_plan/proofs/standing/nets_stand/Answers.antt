@@ -1,5 +1,0 @@
-use Rattle.level_plan.proofs.NetLemmas.{nets_stand}
-use Rattle.level_plan.proofs.standing.nets_stand.Goals as goal
-
-pub returns : goal.returns
-returns c = λ l p o d layers ready drawn. nets_stand l p o layers ready d drawn

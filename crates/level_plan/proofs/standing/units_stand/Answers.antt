@@ -1,5 +1,0 @@
-use Rattle.level_plan.proofs.RowLemmas.{has_units}
-use Rattle.level_plan.proofs.standing.units_stand.Goals as goal
-
-pub returns : goal.returns
-returns c = λ l p o d layers ready. has_units l p o d layers ready

@@ -1,7 +1,0 @@
-//! What holds of the routes of a drawn level, as the contract of a function that does nothing.
-ghost use Rattle.level_plan.specs.Lawful.{RoutesAreLawful};
-
-/// Where all that is drawn of a level stands as it should, the route of each edge is lawful.
-pub fn routes_are_lawful()
-    ensures { RoutesAreLawful }
-{}

@@ -1,6 +1,0 @@
-use Rattle.level_nets.specs.Reach.{parts_in}
-use Rattle.level_traces.specs.Chains.{AreNext}
-use Rattle.level_traces.proofs.chains.next_links.Given as goal
-
-abbrev pub invariant-loop-number : goal.invariant-loop-number
-invariant-loop-number l = AreNext (parts_in l.sheet) l.number l.next.firsts.items l.next.outs.items

@@ -1,4 +1,0 @@
-pub mod Read
-pub mod Reach
-pub mod Chains
-pub mod Traced

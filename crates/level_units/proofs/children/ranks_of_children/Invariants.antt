@@ -1,8 +1,0 @@
-use Rattle.std.proofs.Common.{map}
-use Rattle.level_plan.specs.Conditions.{plain_level}
-use Rattle.level_units.specs.Levels.{AreRanksTo}
-use Rattle.level_units.specs.Ports.{plain_ranks}
-use Rattle.level_units.proofs.children.ranks_of_children.Given as goal
-
-abbrev pub invariant-loop-c : goal.invariant-loop-c
-invariant-loop-c l = AreRanksTo (plain_level l.level) l.marks l.c (map plain_ranks l.ranks.items)

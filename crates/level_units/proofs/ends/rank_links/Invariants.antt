@@ -1,8 +1,0 @@
-use Rattle.std.proofs.Common.{map}
-use Rattle.level_plan.specs.Conditions.{plain_level}
-use Rattle.level_units.specs.Ports.{plain_ranks}
-use Rattle.level_units.specs.RankReading.{AreRankedLinks}
-use Rattle.level_units.proofs.ends.rank_links.Given as goal
-
-abbrev pub invariant-loop-k : goal.invariant-loop-k
-invariant-loop-k l = AreRankedLinks (plain_level l.ranking.level.now) l.ranking.table.now (map plain_ranks l.ranking.ranks.now) l.units l.ranking.marks.now l.initial.links l.k l.links

@@ -1,5 +1,0 @@
-use Rattle.level_units.specs.Reading.{AreFittedUnits}
-use Rattle.level_units.proofs.heights.fit_units.Given as goal
-
-abbrev pub invariant-loop-u : goal.invariant-loop-u
-invariant-loop-u l = AreFittedUnits l.fitting.level.now.spacing l.fitting.table.now.children l.initial.units l.u l.units

@@ -1,5 +1,0 @@
-use Rattle.level_units.specs.Ranked.{AreBareLinks}
-use Rattle.level_units.proofs.ranking.clear_ranks.Given as goal
-
-abbrev pub invariant-loop-k : goal.invariant-loop-k
-invariant-loop-k l = AreBareLinks l.initial.links l.k l.links

@@ -1,5 +1,0 @@
-use Rattle.level_units.proofs.UnitLemmas.{make_units}
-use Rattle.level_units.proofs.ranks.fitted_units_are_units.Goals as goal
-
-pub returns : goal.returns
-returns c = make_units

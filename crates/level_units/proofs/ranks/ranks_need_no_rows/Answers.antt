@@ -1,5 +1,0 @@
-use Rattle.level_units.proofs.AgreeLemmas.{need_no_rows}
-use Rattle.level_units.proofs.ranks.ranks_need_no_rows.Goals as goal
-
-pub returns : goal.returns
-returns c = need_no_rows

@@ -1,6 +1,0 @@
-use Rattle.std.proofs.Common.{refl, set}
-use Rattle.level_units.proofs.RowLemmas.{row_pushed}
-use Rattle.level_units.proofs.rows.push_unit.Goals as goal
-
-pub returns : goal.returns
-returns c = row_pushed c.args.rows.now (set c.args.rows.now c.args.row c.push.new.self) c.args.row c.args.unit c.push.new.self c.index-rows-row.result c.requires refl c.in_ok-push.ensures.items

@@ -1,5 +1,0 @@
-use Rattle.level_units.specs.Layering.{IsCountTo}
-use Rattle.level_units.proofs.units.layer_count.Given as goal
-
-abbrev pub invariant-loop-child : goal.invariant-loop-child
-invariant-loop-child l = IsCountTo l.layers l.child l.count

@@ -1,0 +1,10 @@
+pub mod Conflicts
+pub mod Crossings
+pub mod Density
+pub mod Exchanges
+pub mod GapFree
+pub mod Moved
+pub mod Pieces
+pub mod Promised
+pub mod Standing
+pub mod Uncrossed

@@ -1,0 +1,8 @@
+//! What holds of the routes of a drawing, as the contract of a function that does nothing.
+ghost use Rattle.plan_laws.specs.Routes.{RoutesAreKept};
+
+/// What is drawn from a plan has routes that lead from anchor to anchor by right angles, keep out of children, and share a
+/// piece only where their edges share a dock.
+pub fn routes_are_kept()
+    ensures { RoutesAreKept }
+{}

@@ -1,6 +1,0 @@
-use Rattle.route_slots.specs.Depths.{depth}
-use Rattle.route_slots.specs.Marks.{AreMarked}
-use Rattle.route_slots.proofs.marks.marks_of.Given as goal
-
-abbrev pub invariant-nets : goal.invariant-nets
-invariant-nets l = AreMarked l.nets l.depths.splits.items (depth l.depths) l.marks.items l.number

@@ -1,5 +1,0 @@
-use Rattle.row_alignment.proofs.LaneLemmas.{lanes_are_chosen}
-use Rattle.row_alignment.proofs.laws.lanes_stay_straight.Goals as goal
-
-pub returns : goal.returns
-returns c = λ l rows sweep sound are one order k hk inner. lanes_are_chosen l rows sweep sound are one order k hk inner

@@ -1,6 +1,0 @@
-use Rattle.elk_layers.specs.Layered.{plain}
-use Rattle.row_blocks.specs.Entries.{AreLinksBelow}
-use Rattle.row_blocks.proofs.entries.links_into.Given as goal
-
-abbrev pub invariant-loop-k : goal.invariant-loop-k
-invariant-loop-k l = AreLinksBelow (plain l.layered) l.chosen l.k l.into.items

@@ -1,0 +1,137 @@
+-- The steps of an edge, and the nets of a gap, after a further shift of the level.
+use Rattle.std.proofs.Common.{◌≡◌, ℕ, Bool, true, false, cond, List, [], ◌∷◌, ◌++◌, map, ℤ, ◌+ℤ◌, ◌-ℤ◌, arith, refl, sym, ◌∙◌, ap, ap₂, reverse}
+use Rattle.std.proofs.lemmas.Int.{ints}
+use Rattle.std.proofs.lemmas.List.{map-append, reverse-append}
+use Rattle.drawing_types.specs.declared.shape.Side.{Side}
+use Rattle.drawing_types.specs.declared.shape.Side.TheVariants.{North, East, South, West}
+use Rattle.net_routes.specs.declared.Pin.{Pin}
+use Rattle.net_routes.specs.declared.Net.{Net}
+use Rattle.self_loops.specs.Loops.{is_upright}
+use Rattle.route_lines.specs.declared.Step.{Step}
+use Rattle.route_lines.specs.declared.Step.TheVariants.{Lane, Leg}
+use Rattle.elk_layers.specs.Layered.{link_at}
+use Rattle.level_model.specs.Stage.{Line, dock_lane, loop_lane, long_lane}
+use Rattle.level_model.specs.Level.{PlainLevel, PlainPlan, Orders, End, end_at, tail_end, head_end, holds, is_loop, dock_of}
+use Rattle.level_model.specs.Lanes.{has_one_dock}
+use Rattle.level_model.specs.Nets.{Name, of_link, of_dock, of_loop, height_of, is_inverted, pin_at, net_of, nets_in, names_in, a_on_left, b_on_left, a_line, b_line}
+use Rattle.level_model.specs.Traces.{lane_step, leg_step, leaving, entering, chain, chain_steps, oriented_steps, turned_step, turned_steps, loop_steps, steps_of}
+use Rattle.working_frame.specs.Moved.{moved_pin, moved_net, moved_step}
+
+further : (h t y : ℤ) → h -ℤ (t +ℤ y) ≡ (h -ℤ t) -ℤ y
+further h t y = omega (arith, ints)
+
+map_reverse : {X Y : Type 0} (f : X → Y) (xs : List X) → map f (reverse xs) ≡ reverse (map f xs)
+map_reverse f [] = refl
+map_reverse f (x ∷ xs) =
+    ap (map f) (reverse-append (x ∷ []) xs) ∙ map-append f (reverse xs) (x ∷ [])
+    ∙ ap (λ zs. zs ++ f x ∷ []) (map_reverse f xs) ∙ sym (reverse-append (f x ∷ []) (map f xs))
+
+module _ (l : PlainLevel) (p : PlainPlan) (o : Orders) (t y : ℤ) where
+  abbrev move : List Step → List Step
+  move steps = map (moved_step y) steps
+
+  lane_moves : (m : Line) → lane_step l p o (t +ℤ y) m ≡ moved_step y (lane_step l p o t m)
+  lane_moves m = ap Lane (further (height_of l p o m) t y)
+
+  one_lane : (m : Line) → lane_step l p o (t +ℤ y) m ∷ [] ≡ move (lane_step l p o t m ∷ [])
+  one_lane m = ap (λ s. s ∷ []) (lane_moves m)
+
+  leaving_moves : (n : End) (inverted upright : Bool) → leaving l p o (t +ℤ y) n inverted upright ≡ move (leaving l p o t n inverted upright)
+  leaving_moves n true upright = ap (λ s. leg_step l p o (of_dock n) false ∷ s ∷ []) (lane_moves (dock_lane (dock_of l p o n)))
+  leaving_moves n false true = one_lane (dock_lane (dock_of l p o n))
+  leaving_moves n false false = refl
+
+  entering_moves : (n : End) (inverted upright : Bool) → entering l p o (t +ℤ y) n inverted upright ≡ move (entering l p o t n inverted upright)
+  entering_moves n true upright = ap (λ s. s ∷ leg_step l p o (of_dock n) true ∷ []) (lane_moves (dock_lane (dock_of l p o n)))
+  entering_moves n false true = one_lane (dock_lane (dock_of l p o n))
+  entering_moves n false false = refl
+
+  chain_moves : (ks : List ℕ) → chain_steps l p o (t +ℤ y) ks ≡ move (chain_steps l p o t ks)
+  chain_moves [] = refl
+  chain_moves (k ∷ []) = refl
+  chain_moves (k ∷ j ∷ ks) =
+      ap₂ (λ (s : Step) (steps : List Step). leg_step l p o (of_link k) true ∷ s ∷ steps)
+      (lane_moves (long_lane (link_at p.layered.links k).head)) (chain_moves (j ∷ ks))
+
+  abbrev steps_out : ℕ → ℤ → List Step
+  steps_out e s = leaving l p o s (tail_end p e) (is_inverted l p o (tail_end p e)) (is_upright (dock_of l p o (tail_end p e)).side)
+
+  abbrev steps_in : ℕ → ℤ → List Step
+  steps_in e s = entering l p o s (head_end p e) (is_inverted l p o (head_end p e)) (is_upright (dock_of l p o (head_end p e)).side)
+
+  oriented_moves : (e : ℕ) → oriented_steps l p o (t +ℤ y) e ≡ move (oriented_steps l p o t e)
+  oriented_moves e =
+      let out : steps_out e (t +ℤ y) ≡ move (steps_out e t) = leaving_moves (tail_end p e) (is_inverted l p o (tail_end p e)) (is_upright (dock_of l p o (tail_end p e)).side) in
+      let into : steps_in e (t +ℤ y) ≡ move (steps_in e t) = entering_moves (head_end p e) (is_inverted l p o (head_end p e)) (is_upright (dock_of l p o (head_end p e)).side) in
+      let first : steps_out e (t +ℤ y) ++ chain_steps l p o (t +ℤ y) (chain p e) ≡ move (steps_out e t ++ chain_steps l p o t (chain p e)) =
+      ap₂ (λ (a b : List Step). a ++ b) out (chain_moves (chain p e)) ∙ sym (map-append (moved_step y) (steps_out e t) (chain_steps l p o t (chain p e))) in
+      ap₂ (λ (a b : List Step). a ++ b) first into ∙ sym (map-append (moved_step y) (steps_out e t ++ chain_steps l p o t (chain p e)) (steps_in e t))
+
+  turn_moves : (steps : List Step) → map turned_step (move steps) ≡ move (map turned_step steps)
+  turn_moves [] = refl
+  turn_moves (Lane h ∷ steps) = ap (λ rest. Lane (h -ℤ y) ∷ rest) (turn_moves steps)
+  turn_moves (Leg g n from_a ∷ steps) = ap (λ rest. turned_step (Leg g n from_a) ∷ rest) (turn_moves steps)
+
+  turned_moves : (steps : List Step) → turned_steps (move steps) ≡ move (turned_steps steps)
+  turned_moves steps = ap reverse (turn_moves steps) ∙ sym (map_reverse (moved_step y) (map turned_step steps))
+
+  lane_and_leg : (m : Line) (s : Step) → lane_step l p o (t +ℤ y) m ∷ s ∷ [] ≡ moved_step y (lane_step l p o t m) ∷ s ∷ []
+  lane_and_leg m s = ap (λ r. r ∷ s ∷ []) (lane_moves m)
+
+  leg_and_lane : (s : Step) (m : Line) → s ∷ lane_step l p o (t +ℤ y) m ∷ [] ≡ s ∷ moved_step y (lane_step l p o t m) ∷ []
+  leg_and_lane s m = ap (λ r. s ∷ r ∷ []) (lane_moves m)
+
+  around : (m : Line) (s : Step) (k : Line) → lane_step l p o (t +ℤ y) m ∷ s ∷ lane_step l p o (t +ℤ y) k ∷ [] ≡ moved_step y (lane_step l p o t m) ∷ s ∷ moved_step y (lane_step l p o t k) ∷ []
+  around m s k = ap₂ (λ (a b : Step). a ∷ s ∷ b ∷ []) (lane_moves m) (lane_moves k)
+
+  across : (s : Step) (m : Line) (r : Step) → s ∷ lane_step l p o (t +ℤ y) m ∷ r ∷ [] ≡ s ∷ moved_step y (lane_step l p o t m) ∷ r ∷ []
+  across s m r = ap (λ q. s ∷ q ∷ r ∷ []) (lane_moves m)
+
+  loop_moves : (e : ℕ) (from to : Side) → loop_steps l p o (t +ℤ y) e from to ≡ move (loop_steps l p o t e from to)
+  loop_moves e North North = one_lane (loop_lane e North)
+  loop_moves e South South = one_lane (loop_lane e South)
+  loop_moves e East East = refl
+  loop_moves e West West = refl
+  loop_moves e North South = around (loop_lane e North) (leg_step l p o (of_loop e East) true) (loop_lane e South)
+  loop_moves e South North = around (loop_lane e South) (leg_step l p o (of_loop e East) true) (loop_lane e North)
+  loop_moves e East West = across (leg_step l p o (of_loop e East) true) (loop_lane e North) (leg_step l p o (of_loop e West) true)
+  loop_moves e West East = across (leg_step l p o (of_loop e West) true) (loop_lane e North) (leg_step l p o (of_loop e East) true)
+  loop_moves e North East = lane_and_leg (loop_lane e North) (leg_step l p o (of_loop e East) true)
+  loop_moves e North West = lane_and_leg (loop_lane e North) (leg_step l p o (of_loop e West) true)
+  loop_moves e South East = lane_and_leg (loop_lane e South) (leg_step l p o (of_loop e East) true)
+  loop_moves e South West = lane_and_leg (loop_lane e South) (leg_step l p o (of_loop e West) true)
+  loop_moves e East North = leg_and_lane (leg_step l p o (of_loop e East) true) (loop_lane e North)
+  loop_moves e East South = leg_and_lane (leg_step l p o (of_loop e East) true) (loop_lane e South)
+  loop_moves e West North = leg_and_lane (leg_step l p o (of_loop e West) true) (loop_lane e North)
+  loop_moves e West South = leg_and_lane (leg_step l p o (of_loop e West) true) (loop_lane e South)
+
+  either : (b : Bool) (u v u' v' : List Step) → u' ≡ move u → v' ≡ move v → cond b u' v' ≡ move (cond b u v)
+  either true u v u' v' f g = f
+  either false u v u' v' f g = g
+
+  pub steps_move : (e : ℕ) → steps_of l p o (t +ℤ y) e ≡ move (steps_of l p o t e)
+  steps_move e =
+      let from = (dock_of l p o (end_at e true)).side in
+      let to = (dock_of l p o (end_at e false)).side in
+      let oriented = oriented_moves e in
+      either (is_loop l e) _ _ _ _
+      (either (has_one_dock l p o e) [] (loop_steps l p o t e from to) [] (loop_steps l p o (t +ℤ y) e from to) refl (loop_moves e from to))
+      (either (holds p.reversed e) (turned_steps (oriented_steps l p o t e)) (oriented_steps l p o t e) (turned_steps (oriented_steps l p o (t +ℤ y) e)) (oriented_steps l p o (t +ℤ y) e)
+      (ap turned_steps oriented ∙ turned_moves (oriented_steps l p o t e)) oriented)
+
+  -- nets
+
+  pin_moves : (left : Bool) (m : Line) → pin_at l p o (t +ℤ y) left m ≡ moved_pin y (pin_at l p o t left m)
+  pin_moves left m = ap (λ h. let r : Pin = record { on_left = left; height = h } in r) (further (height_of l p o m) t y)
+
+  net_moves : (n : Name) → net_of l p o (t +ℤ y) n ≡ moved_net y (net_of l p o t n)
+  net_moves n =
+      ap₂ (λ (a b : Pin). let r : Net = record { a = a; b = b } in r)
+      (pin_moves (a_on_left l p o n) (a_line l p o n)) (pin_moves (b_on_left l p o n) (b_line l p o n))
+
+  names_move : (ns : List Name) → map (net_of l p o (t +ℤ y)) ns ≡ map (moved_net y) (map (net_of l p o t) ns)
+  names_move [] = refl
+  names_move (n ∷ ns) = ap₂ (λ (a : Net) (rest : List Net). a ∷ rest) (net_moves n) (names_move ns)
+
+  pub nets_move : (g : ℕ) → nets_in l p o (t +ℤ y) g ≡ map (moved_net y) (nets_in l p o t g)
+  nets_move g = names_move (names_in l p o g)

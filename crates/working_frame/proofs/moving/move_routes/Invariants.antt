@@ -1,0 +1,7 @@
+use Rattle.std.proofs.Common.{◌≡◌}
+use Rattle.working_frame.specs.Moved as spec
+use Rattle.working_frame.proofs.MapLemmas.{changed}
+use Rattle.working_frame.proofs.moving.move_routes.Given as goal
+
+abbrev pub invariant-loop-i : goal.invariant-loop-i
+invariant-loop-i l = l.routes ≡ changed (spec.moved_route l.by.y) l.initial.routes l.i
