@@ -9,6 +9,32 @@ const valueAt = (root, steps) => steps.reduce((value, step) => value?.[step], ro
 
 const isLost = (value) => typeof value === 'number' && !Number.isFinite(value);
 
+/**
+ * Turns steps in what was sent into steps in the caller's graph, where fewer children stand before one.
+ * @param {unknown} sent
+ * @param {Map<unknown, unknown>} owners
+ */
+function stepsIn(sent, owners) {
+  const places = new Map();
+  /** For each child the place that it has among the caller's. */
+  const placesIn = (children) => {
+    if (!places.has(children)) {
+      let count = 0;
+      places.set(children, children.map((child) => (owners.has(child?.id) ? count : (count += 1) - 1)));
+    }
+    return places.get(children);
+  };
+  return (steps) => {
+    let value = sent;
+    return steps.map((step, at) => {
+      const isChild = Array.isArray(value) && steps[at - 1] === 'children';
+      const place = isChild ? placesIn(value)[step] : step;
+      value = value?.[step];
+      return place;
+    });
+  };
+}
+
 /** The steps to the reference of an edge of several ends that was sent as the end of a pair. */
 function stepsToEnd(edge, { steps, told }) {
   const isIn = (name) => Array.isArray(edge.value?.[name]) && edge.value[name].includes(told.found);
@@ -49,19 +75,23 @@ function originIn(graph, { owners = new Map(), general = {} }) {
     context.elements.find(({ value }) => value?.id === owners.get(element.value.id)) ??
     element;
 
+  let inGraph;
   return (find, context) => {
-    const { key, element, told = {} } = find;
+    inGraph ??= stepsIn(context.value, owners);
+    const { key, element } = find;
+    const told = find.told?.other ? { ...find.told, other: inGraph(find.told.other) } : find.told ?? {};
     const isMade = element !== undefined && owners.has(element.value?.id);
     const owner = isMade ? ownerOf(element, context) : element;
     const names = find.steps.slice(element?.steps.length ?? 0);
-    const steps = isMade ? [...owner.steps, ...(owner.kind === element.kind ? names : [])] : find.steps;
-    const given = owner && { steps: owner.steps, value: valueAt(graph, owner.steps) };
+    const ownSteps = owner && inGraph(owner.steps);
+    const steps = isMade ? [...ownSteps, ...(owner.kind === element.kind ? names : [])] : inGraph(find.steps);
+    const given = owner && { steps: ownSteps, value: valueAt(graph, ownSteps) };
     const lost = valueAt(graph, steps);
     const turned = {
       ...find,
       steps,
+      told: isLost(lost) ? { ...told, found: lost } : told,
       ...(find.id !== undefined && isMade && { id: owners.get(find.id) }),
-      ...(isLost(lost) && { told: { ...told, found: lost } }),
     };
     if (key === 'unknown' || key === 'noPort') {
       return { ...turned, steps: stepsToEnd(given, turned) };

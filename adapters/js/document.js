@@ -22,16 +22,22 @@ const OUTDATED = ['sections', 'bendPoints', 'junctionPoints', 'sourcePoint', 'ta
 
 const listsOf = (element) => Object.keys(LISTS).filter((name) => Array.isArray(element[name]));
 
+const shallow = (element) => (isObject(element) ? { ...element } : element);
+
 /** A graph whose elements and lists are its own. What stands in them besides is shared with the given one. */
-function copyOf(element) {
-  if (!isObject(element)) {
-    return element;
+function copyOf(graph) {
+  const root = shallow(graph);
+  const waiting = isObject(root) ? [root] : [];
+  while (waiting.length > 0) {
+    const node = waiting.pop();
+    for (const name of listsOf(node)) {
+      node[name] = node[name].map(shallow);
+    }
+    for (const child of Array.isArray(node.children) ? node.children.filter(isObject) : []) {
+      waiting.push(child);
+    }
   }
-  const copy = { ...element };
-  for (const name of listsOf(element)) {
-    copy[name] = element[name].map(copyOf);
-  }
-  return copy;
+  return root;
 }
 
 /** The members of an element that have these names. */

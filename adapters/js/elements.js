@@ -28,7 +28,11 @@ class Element {
 
   /** The members that lead to it. */
   get steps() {
-    return this.holder ? [...this.holder.steps, this.#list, this.#at] : [];
+    const steps = [];
+    for (let element = this; element.holder; element = element.holder) {
+      steps.push(element.#at, element.#list);
+    }
+    return steps.reverse();
   }
 
   /** Whether it is a level: the root, or a node with children. */
@@ -44,24 +48,30 @@ class Element {
 
 const PARTS = { ports: 'port', edges: 'edge' };
 
+/** The elements of a list of a node. */
+const membersIn = (holder, list, kind) =>
+  listOf(holder.value, list).map((value, at) => new Element(kind, value, { holder, list, at }));
+
 /**
  * A node, then its ports, then its edges, then its children, each with all of its own.
  * @param {unknown} root
- * @returns {Element[]}
+ * @returns {Generator<Element>}
  */
-function elementsIn(root) {
-  const found = [];
-  const collect = (node) => {
-    found.push(node);
+function* walk(root) {
+  const waiting = [new Element('node', root)];
+  while (waiting.length > 0) {
+    const node = waiting.pop();
+    yield node;
     for (const [list, kind] of Object.entries(PARTS)) {
-      listOf(node.value, list).forEach((value, at) => found.push(new Element(kind, value, { holder: node, list, at })));
+      yield* membersIn(node, list, kind);
     }
-    listOf(node.value, 'children').forEach((value, at) =>
-      collect(new Element('node', value, { holder: node, list: 'children', at })),
-    );
-  };
-  collect(new Element('node', root));
-  return found;
+    for (const child of membersIn(node, 'children', 'node').reverse()) {
+      waiting.push(child);
+    }
+  }
 }
 
-module.exports = { Element, elementsIn };
+/** All elements of a document, in the order of `walk`. */
+const elementsIn = (root) => [...walk(root)];
+
+module.exports = { Element, elementsIn, walk };

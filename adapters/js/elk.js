@@ -5,7 +5,7 @@ const { engineOf } = require('./engines');
 const { laidOut } = require('./layout');
 const { LAYOUT_ALGORITHMS, LAYOUT_CATEGORIES, LAYOUT_OPTIONS } = require('./options');
 const { ProgramError } = require('./program-error');
-const { Refusal } = require('./refusals');
+const { Refusal, refuseTooDeep } = require('./refusals');
 const { warningsOf, warnOnce } = require('./warnings');
 
 const NUMBERS = ['ceil', 'exact'];
@@ -55,6 +55,7 @@ class ELK {
       throw new Error("Missing mandatory parameter 'graph'.");
     }
     const how = { numbers: this.#numbers, general: layoutOptions ?? {} };
+    refuseTooDeep(graph, how);
     const warnings = warningsOf(graph, how);
     warnings.forEach((warning) => this.#onWarning(warning));
     const { placed, seconds } = await laidOut(graph, how, this.#engine);

@@ -5,8 +5,9 @@ const FAULTS = require('./data/faults.json');
 const limits = require('./data/limits.json');
 const { readJson } = require('./jsontext');
 const { nearest } = require('./near');
+const { stepsTooDeep } = require('./nesting');
 const { valuesOf } = require('./options');
-const { findsIn } = require('./rules');
+const { deepAt, findsIn } = require('./rules');
 const { nearValue } = require('./values');
 
 const RULES = new Map(FAULTS.rules.map((rule) => [rule.rule, rule]));
@@ -21,10 +22,13 @@ const filled = (template, texts) => template.replace(/\{(\w+)\}/g, (whole, name)
 
 const shortened = (text) => (text.length > MOST_LETTERS ? `${text.slice(0, MOST_LETTERS)}…` : text);
 
-/** A value as text of JSON, cut off where it is long. */
+/** A value as text of JSON, cut off where it is long, and left out where it is nested deeper than a text may be. */
 function textOf(value) {
   if (typeof value === 'number' || typeof value === 'bigint') {
     return String(value);
+  }
+  if (stepsTooDeep(value, limits.nesting)) {
+    return '…';
   }
   const plain = (_, inner) => (typeof inner === 'bigint' ? Number(inner) : inner);
   return shortened(JSON.stringify(value, plain) ?? String(value));
@@ -71,9 +75,17 @@ function nearId(id, candidates) {
   return twin ?? (isText(id) ? nearest(id, ids.filter(isText)) : undefined);
 }
 
+/** An element and the nodes around it, from the inside out. */
+function chainOf(element) {
+  const chain = [];
+  for (let it = element; it; it = it.holder) {
+    chain.push(it);
+  }
+  return chain;
+}
+
 /** Two siblings, each the end of an edge or a node around it, that the edge may join instead. */
 function liftedEnds(context, { value }) {
-  const chainOf = (element) => (element ? [element, ...chainOf(element.holder)] : []);
   const { ends } = context.joins.find(({ edge }) => edge.value === value);
   const [source, target] = ends.map(({ element }) => chainOf(element.kind === 'node' ? element : element.holder));
   const one = source.find((it) => it.holder && target.some((other) => other.holder === it.holder));
@@ -208,17 +220,38 @@ function notUtf8() {
   return { ...fault, detail: FAULTS.json.bytes, message: messageOf(fault, FAULTS.json.bytes, FAULTS.json.words) };
 }
 
+/** The fault of what stands at some place and can't be written so that the engine reads it. */
+function notWritableAt(steps, reason, { isOfCall = false } = {}) {
+  const { rule, name } = RULES.get(1);
+  const path = isOfCall ? filled(FAULTS.ofCall, { path: pathOf(steps) }) : pathOf(steps);
+  const detail = filled(FAULTS.json.in, { path: shortPath(path), reason: FAULTS.json[reason] });
+  const fault = { rule, name, id: undefined, steps, path };
+  return { ...fault, detail, message: messageOf(fault, detail, reason === 'deep' ? undefined : FAULTS.json.words) };
+}
+
 /** The fault of a text that a call has written, of which the steps alone tell the caller something; or nothing. */
 function notWritable(text) {
   try {
     readJson(text);
     return undefined;
   } catch ({ reason, steps = [] }) {
-    const { rule, name } = RULES.get(1);
-    const detail = filled(FAULTS.json.in, { path: shortPath(pathOf(steps)), reason: FAULTS.json[reason] });
-    const fault = { rule, name, id: undefined, steps, path: pathOf(steps) };
-    return { ...fault, detail, message: messageOf(fault, detail, reason === 'deep' ? undefined : FAULTS.json.words) };
+    return notWritableAt(steps, reason);
   }
 }
 
-module.exports = { faultsOf, filled, messageOf, notJson, notUtf8, notWritable, pathOf, textOf, tooLong };
+/** The fault of a node that stands deeper than nodes may, by rule 6. */
+const deepNode = (node) => toldOf({ ...deepAt(node), rule: 6, id: undefined });
+
+module.exports = {
+  deepNode,
+  faultsOf,
+  filled,
+  messageOf,
+  notJson,
+  notUtf8,
+  notWritable,
+  notWritableAt,
+  pathOf,
+  textOf,
+  tooLong,
+};

@@ -18,8 +18,10 @@ const CONTROLS = { '\n': '\\n', '\r': '\\r', '\t': '\\t' };
 
 /** A text that is no JSON: which sentence of data/faults.json says why, what fills it, and where that is. */
 class JsonFault extends Error {
-  constructor(reason, { at, steps, found = {} }) {
+  constructor(reason, { at, steps, starts, found = {} }) {
     super(reason);
+    /** Where the arrays and objects around that place begin, from the outside in. */
+    this.starts = starts;
     this.reason = reason;
     this.at = at;
     this.steps = steps;
@@ -70,7 +72,7 @@ class Reader {
   #text;
   #isStrict;
   #at = 0;
-  #depth = 0;
+  #starts = [];
   // The steps to the value that is being read.
   #steps = [];
   // For each array and object, where each of its values stands, by index or name, and where the name does.
@@ -102,7 +104,7 @@ class Reader {
   }
 
   #fail(reason, found, at = this.#at) {
-    throw new JsonFault(reason, { at, steps: this.#steps, found });
+    throw new JsonFault(reason, { at, steps: this.#steps, starts: this.#starts, found });
   }
 
   #next() {
@@ -136,12 +138,12 @@ class Reader {
   }
 
   #nested(read, steps) {
-    this.#depth += 1;
-    if (this.#depth > (this.#isStrict ? MOST_NESTED : MOST_READ)) {
+    this.#starts.push(this.#at);
+    if (this.#starts.length > (this.#isStrict ? MOST_NESTED : MOST_READ)) {
       this.#fail('deep');
     }
     const value = read.call(this, steps);
-    this.#depth -= 1;
+    this.#starts.pop();
     return value;
   }
 

@@ -34,16 +34,34 @@ const routeOf = (edge) => pointsOf(elementsOf(edge.sections)[0]);
 /** The ways through sections that follow one another, from each without one before it to each without one after it. */
 function chainsOf(sections) {
   const byId = new Map(sections.map((section) => [section.id, section]));
+  const firsts = sections.filter(({ incomingSections }) => !incomingSections?.length);
+  return firsts.flatMap((first) => chainsFrom(first, byId));
+}
+
+function chainsFrom(first, byId) {
   const chains = [];
-  const follow = (chain) => {
-    const ids = chain.at(-1).outgoingSections;
-    const next = (Array.isArray(ids) ? ids : []).map((id) => byId.get(id)).filter((it) => it && !chain.includes(it));
+  const chain = new Set();
+  const follow = (section) => {
+    chain.add(section);
+    const ids = Array.isArray(section.outgoingSections) ? section.outgoingSections : [];
+    const next = ids.map((id) => byId.get(id)).filter((it) => it && !chain.has(it));
     if (next.length === 0) {
-      chains.push(chain);
+      chains.push([...chain]);
     }
-    next.forEach((it) => follow([...chain, it]));
+    return { section, next: next.values() };
   };
-  sections.filter(({ incomingSections }) => !incomingSections?.length).forEach((section) => follow([section]));
+  // The sections of the chain that is followed, each with those behind it that are still to be followed.
+  const followed = [follow(first)];
+  while (followed.length > 0) {
+    const { section, next } = followed.at(-1);
+    const { done, value } = next.next();
+    if (done) {
+      followed.pop();
+      chain.delete(section);
+    } else {
+      followed.push(follow(value));
+    }
+  }
   return chains;
 }
 

@@ -35,6 +35,13 @@ function commonHolder(places, one, other) {
   return node;
 }
 
+const placeWithin = (parent, { depth, left, top }, { x, y }) => ({
+  parent,
+  depth: depth + 1,
+  left: left + numberOr0(x),
+  top: top + numberOr0(y),
+});
+
 /** The levels of one document, whose coordinates are relative to the parent. */
 class Levels {
   #nodesById = new Map();
@@ -46,21 +53,25 @@ class Levels {
     this.places = new Map();
     /** All edges in document order, each with the node at which it is declared. */
     this.declared = [];
-    this.#enter(root, undefined, { depth: 0, left: 0, top: 0 });
+    const waiting = [[root, { parent: undefined, depth: 0, left: 0, top: 0 }]];
+    while (waiting.length > 0) {
+      const [node, place] = waiting.pop();
+      // What stands in itself is at no level.
+      if (this.places.has(node)) {
+        continue;
+      }
+      this.#enter(node, place);
+      for (const child of elementsOf(node.children).reverse()) {
+        waiting.push([child, placeWithin(node, place, child)]);
+      }
+    }
   }
 
-  #enter(node, parent, { depth, left, top }) {
-    this.places.set(node, { parent, depth, left, top });
+  #enter(node, place) {
+    this.places.set(node, place);
     this.#name(node);
     for (const edge of elementsOf(node.edges)) {
       this.declared.push({ edge, at: node });
-    }
-    for (const child of elementsOf(node.children)) {
-      this.#enter(child, node, {
-        depth: depth + 1,
-        left: left + numberOr0(child.x),
-        top: top + numberOr0(child.y),
-      });
     }
   }
 

@@ -4,17 +4,31 @@
 const { byteLength, faultsOfCall } = require('./call-faults');
 const limits = require('./data/limits.json');
 const { copyOf, documentOf } = require('./document');
-const { faultsOf, notJson, tooLong } = require('./faults');
+const { deepNode, faultsOf, notJson, tooLong } = require('./faults');
 const { JsonFault, linesOf, readJson } = require('./jsontext');
 const { draftOf } = require('./stages');
+const { tooDeepIn } = require('./too-deep');
 const { doubleMember, warningsOf } = require('./warnings');
 
 /** The faults of a value that a call of the adapter is given. */
 function faultsAsCall(value, { numbers = 'ceil', layoutOptions: general = {} }) {
   const how = { numbers, general, lacks: new Map() };
+  const deep = tooDeepIn(value, how);
+  if (deep) {
+    return [deep];
+  }
   const graph = copyOf(value);
   const { owners } = draftOf(graph, how);
   return faultsOfCall(JSON.stringify(documentOf(graph, how)), value, { owners, general });
+}
+
+/** The fault of a text that was left where it is too deep, if nodes stand so deep in one another. */
+function deepNodeIn({ reason, steps, starts }, lineAt) {
+  const depth = limits.levels + 1;
+  const first = steps.slice(0, 2 * depth);
+  const areNodes = first.every((step, at) => (at % 2 === 0 ? step === 'children' : typeof step === 'number'));
+  const isDeep = reason === 'deep' && first.length === 2 * depth && areNodes;
+  return isDeep ? { ...deepNode({ steps: first, depth }), ...lineAt(starts[2 * depth]) } : undefined;
 }
 
 function readAll(text, lineAt, how) {
@@ -24,7 +38,7 @@ function readAll(text, lineAt, how) {
     if (!(error instanceof JsonFault)) {
       throw error;
     }
-    return { fault: notJson(error, lineAt(error.at)) };
+    return { fault: (how.isStrict ? undefined : deepNodeIn(error, lineAt)) ?? notJson(error, lineAt(error.at)) };
   }
 }
 

@@ -1,6 +1,11 @@
 'use strict';
 // Which known word somebody meant who wrote another.
 
+const { smallest } = require('./extremes');
+
+// Nobody writes so many letters and means others.
+const MOST_LETTERS = 200;
+
 /** How many letters have to be put in, left out, changed or exchanged with their neighbour; at most `most` + 1. */
 function distance(one, other, most) {
   if (Math.abs(one.length - other.length) > most) {
@@ -16,7 +21,7 @@ function distance(one, other, most) {
         row[j] = Math.min(row[j], before[j - 2] + 1);
       }
     }
-    if (Math.min(...row) > most) {
+    if (smallest(row) > most) {
       return most + 1;
     }
     [before, last] = [last, row];
@@ -26,6 +31,14 @@ function distance(one, other, most) {
 
 // A word of up to two letters is near to nothing but itself in other letters: nearly every word would be.
 const allowedFor = (word) => Math.min(3, Math.floor((word.length + 1) / 4));
+
+/** As `distance`; a long word is near to nothing but itself in other letters. */
+function wrongLetters(one, other, most) {
+  if (one === other) {
+    return 0;
+  }
+  return one.length > MOST_LETTERS ? most + 1 : distance(one, other, most);
+}
 
 /**
  * The known word that is nearest to a written one: the same in small or capital letters, or else with few wrong
@@ -38,7 +51,7 @@ function nearest(word, known) {
   let best;
   let least = allowedFor(word) + 1;
   for (const it of known) {
-    const wrong = it.toLowerCase() === bare ? 0 : distance(bare, it.toLowerCase(), least - 1);
+    const wrong = wrongLetters(bare, it.toLowerCase(), least - 1);
     if (wrong < least && it !== word) {
       [best, least] = [it, wrong];
     }

@@ -3,6 +3,7 @@
 
 const { faultsOfCall } = require('./call-faults');
 const { messageOf } = require('./faults');
+const { tooDeepIn } = require('./too-deep');
 
 /** A document that the engine refuses. */
 class Refusal extends Error {
@@ -45,4 +46,12 @@ function refusalOf(reply, text, call) {
   return new Refusal({ rule, name, id }, first && [first, ...faults.filter((fault) => fault !== first)]);
 }
 
-module.exports = { Refusal, refusalOf };
+/** Refuses a graph in which something stands too deep, before anything else is done with it. */
+function refuseTooDeep(graph, how) {
+  const fault = tooDeepIn(graph, how);
+  if (fault) {
+    throw new Refusal(fault, [fault]);
+  }
+}
+
+module.exports = { Refusal, refusalOf, refuseTooDeep };

@@ -192,24 +192,26 @@ function* membersOf(element) {
  * @param {object} [how.general] the options of that call, which come first
  * @returns {Warning[]}
  */
-function warningsOf(document, { isCall = true, general = {} } = {}) {
-  const found = [];
+const warningsOf = (document, { isCall = true, general = {} } = {}) => [...warningsIn(document, isCall, general)];
+
+function* warningsIn(document, isCall, general) {
   for (const [key, asked] of Object.entries(general)) {
     // They hold for every kind of element, and so stand nowhere wrong.
     const [warning, told] = warningOf(key, asked, { kind: 'node', isCall: true });
     if (warning && warning !== 'misplacedOption') {
-      found.push(toldOf(warning, { steps: ['layoutOptions', key], isOfCall: true, ...told }));
+      yield toldOf(warning, { steps: ['layoutOptions', key], isOfCall: true, ...told });
     }
   }
   const holders = isCall ? ['layoutOptions', 'properties'] : ['layoutOptions'];
   for (const element of elementsIn(document).filter(({ value }) => isObject(value))) {
     for (const holding of withLabels(element)) {
       const used = holders.filter((name) => isObject(holding.value[name]));
-      used.forEach((holder) => found.push(...optionsOf(holding, holder, isCall)));
+      for (const holder of used) {
+        yield* optionsOf(holding, holder, isCall);
+      }
     }
-    found.push(...membersOf(element));
+    yield* membersOf(element);
   }
-  return found;
 }
 
 /** The warning of a member that stands twice in a text. */

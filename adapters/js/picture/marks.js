@@ -1,7 +1,9 @@
 'use strict';
 // The letters of SVG: numbers, texts and elements, safe whatever a document holds.
 
+const { nesting } = require('../data/limits.json');
 const { numberOr0 } = require('../levels');
+const { stepsTooDeep } = require('../nesting');
 
 // Text of XML takes no other control characters, and no half of a pair.
 const UNFIT = /[\u0000-\u0008\u000b\u000c\u000e-\u001f\ufffe\uffff\ud800-\udfff]/gu;
@@ -9,8 +11,11 @@ const ENTITIES = { '&': '&amp;', '<': '&lt;', '>': '&gt;', '"': '&quot;', "'": '
 
 const escaped = (text) => text.replace(UNFIT, '\ufffd').replace(/[&<>"']/g, (letter) => ENTITIES[letter]);
 
+/** A value as text of JSON, which is left out where it is nested deeper than a text may be. */
+const jsonOf = (value) => (stepsTooDeep(value, nesting) ? '…' : JSON.stringify(value));
+
 // An id or a label is a text or a number, but a document may hold anything.
-const wordsOf = (value) => (typeof value === 'string' ? value : JSON.stringify(value) ?? '');
+const wordsOf = (value) => (typeof value === 'string' ? value : jsonOf(value) ?? '');
 
 // Places are whole or halves; bends may need a little more.
 const num = (value) => String(Number(numberOr0(value).toFixed(2)));
@@ -30,4 +35,4 @@ function rectangle({ left, top, width, height }, look) {
 
 const group = (attributes, lines) => `<g ${attributes}>\n${lines.map((line) => `${line}\n`).join('')}</g>`;
 
-module.exports = { at, escaped, group, idOf, num, rectangle, sizeOf, titleOf, wordsOf };
+module.exports = { at, escaped, group, idOf, jsonOf, num, rectangle, sizeOf, titleOf, wordsOf };

@@ -1,7 +1,7 @@
 'use strict';
 // Where in a text the element stands that a drawing shows.
 
-const { readJson, linesOf } = require('../jsontext');
+const { JsonFault, readJson, linesOf } = require('../jsontext');
 const { elementsOf } = require('../levels');
 
 const LISTS = { node: 'children', edge: 'edges' };
@@ -26,16 +26,28 @@ function* elementsIn(node, kind, steps = []) {
 
 const wordsOf = (id) => (typeof id === 'string' ? id : JSON.stringify(id) ?? '');
 
+/** A text as it is read, with its places; nothing where it is nested too deep for them to be kept. */
+function readOrNothing(text) {
+  try {
+    return readJson(text, { isStrict: false });
+  } catch (error) {
+    if (error instanceof JsonFault) {
+      return undefined;
+    }
+    throw error;
+  }
+}
+
 /**
  * @param {string} text a document
  * @param {{ kind: 'node' | 'edge', id: string }} chosen the id as a drawing tells it
  * @returns {{ line: number, column: number } | undefined} where the id stands, or nothing where no element has it
  */
 function placeOf(text, { kind, id }) {
-  const { value, placeOf: at } = readJson(text, { isStrict: false });
-  for (const { element, steps } of elementsIn(value, kind)) {
+  const read = readOrNothing(text);
+  for (const { element, steps } of read ? elementsIn(read.value, kind) : []) {
     if (wordsOf(element.id) === id) {
-      const { line, column } = linesOf(text)(at([...steps, 'id']));
+      const { line, column } = linesOf(text)(read.placeOf([...steps, 'id']));
       return { line, column };
     }
   }

@@ -4,7 +4,7 @@
 
 const { elementsIn } = require('../elements');
 const { crossLevels, doubleIds, hyperedges, joinsIn, unknownEnds } = require('./ends');
-const { outOfRange, tooDeep, tooMany } = require('./limits');
+const { deepAt, outOfRange, tooDeep, tooMany } = require('./limits');
 const { badOptions, optionsOf } = require('./options');
 const { notPlaced } = require('./placed');
 const { portsInside } = require('./ports');
@@ -53,4 +53,4 @@ function findsIn(value, { fractions, isPlaced = false } = {}) {
   return { context, finds };
 }
 
-module.exports = { findsIn };
+module.exports = { deepAt, findsIn };

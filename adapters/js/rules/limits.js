@@ -42,13 +42,16 @@ function* tooMany({ elements }) {
   }
 }
 
+/** What rule 6 finds at a node. */
+const deepAt = (node) => find('deep', node, [], { found: node.depth, limit: limits.levels });
+
 /** Rule 6, told once for each path, where it becomes too deep. */
 function* tooDeep({ elements }) {
   for (const element of elements) {
     if (element.kind === 'node' && element.depth === limits.levels + 1) {
-      yield find('deep', element, [], { found: element.depth, limit: limits.levels });
+      yield deepAt(element);
     }
   }
 }
 
-module.exports = { outOfRange, tooDeep, tooMany };
+module.exports = { deepAt, outOfRange, tooDeep, tooMany };

@@ -3,6 +3,7 @@
 
 const { elementsOf, endIds, isObject, namesPort } = require('../levels');
 const { carriedBy } = require('../options');
+const { standIns } = require('../stand-ins');
 const { numberIn } = require('./labels');
 
 const ENDS = ['source', 'target'];
@@ -12,6 +13,8 @@ class Draft {
   #carried = new Map();
   #undo = [];
   #lists = new Map();
+  // For each child of a level what was added behind it last.
+  #lastBehind = new Map();
   #ids = new Set();
   #next = 0;
   #nodesById = new Map();
@@ -180,15 +183,34 @@ class Draft {
     });
   }
 
-  /** Adds an element to a list of a node until the answer is there. */
-  add(node, list, element) {
+  /** Whether a level keeps the order of the document in each of its layers. */
+  keepsOrder(level) {
+    const asked = (name) => this.option(level, name);
+    const order = asked('layered.order') ?? new Map(standIns(asked, () => true)).get('layered.order');
+    return String(order).toUpperCase() === 'DOCUMENT';
+  }
+
+  /** Where in a list an element is added: behind a child and what was added there before, or else at the end. */
+  #placeIn(list, element, behind) {
+    if (!behind) {
+      return list.length;
+    }
+    const last = this.#lastBehind.get(behind) ?? behind;
+    this.#lastBehind.set(behind, element);
+    return list.indexOf(last) + 1;
+  }
+
+  /** Adds an element to a list of a node until the answer is there, behind another where one is named. */
+  add(node, list, element, behind) {
     const before = node[list];
     if (!this.#lists.has(before) && (before === undefined || Array.isArray(before))) {
       node[list] = before ? before.slice() : [];
       this.#lists.set(node[list], { node, list, before });
     }
     // What is no list is for the engine to refuse.
-    this.#lists.get(node[list])?.node[list].push(element);
+    if (this.#lists.has(node[list])) {
+      node[list].splice(this.#placeIn(node[list], element, behind), 0, element);
+    }
     if (list === 'ports') {
       this.#portsById.set(element.id, { node, port: element, id: element.id });
     }

@@ -2,6 +2,7 @@
 // Labels of edges. One in mid-edge stands in a layer of its own: it is sent as a leaf between two pieces of the edge.
 // Labels at an end stand beside the line, where the end has room for them, or in such a layer next to the node.
 
+const { greatest, smallest } = require('../extremes');
 const { numberOr0 } = require('../levels');
 const { columnsOf } = require('./columns');
 const { isTrue, labelsOf, namesIn, placeStack, stackOf } = require('./labels');
@@ -82,15 +83,15 @@ function fits(draft, sides, { edge, end, level, labels, node, port }) {
     return false;
   }
   const spots = spotsAt(draft, node, side, docks);
-  const room = Math.min(...spots.slice(1).map((spot, at) => spot - spots[at]));
-  const half = Math.max(...docks.map((dock) => (dock.port ? Math.ceil(along(side, dock.port) / 2) : 0)));
+  const room = smallest(spots.slice(1).map((spot, at) => spot - spots[at]));
+  const half = greatest(docks.map((dock) => (dock.port ? Math.ceil(along(side, dock.port) / 2) : 0)));
   return room >= along(side, stackOf(labels, 0)) + half + draft.number(level, 'spacing.edgeLabel', 2);
 }
 
 /** Leads an edge through a leaf for each stop. */
-function passThrough(draft, { edge, at, level, direction, slides }, stops) {
+function passThrough(draft, { edge, at, level, source, direction, slides }, stops) {
   const { layoutOptions, properties } = edge;
-  const leaves = stops.map((stop) => leafOf(draft, { edge, level, direction, slides }, stop));
+  const leaves = stops.map((stop) => leafOf(draft, { edge, level, source, direction, slides }, stop));
   const [target] = edge.targets;
   draft.altered.add(level);
   const pieces = leaves.map(({ leaf }, k) => ({
@@ -114,7 +115,7 @@ function passThrough(draft, { edge, at, level, direction, slides }, stops) {
 }
 
 /** The leaf that holds a stop's labels below the line, or on it, and how they are placed once it is. */
-function leafOf(draft, { edge, level, direction, slides }, { labels, end }) {
+function leafOf(draft, { edge, level, source, direction, slides }, { labels, end }) {
   const inline = (it) => draft.option(it, 'edgeLabels.inline');
   const isInline = labels.every((label) => isTrue(inline(label) ?? inline(edge)));
   const gap = draft.number(level, 'spacing.labelLabel', 0);
@@ -132,12 +133,14 @@ function leafOf(draft, { edge, level, direction, slides }, { labels, end }) {
     y: spots[at][1],
     layoutOptions: { [`${FULL}port.side`]: at },
   });
-  const leaf = draft.add(level, 'children', {
+  const made = {
     id: draft.freshId('label', edge.id),
     ...size,
     ports: [port(BEHIND[direction]), port(side)],
     layoutOptions: { [`${FULL}portConstraints`]: 'FIXED_POS' },
-  });
+  };
+  // Where a level keeps the order of the document, a label stands in it where its edge begins.
+  const leaf = draft.add(level, 'children', made, draft.keepsOrder(level) ? source.node : undefined);
   const place = () => {
     const free = columnsOf(draft, level).get(leaf);
     const shift = { source: free.behind, target: free.ahead }[end] ?? Math.round((free.behind + free.ahead) / 2);

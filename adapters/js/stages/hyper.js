@@ -62,7 +62,8 @@ function broken(route, bends) {
     const from = points.at(-1);
     const within = bends.filter((bend) => isWithin(from, bend, to));
     within.sort((one, other) => distance(from, one) - distance(from, other));
-    points.push(...within.filter((point, k) => k === 0 || !sameAs(point, within[k - 1])), to);
+    within.filter((point, k) => k === 0 || !sameAs(point, within[k - 1])).forEach((point) => points.push(point));
+    points.push(to);
   }
   return points;
 }
@@ -70,25 +71,31 @@ function broken(route, bends) {
 /** The points of each section of a tree of paths, with the one before it and those after it by number. */
 function stretches(paths) {
   const found = [];
-  const grow = (members, from, before) => {
-    const at = found.push({ before, after: [], twig: members[0] }) - 1;
-    const path = paths[members[0]];
-    let to = from;
-    let ways = [members];
-    while (ways.length === 1 && to + 1 < path.length) {
-      ways = grouped(members, (k) => paths[k][to + 1]);
-      to += ways.length === 1 ? 1 : 0;
+  const roots = grouped([...paths.keys()], (k) => paths[k][0]);
+  const waiting = roots.map((members) => ({ members, from: 0, before: undefined })).reverse();
+  while (waiting.length > 0) {
+    const { members, from, before } = waiting.pop();
+    const { to, ways } = stretchOf(paths, members, from);
+    const points = tidy(paths[members[0]].slice(from, to + 1));
+    const at = found.push({ before, after: [], twig: members[0], points }) - 1;
+    found[before]?.after.push(at);
+    for (const way of ways.reverse()) {
+      waiting.push({ members: way, from: to, before: at });
     }
-    found[at].points = tidy(path.slice(from, to + 1));
-    if (ways.length > 1) {
-      found[at].after = ways.map((way) => grow(way, to, at));
-    }
-    return at;
-  };
-  for (const members of grouped([...paths.keys()], (k) => paths[k][0])) {
-    grow(members, 0, undefined);
   }
   return found;
+}
+
+/** How far paths run together, and how they part there; no ways where the first of them ends. */
+function stretchOf(paths, members, from) {
+  const path = paths[members[0]];
+  for (let to = from; to + 1 < path.length; to += 1) {
+    const ways = grouped(members, (k) => paths[k][to + 1]);
+    if (ways.length > 1) {
+      return { to, ways };
+    }
+  }
+  return { to: path.length - 1, ways: [] };
 }
 
 /** The sections of routes that begin, or end, together: one for each stretch along which the same of them run. */

@@ -1,6 +1,7 @@
 'use strict';
 // Labels, their sizes, and the values of the options that place them.
 
+const { greatest } = require('../extremes');
 const { isObject, numberOr0 } = require('../levels');
 const { widthOf } = require('../letters');
 const { text: TEXT } = require('../data/look.json');
@@ -46,7 +47,7 @@ function measured(label) {
   }
   const lines = typeof label.text === 'string' && label.text !== '' ? label.text.split('\n') : [];
   const size = {
-    width: Math.ceil(Math.max(0, ...lines.map((line) => widthOf(line, TEXT.largest)))),
+    width: Math.ceil(greatest(lines.map((line) => widthOf(line, TEXT.largest)), 0)),
     height: Math.ceil(lines.length * TEXT.largest * TEXT.line),
   };
   const given = ['width', 'height'].filter((name) => label[name] > 0).map((name) => [name, label[name]]);
@@ -77,7 +78,7 @@ function labelsOf(element, isPlaced = () => true) {
 function stackOf(labels, gap) {
   const heights = labels.map(({ height }) => Math.ceil(height));
   return {
-    width: Math.max(0, ...labels.map(({ width }) => Math.ceil(width))),
+    width: greatest(labels.map(({ width }) => Math.ceil(width)), 0),
     height: heights.reduce((sum, height) => sum + height, 0) + Math.max(0, labels.length - 1) * gap,
   };
 }

@@ -2,6 +2,7 @@
 // Labels of self-loops. A loop from a side to the same side is drawn close to the node afterwards, with its label
 // beyond it, for which the node keeps room. The label of any other loop stands at one of its ports.
 
+const { greatest } = require('../extremes');
 const { numberOr0 } = require('../levels');
 const { placeStack, stackOf } = require('./labels');
 const { pointsOf, route } = require('./sections');
@@ -40,7 +41,7 @@ function placeLoop(draft, strips, sides, { edge, level, source, target }, labels
   const docks = sides.get(node)[side];
   const own = docks.filter((dock) => dock.edge === edge || (ports.includes(dock.port) && !isShared(dock.port)));
   const reaches = docks.map(({ port }) => (port ? strips.reachOf(port, side).out : 0));
-  const depth = Math.max(...reaches) + draft.number(level, 'spacing.edgeNode', 10);
+  const depth = greatest(reaches) + draft.number(level, 'spacing.edgeNode', 10);
   const foreign = docks.filter((dock) => !own.includes(dock));
   const { before, behind } = overhangs(draft, node, side, { docks, length, beside, isAlone: foreign.length === 0 });
   strips.reserve(node, side, depth + beside + outward(side, size));
@@ -87,7 +88,7 @@ function fromOf([first, last], foreign, { length, beside }) {
   const [low, high] = between.reduce((best, it) => (it[1] - it[0] > best[1] - best[0] ? it : best));
   const middle = Math.floor((low + high - length) / 2);
   const isClear = !foreign.some((line) => middle - beside < line && line < middle + length + beside);
-  return isClear ? middle : Math.max(last, ...foreign) + beside;
+  return isClear ? middle : greatest(foreign, last) + beside;
 }
 
 module.exports = { placeLoops };

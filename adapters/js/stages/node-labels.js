@@ -2,6 +2,7 @@
 // Labels of nodes. Inside, they stand in the cells of three rows and three columns, for which a leaf may grow and a
 // level has padding. Outside, they stand beyond a side, clear of the lines that leave there.
 
+const { greatest } = require('../extremes');
 const { numberOr0 } = require('../levels');
 const { labelsOf, namesIn, placeStack, sidesIn, stackOf } = require('./labels');
 const { BORDERS, SIDES, along, isUpright, linesAt, outward, placeAt, spotsAt } = require('./sides');
@@ -86,7 +87,7 @@ function placeOutside(draft, strips, sides, node, groups) {
 
 function placeBeyond(draft, strips, { node, side, docks, away, clear }, groups) {
   const reaches = docks.map(({ port }) => (port ? strips.reachOf(port, side).out : 0));
-  const base = Math.max(strips.reservedAt(node, side), ...reaches);
+  const base = greatest(reaches, strips.reservedAt(node, side));
   const depth = groups.reduce((sum, { size }) => sum + outward(side, size), 0) + away;
   const [before, behind] = BORDERS[side];
   strips.reserve(node, side, base + depth);

@@ -1,6 +1,7 @@
 'use strict';
 // The sizes of nodes that grow with what stands in them: nodeSize.constraints of leaves, and the padding of levels.
 
+const { greatest } = require('../extremes');
 const { numberOr0 } = require('../levels');
 const { namesIn, sidesIn, sizeIn } = require('./labels');
 const { besidePort } = require('./port-labels');
@@ -14,7 +15,7 @@ const sum = (numbers) => numbers.reduce((one, other) => one + other, 0);
 
 /** The heights of the rows in which labels inside stand. */
 const heightsOf = (groups) =>
-  [0, 1, 2].map((row) => Math.max(0, ...groups.filter((it) => it.row === row).map(({ size }) => size.height)));
+  [0, 1, 2].map((row) => greatest(groups.filter((it) => it.row === row).map(({ size }) => size.height), 0));
 
 /** The room that labels inside take: three rows of three cells, of which the middle one stays in the middle. */
 function roomOfCells(groups, pad) {
@@ -28,7 +29,7 @@ function roomOfCells(groups, pad) {
   });
   return groups.length === 0
     ? { width: 0, height: 0 }
-    : { width: Math.max(...widths) + pad.left + pad.right, height: sum(heightsOf(groups)) + pad.top + pad.bottom };
+    : { width: greatest(widths) + pad.left + pad.right, height: sum(heightsOf(groups)) + pad.top + pad.bottom };
 }
 
 /** The room at the borders of a node that labels of its ports take within it. */
@@ -36,7 +37,7 @@ function frameOf(draft, node, sides, portLabels) {
   const depths = SIDES.map((side) => {
     const inside = sides.get(node)[side].map(({ port }) => portLabels.get(port)).filter((it) => it?.isInside);
     const room = inside.length > 0 ? 2 * besidePort(draft, node, side).out : 0;
-    return [side, Math.max(0, ...inside.map(({ size }) => outward(side, size))) + room];
+    return [side, greatest(inside.map(({ size }) => outward(side, size)), 0) + room];
   });
   return Object.fromEntries(depths);
 }
@@ -50,14 +51,14 @@ function lengthOf(docks, { side, strips, portLabels, withLabels, between }) {
     return Math.max(own, inside, aside > 0 ? aside + Math.ceil(own / 2) + 1 : 0);
   });
   // The engine spreads so many docks at equal distances.
-  return docks.length === 0 ? 0 : (docks.length + 1) * (Math.max(...lengths) + (docks.length > 1 ? between : 0));
+  return docks.length === 0 ? 0 : (docks.length + 1) * (greatest(lengths) + (docks.length > 1 ? between : 0));
 }
 
 /** How large a node has to be so that labels of ports inside it keep clear of those at its other sides and its own. */
 function roomAtCorners(docks, { groups, frame, pad, portLabels, isPinned }) {
   const inside = (side) => docks[side].map(({ port }) => portLabels.get(port)).filter((it) => it?.isInside);
   const end = ({ port }) => (port ? numberOr0(port.y) + numberOr0(port.height) : 0);
-  const longest = (list, side) => Math.max(0, ...list.map(({ size }) => along(side, size)));
+  const longest = (list, side) => greatest(list.map(({ size }) => along(side, size)), 0);
   const [top, , low] = heightsOf(groups);
   const above = frame.NORTH + (top > 0 ? top + pad.top : 0);
   const below = frame.SOUTH + (low > 0 ? low + pad.bottom : 0);
@@ -65,11 +66,11 @@ function roomAtCorners(docks, { groups, frame, pad, portLabels, isPinned }) {
     const list = inside(side);
     const half = Math.ceil(longest(list, side) / 2) + 1;
     if (list.length > 0 && isPinned) {
-      return Math.max(...docks[side].map(end)) + half + below;
+      return greatest(docks[side].map(end)) + half + below;
     }
     return list.length > 0 ? (docks[side].length + 1) * (Math.max(above, below) + half) : 0;
   });
-  return { width: longest([...inside('NORTH'), ...inside('SOUTH')], 'NORTH'), height: Math.max(...heights) };
+  return { width: longest([...inside('NORTH'), ...inside('SOUTH')], 'NORTH'), height: greatest(heights) };
 }
 
 /** The least size that a node asks for. */
@@ -105,8 +106,16 @@ function leastOf(draft, node, { sides, groups, frame, ...rest }) {
   return least;
 }
 
+/** Whether a length is none: the program is to see it and to refuse it. */
+function isFaulty(length) {
+  return length !== undefined && !(typeof length === 'number' && length >= 0);
+}
+
 /** A leaf grows to its least size; the given one is the least of all. Pinned ports at its far sides move along. */
 function growLeaf(draft, node, least, sides) {
+  if (isFaulty(node.width) || isFaulty(node.height)) {
+    return;
+  }
   const given = { width: numberOr0(node.width), height: numberOr0(node.height) };
   const grown = { width: Math.max(given.width, least.width), height: Math.max(given.height, least.height) };
   if (grown.width === given.width && grown.height === given.height) {

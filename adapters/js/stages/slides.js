@@ -2,6 +2,7 @@
 // A label in mid-edge stands in one layer. Where its line is long, it moves towards the middle of the line, as far as
 // nothing else stands there.
 
+const { greatest, smallest } = require('../extremes');
 const { elementsOf, numberOr0 } = require('../levels');
 const { placeStack } = require('./labels');
 const { pointsOf } = require('./sections');
@@ -115,8 +116,8 @@ function obstaclesOf(draft, movable) {
 function wayOf({ edge, labels, axis, line }) {
   const other = axis === 'x' ? 'y' : 'x';
   const size = axis === 'x' ? 'width' : 'height';
-  const from = Math.min(...labels.map((label) => label[axis]));
-  const to = Math.max(...labels.map((label) => label[axis] + label[size]));
+  const from = smallest(labels.map((label) => label[axis]));
+  const to = greatest(labels.map((label) => label[axis] + label[size]));
   const points = pointsOf(edge.sections[0]);
   const at = points.findIndex((point, k) => {
     const next = points[k + 1];

@@ -3,6 +3,7 @@
 // loops. A port is sent so large that it holds all of this, since the engine keeps clear of it. Afterwards it shrinks,
 // and its lines are drawn on to it.
 
+const { greatest, smallest } = require('../extremes');
 const { elementsOf, numberOr0 } = require('../levels');
 const { placeStack, stackOf } = require('./labels');
 const { ENDS } = require('./draft');
@@ -56,7 +57,7 @@ class Strips {
     const depths = blocks.map(({ out, size }) => out + outward(side, size));
     return {
       out: outward(side, port) + depths.reduce((sum, depth) => sum + depth, 0),
-      aside: Math.max(0, ...blocks.map(({ aside, size }) => aside + along(side, size))),
+      aside: greatest(blocks.map(({ aside, size }) => aside + along(side, size)), 0),
     };
   }
 }
@@ -94,7 +95,7 @@ function keepRoom(draft, strips, sides) {
   for (const [node, reserves] of strips.reserves) {
     for (const [side, depth] of Object.entries(reserves)) {
       const docks = sides.get(node)[side];
-      const reach = Math.max(0, ...docks.map(({ port }) => (port ? strips.reachOf(port, side).out : 0)));
+      const reach = greatest(docks.map(({ port }) => (port ? strips.reachOf(port, side).out : 0)), 0);
       if (depth > reach) {
         deepen(draft, strips, { node, side, docks, depth });
       }
@@ -197,8 +198,8 @@ function awayOf({ port, small }, node, side) {
 
 /** Whether what a line needs finds room before it but not behind it, where docks reach so far along the side. */
 function isBefore(spans, axis, needs) {
-  const behind = Math.min(...spans.filter((other) => other.axis > axis).map((other) => other.axis - other.half - axis));
-  const before = Math.min(...spans.filter((other) => other.axis < axis).map((other) => axis - other.half - other.axis));
+  const behind = smallest(spans.filter((other) => other.axis > axis).map((other) => other.axis - other.half - axis));
+  const before = smallest(spans.filter((other) => other.axis < axis).map((other) => axis - other.half - other.axis));
   return behind < needs && before > behind;
 }
 

@@ -38,7 +38,8 @@ function placesOf(count, arcs) {
       }
     }
   };
-  ready.push(...[...around.keys()].filter((node) => around[node].in === 0 || around[node].out === 0));
+  const isEnd = (node) => around[node].in === 0 || around[node].out === 0;
+  [...around.keys()].filter(isEnd).forEach((node) => ready.push(node));
   placeReady();
   for (let node = 0; node < count; node += 1) {
     ready.push(node);

@@ -92,7 +92,7 @@ test('a call without a graph, or with one that is no JSON, fails alone', async (
   await assert.rejects(elk.layout(), /Missing mandatory parameter 'graph'/);
   const round = {};
   round.children = [round];
-  await assert.rejects(elk.layout(round), RangeError);
+  await assert.rejects(elk.layout(round), { rule: 6, name: 'TooDeep' });
   await assert.rejects(elk.layout({ id: 1n }), TypeError);
   assert.equal((await elk.layout({ id: 'on' })).id, 'on');
 });
@@ -243,7 +243,8 @@ const port = (place) => ({
 });
 
 const REFUSED = [
-  [1, 'NotJson', undefined, /no JSON text/, nested(70)],
+  [1, 'NotJson', undefined, /is no JSON: id: a text has half/, { id: '\ud800' }],
+  [6, 'TooDeep', undefined, /more than 50 levels/, nested(70)],
   [2, 'NotWhole', undefined, /: children\[1\]\.id is 1\.5 \(rule/, { children: [{ id: 1 }, { id: 1.5 }] }],
   [2, 'NotWhole', undefined, /layoutOptions\["elk\.spacing\.nodeNode"\] is 2\.5/, pair({}, { 'elk.spacing.nodeNode': 2.5 })],
   [3, 'BadShape', undefined, /wrong kind of value/, { children: {} }],

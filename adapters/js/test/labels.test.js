@@ -176,3 +176,63 @@ test('call options count for labels, and labels that are not to be placed stay a
   assert.ok(x > a.x + a.width && x < a.x + a.width + 5);
   assert.equal(height, 30);
 });
+
+const box = (id, more) => ({ id, width: 30, height: 30, ...more });
+
+const step = (id, source, target, text) => ({ id, sources: [source], targets: [target], ...(text && { labels: [{ text }] }) });
+
+test('where a level keeps the order of the document, a label stands in it where its edge begins', WITH_PROGRAM, async () => {
+  const elk = new ELK({ program: PROGRAM });
+  const children = ['a', 'c', 'd', 'b'].map((id) => box(id));
+  const edges = [step('1', 'a', 'b', 'one'), step('2', 'a', 'c'), step('3', 'a', 'd'), step('4', 'a', 'b', 'two'), step('5', 'c', 'b', 'three')];
+  for (const layoutOptions of [
+    { 'elk.layered.order': 'DOCUMENT' },
+    { 'elk.layered.considerModelOrder.strategy': 'NODES_AND_EDGES' },
+    { 'elk.layered.crossingMinimization.strategy': 'NONE' },
+  ]) {
+    const placed = await elk.layout({ id: 'r', layoutOptions, children, edges });
+    assert.deepEqual(placed.children.map(({ id }) => id), ['a', 'c', 'd', 'b']);
+    const [one, , , two] = placed.edges.map(({ labels: [label] = [] }) => label?.y);
+    const [, c, d] = placed.children.map(({ y }) => y);
+    assert.ok(one < two && two < c && c < d, `${one} ${two} ${c} ${d}`);
+    assert.deepEqual(labelFaults(placed), []);
+  }
+  elk.terminateWorker();
+});
+
+test('a fault behind such a label is told where it stands in the graph', WITH_PROGRAM, async () => {
+  const elk = new ELK({ program: PROGRAM });
+  const level = { id: 'in', layoutOptions: { 'elk.layered.order': 'DOCUMENT' }, edges: [step('e', 'a', 'b', 'one')] };
+  const inner = (more, edges = []) => ({
+    id: 'r',
+    children: [{ ...level, children: [box('a'), box('b'), more], edges: [...level.edges, ...edges] }],
+  });
+  const ends = [step('f', 'c', 'nobody')];
+  for (const [graph, rule, path, words] of [
+    [inner(box('b')), 7, 'children[0].children[2].id', /as children\[0\]\.children\[1\]\.id is/],
+    [inner(box('c', { layoutOptions: { 'elk.portConstraints': 'ODD' } })), 11, 'children[0].children[2].layoutOptions["elk.portConstraints"]', /"ODD"/],
+    [inner(box('c'), ends), 8, 'children[0].edges[1].targets[0]', /"nobody"/],
+    [inner(box('c', { ports: [{ id: 'p', width: -2 }] })), 4, 'children[0].children[2].ports[0].width', /is -2/],
+  ]) {
+    await assert.rejects(elk.layout(graph), (error) => {
+      assert.deepEqual([error.rule, error.path], [rule, path]);
+      assert.match(error.message, words);
+      return true;
+    });
+  }
+  elk.terminateWorker();
+});
+
+test('a size that is none is refused, also where a node grows for its labels', WITH_PROGRAM, async () => {
+  const elk = new ELK({ program: PROGRAM });
+  const labels = [{ text: 'inside', width: 40, height: 12 }];
+  const layoutOptions = { 'nodeLabels.placement': 'INSIDE V_CENTER H_CENTER' };
+  for (const [width, name] of [[-1, 'OutOfRange'], ['12', 'BadShape'], [2 ** 21, 'OutOfRange']]) {
+    const graph = { id: 'root', children: [{ id: 'a', width, height: 10, labels, layoutOptions }] };
+    await assert.rejects(elk.layout(graph), (error) => {
+      assert.match(error.message, new RegExp(`children\\[0\\]\\.width.*${name}`), `${width}`);
+      return true;
+    });
+  }
+  elk.terminateWorker();
+});

@@ -64,10 +64,13 @@ test('a text that is no JSON is told with its place and its reason', () => {
 });
 
 test('no text is too deep to be judged', () => {
+  const namesOf = (text, how) => lint(text, how).faults.map(({ rule, name }) => [rule, name]);
   for (const text of ['['.repeat(100_000), '{"a":'.repeat(100_000), '{"children":['.repeat(50_000)]) {
-    for (const how of [{}, { call: {} }, { isPlaced: true }]) {
-      assert.deepEqual(lint(text, how).faults.map(({ rule, name }) => [rule, name]), [[1, 'NotJson']]);
+    for (const how of [{}, { isPlaced: true }]) {
+      assert.deepEqual(namesOf(text, how), [[1, 'NotJson']]);
     }
+    // A call names the rule of nodes where it is nodes that stand so deep.
+    assert.deepEqual(namesOf(text, { call: {} }), text.includes('children') ? [[6, 'TooDeep']] : [[1, 'NotJson']]);
   }
 });
 

@@ -3,6 +3,7 @@
 
 const { routeOf } = require('../junctions');
 const { Levels, endIds } = require('../levels');
+const { jsonOf } = require('../picture/marks');
 const { toSvg } = require('../svg');
 
-module.exports = { Levels, endIds, routeOf, toSvg };
+module.exports = { Levels, endIds, jsonOf, routeOf, toSvg };

@@ -78,7 +78,7 @@ def check(placed: Element, *, numbers: str = "ceil", program: Program = None) ->
 
     With `exact` fractions anywhere in it are refused, else only those that are read.
     """
-    return judge(find_program(program), Sender(numbers, is_placed=True).sent_of(placed).line)
+    return judge(find_program(program), Sender(numbers, is_placed=True).sent_of(placed).line, placed)
 
 
 @overload

@@ -6,7 +6,7 @@ import json
 import re
 from typing import Any, Dict, Mapping, NamedTuple, Optional
 
-from .errors import Refusal
+from .errors import refusal_of_deep
 from .options import carried_by, general_for, sent_options, spellings, stand_ins
 from .plain import PLAIN, decode, encode, encode_plain, plain
 from .whole import make_port_whole, make_size_whole
@@ -104,7 +104,7 @@ class Sender:
             if text is None:
                 text = encode(self._node(document, True) if self._rewrites else document)
         except RecursionError:
-            raise Refusal(1, "NotJson", None, "lists and objects stand too deep in one another, or in themselves") from None
+            raise refusal_of_deep(document) from None
         try:
             return Sent(text.encode() + b"\n", is_all)
         except UnicodeEncodeError:

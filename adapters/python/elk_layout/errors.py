@@ -6,7 +6,7 @@ import json
 import re
 from typing import Any, Optional, Sequence, Union
 
-from .faults import Fault, faults_of, message_of
+from .faults import NOT_JSON, TOO_DEEP, Fault, faults_of, message_of, too_deep
 
 Id = Union[str, int, None]
 
@@ -76,5 +76,19 @@ def refusal_of(
     rule, name = int(told[1]), told[2]
     id = None if told[3] == "-" else json.loads(told[3])
     faults = faults_of(rule, line, document, options, is_placed)
+    if [it.rule for it in faults] == [TOO_DEEP]:
+        # The program reads no text of such nodes, and so doesn't see that they are nodes.
+        return Refusal(TOO_DEEP, faults[0].name, faults=faults)
     first = [it for it in faults if it.rule == rule and str(it.id) == str(id)][:1]
     return Refusal(rule, name, id, None, first and first + [it for it in faults if it is not first[0]])
+
+
+STANDS_TOO_DEEP = "lists and objects stand too deep in one another, or in themselves"
+
+
+def refusal_of_deep(document: Any) -> Refusal:
+    """The refusal of a document that is too deep to be written."""
+    fault = too_deep(document)
+    if fault:
+        return Refusal(fault.rule, fault.name, faults=[fault])
+    return Refusal(NOT_JSON, "NotJson", None, STANDS_TOO_DEEP)

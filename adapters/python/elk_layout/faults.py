@@ -10,12 +10,13 @@ from decimal import Decimal
 from typing import Any, Dict, Iterable, Iterator, List, Optional, Tuple
 
 from .near import nearest
+from .nesting import deep_node_steps, steps_too_deep
 from .options import carried_by
 from .rules import NOWHERE, PORT, Context, Element, Find, Step, finds_in
 from .shared import table
 from .values import is_number, near_value
 
-TOO_LONG, NOT_JSON = 0, 1
+TOO_LONG, NOT_JSON, TOO_DEEP = 0, 1, 6
 
 # Looking through all ids for the nearest one takes time, and whoever reads so many faults has found the reason.
 MOST_NEAR = 20
@@ -72,6 +73,8 @@ def text_of(value: Any) -> str:
     """A value as text of JSON, cut off where it is long."""
     if is_number(value):
         return _number_text(value)
+    if steps_too_deep(value, table("limits")["nesting"]):
+        return "…"
     text = json.dumps(value, ensure_ascii=False, separators=(",", ":"))
     return f"{text[:MOST_LETTERS]}…" if len(text) > MOST_LETTERS else text
 
@@ -251,12 +254,45 @@ def faults_of(rule: int, line: bytes, document: Any = None, options: Any = None,
     """
     if rule == TOO_LONG:
         return [_too_long(len(line) - line.endswith(b"\n"), is_placed)]
-    value = json.loads(line)
     if rule == NOT_JSON:
-        return [_not_json(steps, reason) for steps, reason in _unwritable(value, ())][:1]
+        return _too_deep_nodes(document) or _not_json_in(line, document)
+    value = json.loads(line)
     context = Context(value)
     teller = _Teller(context, document, options)
     return [teller.fault_of(rule, find) for rule, find in finds_in(context)]
+
+
+def too_deep(document: Any) -> Optional[Fault]:
+    """The fault of a document in which something stands too deep for a text that the engine reads: a node, told by rule
+    6, or any other value.
+    """
+    nodes = _too_deep_nodes(document)
+    if nodes:
+        return nodes[0]
+    steps = steps_too_deep(document, table("limits")["nesting"])
+    return _not_json(tuple(steps), "deep") if steps else None
+
+
+def _not_json_in(line: bytes, document: Any) -> List[Fault]:
+    try:
+        value = json.loads(line)
+    except RecursionError:
+        return [it for it in [too_deep(document)] if it]
+    return [_not_json(steps, reason) for steps, reason in _unwritable(value, ())][:1]
+
+
+def _too_deep_nodes(document: Any) -> List[Fault]:
+    """The fault of a document whose nodes stand deeper in one another than any text has room for."""
+    limits, case = table("limits"), _FAULTS["cases"]["deep"]
+    # Each level is a list and an object.
+    if not deep_node_steps(document, (limits["nesting"] - 1) // 2):
+        return []
+    name, found = _RULES[TOO_DEEP]["name"], limits["levels"] + 1
+    steps = deep_node_steps(document, limits["levels"]) or []
+    detail = filled(case["detail"], {"path": _short(path_of(steps)), "found": found})
+    message = message_of(TOO_DEEP, name, None, detail, case.get("words"))
+    allowed = str(limits["levels"])
+    return [Fault(TOO_DEEP, name, message, path_of(steps), steps=tuple(steps), found=found, allowed=allowed)]
 
 
 def _too_long(found: int, is_placed: bool) -> Fault:

@@ -12,7 +12,7 @@ from typing import Any, Dict, Iterator, List, Optional, Tuple
 
 from .calls import layout
 from .document import Element, Placed
-from .errors import ElkError, Refusal
+from .errors import STANDS_TOO_DEEP, ElkError, Refusal
 from .faults import NOT_JSON, not_json_at
 
 
@@ -92,7 +92,9 @@ def _read(file: str) -> Element:
     except json.JSONDecodeError as error:
         fault = not_json_at(error.lineno, error.colno, error.msg)
         raise Refusal(fault.rule, fault.name, faults=[fault]) from error
-    except (ValueError, RecursionError) as error:
+    except RecursionError:
+        raise Refusal(NOT_JSON, "NotJson", None, STANDS_TOO_DEEP) from None
+    except ValueError as error:
         raise Refusal(NOT_JSON, "NotJson", None, str(error)) from error
     return document
 

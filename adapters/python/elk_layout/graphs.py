@@ -56,6 +56,9 @@ def from_networkx(
 ) -> Element:
     """The document of a graph: its nodes are leaves of the root, and its edges lead from their first end on.
 
+    The edges of a graph without directions are drawn as edges from the first to the second of the two ends that
+    `graph.edges` tells of them.
+
     Of `label`, `ports` and so on each is the name of an attribute, or a function of a node and its attributes, or of
     an edge's two ends and its attributes. `ports` are names, or objects with a `name` and members of a port;
     `source_port` and `target_port` are the names of two. `size` is a width and a height for nodes without attributes

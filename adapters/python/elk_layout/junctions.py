@@ -38,18 +38,33 @@ def _chains_of(sections: List[Element]) -> Iterator[List[Element]]:
     """The ways through sections that follow one another, from each without one before it to each without one after."""
     by_id = {it.get("id"): it for it in sections if isinstance(it.get("id"), (str, int, float))}
 
-    def follow(chain: List[Element]) -> Iterator[List[Element]]:
-        ids = chain[-1].get("outgoingSections")
-        known = [by_id[it] for it in ids if it in by_id] if isinstance(ids, list) else []
-        following = [it for it in known if not any(it is other for other in chain)]
-        if not following:
-            yield chain
-        for section in following:
-            yield from follow([*chain, section])
-
     for section in sections:
         if not section.get("incomingSections"):
-            yield from follow([section])
+            yield from _chains_from(section, by_id)
+
+
+def _chains_from(first: Element, by_id: Dict[Any, Element]) -> Iterator[List[Element]]:
+    chain: Dict[int, Element] = {}
+
+    def follow(section: Element) -> Optional[Iterator[Element]]:
+        chain[id(section)] = section
+        ids = section.get("outgoingSections")
+        known = [by_id[it] for it in ids if it in by_id] if isinstance(ids, list) else []
+        following = [it for it in known if id(it) not in chain]
+        return iter(following) if following else None
+
+    # For each section of the chain those behind it that are still to be followed; None where there is none.
+    followed = [follow(first)]
+    while followed:
+        following = followed[-1]
+        if following is None:
+            yield [*chain.values()]
+        section = next(following, None) if following else None
+        if section is None:
+            followed.pop()
+            chain.popitem()
+        else:
+            followed.append(follow(section))
 
 
 class Path(NamedTuple):

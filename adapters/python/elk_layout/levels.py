@@ -47,6 +47,12 @@ class Declared(NamedTuple):
     at: Place
 
 
+def _places_within(place: Place) -> List[Place]:
+    children = elements_of(place.node.get("children"))
+    offsets = [(number_or_0(child.get("x")), number_or_0(child.get("y"))) for child in children]
+    return [Place(child, place, place.left + left, place.top + top) for child, (left, top) in zip(children, offsets)]
+
+
 class Levels:
     """The levels of one document, whose coordinates are relative to the parent."""
 
@@ -57,16 +63,20 @@ class Levels:
         self.declared: List[Declared] = []
         self._nodes_by_id: Dict[Any, Place] = {}
         self._nodes_by_port: Dict[Any, Place] = {}
-        self._enter(Place(root, None, 0, 0))
+        waiting = [Place(root, None, 0, 0)]
+        entered = set()
+        while waiting:
+            place = waiting.pop()
+            # What stands in itself is at no level.
+            if id(place.node) not in entered:
+                entered.add(id(place.node))
+                self._enter(place)
+                waiting += reversed(_places_within(place))
 
     def _enter(self, place: Place) -> None:
         self.places.append(place)
         self._name(place)
-        node = place.node
-        self.declared += [Declared(edge, place) for edge in elements_of(node.get("edges"))]
-        for child in elements_of(node.get("children")):
-            left, top = number_or_0(child.get("x")), number_or_0(child.get("y"))
-            self._enter(Place(child, place, place.left + left, place.top + top))
+        self.declared += [Declared(edge, place) for edge in elements_of(place.node.get("edges"))]
 
     def _name(self, place: Place) -> None:
         # Only what has an id is named by it: the root needs none, and an end may be missing.

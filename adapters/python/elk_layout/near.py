@@ -4,10 +4,13 @@ from __future__ import annotations
 
 from typing import Iterable, List, Optional
 
+# Nobody writes so many letters and means others.
+MOST_LETTERS = 200
+
 
 def _distance(one: str, other: str, most: int) -> int:
     """How many letters have to be put in, left out, changed or exchanged with their neighbour; at most `most` + 1."""
-    if abs(len(one) - len(other)) > most:
+    if abs(len(one) - len(other)) > most or len(one) > MOST_LETTERS:
         return most + 1
     before: List[int] = []
     last = list(range(len(other) + 1))

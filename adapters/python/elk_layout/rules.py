@@ -72,7 +72,12 @@ class Element:
     @property
     def steps(self) -> List[Step]:
         """The members that lead to it."""
-        return [*self.holder.steps, *self.at] if self.holder else []
+        steps: List[Step] = []
+        element = self
+        while element.holder:
+            steps += reversed(element.at)
+            element = element.holder
+        return steps[::-1]
 
     @property
     def node(self) -> Element:
@@ -97,14 +102,17 @@ class Element:
         return self.has("sources") or self.has("targets")
 
 
-def _elements_in(node: Element) -> Iterator[Element]:
+def _elements_in(root: Element) -> Iterator[Element]:
     """A node, then its ports, then its edges, then its children, each with all of its own."""
-    yield node
-    for name, kind in (("ports", PORT), ("edges", EDGE)):
-        for at, value in enumerate(node.list_of(name)):
-            yield Element(kind, value, node, (name, at))
-    for at, value in enumerate(node.list_of("children")):
-        yield from _elements_in(Element(NODE, value, node, ("children", at)))
+    waiting = [root]
+    while waiting:
+        node = waiting.pop()
+        yield node
+        for name, kind in (("ports", PORT), ("edges", EDGE)):
+            for at, value in enumerate(node.list_of(name)):
+                yield Element(kind, value, node, (name, at))
+        children = [Element(NODE, value, node, ("children", at)) for at, value in enumerate(node.list_of("children"))]
+        waiting += reversed(children)
 
 
 class End(NamedTuple):

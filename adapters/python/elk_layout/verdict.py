@@ -5,7 +5,7 @@ from __future__ import annotations
 import json
 import subprocess
 from dataclasses import dataclass
-from typing import Optional, Tuple
+from typing import Any, Optional, Tuple
 
 from .errors import Id, ProgramError, refusal_of
 
@@ -45,8 +45,8 @@ class Verdict:
         return f"no: definition {self.definition}, {self.name}, fails at {places}"
 
 
-def judge(program: str, line: bytes) -> Verdict:
-    """Asks the program about a placed document; a Refusal where that is none."""
+def judge(program: str, line: bytes, placed: Any = None) -> Verdict:
+    """Asks the program about a placed document, by the line that is sent for it; a Refusal where that is none."""
     try:
         ended = subprocess.run([program, "check"], input=line, stdout=subprocess.PIPE, stderr=subprocess.PIPE)
     except OSError as cause:
@@ -56,7 +56,7 @@ def judge(program: str, line: bytes) -> Verdict:
         return Verdict(True)
     if ended.returncode == 1:
         return _failure(words)
-    refusal = refusal_of(notes, line, is_placed=True)
+    refusal = refusal_of(notes, line, placed, is_placed=True)
     if ended.returncode == 2 and refusal:
         raise refusal
     raise ProgramError(f"the program {program} ended with the status {ended.returncode}: {notes}", ended.returncode)

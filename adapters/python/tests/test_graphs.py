@@ -54,6 +54,13 @@ class Documents(unittest.TestCase):
         self.assertEqual([it["targets"] for it in document["edges"]], [["b.p"], ["b.p"]])
         self.assertEqual([it["layoutOptions"]["elk.layered.priority.shortness"] for it in document["edges"]], [3, 1])
 
+    def test_edges_without_a_direction_lead_from_their_first_end_to_their_second(self):
+        graph = networkx.Graph([("b", "a"), ("c", "a"), ("c", "c")])
+        edges = from_networkx(graph)["edges"]
+        self.assertEqual([(it["sources"], it["targets"]) for it in edges], [(["b"], ["a"]), (["a"], ["c"]), (["c"], ["c"])])
+        self.assertEqual([(it["sources"][0], it["targets"][0]) for it in edges], list(graph.edges))
+        self.assertIn("from the first to the second of the two ends", from_networkx.__doc__)
+
     def test_sizes_where_nothing_is_said_have_room_for_labels(self):
         graph = networkx.DiGraph()
         graph.add_node("i")
@@ -145,6 +152,13 @@ class Drawings(unittest.TestCase):
                 with self.subTest((id, end)):
                     self.assertEqual(abs(x - node["pos"][0]), node["width"] / 2)
                     self.assertLessEqual(abs(y - node["pos"][1]), node["height"] / 2)
+
+    def test_edges_without_a_direction_are_drawn_from_their_first_end_to_their_second(self):
+        graph = networkx.path_graph(4)
+        placed = layout(from_networkx(graph), program=PROGRAM)
+        places = {it["id"]: it["x"] for it in placed["children"]}
+        self.assertTrue(all(places[source] < places[target] for source, target in graph.edges))
+        self.assertEqual(placed["layering"]["reversed"], [])
 
     @needs("matplotlib")
     def test_networkx_draws_by_the_positions(self):

@@ -243,7 +243,7 @@ class Laid(unittest.TestCase):
             deep = {"id": at, "children": [deep]}
         for numbers in ("ceil", "exact"):
             for document in (within, deep):
-                self.assertEqual(lay_out(document, numbers=numbers, errors="return").rule, 1)
+                self.assertEqual(lay_out(document, numbers=numbers, errors="return").rule, 6)
         self.assertEqual(lay_out({"id": "r"})["id"], "r")
 
     def test_verdicts_name_the_first_definition_that_fails(self):

@@ -8,7 +8,9 @@ from decimal import ROUND_HALF_UP, Decimal
 from typing import Any, Iterable, NamedTuple, Tuple
 
 from ..levels import Element, number_or_0
+from ..nesting import steps_too_deep
 from ..plain import plain
+from ..shared import table
 
 # Text of XML takes no other control characters, and no half of a pair.
 UNFIT = re.compile("[\u0000-\u0008\u000b\u000c\u000e-\u001f\ufffe\uffff\ud800-\udfff]")
@@ -48,9 +50,11 @@ def escaped(text: str) -> str:
 
 
 def words_of(value: Any) -> str:
-    # An id or a label is a text or a number, but a document may hold anything.
+    # An id or a label is a text or a number, but a document may hold anything, nested deeper than a text may be too.
     if isinstance(value, str):
         return value
+    if steps_too_deep(value, table("limits")["nesting"]):
+        return "…"
     return json.dumps(plain(value), ensure_ascii=False, separators=(",", ":"), default=str)
 
 
