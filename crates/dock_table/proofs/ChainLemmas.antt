@@ -15,8 +15,7 @@ use Rattle.level_model.specs.Nets.{unit_of}
 use Rattle.level_model.specs.Traces.{chain, links_at, links_from}
 use Rattle.level_model.specs.Units.{AreLinked, chain_at}
 use Rattle.dock_table.specs.declared.flows.Flow.{Flow}
-use Rattle.level_model.specs.Marks.{AreMarks}
-use Rattle.dock_table.specs.Flows.{AreFirst, AreFlows, IsFlow, IsReadable, first_link, flow_at, is_near, near_unit}
+use Rattle.dock_table.specs.Flows.{AreFirst, AreFlows, IsFlow, IsReadable, TurnsMarked, first_link, flow_at, is_near, near_unit}
 
 first_exists : (test : ℕ → Bool) (a m k : ℕ) → a ≤ k → k < a + m → test k ≡ true → first_or (filter test (range_with_len a m)) 0 < a + m
 first_exists test a zero k low high t = absurd (omega (arith, low, high))
@@ -91,20 +90,18 @@ pub record AreRead (l : PlainLevel) (p : PlainPlan) (place : List ℕ) (marks : 
   pub level : IsLevel l
   pub sound : IsSound p.layered
   pub rows : AreRows p.layered p.rows
-  pub layers : List ℕ
-  pub linked : AreLinked l p layers
+  pub turned : TurnsMarked l marks p
   pub places : ArePlaces p.layered p.rows place
-  pub marks_are : AreMarks p.reversed (length l.edges) marks
   pub firsts_are : AreFirst (is_near p.layered false) (length p.layered.links) (length l.edges) firsts
   pub lasts_are : AreFirst (is_near p.layered true) (length p.layered.links) (length l.edges) lasts
 
 pub read_first : (l : PlainLevel) (p : PlainPlan) (place : List ℕ) (marks : List Bool) (firsts lasts : List ℕ) (e : ℕ) → AreRead l p place marks firsts lasts → e < length l.edges → IsFalse (is_loop l e) → IsReadable p.layered.links place (get_or firsts e 0)
 read_first l p place marks firsts lasts e are h no_loop =
-    rw (are.firsts_are.first_is e h) (readable p.layered p.rows place (first_link p.layered false e) are.sound are.places (first_there l p are.layers e are.linked h no_loop (either_spoke l e (not (holds p.reversed e)) are.level h)))
+    rw (are.firsts_are.first_is e h) (readable p.layered p.rows place (first_link p.layered false e) are.sound are.places (first_there l p are.turned.layers e are.turned.linked h no_loop (either_spoke l e (not (holds p.reversed e)) are.level h)))
 
 pub read_last : (l : PlainLevel) (p : PlainPlan) (place : List ℕ) (marks : List Bool) (firsts lasts : List ℕ) (e : ℕ) → AreRead l p place marks firsts lasts → e < length l.edges → IsFalse (is_loop l e) → IsReadable p.layered.links place (get_or lasts e 0)
 read_last l p place marks firsts lasts e are h no_loop =
-    rw (are.lasts_are.first_is e h) (readable p.layered p.rows place (first_link p.layered true e) are.sound are.places (last_there l p are.layers e are.linked h no_loop (either_spoke l e (holds p.reversed e) are.level h)))
+    rw (are.lasts_are.first_is e h) (readable p.layered p.rows place (first_link p.layered true e) are.sound are.places (last_there l p are.turned.layers e are.turned.linked h no_loop (either_spoke l e (holds p.reversed e) are.level h)))
 
 -- what is read of an edge
 pub record IsRead (l : PlainLevel) (p : PlainPlan) (place : List ℕ) (marks : List Bool) (firsts lasts : List ℕ) (e : ℕ) (v : Flow) : Type 0 where
@@ -136,7 +133,7 @@ flow_read l p place marks firsts lasts e v are h is =
     in
     record {
       looped = is.looped;
-      turned = is.turned ∙ are.marks_are.each e h;
+      turned = is.turned ∙ are.turned.marks.each e h;
       after = λ no_loop. is.after ∙ ap (λ b. cond b 0 (get_or place (link_at p.layered.links (get_or firsts e 0)).head 0)) no_loop ∙ head no_loop;
       before = λ no_loop. is.before ∙ ap (λ b. cond b 0 (get_or place (link_at p.layered.links (get_or lasts e 0)).tail 0)) no_loop ∙ tail no_loop;
       after_small = rw is.after (small_cond (is_loop l e) (get_or place (link_at p.layered.links (get_or firsts e 0)).head 0) (2 ^ 24) (λ no_loop. (placed (link_at p.layered.links (get_or firsts e 0)).head (read_first l p place marks firsts lasts e are h no_loop).head).1));
@@ -145,18 +142,16 @@ flow_read l p place marks firsts lasts e v are h is =
 
 -- ---- as an edge is read from the tables
 
-pub tables : (l : PlainLevel) (p : PlainPlan) (place : List ℕ) (marks : List Bool) (firsts lasts : List ℕ) (es : List LevelEdge) → es ≡ l.edges → IsLevel l → IsSound p.layered → AreRows p.layered p.rows → ((layers : List ℕ) × AreLinked l p layers)
-    → ArePlaces p.layered p.rows place → AreMarks p.reversed (length l.edges) marks → AreFirst (is_near p.layered false) (length p.layered.links) (length es) firsts → AreFirst (is_near p.layered true) (length p.layered.links) (length es) lasts
+pub tables : (l : PlainLevel) (p : PlainPlan) (place : List ℕ) (marks : List Bool) (firsts lasts : List ℕ) (es : List LevelEdge) → es ≡ l.edges → IsLevel l → IsSound p.layered → AreRows p.layered p.rows → TurnsMarked l marks p
+    → ArePlaces p.layered p.rows place → AreFirst (is_near p.layered false) (length p.layered.links) (length es) firsts → AreFirst (is_near p.layered true) (length p.layered.links) (length es) lasts
     → AreRead l p place marks firsts lasts
-tables l p place marks firsts lasts es e level sound rows linked places marks_are firsts_are lasts_are =
+tables l p place marks firsts lasts es e level sound rows turned places firsts_are lasts_are =
     record {
       level = level;
       sound = sound;
       rows = rows;
-      layers = linked.0;
-      linked = linked.1;
+      turned = turned;
       places = places;
-      marks_are = marks_are;
       firsts_are = subst (λ (xs : List LevelEdge). AreFirst (is_near p.layered false) (length p.layered.links) (length xs) firsts) e firsts_are;
       lasts_are = subst (λ (xs : List LevelEdge). AreFirst (is_near p.layered true) (length p.layered.links) (length xs) lasts) e lasts_are;
     }

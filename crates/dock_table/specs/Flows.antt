@@ -5,6 +5,8 @@ use Rattle.std.specs.List.{filter, range_with_len}
 use Rattle.elk_layers.specs.declared.units.Link.{Link}
 use Rattle.elk_layers.specs.Layered.{Plain, link_at, is_child, place_of}
 use Rattle.level_model.specs.Level.{PlainLevel, PlainPlan, holds, is_loop, first_or}
+use Rattle.level_model.specs.Marks.{AreMarks}
+use Rattle.level_model.specs.Units.{AreLinked}
 use Rattle.dock_table.specs.declared.flows.Flow.{Flow}
 
 -- the unit of a link at its head or its tail
@@ -30,6 +32,12 @@ pub record AreFirstFrom (test : ℕ → ℕ → Bool) (k bound count : ℕ) (fir
 pub record AreFirst (test : ℕ → ℕ → Bool) (bound count : ℕ) (firsts : List ℕ) : Type 0 where
   pub as_long : length firsts ≡ count
   pub first_is : (e : ℕ) → e < count → slice_index firsts e ≡ first_or (filter (test e) (range_with_len 0 bound)) 0
+
+-- a plan whose turned edges are the marked ones, and whose units are linked as those of the level in some layers
+pub record TurnsMarked (l : PlainLevel) (turned : List Bool) (p : PlainPlan) : Type 0 where
+  pub marks : AreMarks p.reversed (length l.edges) turned
+  pub layers : List ℕ
+  pub linked : AreLinked l p layers
 
 -- all links are those of edges below a bound
 abbrev pub HaveEdges : Plain → ℕ → Type 0

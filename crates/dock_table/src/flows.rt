@@ -2,10 +2,8 @@
 ghost use Rattle.std.specs.Prelude.{◌≡◌, ◌≢◌, ℕ, ◌<◌, ◌≤◌, ◌^◌, ◌==◌, cond, List, [], length, slice_index, slice_set, IfOk, IsFalse, true};
 ghost use Rattle.elk_layers.specs.Layered.{plain, link_at, rows_of, is_child, IsSound, AreRows};
 ghost use Rattle.level_model.specs.Conditions.{plain_level, plain_plan, IsLevel};
-ghost use Rattle.level_model.specs.Units.{AreLinked};
-ghost use Rattle.level_model.specs.Marks.{AreMarks};
 ghost use Rattle.dock_table.specs.Flows as spec;
-ghost use Rattle.dock_table.specs.Flows.{AreFirst, AreFlows, HaveEdges, IsReadable};
+ghost use Rattle.dock_table.specs.Flows.{AreFirst, AreFlows, HaveEdges, IsReadable, TurnsMarked};
 
 use elk_layers::{Layered, Link, Order, places};
 use level_model::{LevelEdge, LevelIn};
@@ -113,15 +111,15 @@ pub(crate) fn flows_of(
     level: &LevelIn,
     layered: &Layered,
     order: &Order,
-    reversed: &[u32],
     turned: &[bool],
 ) -> Result<Vec<Flow>, AllocError>
     requires level { IsLevel (plain_level level.now) }
     requires sound { IsSound (plain layered.now) }
     requires rows { AreRows (plain layered.now) (rows_of order.now) }
-    requires linked { (layers : List ℕ) × AreLinked (plain_level level.now) (plain_plan layered.now order.now [] reversed.now) layers }
-    requires marked { AreMarks reversed.now (length level.now.edges) turned.now }
-    ensures { IfOk result (λ flows. AreFlows (plain_level level.now) (plain_plan layered.now order.now [] reversed.now) (length level.now.edges) flows.items) }
+    requires turned { (reversed : List ℕ) × TurnsMarked (plain_level level.now) turned.now (plain_plan layered.now order.now [] reversed) }
+    ensures { IfOk result
+        (λ flows. (reversed : List ℕ) → TurnsMarked (plain_level level.now) turned.now (plain_plan layered.now order.now [] reversed)
+        → AreFlows (plain_level level.now) (plain_plan layered.now order.now [] reversed) (length level.now.edges) flows.items) }
 {
     let edges = level.edges.as_slice();
     let place = places(alloc, layered, order)?;

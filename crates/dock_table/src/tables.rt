@@ -7,12 +7,12 @@ ghost use Rattle.elk_doc.specs.Sound.{IsSoundSpacing};
 ghost use Rattle.elk_layers.specs.Layered.{plain, rows_of, IsSound, AreRows};
 ghost use Rattle.level_model.specs.Conditions.{plain_level, plain_plan, IsLevel, IsSpoke};
 ghost use Rattle.level_model.specs.Level.{Orders, PlainPlan};
-ghost use Rattle.level_model.specs.Marks.{AreMarks};
 ghost use Rattle.level_model.specs.Table.{IsTable, child_in};
-ghost use Rattle.level_model.specs.Units.{AreLinked, AreOrders};
+ghost use Rattle.level_model.specs.Units.{AreOrders};
 ghost use Rattle.dock_table.specs.Bounds.{AreNumbersIn, IsIn, IsLoopIn};
 ghost use Rattle.dock_table.specs.Ends.{HaveChildren};
 ghost use Rattle.dock_table.specs.Entries.{AreEndEntries, AreEntries, AreLanesOf, AreLoopEntries, AreReady, HaveBodies, HaveDocks, HaveFew, HavePlaces, HaveSpots, IsEndEntry, IsEntry, IsPlannedTable};
+ghost use Rattle.dock_table.specs.Flows.{TurnsMarked};
 ghost use Rattle.dock_table.specs.Lanes.{AreReadable, height_by, height_or, lane_place_in, lane_side_in, lanes_at, plain_lanes};
 ghost use Rattle.dock_table.specs.Narrow.{IsNarrow, IsNearRect, IsOffset};
 ghost use Rattle.dock_table.specs.Rows.{AreSpotsOf, row_lists};
@@ -299,7 +299,7 @@ fn table_from(
 }
 
 /// The table of a level: what a drawing needs to know of its children, ends and self-loops. Of the layered drawing only
-/// units, links and the places in rows are read, and of each edge whether it is among the `reversed`, as `turned` marks it.
+/// units, links and the places in rows are read. `turned` marks the edges that are turned round.
 ///
 /// The only error is want of memory.
 pub fn table_of(
@@ -307,20 +307,19 @@ pub fn table_of(
     level: &LevelIn,
     layered: &Layered,
     order: &Order,
-    reversed: &[u32],
     turned: &[bool],
 ) -> Result<Table, AllocError>
     requires level { IsLevel (plain_level level.now) }
     requires sound { IsSound (plain layered.now) }
     requires rows { AreRows (plain layered.now) (rows_of order.now) }
-    requires linked { (layers : List ℕ) × AreLinked (plain_level level.now) (plain_plan layered.now order.now [] reversed.now) layers }
-    requires marked { AreMarks reversed.now (length level.now.edges) turned.now }
+    requires turned { (reversed : List ℕ) × TurnsMarked (plain_level level.now) turned.now (plain_plan layered.now order.now [] reversed) }
     ensures table { IfOk result
-        (λ t. (o : Orders) × AreOrders (plain_level level.now) (plain_plan layered.now order.now [] reversed.now) o
-        × IsTable (plain_level level.now) (plain_plan layered.now order.now [] reversed.now) o t) }
+        (λ t. (reversed : List ℕ) → TurnsMarked (plain_level level.now) turned.now (plain_plan layered.now order.now [] reversed)
+        → (o : Orders) × AreOrders (plain_level level.now) (plain_plan layered.now order.now [] reversed) o
+        × IsTable (plain_level level.now) (plain_plan layered.now order.now [] reversed) o t) }
     ensures numbers { IfOk result AreNumbersIn }
 {
-    let flows = flows_of(alloc, level, layered, order, reversed, turned)?;
+    let flows = flows_of(alloc, level, layered, order, turned)?;
     let spots = spots_of(alloc, level, flows.as_slice())?;
     let orders = orders_of(alloc, level, &spots.rows)?;
     let docks = docks_of(alloc, level, &spots.rows, orders.as_slice())?;

@@ -1,3 +1,4 @@
+pub mod MarkLemmas
 pub mod SumLemmas
 pub mod GrownLemmas
 pub mod CountLemmas

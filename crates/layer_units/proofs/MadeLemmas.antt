@@ -11,33 +11,36 @@ use Rattle.level_model.specs.declared.table.Table.{Table}
 use Rattle.level_model.specs.Conditions.{IsLevel, plain_level, plain_plan}
 use Rattle.level_model.specs.Level.{Orders, PlainPlan}
 use Rattle.level_model.specs.Table.{IsTable}
-use Rattle.level_model.specs.Units.{AreLinked, AreOrders}
+use Rattle.level_model.specs.Units.{AreOrders}
 use Rattle.dock_table.specs.Bounds.{AreNumbersIn}
-use Rattle.level_model.specs.Marks.{AreMarks}
+use Rattle.dock_table.specs.Flows.{TurnsMarked}
+use Rattle.layer_units.specs.Marks.{listed}
 use Rattle.layer_units.specs.Reading.{AreFittedLinks, AreFittedUnits}
 use Rattle.layer_units.proofs.FittedLemmas.{IsTabled, plain_with}
 
-pub tabled : (level : LevelIn) (layered : Layered) (order : Order) (reversed : List ℕ) (t : Table) (marks : List Bool) → IsLevel (plain_level level) → IsSound (plain layered) → AreRows (plain layered) (rows_of order)
+pub tabled : (level : LevelIn) (layered : Layered) (order : Order) (t : Table) (marks : List Bool) → IsLevel (plain_level level) → IsSound (plain layered) → AreRows (plain layered) (rows_of order)
     → layered.node_node ≡ level.spacing.node_node → layered.edge_node ≡ level.spacing.edge_node → layered.edge_edge ≡ level.spacing.edge_edge
-    → ((layers : List ℕ) × AreLinked (plain_level level) (plain_plan layered order [] reversed) layers)
-    → (made : (o : Orders) × AreOrders (plain_level level) (plain_plan layered order [] reversed) o × IsTable (plain_level level) (plain_plan layered order [] reversed) o t)
-    → AreNumbersIn t → AreMarks reversed (length level.edges) marks → IsTabled (plain_level level) (plain_plan layered order [] reversed) made.0 t marks
-tabled level layered order reversed t marks is sound rows node_node edge_node edge_edge linked made numbers marked =
-    record {
-      level = is;
-      sound = sound;
-      rows = rows;
-      layers_are = refl;
-      node_node = node_node;
-      edge_node = edge_node;
-      edge_edge = edge_edge;
-      layers = linked.0;
-      linked = linked.1;
-      orders = made.1;
-      table = made.2;
-      numbers = numbers;
-      marks_are = marked;
-    }
+    → TurnsMarked (plain_level level) marks (plain_plan layered order [] (listed marks))
+    → ((reversed : List ℕ) → TurnsMarked (plain_level level) marks (plain_plan layered order [] reversed)
+    → (o : Orders) × AreOrders (plain_level level) (plain_plan layered order [] reversed) o × IsTable (plain_level level) (plain_plan layered order [] reversed) o t)
+    → AreNumbersIn t → (o : Orders) × IsTabled (plain_level level) (plain_plan layered order [] (listed marks)) o t marks
+tabled level layered order t marks is sound rows node_node edge_node edge_edge turned made numbers =
+    let found = made (listed marks) turned in (
+      found.0,
+      record {
+        level = is;
+        sound = sound;
+        rows = rows;
+        layers_are = refl;
+        node_node = node_node;
+        edge_node = edge_node;
+        edge_edge = edge_edge;
+        turned = turned;
+        orders = found.1;
+        table = found.2;
+        numbers = numbers;
+      },
+    )
 
 pub units_read : (s : Spacing) (t : Table) (xs units us : List LayerUnit) → xs ≡ units → AreFittedUnits s t.children xs (length xs) us → AreFittedUnits s t.children units (length units) us
 units_read s t xs units us same fit = subst (λ (ys : List LayerUnit). AreFittedUnits s t.children ys (length ys) us) same fit

@@ -10,9 +10,10 @@ use Rattle.level_model.specs.declared.table.Table.{Table}
 use Rattle.level_model.specs.Conditions.{IsLevel, plain_level, plain_plan}
 use Rattle.level_model.specs.Level.{Orders, PlainLevel, PlainPlan}
 use Rattle.level_model.specs.Table.{IsTable}
-use Rattle.level_model.specs.Units.{AreLinked, AreOrders}
+use Rattle.level_model.specs.Units.{AreOrders}
 use Rattle.dock_table.specs.Bounds.{AreNumbersIn}
-use Rattle.level_model.specs.Marks.{AreMarks}
+use Rattle.dock_table.specs.Flows.{TurnsMarked}
+use Rattle.layer_units.specs.Marks.{listed}
 use Rattle.layer_units.specs.declared.ports.PortRanks.{PortRanks}
 use Rattle.layer_units.specs.Levels.{AreRanksTo}
 use Rattle.layer_units.specs.Ports.{PlainRanks, plain_ranks}
@@ -20,24 +21,26 @@ use Rattle.layer_units.specs.Ranked.{AreBareLinks, IsRanking, has_ranks}
 use Rattle.layer_units.specs.RankReading.{AreRankedLinks}
 use Rattle.layer_units.proofs.RankedLemmas.{IsMade, are_ranked, bare_ranked, bare_relinked, ranking, relinked, with_links}
 
-pub made_of : (level : LevelIn) (layered : Layered) (order : Order) (reversed : List ℕ) (t : Table) (marks : List Bool) (ranks read : List PortRanks) → IsLevel (plain_level level) → IsSound (plain layered)
-    → ((layers : List ℕ) × AreLinked (plain_level level) (plain_plan layered order [] reversed) layers)
-    → (made : (o : Orders) × AreOrders (plain_level level) (plain_plan layered order [] reversed) o × IsTable (plain_level level) (plain_plan layered order [] reversed) o t)
-    → AreNumbersIn t → AreMarks reversed (length level.edges) marks → AreRanksTo (plain_level level) marks (length level.children) (map plain_ranks ranks) → read ≡ ranks
-    → IsMade (plain_level level) (plain_plan layered order [] reversed) made.0 t marks (map plain_ranks read)
-made_of level layered order reversed t marks ranks read is sound linked made numbers marked ranked same =
-    record {
-      level = is;
-      sound = sound;
-      layers_are = refl;
-      layers = linked.0;
-      linked = linked.1;
-      orders = made.1;
-      table = made.2;
-      numbers = numbers;
-      marks_are = marked;
-      ranks = subst (λ (xs : List PortRanks). AreRanksTo (plain_level level) marks (length level.children) (map plain_ranks xs)) (sym same) ranked;
-    }
+pub made_of : (level : LevelIn) (layered : Layered) (order : Order) (t : Table) (marks : List Bool) (ranks read : List PortRanks) → IsLevel (plain_level level) → IsSound (plain layered)
+    → TurnsMarked (plain_level level) marks (plain_plan layered order [] (listed marks))
+    → ((reversed : List ℕ) → TurnsMarked (plain_level level) marks (plain_plan layered order [] reversed)
+    → (o : Orders) × AreOrders (plain_level level) (plain_plan layered order [] reversed) o × IsTable (plain_level level) (plain_plan layered order [] reversed) o t)
+    → AreNumbersIn t → AreRanksTo (plain_level level) marks (length level.children) (map plain_ranks ranks) → read ≡ ranks
+    → (o : Orders) × IsMade (plain_level level) (plain_plan layered order [] (listed marks)) o t marks (map plain_ranks read)
+made_of level layered order t marks ranks read is sound turned made numbers ranked same =
+    let found = made (listed marks) turned in (
+      found.0,
+      record {
+        level = is;
+        sound = sound;
+        layers_are = refl;
+        turned = turned;
+        orders = found.1;
+        table = found.2;
+        numbers = numbers;
+        ranks = subst (λ (xs : List PortRanks). AreRanksTo (plain_level level) marks (length level.children) (map plain_ranks xs)) (sym same) ranked;
+      },
+    )
 
 pub links_read : (l : PlainLevel) (t : Table) (vs : List PlainRanks) (marks : List Bool) (ys us : List LayerUnit) (xs links ks : List Link) → ys ≡ us → xs ≡ links → AreRankedLinks l t vs ys marks xs (length xs) ks → AreRankedLinks l t vs us marks links (length links) ks
 links_read l t vs marks ys us xs links ks units same fit =

@@ -30,7 +30,7 @@ use Rattle.level_model.proofs.SpotLemmas.{spoke_there}
 use Rattle.dock_table.specs.Bounds.{AreNumbersIn}
 use Rattle.dock_table.specs.Lanes.{side_by}
 use Rattle.dock_table.proofs.AddLemmas.{ports_few}
-use Rattle.level_model.specs.Marks.{AreMarks}
+use Rattle.dock_table.specs.Flows.{TurnsMarked}
 use Rattle.level_nets.proofs.ListLemmas.{filter_short}
 use Rattle.layer_units.specs.Alike.{AreAlike, AreFlat}
 use Rattle.layer_units.specs.Reading.{end_of, is_on_lane}
@@ -51,12 +51,10 @@ pub record IsMade (l : PlainLevel) (p : PlainPlan) (o : Orders) (t : Table) (mar
   pub level : IsLevel l
   pub sound : IsSound p.layered
   pub layers_are : p.layers ≡ p.layered.layers
-  pub layers : List ℕ
-  pub linked : AreLinked l p layers
+  pub turned : TurnsMarked l marks p
   pub orders : AreOrders l p o
   pub table : IsTable l p o t
   pub numbers : AreNumbersIn t
-  pub marks_are : AreMarks p.reversed (length l.edges) marks
   pub ranks : AreRanksTo l marks (length l.children) vs
 
 -- the side of a dock's lane
@@ -101,7 +99,7 @@ module _ (l : PlainLevel) (p : PlainPlan) (o : Orders) (t : Table) (marks : List
         level = made.level;
         as_many_ends = made.table.end_count;
         as_many_ranks = made.ranks.as_many;
-        as_many_marks = made.marks_are.as_many;
+        as_many_marks = made.turned.marks.as_many;
         numbers = made.numbers;
         ranks = ranks_in;
       }
@@ -129,7 +127,7 @@ module _ (l : PlainLevel) (p : PlainPlan) (o : Orders) (t : Table) (marks : List
     side_way = ap (λ x. cond x West East) way
 
     last_of : (rule : PortRule) → (child_at l c).rule ≡ rule → is_fixed rule ≡ true → (rule ≡ FixedOrder) ⊎ (rule ≡ FixedPos) → last_in v b ≡ last_rank l p c (link_side p (end_at e a)) rule
-    last_of rule is fixed which = last_is l p o marks c made.marks_are v (ranks_of rule is fixed) (link_side p (end_at e a)) b side_way rule is which
+    last_of rule is fixed which = last_is l p o marks c made.turned.marks v (ranks_of rule is fixed) (link_side p (end_at e a)) b side_way rule is which
 
     -- an end at a port
     module _ (k : ℕ) (at : (spoke l (end_at e a)).port ≡ Some k) where
@@ -169,7 +167,7 @@ module _ (l : PlainLevel) (p : PlainPlan) (o : Orders) (t : Table) (marks : List
           ap (λ r. cond (is_spread_fixed r (Some k) (is_pinned (child_at l c) k)) (last_in v b + 1)
           (cond (is_on_lane (end_of t e a).dock.side b) (lane_rank (last_in v b) (side_by (child_at l c).size.height (end_of t e a).dock.side (end_of t e a).anchor.y)) (get_or v.before k 0 + 1))) is
           ∙ ported FixedOrder (last_of FixedOrder is refl (inl refl)) (place_in (o c (link_side p (end_at e a))) k + 1)
-          (λ on. ap (λ m. m + 1) (place_before l p o marks c made.marks_are v (ranks_of FixedOrder is refl) k (link_side p (end_at e a)) b side_way is less on made.orders inside))
+          (λ on. ap (λ m. m + 1) (place_before l p o marks c made.turned.marks v (ranks_of FixedOrder is refl) k (link_side p (end_at e a)) b side_way is less on made.orders inside))
 
       placed_port : (child_at l c).rule ≡ FixedPos → k < length (child_at l c).ports → reading.port_rank (child_at l c) v (end_of t e a) k b ≡ rank_by l p o (end_at e a) c FixedPos (Some k)
       placed_port is less =
@@ -188,7 +186,7 @@ module _ (l : PlainLevel) (p : PlainPlan) (o : Orders) (t : Table) (marks : List
               ≡ cond (not z) (last_rank l p c (link_side p (end_at e a)) FixedPos + 1)
               (cond (lies_on_lane l p (end_at e a) d.side) (lane_rank (last_rank l p c (link_side p (end_at e a)) FixedPos) (lane_side l d)) (port_rank l p o c (link_side p (end_at e a)) FixedPos (Some k) z))) (sym pinned)
               (ported FixedPos (last_of FixedPos is refl (inr refl)) (length (filter (λ j. offset_first l p o c j k) (pinned_on l p c (link_side p (end_at e a)))) + 1)
-              (λ on. ap (λ m. m + 1) (placed_before l p o marks c made.marks_are v (ranks_of FixedPos is refl) k (link_side p (end_at e a)) is less pinned on)))
+              (λ on. ap (λ m. m + 1) (placed_before l p o marks c made.turned.marks v (ranks_of FixedPos is refl) k (link_side p (end_at e a)) is less pinned on)))
           by false pinned =
               subst (λ z. cond (not z) (last_in v b + 1)
               (cond (is_on_lane (end_of t e a).dock.side b) (lane_rank (last_in v b) (side_by (child_at l c).size.height (end_of t e a).dock.side (end_of t e a).anchor.y)) (get_or v.before k 0 + 1))
@@ -364,17 +362,17 @@ module _ (l : PlainLevel) (p : PlainPlan) (o : Orders) (t : Table) (marks : List
   are_ranked rows tops r k are less =
       let many = links.as_many in
       let h : k < length p.layered.links = omega (arith, less, many) in
-      let is = made.linked.links k h in
+      let is = made.turned.linked.links k h in
       let q = plan_of (with_links p.layered ks) rows tops p.reversed in
       record {
         tail = ap (λ (x : Link). x.tail_rank) (links.each k h)
             ∙ (is_link_with l t vs p.layered.units marks (link_at p.layered.links k)).tail_rank
-            ∙ ap (λ m. unit_rank l t vs (unit_at p.layered.units (link_at p.layered.links k).tail) (link_at p.layered.links k).edge (not m) false) (made.marks_are.each (link_at p.layered.links k).edge is.edge_in)
+            ∙ ap (λ m. unit_rank l t vs (unit_at p.layered.units (link_at p.layered.links k).tail) (link_at p.layered.links k).edge (not m) false) (made.turned.marks.each (link_at p.layered.links k).edge is.edge_in)
             ∙ unit_rank_is (link_at p.layered.links k).tail (link_at p.layered.links k).edge (not (holds p.reversed (link_at p.layered.links k).edge)) false (plan_of (with_links p.layered ks) rows tops p.reversed) r refl are is.edge_in is.no_loop (tail_leaves p (link_at p.layered.links k).edge)
             ∙ sym (ap₂ (λ u e. cond (is_some (unit_at p.layered.units u).child) (rank_of_end l (plan_of (with_links p.layered ks) rows tops p.reversed) r (end_at e (not (holds p.reversed e)))) 0) (relinked.tail_is k) (relinked.edge_is k));
         head = ap (λ (x : Link). x.head_rank) (links.each k h)
             ∙ (is_link_with l t vs p.layered.units marks (link_at p.layered.links k)).head_rank
-            ∙ ap (λ m. unit_rank l t vs (unit_at p.layered.units (link_at p.layered.links k).head) (link_at p.layered.links k).edge m true) (made.marks_are.each (link_at p.layered.links k).edge is.edge_in)
+            ∙ ap (λ m. unit_rank l t vs (unit_at p.layered.units (link_at p.layered.links k).head) (link_at p.layered.links k).edge m true) (made.turned.marks.each (link_at p.layered.links k).edge is.edge_in)
             ∙ unit_rank_is (link_at p.layered.links k).head (link_at p.layered.links k).edge (holds p.reversed (link_at p.layered.links k).edge) true (plan_of (with_links p.layered ks) rows tops p.reversed) r refl are is.edge_in is.no_loop (head_enters p (link_at p.layered.links k).edge)
             ∙ sym (ap₂ (λ u e. cond (is_some (unit_at p.layered.units u).child) (rank_of_end l (plan_of (with_links p.layered ks) rows tops p.reversed) r (end_at e (holds p.reversed e))) 0) (relinked.head_is k) (relinked.edge_is k));
       }

@@ -1,3 +1,4 @@
+pub mod Marks
 pub mod Layering
 pub mod Numbered
 pub mod Grown

@@ -3,9 +3,10 @@ ghost use Rattle.std.specs.Prelude.{◌≡◌, ◌≤ℤ◌, ◌*◌, ◌^◌, �
 ghost use Rattle.elk_layers.specs.Layered.{plain, rows_of, total_height, IsSound, AreRows};
 ghost use Rattle.level_model.specs.Conditions.{plain_level, plain_plan, IsLevel};
 ghost use Rattle.level_model.specs.Level.{Orders};
-ghost use Rattle.level_model.specs.Marks.{AreMarks};
 ghost use Rattle.level_model.specs.Units.{AreLinked};
 ghost use Rattle.layer_units.specs.Fitted.{AreFitted, AreKept};
+ghost use Rattle.dock_table.specs.Flows.{TurnsMarked};
+ghost use Rattle.layer_units.specs.Marks.{listed};
 ghost use Rattle.layer_units.specs.Tabled.{IsTableOf};
 
 use crate::heights::fit_units;
@@ -24,8 +25,8 @@ pub struct UnitsAndTable {
 
 /// The units and links of a level with their heights and pins, in whole document units: each child's unit has the height of its
 /// lanes and its outline, and each link leaves and enters its units at the heights of its edge's anchors or of their lanes.
-/// These follow from the orders of the sides, which follow from the order of the rows. The table that they are read off holds
-/// for whatever tops the units get.
+/// These follow from the orders of the sides, which follow from the order of the rows, and from the edges that are turned round,
+/// which `turned` marks. The table that they are read off holds for whatever tops the units get.
 ///
 /// Of the units and links that are given, heights and pins are not read, but for those of lanes, which are 0. The ranks of
 /// pins stay as they are. The only error is want of memory; what was given is dropped then.
@@ -34,7 +35,6 @@ pub fn pinned(
     level: &LevelIn,
     layered: Layered,
     order: &Order,
-    reversed: &[u32],
     turned: &[bool],
 ) -> Result<UnitsAndTable, AllocError>
     requires level { IsLevel (plain_level level.now) }
@@ -43,20 +43,19 @@ pub fn pinned(
     requires node_node { layered.node_node ≡ level.now.spacing.node_node }
     requires edge_node { layered.edge_node ≡ level.now.spacing.edge_node }
     requires edge_edge { layered.edge_edge ≡ level.now.spacing.edge_edge }
-    requires linked { (layers : List ℕ) × AreLinked (plain_level level.now) (plain_plan layered order.now [] reversed.now) layers }
-    requires marked { AreMarks reversed.now (length level.now.edges) turned.now }
+    requires turned { TurnsMarked (plain_level level.now) turned.now (plain_plan layered order.now [] (listed turned.now)) }
     ensures fitted { IfOk result
         (λ v. (o : Orders)
         × ((layers : List ℕ) (tops : List ℤ)
-        → AreLinked (plain_level level.now) (plain_plan layered order.now [] reversed.now) layers
-        → AreFitted (plain_level level.now) (plain_plan v.layered order.now tops reversed.now) o layers)) }
-    ensures table { IfOk result (λ v. (tops : List ℤ) → IsTableOf (plain_level level.now) (plain_plan v.layered order.now tops reversed.now) v.table) }
+        → AreLinked (plain_level level.now) (plain_plan layered order.now [] (listed turned.now)) layers
+        → AreFitted (plain_level level.now) (plain_plan v.layered order.now tops (listed turned.now)) o layers)) }
+    ensures table { IfOk result (λ v. (tops : List ℤ) → IsTableOf (plain_level level.now) (plain_plan v.layered order.now tops (listed turned.now)) v.table) }
     ensures sound { IfOk result (λ v. IsSound (plain v.layered)) }
     ensures low { IfOk result (λ v. total_height (plain v.layered).units ≤ℤ pos (3 * 2 ^ 47)) }
     ensures rows { IfOk result (λ v. AreRows (plain v.layered) (rows_of order.now)) }
     ensures kept { IfOk result (λ v. AreKept (plain layered) (plain v.layered)) }
 {
-    let table = table_of(alloc, level, &layered, order, reversed, turned)?;
+    let table = table_of(alloc, level, &layered, order, turned)?;
     let fitting = Fitting {
         level,
         table: &table,

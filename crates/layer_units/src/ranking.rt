@@ -3,8 +3,9 @@ ghost use Rattle.std.specs.Prelude.{◌≡◌, ℕ, List, [], ℤ, length, IfOk,
 ghost use Rattle.elk_layers.specs.Layered.{plain, rows_of, IsSound, AreRows};
 ghost use Rattle.level_model.specs.Conditions.{plain_level, plain_plan, IsLevel};
 ghost use Rattle.level_model.specs.Level.{PlainLevel};
-ghost use Rattle.level_model.specs.Marks.{AreMarks};
 ghost use Rattle.level_model.specs.Units.{AreLinked};
+ghost use Rattle.dock_table.specs.Flows.{TurnsMarked};
+ghost use Rattle.layer_units.specs.Marks.{listed};
 ghost use Rattle.layer_units.specs.Ranked as spec;
 ghost use Rattle.layer_units.specs.Ranked.{AreBareLinks, AreRanked, AreReranked, IsRanking, plan_of};
 
@@ -68,17 +69,15 @@ fn by_table(
     level: &LevelIn,
     layered: Layered,
     order: &Order,
-    reversed: &[u32],
     turned: &[bool],
 ) -> Result<Layered, AllocError>
     requires level { IsLevel (plain_level level.now) }
     requires sound { IsSound (plain layered) }
     requires rows { AreRows (plain layered) (rows_of order.now) }
-    requires linked { (layers : List ℕ) × AreLinked (plain_level level.now) (plain_plan layered order.now [] reversed.now) layers }
-    requires marked { AreMarks reversed.now (length level.now.edges) turned.now }
-    ensures { IfOk result (λ v. IsRanking (plain_level level.now) (plain layered) (plain v) reversed.now) }
+    requires turned { TurnsMarked (plain_level level.now) turned.now (plain_plan layered order.now [] (listed turned.now)) }
+    ensures { IfOk result (λ v. IsRanking (plain_level level.now) (plain layered) (plain v) (listed turned.now)) }
 {
-    let table = table_of(alloc, level, &layered, order, reversed, turned)?;
+    let table = table_of(alloc, level, &layered, order, turned)?;
     let ranks = ranks_of_children(alloc, level, turned)?;
     let ranking = Ranking {
         level,
@@ -98,32 +97,30 @@ fn by_table(
 /// The units and links of a level with the ranks of links' ends: where an end stands among those of its child's side, from the
 /// top. Only children whose ports are in a fixed order or at fixed positions give ranks; all others are 0.
 ///
-/// Ranks are the same for every order of the rows, so any order will do as `order`. All but ranks stays as it is. The only error
-/// is want of memory; what was given is dropped then.
+/// `turned` marks the edges that are turned round. Ranks are the same for every order of the rows, so any order will do as
+/// `order`. All but ranks stays as it is. The only error is want of memory; what was given is dropped then.
 pub fn ranked(
     alloc: Global,
     level: &LevelIn,
     layered: Layered,
     order: &Order,
-    reversed: &[u32],
     turned: &[bool],
 ) -> Result<Layered, AllocError>
     requires level { IsLevel (plain_level level.now) }
     requires sound { IsSound (plain layered) }
     requires rows { AreRows (plain layered) (rows_of order.now) }
-    requires linked { (layers : List ℕ) × AreLinked (plain_level level.now) (plain_plan layered order.now [] reversed.now) layers }
-    requires marked { AreMarks reversed.now (length level.now.edges) turned.now }
-    ensures ranks { IfOk result (λ v. AreRanked (plain_level level.now) (plain v) reversed.now) }
+    requires turned { TurnsMarked (plain_level level.now) turned.now (plain_plan layered order.now [] (listed turned.now)) }
+    ensures ranks { IfOk result (λ v. AreRanked (plain_level level.now) (plain v) (listed turned.now)) }
     ensures sound { IfOk result (λ v. IsSound (plain v)) }
     ensures rows { IfOk result (λ v. (rows : List (List ℕ)) → AreRows (plain layered) rows → AreRows (plain v) rows) }
     ensures linked { IfOk result
         (λ v. (rows : List (List ℕ)) (tops : List ℤ) (layers : List ℕ)
-        → AreLinked (plain_level level.now) (plain_plan layered order.now [] reversed.now) layers
-        → AreLinked (plain_level level.now) (plan_of (plain v) rows tops reversed.now) layers) }
+        → AreLinked (plain_level level.now) (plain_plan layered order.now [] (listed turned.now)) layers
+        → AreLinked (plain_level level.now) (plan_of (plain v) rows tops (listed turned.now)) layers) }
     ensures kept { IfOk result (λ v. AreReranked (plain layered) (plain v)) }
 {
     if has_ranks(level.children.as_slice()) {
-        by_table(alloc, level, layered, order, reversed, turned)
+        by_table(alloc, level, layered, order, turned)
     } else {
         Ok(unranked(layered))
     }

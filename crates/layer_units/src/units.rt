@@ -2,11 +2,11 @@
 ghost use Rattle.std.specs.Prelude.{◌≡◌, ◌⊎◌, ℕ, ℤ, ◌+◌, ◌-◌, ◌<◌, ◌≤◌, ◌^◌, List, length, IfOk, OnOk};
 ghost use Rattle.elk_layers.specs.Layered.{IsSound, plain};
 ghost use Rattle.level_model.specs.Conditions.{IsLevel, plain_level};
-ghost use Rattle.level_model.specs.Marks.{AreMarks};
 ghost use Rattle.level_model.specs.Units.{AreLinked};
 ghost use Rattle.layer_units.specs.Chained.{AreChained, IsLength};
 ghost use Rattle.layer_units.specs.Grown.{AreGrown, IsShort, child_units, grown};
 ghost use Rattle.layer_units.specs.Layering.{layering, AreLayersOf, IsLayerCount, layer_in, plan_with};
+ghost use Rattle.layer_units.specs.Marks.{listed};
 ghost use Rattle.layer_units.specs.Numbered.{AreNumberedUnits, flat_unit, lane_on, link_on};
 
 use crate::runs::{Run, lanes, run_of, stop};
@@ -123,16 +123,15 @@ fn grow(
     alloc: Global,
     level: &LevelIn,
     layers: &[u32],
-    reversed: &[u32],
     turned: &[bool],
     keys: &[Option<EdgeKey>],
     chains: &Chains,
 ) -> Result<Layered, AllocError>
     requires level { IsLevel (plain_level level.now) }
-    requires layering { AreLayersOf (plain_level level.now) reversed.now layers.now }
-    requires marked { AreMarks reversed.now (length level.now.edges) turned.now }
-    requires chained { AreChained (layering (plain_level level.now) reversed.now layers.now) keys.now chains.now }
-    ensures { IfOk result (λ v. AreGrown (layering (plain_level level.now) reversed.now layers.now) (plain v)) }
+    requires layering { AreLayersOf (plain_level level.now) (listed turned.now) layers.now }
+    requires marks { length turned.now ≡ length level.now.edges }
+    requires chained { AreChained (layering (plain_level level.now) (listed turned.now) layers.now) keys.now chains.now }
+    ensures { IfOk result (λ v. AreGrown (layering (plain_level level.now) (listed turned.now) layers.now) (plain v)) }
 {
     let mut units = units_of_children(alloc, layers)?;
     let mut links = Vec::new(alloc);
@@ -159,33 +158,32 @@ fn grow(
     })
 }
 
-/// The units and links of a level whose children lie in these layers, without heights, pins and ranks. `reversed` has the
-/// numbers of the edges that are turned round, and `turned` marks them. They are read off the chains that the edges were split
-/// into, which are found by the key of each edge: a link for each edge of a chain, and a lane between two of them.
+/// The units and links of a level whose children lie in these layers, without heights, pins and ranks. `turned` marks
+/// the edges that are turned round. They are read off the chains that the edges were split into, which are found by the key of
+/// each edge: a link for each edge of a chain, and a lane between two of them.
 ///
 /// Unit c is that of child c. The lanes of long edges follow by edge, and those of an edge from its tail on; so do links.
 pub fn units_of(
     alloc: Global,
     level: &LevelIn,
     layers: &[u32],
-    reversed: &[u32],
     turned: &[bool],
     keys: &[Option<EdgeKey>],
     chains: &Chains,
 ) -> Result<Layered, AllocError>
     requires level { IsLevel (plain_level level.now) }
-    requires layering { AreLayersOf (plain_level level.now) reversed.now layers.now }
-    requires marked { AreMarks reversed.now (length level.now.edges) turned.now }
-    requires chained { AreChained (layering (plain_level level.now) reversed.now layers.now) keys.now chains.now }
+    requires layering { AreLayersOf (plain_level level.now) (listed turned.now) layers.now }
+    requires marks { length turned.now ≡ length level.now.edges }
+    requires chained { AreChained (layering (plain_level level.now) (listed turned.now) layers.now) keys.now chains.now }
     ensures linked { IfOk result
-        (λ v. (rows : List (List ℕ)) (tops : List ℤ) → AreLinked (plain_level level.now) (plan_with v rows tops reversed.now) layers.now) }
+        (λ v. (rows : List (List ℕ)) (tops : List ℤ) → AreLinked (plain_level level.now) (plan_with v rows tops (listed turned.now)) layers.now) }
     ensures sound { IfOk result (λ v. IsSound (plain v)) }
-    ensures numbered { IfOk result (λ v. AreNumberedUnits (layering (plain_level level.now) reversed.now layers.now) (plain v)) }
+    ensures numbered { IfOk result (λ v. AreNumberedUnits (layering (plain_level level.now) (listed turned.now) layers.now) (plain v)) }
     ensures layers { IfOk result (λ v. IsLayerCount layers.now v.layers) }
     ensures few_layers { IfOk result (λ v. v.layers ≤ 2048) }
     ensures node_node { IfOk result (λ v. v.node_node ≡ level.now.spacing.node_node) }
     ensures edge_node { IfOk result (λ v. v.edge_node ≡ level.now.spacing.edge_node) }
     ensures edge_edge { IfOk result (λ v. v.edge_edge ≡ level.now.spacing.edge_edge) }
 {
-    grow(alloc, level, layers, reversed, turned, keys, chains)
+    grow(alloc, level, layers, turned, keys, chains)
 }

@@ -1,12 +1,13 @@
 -- A table that is made before places are known belongs to the plan.
-use Rattle.std.proofs.Common.{ℕ, ◌≤◌, List, [], inl, inr, ℤ}
-use Rattle.std.proofs.Common.{⊎_elim}
+use Rattle.std.proofs.Common.{◌≡◌, ⊎_elim, ℕ, ◌≤◌, Bool, List, [], length, inl, inr, subst, sym, ℤ}
 use Rattle.level_model.specs.declared.table.Table.{Table}
 use Rattle.level_model.specs.Level.{PlainLevel, PlainPlan, Orders}
+use Rattle.level_model.specs.Marks.{AreMarks}
 use Rattle.level_model.specs.Table.{IsTable}
 use Rattle.level_model.specs.Units.{AreLinked, AreOrders, HasChain, IsLaneUnit, IsLinkOf, IsUnitOf}
 use Rattle.level_model.specs.Ready.{IsReady}
 use Rattle.dock_table.specs.Bounds.{AreNumbersIn}
+use Rattle.dock_table.specs.Flows.{TurnsMarked}
 use Rattle.dock_table.specs.Tops.{with_tops}
 use Rattle.layer_units.specs.Tabled.{IsTableOf}
 use Rattle.level_nets.specs.Parts.{IsGiven, Parts, plan_of}
@@ -37,7 +38,7 @@ module _ (l : PlainLevel) (p : PlainPlan) (tops : List ℤ) where
   link_kept k h = record { edge_in = h.edge_in; no_loop = h.no_loop }
 
   -- units and links stay what they are, wherever units stand
-  pub linked_kept : (layers : List ℕ) → AreLinked l p layers → AreLinked l (with_tops p tops) layers
+  linked_kept : (layers : List ℕ) → AreLinked l p layers → AreLinked l (with_tops p tops) layers
   linked_kept layers h =
       record {
         children = λ c k. unit_kept _ c (h.children c k);
@@ -45,6 +46,14 @@ module _ (l : PlainLevel) (p : PlainPlan) (tops : List ℤ) where
         chains = λ e k no_loop. chain_kept e (h.chains e k no_loop);
         links = λ k m. link_kept k (h.links k m);
       }
+
+-- marks are those of a list, whatever it, their number and they themselves are read from
+pub marked : (given rs : List ℕ) (count n : ℕ) (made ms : List Bool) → given ≡ rs → count ≡ n → ms ≡ made → AreMarks given count made → AreMarks rs n ms
+marked given rs count n made ms e f g h = subst (λ (xs : List ℕ). AreMarks xs n ms) e (subst (λ k. AreMarks given k ms) f (subst (λ (bs : List Bool). AreMarks given count bs) (sym g) h))
+
+-- a plan that can be drawn turns the marked edges round, wherever units stand
+pub turns : (l : PlainLevel) (p : PlainPlan) (layers : List ℕ) (marks : List Bool) → IsDrawable l p layers → AreMarks p.reversed (length l.edges) marks → TurnsMarked l marks (with_tops p [])
+turns l p layers marks can are = record { marks = are; layers = layers; linked = linked_kept l p [] layers can.ready.units.linked }
 
 -- a table that was made before places are known belongs to the plan
 pub tabled : (l : PlainLevel) (p : PlainPlan) (q : Orders) (t : Table) → AreOrders l (with_tops p []) q → IsTable l (with_tops p []) q t → AreNumbersIn t → IsTableOf l p t

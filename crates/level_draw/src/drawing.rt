@@ -137,10 +137,9 @@ pub fn draw(
     ensures given { IfOk result (IsMadeFrom certificate layered start order lines) }
     ensures drawn { IfOk result (IsDrawn (plain_level level.now) (plan_from certificate layered order lines) certificate.layers) }
 {
-    let reversed = certificate.reversed.as_slice();
-    let marks = marks_of(alloc, reversed, level.edges.len())?;
+    let marks = marks_of(alloc, certificate.reversed.as_slice(), level.edges.len())?;
     let turned = marks.as_slice();
-    let table = table_of(alloc, level, &layered, &order, reversed, turned)?;
+    let table = table_of(alloc, level, &layered, &order, turned)?;
     let basis = Basis {
         layered,
         start,

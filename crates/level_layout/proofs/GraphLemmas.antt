@@ -9,7 +9,8 @@ use Rattle.graph_arena.specs.declared.keys.EdgeKey.{EdgeKey}
 use Rattle.level_model.specs.declared.level.LevelEdge.{LevelEdge}
 use Rattle.level_model.specs.Level.{PlainLevel, edge_at}
 use Rattle.level_layout.specs.Certificate.{source_of, target_of}
-use Rattle.level_layout.specs.Marks.{AreEdges, AreMarkedEdges, AreNodes, is_marked, key_of, node_of}
+use Rattle.layer_units.specs.Marks.{is_marked}
+use Rattle.level_layout.specs.Marks.{AreEdges, AreMarkedEdges, AreNodes, key_of, node_of}
 
 -- an edge of a slice, as one of its level
 pub edge_read : (l : PlainLevel) (es : List LevelEdge) (e : ℕ) (d : LevelEdge) → es ≡ l.edges → e < length es → (get_or es e d ≡ edge_at l e) × (e < length l.edges)

@@ -164,9 +164,6 @@ pins_small l c u v level ranked kept sound low =
 
 -- ---- with the list of turned edges as it is handed on
 
-pub linked_by : (l : PlainLevel) (c : Certificate) (u : Layered) (order : Order) (rs : List ℕ) → rs ≡ c.reversed → AreRankedUnits l c u → (layers : List ℕ) × AreLinked l (plain_plan u order [] rs) layers
-linked_by l c u order rs e ranked = (c.layers, subst (λ xs. AreLinked l (plain_plan u order [] xs) c.layers) (sym e) (ranked.linked (rows_of order) []))
-
 pub pinned_by : (l : PlainLevel) (c : Certificate) (u v : Layered) (order : Order) (rs : List ℕ) → rs ≡ c.reversed
     → (o : Orders) × ((layers : List ℕ) (tops : List ℤ) → AreLinked l (plain_plan u order [] rs) layers → AreFitted l (plain_plan v order tops rs) o layers)
     → IsSound (plain v) → total_height (plain v).units ≤ℤ pos (3 * 2 ^ 47) → AreRows (plain v) (rows_of order) → AreKept (plain u) (plain v) → ArePinned l u v order c.reversed

@@ -7,7 +7,6 @@ pub mod KeptRows
 pub mod LayerLemmas
 pub mod LayoutLemmas
 pub mod LinkLemmas
-pub mod ListLemmas
 pub mod LongEdgeLemmas
 pub mod LowLayers
 pub mod MadeLemmas

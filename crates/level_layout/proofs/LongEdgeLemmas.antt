@@ -14,7 +14,8 @@ use Rattle.level_model.specs.declared.level.LevelEdge.{LevelEdge}
 use Rattle.level_model.specs.Conditions.{IsLevel}
 use Rattle.level_model.specs.Level.{PlainLevel, edge_at, is_loop}
 use Rattle.level_layout.specs.Certificate.{oriented}
-use Rattle.level_layout.specs.Marks.{AreNodes, is_marked, node_of}
+use Rattle.layer_units.specs.Marks.{is_marked}
+use Rattle.level_layout.specs.Marks.{AreNodes, node_of}
 use Rattle.level_layout.specs.Chained.{AddsLink, AreChained, AreLinks, HasChain, IsChainAt, IsLinkAt, RisingEnds, between, head_by, key_in, tail_by}
 use Rattle.level_layout.proofs.GraphLemmas.{nodes_kept, not_free}
 

@@ -10,10 +10,10 @@ use Rattle.level_model.specs.declared.level.LevelEdge.{LevelEdge}
 use Rattle.level_model.specs.Conditions.{IsLevel}
 use Rattle.level_model.specs.Level.{PlainLevel, edge_at, holds, is_loop}
 use Rattle.level_layout.specs.Certificate.{AreReversed, UnlistedStep, links, links_to, net_edge, network, oriented, source_of, target_of}
-use Rattle.level_layout.specs.Marks.{is_marked, listed}
+use Rattle.layer_units.specs.Marks.{is_marked, listed}
 use Rattle.level_layout.specs.Low.{IsPlainNetwork}
 use Rattle.network_parts.proofs.RangeLemmas.{few_picked, filter_no, filter_yes, pick}
-use Rattle.level_layout.proofs.TurnLemmas.{listed_at}
+use Rattle.layer_units.proofs.MarkLemmas.{listed_at}
 use Rattle.std.proofs.lemmas.Bool.{not_from_true, not_from_false}
 
 -- ---- one edge after the other

@@ -11,8 +11,9 @@ use Rattle.elk_doc.specs.Paths.{Reaches, stay, go}
 use Rattle.level_model.specs.Level.{PlainLevel, holds, is_loop}
 use Rattle.level_model.specs.Conditions.{IsLevel}
 use Rattle.level_layout.specs.Certificate.{AreReversed, ClosesCycle, UnlistedStep, source_of, target_of}
-use Rattle.level_layout.specs.Marks.{AreMarkedEdges, IsGraphOf, is_marked, key_of, listed, node_of}
-use Rattle.level_layout.proofs.ListLemmas.{filter_rises, holds_above, holds_at}
+use Rattle.layer_units.specs.Marks.{is_marked, listed}
+use Rattle.level_layout.specs.Marks.{AreMarkedEdges, IsGraphOf, key_of, node_of}
+use Rattle.layer_units.proofs.MarkLemmas.{filter_rises, listed_at, listed_in}
 
 some_same : (a b : ℕ) → Some a ≡ Some b → a ≡ b
 some_same a b h = cc
@@ -48,16 +49,6 @@ pub marked_no : (l : PlainLevel) (nodes : List NodeKey) (keys : List EdgeKey) (o
 marked_no l nodes keys old new turned marks graph round marked e inside h =
     let now = round.others (key_of keys e) h ∙ graph.edges_are.ends e inside in
     marked.marked e (ends_of l nodes e) inside now ∙ ap not (eq-eqb (node_of nodes (source_of l e)) (node_of nodes (source_of l e)) refl)
-
-pub listed_at : (marks : List Bool) (e : ℕ) → e < length marks → holds (listed marks) e ≡ is_marked marks e
-listed_at marks e h = holds_at (is_marked marks) 0 (length marks) e (omega arith) (omega (arith, h))
-
-pub listed_in : (marks : List Bool) (e : ℕ) → IsTrue (holds (listed marks) e) → e < length marks
-listed_in marks e h =
-    elim (cases_lt e (length marks)) [
-      | inl less ↦ less
-      | inr most ↦ absurd (true≢false (sym h ∙ holds_above (is_marked marks) 0 (length marks) e (omega (arith, most))))
-    ]
 
 -- ---- ways of the graph are ways of the level, and the other way round
 

@@ -9,7 +9,8 @@ use Rattle.long_edges.specs.Chains.{Table, chain_at}
 use Rattle.network_laws.specs.declared.network.NetEdge.{NetEdge}
 use Rattle.level_model.specs.Level.{PlainLevel, edge_at, is_loop}
 use Rattle.level_layout.specs.Certificate.{oriented}
-use Rattle.level_layout.specs.Marks.{is_marked, node_of}
+use Rattle.layer_units.specs.Marks.{is_marked}
+use Rattle.level_layout.specs.Marks.{node_of}
 
 -- the children at which an oriented edge begins and ends
 abbrev pub tail_by : PlainLevel → List Bool → ℕ → ℕ

@@ -1,22 +1,13 @@
--- Marks of edges, and the graph of a level with its keys.
-use Rattle.std.specs.Prelude.{◌≡◌, ◌<◌, ◌==◌, ℕ, Bool, false, not, Some, List, length, slice_index_or}
-use Rattle.std.specs.List.{filter, range_with_len}
+-- The graph of a level with its keys, and the marks of the edges that are turned round in it.
+use Rattle.std.specs.Prelude.{◌≡◌, ◌<◌, ◌==◌, ℕ, Bool, not, Some, List, length, slice_index_or}
 use Rattle.graph_arena.specs.Graph.{Graph, Ends, ends_at, IsNode}
 use Rattle.graph_arena.specs.declared.keys.NodeKey.{NodeKey}
 use Rattle.graph_arena.specs.declared.keys.EdgeKey.{EdgeKey}
 use Rattle.level_model.specs.Level.{PlainLevel}
+use Rattle.layer_units.specs.Marks.{is_marked}
 use Rattle.level_layout.specs.Certificate.{source_of, target_of}
 
--- whether an edge is marked, and the list of the marked ones
-abbrev pub is_marked : List Bool → ℕ → Bool
-is_marked marks e = slice_index_or marks e false
-
-abbrev pub listed_to : List Bool → ℕ → List ℕ
-listed_to marks n = filter (is_marked marks) (range_with_len 0 n)
-
-abbrev pub listed : List Bool → List ℕ
-listed marks = listed_to marks (length marks)
-
+-- the node and the edge of these numbers
 abbrev pub node_of : List NodeKey → ℕ → ℕ
 node_of nodes c = (slice_index_or nodes c (record { at = 0 })).at
 

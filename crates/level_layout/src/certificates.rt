@@ -5,10 +5,9 @@ ghost use Rattle.network_parts.specs.Solved.{IsSolvedByParts};
 ghost use Rattle.level_model.specs.Conditions.{plain_level, IsLevel};
 ghost use Rattle.level_model.specs.Level as plan;
 ghost use Rattle.level_layout.specs.Certificate.{AreReversed, IsCertificateOf, flow_at, link_flows, links, network};
-ghost use Rattle.level_layout.specs.Marks.{listed};
+ghost use Rattle.layer_units.specs.Marks.{listed};
 
 use crate::networks::{is_loop, list_marked, network_of};
-use crate::orienting::orientation;
 use drawing_types::list::Items;
 use elk_doc::drawing::Certificate;
 use level_model::LevelIn;
@@ -69,7 +68,8 @@ fn certificate_from(
     requires solution { IsSolution (length level.now.children) (network (plain_level level.now) reversed.items)
         solution.layer.items solution.flow.items solution.cost }
     requires by_parts { IsSolvedByParts (length level.now.children) (network (plain_level level.now) reversed.items) solution.layer.items solution.flow.items }
-    ensures { IfOk result (IsCertificateOf (plain_level level.now)) }
+    ensures certificate { IfOk result (IsCertificateOf (plain_level level.now)) }
+    ensures listed { IfOk result (λ c. c.reversed ≡ reversed.items) }
 {
     let layers = layers_of(alloc, solution.layer.as_slice())?;
     let flow = flows_of(alloc, level, solution.flow.as_slice())?;
@@ -82,20 +82,26 @@ fn certificate_from(
     })
 }
 
-/// The certificate of a level, in the frame in which its direction runs to the right: the edges that are turned round so that
-/// no cycle is left, by number and in ascending order; by child its layer, where each part of the level begins at layer 0; by
-/// edge its flow, 0 at self-loops; and the span, which no layering of these edges goes below. Each connected part is layered by
-/// itself, by network simplex (Gansner, Koutsofios, North, Vo 1993) with 64 pivots for each of its children and edges, and by
-/// the primal-dual flow where these don't suffice. Parts are left empty.
+/// The certificate of a level, in the frame in which its direction runs to the right, by the marks of the edges that are turned
+/// round so that no cycle is left: these edges, by number and in ascending order; by child its layer, where each part of the
+/// level begins at layer 0; by edge its flow, 0 at self-loops; and the span, which no layering of these edges goes below. Each
+/// connected part is layered by itself, by network simplex (Gansner, Koutsofios, North, Vo 1993) with 64 pivots for each of its
+/// children and edges, and by the primal-dual flow where these don't suffice. Parts are left empty.
 ///
 /// The only error is want of memory.
-pub fn certificate_for(alloc: Global, level: &LevelIn) -> Result<Certificate, AllocError>
-    requires { IsLevel (plain_level level.now) }
-    ensures { IfOk result (IsCertificateOf (plain_level level.now)) }
+pub fn certificate_for(
+    alloc: Global,
+    level: &LevelIn,
+    turned: &[bool],
+) -> Result<Certificate, AllocError>
+    requires level { IsLevel (plain_level level.now) }
+    requires marks { length turned.now ≡ length level.now.edges }
+    requires reversed { AreReversed (plain_level level.now) (listed turned.now) }
+    ensures certificate { IfOk result (IsCertificateOf (plain_level level.now)) }
+    ensures listed { IfOk result (λ c. c.reversed ≡ listed turned.now) }
 {
-    let turned = orientation(alloc, level)?;
-    let reversed = list_marked(alloc, turned.as_slice())?;
-    let network = network_of(alloc, level, turned.as_slice())?;
+    let reversed = list_marked(alloc, turned)?;
+    let network = network_of(alloc, level, turned)?;
     let solution = solve_parts(alloc, &network)?;
     certificate_from(alloc, level, reversed, solution)
 }

@@ -5,10 +5,11 @@ ghost use Rattle.level_layout.specs.Layout.{IsLaidOut};
 
 use crate::certificates::certificate_for;
 use crate::lines::lines_for;
+use crate::orienting::orientation;
 use crate::phases::{order_for, start_for};
 use layer_units::pinned;
 use level_draw::{Basis, LevelOut, draw_by_table};
-use level_model::{LevelIn, marks_of};
+use level_model::LevelIn;
 use std::alloc::{AllocError, Global};
 
 /// The layout of one level, in whole document units and in the frame in which its direction runs to the right.
@@ -21,13 +22,12 @@ pub fn layout_level(alloc: Global, level: &LevelIn) -> Result<LevelOut, AllocErr
     requires { IsLevel (plain_level level.now) }
     ensures { IfOk result (IsLaidOut level.now) }
 {
-    let certificate = certificate_for(alloc, level)?;
-    let reversed = certificate.reversed.as_slice();
-    let marks = marks_of(alloc, reversed, level.edges.len())?;
+    let marks = orientation(alloc, level)?;
     let turned = marks.as_slice();
+    let certificate = certificate_for(alloc, level, turned)?;
     let start = start_for(alloc, level, &certificate, turned)?;
     let order = order_for(alloc, level, &start.layered, &start.rows)?;
-    let fitted = pinned(alloc, level, start.layered, &order, reversed, turned)?;
+    let fitted = pinned(alloc, level, start.layered, &order, turned)?;
     let lines = lines_for(alloc, level, &fitted.layered, &order)?;
     let basis = Basis {
         layered: fitted.layered,

@@ -3,7 +3,7 @@ ghost use Rattle.std.specs.Prelude.{◌≡◌, ◌≤◌, ◌==◌, length, IfOk
 ghost use Rattle.network_laws.specs.Network.{IsNetwork};
 ghost use Rattle.level_model.specs.Conditions.{plain_level, IsLevel};
 ghost use Rattle.level_layout.specs.Certificate.{AreReversed, network, oriented};
-ghost use Rattle.level_layout.specs.Marks.{listed};
+ghost use Rattle.layer_units.specs.Marks.{listed};
 
 use level_model::{LevelEdge, LevelIn};
 use network_parts::{NetEdge, Network};

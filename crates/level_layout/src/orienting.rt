@@ -3,7 +3,8 @@ ghost use Rattle.std.specs.Prelude.{◌≡◌, ◌<◌, ◌≤◌, ◌==◌, ℕ
 ghost use Rattle.graph_arena.specs.Graph.{Ends, ends_at, lists_at, IsEdge, IsNode};
 ghost use Rattle.level_model.specs.Conditions.{plain_level, IsLevel};
 ghost use Rattle.level_layout.specs.Certificate.{AreReversed};
-ghost use Rattle.level_layout.specs.Marks.{AreEdges, AreMarkedEdges, AreNodes, IsGraphOf, key_of, listed, node_of};
+ghost use Rattle.layer_units.specs.Marks.{listed};
+ghost use Rattle.level_layout.specs.Marks.{AreEdges, AreMarkedEdges, AreNodes, IsGraphOf, key_of, node_of};
 
 use cycle_break::orient;
 use graph_arena::{Arena, EdgeKey, NodeKey};

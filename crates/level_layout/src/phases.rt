@@ -1,8 +1,8 @@
 //! The units of a level with the ranks of pins, and the order of its rows.
-ghost use Rattle.std.specs.Prelude.{length, IfOk};
+ghost use Rattle.std.specs.Prelude.{◌≡◌, length, IfOk};
 ghost use Rattle.elk_layers.specs.Layered.{plain, rows_of, AreRows, IsSound};
 ghost use Rattle.level_model.specs.Conditions.{plain_level, IsLevel};
-ghost use Rattle.level_model.specs.Marks.{AreMarks};
+ghost use Rattle.layer_units.specs.Marks.{listed};
 ghost use Rattle.level_layout.specs.Certificate.{IsCertificateOf};
 ghost use Rattle.level_layout.specs.Chosen.{AreChosenRows, IsReduced};
 ghost use Rattle.level_layout.specs.Phases.{AreRankedUnits, IsStart};
@@ -33,16 +33,16 @@ pub(crate) fn start_for(
 ) -> Result<Start, AllocError>
     requires level { IsLevel (plain_level level.now) }
     requires certificate { IsCertificateOf (plain_level level.now) certificate.now }
-    requires marked { AreMarks certificate.now.reversed (length level.now.edges) turned.now }
+    requires marks { length turned.now ≡ length level.now.edges }
+    requires listed { certificate.now.reversed ≡ listed turned.now }
     ensures units { IfOk result (λ v. AreRankedUnits (plain_level level.now) certificate.now v.layered) }
     ensures rows { IfOk result (λ v. AreRows (plain v.layered) (rows_of v.rows)) }
     ensures start { IfOk result (λ v. IsStart (plain v.layered) (rows_of v.rows)) }
 {
     let layers = certificate.layers.as_slice();
-    let reversed = certificate.reversed.as_slice();
-    let blank = units_for(alloc, level, layers, reversed, turned)?;
+    let blank = units_for(alloc, level, layers, turned)?;
     let rows = start_of(alloc, &blank)?;
-    let layered = ranked(alloc, level, blank, &rows, reversed, turned)?;
+    let layered = ranked(alloc, level, blank, &rows, turned)?;
     Ok(Start { layered, rows })
 }
 

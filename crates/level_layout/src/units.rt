@@ -2,9 +2,9 @@
 ghost use Rattle.std.specs.Prelude.{◌≡◌, ℕ, ℤ, ◌≤◌, List, length, IfOk};
 ghost use Rattle.elk_layers.specs.Layered.{IsSound, plain};
 ghost use Rattle.level_model.specs.Conditions.{IsLevel, plain_level};
-ghost use Rattle.level_model.specs.Marks.{AreMarks};
 ghost use Rattle.level_model.specs.Units.{AreLinked};
 ghost use Rattle.layer_units.specs.Layering.{layering, AreLayersOf, IsLayerCount, plan_with};
+ghost use Rattle.layer_units.specs.Marks.{listed};
 ghost use Rattle.layer_units.specs.Numbered.{AreNumberedUnits};
 
 use crate::chaining::chains_of;
@@ -19,16 +19,15 @@ pub(crate) fn units_for(
     alloc: Global,
     level: &LevelIn,
     layers: &[u32],
-    reversed: &[u32],
     turned: &[bool],
 ) -> Result<Layered, AllocError>
     requires level { IsLevel (plain_level level.now) }
-    requires layering { AreLayersOf (plain_level level.now) reversed.now layers.now }
-    requires marked { AreMarks reversed.now (length level.now.edges) turned.now }
+    requires layering { AreLayersOf (plain_level level.now) (listed turned.now) layers.now }
+    requires marks { length turned.now ≡ length level.now.edges }
     ensures linked { IfOk result
-        (λ v. (rows : List (List ℕ)) (tops : List ℤ) → AreLinked (plain_level level.now) (plan_with v rows tops reversed.now) layers.now) }
+        (λ v. (rows : List (List ℕ)) (tops : List ℤ) → AreLinked (plain_level level.now) (plan_with v rows tops (listed turned.now)) layers.now) }
     ensures sound { IfOk result (λ v. IsSound (plain v)) }
-    ensures numbered { IfOk result (λ v. AreNumberedUnits (layering (plain_level level.now) reversed.now layers.now) (plain v)) }
+    ensures numbered { IfOk result (λ v. AreNumberedUnits (layering (plain_level level.now) (listed turned.now) layers.now) (plain v)) }
     ensures layers { IfOk result (λ v. IsLayerCount layers.now v.layers) }
     ensures few_layers { IfOk result (λ v. v.layers ≤ 2048) }
     ensures node_node { IfOk result (λ v. v.node_node ≡ level.now.spacing.node_node) }
@@ -37,5 +36,5 @@ pub(crate) fn units_for(
 {
     let split = chains_of(alloc, level, layers, turned)?;
     let keys = split.keys.as_slice();
-    units_of(alloc, level, layers, reversed, turned, keys, &split.chains)
+    units_of(alloc, level, layers, turned, keys, &split.chains)
 }

@@ -81,7 +81,7 @@ fn west_table(alloc: Global) -> Result<Table, AllocError> {
     let layered = west_layered(alloc)?;
     let order = west_rows(alloc)?;
     let turned = marks_of(alloc, &[], level.edges.len())?;
-    table_of(alloc, &level, &layered, &order, &[], turned.as_slice())
+    table_of(alloc, &level, &layered, &order, turned.as_slice())
 }
 
 #[test]

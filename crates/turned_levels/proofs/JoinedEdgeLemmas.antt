@@ -5,7 +5,7 @@ use Rattle.elk_doc.specs.declared.drawing.Certificate.{Certificate}
 use Rattle.level_model.specs.declared.level.LevelEdge.{LevelEdge}
 use Rattle.level_model.specs.Level.{PlainLevel, holds, is_loop}
 use Rattle.level_layout.specs.Certificate.{source_of, target_of}
-use Rattle.level_layout.proofs.ListLemmas.{holds_at}
+use Rattle.layer_units.proofs.MarkLemmas.{holds_at}
 use Rattle.network_parts.specs.Divided.{place_of}
 use Rattle.network_parts.proofs.PlaceLemmas.{node_in, node_place, place_less, place_node}
 use Rattle.level_parts.specs.Divided.{child_number, edge_keys, edge_number, members, part_level}

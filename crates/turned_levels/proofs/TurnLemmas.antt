@@ -6,7 +6,7 @@ use Rattle.elk_doc.specs.Fits.{IsAscending}
 use Rattle.elk_doc.specs.Paths.{Reaches, stay, go}
 use Rattle.level_model.specs.Level.{PlainLevel, holds}
 use Rattle.level_layout.specs.Certificate.{AreReversed, ClosesCycle, UnlistedStep, source_of, target_of}
-use Rattle.level_layout.proofs.ListLemmas.{filter_rises, holds_above}
+use Rattle.layer_units.proofs.MarkLemmas.{filter_rises, holds_above}
 use Rattle.network_parts.specs.Divided.{place_of}
 use Rattle.level_parts.proofs.LevelLemmas.{place_back}
 use Rattle.level_parts.proofs.PartLemmas.{one_part}

@@ -2,6 +2,7 @@ use Rattle.std.proofs.lemmas.Result.{IfOk-weaker}
 use Rattle.elk_layers.specs.Layered.{plain}
 use Rattle.level_model.specs.Conditions.{plain_level}
 use Rattle.layer_units.specs.Layering.{layering}
+use Rattle.layer_units.specs.Marks.{listed}
 use Rattle.layer_units.proofs.LayerLemmas.{few_counted}
 use Rattle.layer_units.proofs.SoundLemmas.{is_sound, num}
 use Rattle.layer_units.proofs.LinkedLemmas.{are_linked}
@@ -9,7 +10,7 @@ use Rattle.layer_units.proofs.units.units_of.Goals as goal
 
 pub returns : goal.returns
 returns c =
-    let s = layering (plain_level c.args.level.now) c.args.reversed.now c.args.layers.now in
+    let s = layering (plain_level c.args.level.now) (listed c.args.turned.now) c.args.layers.now in
     record {
       linked = IfOk-weaker c.grow.result _ _ (λ v made rows tops. are_linked s c.requires.level c.requires.layering (plain v) made rows tops) c.grow.ensures;
       sound = IfOk-weaker c.grow.result _ _ (λ v made. is_sound s c.requires.level c.requires.layering (plain v) made) c.grow.ensures;

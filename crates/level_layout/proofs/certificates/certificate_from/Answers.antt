@@ -20,8 +20,8 @@ overflow_cast-result c =
     let low = span_low (plain_level c.args.level.now) c.args.reversed.items c.args.solution.layer.items c.args.solution.flow.items c.args.solution.cost c.requires.level c.requires.solution in
     omega (arith, low)
 
-pub returns : goal.returns
-returns c =
+pub returns-clause-certificate : goal.returns-clause-certificate
+returns-clause-certificate c =
     let l = plain_level c.args.level.now in
     let loops = subst (λ (fs : List ℕ). (e : ℕ) → e < length l.edges → IsTrue (is_loop l e) → flow_at fs e ≡ 0) (sym c.from_vec-3.ensures) c.in_ok-flow.ensures.loops in
     let links = ap (λ (fs : List ℕ). link_flows l fs) c.from_vec-3.ensures ∙ c.in_ok-flow.ensures.links ∙ c.as_slice-2.ensures.value in

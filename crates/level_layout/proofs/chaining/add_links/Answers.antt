@@ -3,7 +3,7 @@ use Rattle.network_laws.specs.declared.network.NetEdge.{NetEdge}
 use Rattle.level_model.specs.Conditions.{plain_level}
 use Rattle.level_model.specs.Level.{edge_at}
 use Rattle.level_layout.specs.Certificate.{oriented}
-use Rattle.level_layout.specs.Marks.{is_marked}
+use Rattle.layer_units.specs.Marks.{is_marked}
 use Rattle.level_layout.proofs.LongEdgeLemmas.{head_in, links_more, no_links, nodes_stay, tail_in}
 use Rattle.level_layout.proofs.GraphLemmas.{edge_read}
 use Rattle.level_layout.proofs.chaining.add_links.Goals as goal

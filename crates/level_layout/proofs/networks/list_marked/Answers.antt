@@ -1,5 +1,5 @@
 use Rattle.std.proofs.Common.{◌++◌, ◌∷◌, [], ◌∙◌, ap, sym}
-use Rattle.level_layout.specs.Marks.{is_marked}
+use Rattle.layer_units.specs.Marks.{is_marked}
 use Rattle.network_parts.proofs.RangeLemmas.{filter_no, filter_yes}
 use Rattle.level_layout.proofs.networks.list_marked.Goals as goal
 use Rattle.level_layout.proofs.networks.list_marked.Goals.{then-mark+in_ok-push, else-mark}

@@ -1,5 +1,5 @@
 use Rattle.std.proofs.Common.{◌≡◌}
-use Rattle.level_layout.specs.Marks.{listed_to}
+use Rattle.layer_units.specs.Marks.{listed_to}
 use Rattle.level_layout.proofs.networks.list_marked.Given as goal
 
 abbrev pub invariant-loop-e : goal.invariant-loop-e

@@ -1,6 +1,6 @@
 use Rattle.std.proofs.Common.{◌≡◌, ◌<◌, ◌∙◌, ap, false, refl, rules, subst, sym, true}
 use Rattle.level_model.specs.Conditions.{plain_level}
-use Rattle.level_layout.specs.Marks.{is_marked}
+use Rattle.layer_units.specs.Marks.{is_marked}
 use Rattle.level_layout.proofs.GraphLemmas.{edge_read}
 use Rattle.level_layout.proofs.NetLemmas.{loop_read, net_more, net_same}
 use Rattle.level_layout.proofs.networks.net_edges.Goals as goal

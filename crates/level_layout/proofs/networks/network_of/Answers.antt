@@ -3,7 +3,7 @@ use Rattle.network_laws.specs.declared.network.NetEdge.{NetEdge}
 use Rattle.network_laws.specs.Network.{IsNetwork}
 use Rattle.level_model.specs.Conditions.{plain_level}
 use Rattle.level_layout.specs.Certificate.{network}
-use Rattle.level_layout.specs.Marks.{listed}
+use Rattle.layer_units.specs.Marks.{listed}
 use Rattle.level_layout.proofs.NetLemmas.{is_network}
 use Rattle.level_layout.proofs.networks.network_of.Goals as goal
 

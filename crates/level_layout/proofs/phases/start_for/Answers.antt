@@ -1,22 +1,27 @@
-use Rattle.std.proofs.Common.{ℕ, List, [], length, sym, subst}
+use Rattle.std.proofs.Common.{[], length, sym}
 use Rattle.elk_layers.specs.Layered.{plain, rows_of}
 use Rattle.level_model.specs.Conditions.{plain_level}
-use Rattle.level_model.specs.Marks.{AreMarks}
+use Rattle.layer_units.specs.Marks.{listed}
+use Rattle.layer_units.proofs.MarkLemmas.{marks_listed}
 use Rattle.level_layout.proofs.LayerLemmas.{layers_from}
 use Rattle.level_layout.proofs.UnitsLemmas.{started, units_ranked}
 use Rattle.level_layout.proofs.phases.start_for.Goals as goal
 
 pub units_for-requires-clause-layering : goal.units_for-requires-clause-layering
 units_for-requires-clause-layering c =
-    rw (c.as_slice-reversed.ensures.value, c.as_slice-layers.ensures.value) (layers_from (plain_level c.args.level.now) c.args.certificate.now c.requires.level c.requires.certificate)
+    rw (sym c.requires.listed, c.as_slice-layers.ensures.value) (layers_from (plain_level c.args.level.now) c.args.certificate.now c.requires.level c.requires.certificate)
 
-pub ranked-requires-clause-linked : goal.ranked-requires-clause-linked
-ranked-requires-clause-linked c = (c.as_slice-layers.result.now, c.in_ok-blank.ensures.linked (rows_of c.in_ok-rows.rows) [])
+pub ranked-requires-clause-turned : goal.ranked-requires-clause-turned
+ranked-requires-clause-turned c = record {
+  marks = marks_listed c.args.turned.now (length c.args.level.now.edges) c.requires.marks;
+  layers = c.as_slice-layers.result.now;
+  linked = c.in_ok-blank.ensures.linked (rows_of c.in_ok-rows.rows) [];
+}
 
 pub returns-clause-units : goal.returns-clause-units
 returns-clause-units c =
-    units_ranked (plain_level c.args.level.now) c.args.certificate.now c.in_ok-blank.blank c.in_ok-layered.layered c.as_slice-reversed.result.now c.as_slice-layers.result.now
-    c.as_slice-reversed.ensures.value c.as_slice-layers.ensures.value c.in_ok-blank.ensures.linked c.in_ok-blank.ensures.numbered c.in_ok-blank.ensures.few_layers c.in_ok-blank.ensures.layers
+    units_ranked (plain_level c.args.level.now) c.args.certificate.now c.in_ok-blank.blank c.in_ok-layered.layered (listed c.args.turned.now) c.as_slice-layers.result.now
+    (sym c.requires.listed) c.as_slice-layers.ensures.value c.in_ok-blank.ensures.linked c.in_ok-blank.ensures.numbered c.in_ok-blank.ensures.few_layers c.in_ok-blank.ensures.layers
     c.in_ok-blank.ensures.node_node c.in_ok-blank.ensures.edge_node c.in_ok-blank.ensures.edge_edge c.in_ok-layered.ensures.ranks c.in_ok-layered.ensures.kept c.in_ok-layered.ensures.sound
 
 pub returns-clause-rows : goal.returns-clause-rows
@@ -24,9 +29,3 @@ returns-clause-rows c = c.in_ok-layered.ensures.rows (rows_of c.in_ok-rows.rows)
 
 pub returns-clause-start : goal.returns-clause-start
 returns-clause-start c = started (plain c.in_ok-blank.blank) (plain c.in_ok-layered.layered) (rows_of c.in_ok-rows.rows) c.in_ok-layered.ensures.kept c.in_ok-rows.ensures.ascending
-
-pub units_for-requires-clause-marked : goal.units_for-requires-clause-marked
-units_for-requires-clause-marked c = subst (λ (ns : List ℕ). AreMarks ns (length c.args.level.now.edges) c.args.turned.now) (sym c.as_slice-reversed.ensures.value) c.requires.marked
-
-pub ranked-requires-clause-marked : goal.ranked-requires-clause-marked
-ranked-requires-clause-marked c = subst (λ (ns : List ℕ). AreMarks ns (length c.args.level.now.edges) c.args.turned.now) (sym c.as_slice-reversed.ensures.value) c.requires.marked

@@ -1,11 +1,13 @@
--- Which numbers a list of those that pass a test holds, and that it rises.
-use Rattle.std.proofs.Common.{◌≡◌, ◌≢◌, ℕ, zero, suc, ◌+◌, ◌<◌, ◌≤◌, cond, Bool, true, false, List, ◌∷◌, arith, refl, ap, inl, inr, ◌∙◌, ne_eqb, eq-eqb}
+-- Which numbers a list of those that pass a test holds, and that it rises, as of marked edges.
+use Rattle.std.proofs.Common.{◌≡◌, ◌≢◌, ℕ, zero, suc, ◌+◌, ◌<◌, ◌≤◌, cond, Bool, true, false, List, ◌∷◌, length, IsTrue, arith, refl, sym, ap, inl, inr, ◌∙◌, ne_eqb, eq-eqb, true≢false}
 use Rattle.std.specs.List.{filter, range_with_len}
 use Rattle.std.proofs.lemmas.Bool.{cases_eq, cases_lt}
 use Rattle.std.proofs.lemmas.List.FromFn.{length-range_with_len, get_or-range_with_len}
 use Rattle.std.proofs.lemmas.List.Kept.{IsStrictlyIncreasing-filter}
 use Rattle.std.specs.List.Sorted.{IsStrictlyIncreasing}
 use Rattle.level_model.specs.Level.{holds}
+use Rattle.level_model.specs.Marks.{AreMarks}
+use Rattle.layer_units.specs.Marks.{is_marked, listed}
 
 skip : (b : Bool) (a e : ℕ) (rest : List ℕ) → a ≢ e → holds (cond b (a ∷ rest) rest) e ≡ holds rest e
 skip true a e rest other = rw (ne_eqb a e other) refl
@@ -44,3 +46,18 @@ range_rises a n k h =
 
 pub filter_rises : (test : ℕ → Bool) (a n : ℕ) → IsStrictlyIncreasing (filter test (range_with_len a n))
 filter_rises test a n = IsStrictlyIncreasing-filter test (range_with_len a n) (range_rises a n)
+
+-- ---- the list of marked edges
+
+pub listed_at : (marks : List Bool) (e : ℕ) → e < length marks → holds (listed marks) e ≡ is_marked marks e
+listed_at marks e h = holds_at (is_marked marks) 0 (length marks) e (omega arith) (omega (arith, h))
+
+pub marks_listed : (marks : List Bool) (n : ℕ) → length marks ≡ n → AreMarks (listed marks) n marks
+marks_listed marks n many = record { as_many = many; each = λ k h. sym (listed_at marks k (omega (arith, many, h))) }
+
+pub listed_in : (marks : List Bool) (e : ℕ) → IsTrue (holds (listed marks) e) → e < length marks
+listed_in marks e h =
+    elim (cases_lt e (length marks)) [
+      | inl less ↦ less
+      | inr most ↦ absurd (true≢false (sym h ∙ holds_above (is_marked marks) 0 (length marks) e (omega (arith, most))))
+    ]
