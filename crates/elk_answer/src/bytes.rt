@@ -5,7 +5,7 @@ ghost use Rattle.elk_answer.specs.Answer.{IsAccepted, IsAnswer, Refuses};
 
 use compound::lay_out;
 use elk_json::{DocFault, parse, read_doc};
-use elk_write::{answer_value, text_of};
+use elk_write::answer_text;
 use std::alloc::Global;
 
 /// The text of the drawing of the document in these bytes, or the rule that refuses it and where.
@@ -19,6 +19,6 @@ pub fn answer(alloc: Global, bytes: &[u8]) -> Result<Vec<u8>, DocFault>
     let value = parse(alloc, bytes)?;
     let doc = read_doc(alloc, &value)?;
     let placed = lay_out(alloc, &doc)?;
-    let answer = answer_value(alloc, &value, &doc, &placed)?;
-    Ok(text_of(alloc, &answer)?)
+    let text = answer_text(alloc, &value, &doc, &placed)?;
+    Ok(text)
 }

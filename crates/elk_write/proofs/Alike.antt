@@ -25,7 +25,8 @@ use Rattle.elk_write.specs.Values.{whole, sections_data}
 use Rattle.elk_write.specs.Answered.{kept_into, with_place, with_point, with_sections, with_node, answer_node, answer_member, port_answer, edge_answer}
 use Rattle.elk_write.proofs.Puts.{sorted_keyed}
 use Rattle.elk_write.proofs.Inherited.{Each, each_keyed}
-use Rattle.elk_write.proofs.Kept.{kept_sorted, answered, answer_sorted}
+use Rattle.elk_write.specs.Merged.{answered}
+use Rattle.elk_write.proofs.Kept.{kept_sorted, answer_sorted}
 use Rattle.elk_write.proofs.Shape.{found, get_node, get_here, get_later, equal_bytes}
 use Rattle.elk_write.proofs.Pairs.{step_kind, Same, Pairs, Keeps, value_answer}
 use Rattle.elk_write.proofs.Known.{not_false, node_object, port_object, edge_object}

@@ -22,7 +22,8 @@ use Rattle.elk_write.specs.Values.{whole}
 use Rattle.elk_write.specs.Answered.{with_node, with_point, with_sections, kept_into, answer_node, answer_member, port_answer, edge_answer}
 use Rattle.elk_write.proofs.Puts.{sorted_keyed}
 use Rattle.elk_write.proofs.Inherited.{Each}
-use Rattle.elk_write.proofs.Kept.{answered, answer_sorted}
+use Rattle.elk_write.specs.Merged.{answered}
+use Rattle.elk_write.proofs.Kept.{answer_sorted}
 use Rattle.elk_write.proofs.Shape.{get_node, children_found, ports_found, edges_found}
 use Rattle.elk_write.proofs.Pairs.{step_kind, Same, Pairs, value_answer}
 use Rattle.elk_write.proofs.Known.{not_false, node_object, port_object, edge_object}

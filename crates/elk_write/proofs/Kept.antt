@@ -1,7 +1,6 @@
 -- What the answer keeps of a value.
 use Rattle.std.proofs.Common.{◌≡◌, ℕ, List, Bool, refl, ◌∙◌, inl, inr}
 use Rattle.std.proofs.lemmas.Bool.{cases_Bool}
-use Rattle.std.specs.Prelude.{if◌then◌else◌}
 use Rattle.serde_json.specs.Data.{Members, no_members, member, put}
 use Rattle.elk_doc.specs.declared.drawing.Placed.{Placed}
 use Rattle.elk_doc.specs.Document.{Document}
@@ -11,7 +10,8 @@ use Rattle.elk_write.specs.Keys.{is_node_key, is_flat_key}
 use Rattle.elk_write.specs.Strip.{members_but}
 use Rattle.elk_write.specs.Numbers.{past_member}
 use Rattle.elk_write.specs.Answered.{kept_into, answer_into, answer_member}
-use Rattle.elk_write.proofs.Puts.{put_all, IsSorted, put_all_sorted, sorted_but}
+use Rattle.elk_write.specs.Merged.{IsSorted, answered}
+use Rattle.elk_write.proofs.Puts.{put_all, put_all_sorted, sorted_but}
 
 -- ---- ports and edges
 
@@ -24,13 +24,6 @@ pub kept_sorted : (edge : Bool) (ms : Members) → IsSorted ms → kept_into edg
 kept_sorted edge ms h = kept_all edge ms no_members ∙ put_all_sorted (members_but (is_flat_key edge) ms) (sorted_but (is_flat_key edge) ms h)
 
 -- ---- nodes
-
--- the members that a node keeps, in their order
-abbrev pub answered : Document → Placed → Numbers → Bool → Numbers → Members → Members
-answered doc p at compound below no_members = no_members
-answered doc p at compound below (member k d ms) =
-    if is_node_key compound k then answered doc p at compound below ms
-    else member k (answer_member doc p at below k d) (answered doc p at compound (past_member k below d) ms)
 
 module _ (doc : Document) (p : Placed) (at : Numbers) (compound : Bool) where
   all_put : (ms : Members) (below : Numbers) (into : Members) → answer_into doc p at compound below into ms ≡ put_all into (answered doc p at compound below ms)

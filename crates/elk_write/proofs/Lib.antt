@@ -41,3 +41,8 @@ pub mod Nesting
 pub mod LineFeed
 pub mod OneLine
 pub mod Ascending
+pub mod Leaving
+pub mod Spelled
+pub mod Merging
+pub mod SizedRead
+pub mod SizedAnswer

@@ -15,8 +15,10 @@ use Rattle.elk_write.specs.declared.numbers.Numbers.{Numbers}
 use Rattle.elk_write.specs.Keys.{is_node_key}
 use Rattle.elk_write.specs.Numbers.{from_zero, past_own, past_node, past_members, past_member, past_children}
 use Rattle.elk_write.specs.Answered.{port_answer, port_answers, edge_answer, edge_answers, with_node, answer_node, answer_member, answer_children}
-use Rattle.elk_write.proofs.Puts.{IsSorted, sorted_keyed}
-use Rattle.elk_write.proofs.Kept.{answered, answer_sorted}
+use Rattle.elk_write.specs.Merged.{IsSorted}
+use Rattle.elk_write.proofs.Puts.{sorted_keyed}
+use Rattle.elk_write.specs.Merged.{answered}
+use Rattle.elk_write.proofs.Kept.{answer_sorted}
 use Rattle.elk_write.proofs.Shape.{past_other, ports_found, edges_found, get_node, equal_bytes, same_children, stays_children, past_after, below_node}
 
 -- ---- numbers along a list of elements

@@ -10,6 +10,7 @@ use Rattle.std.specs.Cmp.Lexicographic.{slice_cmp}
 use Rattle.serde_json.specs.Data.{Data, Members, no_members, member, put}
 use Rattle.elk_json.specs.Keyed.{IsBelow, AreMembersKeyed}
 use Rattle.elk_write.specs.Strip.{members_but, strip_members, strip_member}
+use Rattle.elk_write.specs.Merged.{append, IsSorted}
 
 abbrev pub cmp : List ℕ → List ℕ → Ordering
 cmp = slice_cmp nat_cmp
@@ -26,10 +27,6 @@ abbrev pub put_all : Members → Members → Members
 put_all into no_members = into
 put_all into (member k d ms) = put_all (put k d into) ms
 
-abbrev pub append : Members → Members → Members
-append no_members ms = ms
-append (member k d rest) ms = member k d (append rest ms)
-
 pub append_none : (ms : Members) → append ms no_members ≡ ms
 append_none no_members = refl
 append_none (member k d ms) = ap (member k d) (append_none ms)
@@ -37,11 +34,6 @@ append_none (member k d ms) = ap (member k d) (append_none ms)
 pub append_append : (a b c : Members) → append (append a b) c ≡ append a (append b c)
 append_append no_members b c = refl
 append_append (member k d a) b c = ap (member k d) (append_append a b c)
-
--- keys ascend
-abbrev pub IsSorted : Members → Type 0
-IsSorted no_members = Unit {0}
-IsSorted (member k d ms) = IsBelow k ms × IsSorted ms
 
 pub sorted_keyed : (ms : Members) → AreMembersKeyed ms → IsSorted ms
 sorted_keyed no_members h = tt

@@ -23,7 +23,7 @@ use Rattle.elk_write.specs.Written.{is_split}
 use Rattle.elk_write.specs.Values.{whole, layering_data}
 use Rattle.elk_write.specs.Answered.{with_place, with_size, with_layering, with_node, answer_member, answer_children}
 use Rattle.elk_write.proofs.Puts.{cmp, apart}
-use Rattle.elk_write.proofs.Kept.{answered}
+use Rattle.elk_write.specs.Merged.{answered}
 
 -- ---- looking up
 

@@ -19,8 +19,10 @@ use Rattle.elk_write.specs.Numbers.{past_own, past_node, past_member}
 use Rattle.elk_write.specs.Written.{is_split}
 use Rattle.elk_write.specs.Values.{whole}
 use Rattle.elk_write.specs.Answered.{kept_into, with_point, port_answer, port_answers, with_sections, edge_answer, edge_answers, with_place, with_size, with_layering, with_node, answer_node, answer_member, answer_children, parts_answer}
-use Rattle.elk_write.proofs.Puts.{IsSorted, sorted_keyed, strip_put, but_put, but_but}
-use Rattle.elk_write.proofs.Kept.{kept_sorted, answered, answer_sorted}
+use Rattle.elk_write.specs.Merged.{IsSorted}
+use Rattle.elk_write.proofs.Puts.{sorted_keyed, strip_put, but_put, but_but}
+use Rattle.elk_write.specs.Merged.{answered}
+use Rattle.elk_write.proofs.Kept.{kept_sorted, answer_sorted}
 use Rattle.elk_write.proofs.Shape.{same_children}
 
 -- ---- ports and edges

@@ -1,10 +1,14 @@
 pub mod Text
+pub mod Tokens
 pub mod Keys
 pub mod Values
 pub mod Strip
 pub mod Numbers
 pub mod Written
 pub mod Answered
+pub mod Merged
 pub mod Reading
 pub mod Placing
 pub mod ReadBack
+pub mod Sized
+pub mod AnswerText

@@ -86,7 +86,7 @@ fn level_is_held(level: &Option<Certificate>)
     }
 }
 
-fn levels_are_held(levels: &[Option<Certificate>])
+pub(crate) fn levels_are_held(levels: &[Option<Certificate>])
     ensures { All IsHeldLevel levels.now }
 {
     for level in levels {
@@ -94,7 +94,7 @@ fn levels_are_held(levels: &[Option<Certificate>])
     }
 }
 
-fn has_children(value: &Value) -> bool
+pub(crate) fn has_children(value: &Value) -> bool
     ensures { result ≡ children_test (view value.now) }
 {
     match value.get("children").and_then(Value::as_array) {
@@ -104,7 +104,7 @@ fn has_children(value: &Value) -> bool
 }
 
 // Whether a member of a node is written.
-fn is_node_key(key: &str, compound: bool) -> bool
+pub(crate) fn is_node_key(key: &str, compound: bool) -> bool
     ensures { result ≡ node_key_test compound key.now }
 {
     is_place_key(key)
@@ -112,7 +112,7 @@ fn is_node_key(key: &str, compound: bool) -> bool
 }
 
 // Whether the level of a node is split.
-fn is_split_level(doc: &Doc, node: usize) -> bool
+pub(crate) fn is_split_level(doc: &Doc, node: usize) -> bool
     ensures { result ≡ is_split doc.now node }
 {
     match doc.nodes().get(node) {

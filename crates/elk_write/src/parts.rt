@@ -22,7 +22,7 @@ pub(crate) fn is_key(key: &str, name: &str) -> bool
 }
 
 // Whether a member is written, or removed: at an edge, or at a port.
-fn is_flat_key(key: &str, edge: bool) -> bool
+pub(crate) fn is_flat_key(key: &str, edge: bool) -> bool
     ensures { result ≡ flat_key_test edge key.now }
 {
     if edge {

@@ -7,7 +7,7 @@ use elk_doc::places::{dock_at, outline};
 use elk_engine::demo;
 use elk_json::{DocFault, parse, read_doc, rule_name, rule_number};
 use elk_options::{Role, read_options, read_padding};
-use elk_write::{answer_value, id_text, placed_of, text_of};
+use elk_write::{answer_text, answer_value, id_text, placed_of, text_of};
 use layout_check::{Verdict, check};
 use serde_json::Value;
 use std::alloc::{AllocError, Global};
@@ -38,6 +38,34 @@ fn a_placed_document_is_judged_and_written_again(rt: HostRuntime) -> Result<(), 
     let (verdict, text) = judged(rt.alloc(), PLACED)?.ok_or("not read")?;
     assert_eq!(rt; verdict, Verdict::Yes);
     assert_eq!(rt; text.as_slice(), PLACED.as_bytes());
+    Ok(())
+}
+
+// What every kind of member stands in: kept and written ones in turn, at the root, at nodes in it, at a port and at edges.
+const MIXED: &str =
+    r#"{"a":-9223372036854775808,"children":[{"height":30,"id":"a\"\n","info":[1,{"b":null,"a":""}],"labels":[{"text":"é"}],"ports":[{"id":"p","note":true,"x":3,"zoom":18446744073709551615}],"sections":[],"width":30,"x":5},{"children":[{"height":7,"id":"c","width":9,"wide":[[],{}]}],"edges":[{"id":"loop","sources":["c"],"targets":["c"]}],"id":2,"layering":0,"left":1,"height":3,"yes":{}}],"edges":[{"bendPoints":[],"id":-7,"sources":["p"],"targets":[2],"type":"t"},{"id":"back","sections":1,"sources":[2],"targets":["a\"\n"]}],"layoutOptions":{"elk.direction":"DOWN"},"xs":0,"z":false}"#;
+
+// The text of the answer to a document, written straight and by way of a value.
+fn both_texts(alloc: Global, text: &str) -> Result<Option<(Vec<u8>, Vec<u8>)>, AllocError> {
+    let Ok(value) = parse(alloc, text.as_bytes()) else {
+        return Ok(None);
+    };
+    match read_doc(alloc, &value) {
+        Err(_) => Ok(None),
+        Ok(doc) => {
+            let placed = lay_out(alloc, &doc)?;
+            let straight = answer_text(alloc, &value, &doc, &placed)?;
+            let answer = answer_value(alloc, &value, &doc, &placed)?;
+            Ok(Some((straight, text_of(alloc, &answer)?)))
+        }
+    }
+}
+
+#[test]
+fn an_answer_is_written_as_its_value_is(rt: HostRuntime) -> Result<(), Fail> {
+    let (straight, text) = both_texts(rt.alloc(), MIXED)?.ok_or("refused")?;
+    assert!(rt; straight.len() > MIXED.len());
+    assert_eq!(rt; straight.as_slice(), text.as_slice());
     Ok(())
 }
 

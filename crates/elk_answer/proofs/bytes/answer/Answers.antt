@@ -7,30 +7,30 @@ use Rattle.drawing_laws.proofs.DualityLaw.{flow_shows_least}
 use Rattle.elk_json.specs.declared.fault.Refusal.{Refusal}
 use Rattle.elk_json.specs.Bytes.{reading}
 use Rattle.elk_json.specs.Rules.{refused}
-use Rattle.elk_write.proofs.LineFeed.{reading_nests}
 use Rattle.elk_answer.specs.Answer.{IsAccepted, RefusesReading}
 use Rattle.elk_answer.proofs.bytes.answer.Goals as goal
 
 pub returns-clause-answered : goal.returns-clause-answered
 returns-clause-answered c =
+    let written = c.in_ok-text.ensures in
     record {
       doc = c.in_ok-doc.doc;
       placed = c.in_ok-placed.placed;
       good =
           record {
             value = view c.in_ok-value.value;
-            answer = view c.in_ok-answer.answer;
+            answer = written.answer;
             read = c.in_ok-value.ensures.exact;
             document = c.in_ok-doc.ensures.1;
             drawn = c.in_ok-placed.ensures.drawn;
             fitted = c.in_ok-placed.ensures.fitted;
             least = λ n o r n_in level certificate. flow_shows_least c.in_ok-doc.doc c.in_ok-placed.placed n r (subst IsSound c.doc.view_is c.doc.invariant) (c.in_ok-placed.ensures.drawn.levels n o r n_in level certificate).flow;
             small = c.in_ok-placed.ensures.small;
-            same = c.in_ok-answer.ensures.placed;
-            ascending = c.in_ok-answer.ensures.keyed;
-            written = c.in_ok-text_of.ensures.written;
-            read_again = c.in_ok-text_of.ensures.read (c.in_ok-answer.ensures.nests (reading_nests c.args.bytes.now (view c.in_ok-value.value) c.in_ok-value.ensures.exact));
-            read_back = c.in_ok-answer.ensures.drawn c.in_ok-placed.ensures.drawn;
+            same = written.placed;
+            ascending = written.keyed;
+            written = written.written;
+            read_again = written.read c.args.bytes.now c.in_ok-value.ensures.exact c.in_ok-doc.ensures.2 c.in_ok-placed.ensures.small;
+            read_back = written.read_back c.in_ok-placed.ensures.drawn;
           };
       planned = c.in_ok-placed.ensures.planned;
     }
