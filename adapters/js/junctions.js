@@ -65,16 +65,24 @@ function chainsFrom(first, byId) {
   return chains;
 }
 
+/** The points of a route but those at which it goes straight on: a way through many sections has few turns. */
+function turnsOf(points) {
+  const isStraight = (point, at) =>
+    at > 0 && at + 1 < points.length && wayTo(points[at - 1], point) === wayTo(point, points[at + 1]);
+  return points.filter((point, at) => !isStraight(point, at));
+}
+
 /** The ways of an edge from a node to a node. */
 function pathsOf(edge, levels) {
   const sections = elementsOf(edge.sections);
   return chainsOf(sections).map((chain) => {
-    const points = chain.flatMap(pointsOf);
+    const points = chain.flatMap(pointsOf).filter((point, k, all) => k === 0 || !sameAs(point, all[k - 1]));
     // A section of several tells its ends by itself.
     const at = (end, shape) => (sections.length === 1 ? levels.nodeAt(edge, end) : levels.nodeOf(shape));
     return {
       edge,
-      points: points.filter((point, k) => k === 0 || !sameAs(point, points[k - 1])),
+      points,
+      turns: turnsOf(points),
       nodes: [at('source', chain[0].incomingShape), at('target', chain.at(-1).outgoingShape)],
     };
   });
@@ -106,9 +114,9 @@ const isParting = (one, other) => [1, 2, 4, 8].includes(one & other);
 function linesOf(paths) {
   const lines = new Map();
   for (const path of paths) {
-    const { points } = path;
-    for (let at = 1; at < points.length; at += 1) {
-      const line = points[at].y === points[at - 1].y ? `y${points[at].y}` : `x${points[at].x}`;
+    const { turns } = path;
+    for (let at = 1; at < turns.length; at += 1) {
+      const line = turns[at].y === turns[at - 1].y ? `y${turns[at].y}` : `x${turns[at].x}`;
       lines.set(line, (lines.get(line) ?? new Set()).add(path));
     }
   }
@@ -118,7 +126,7 @@ function linesOf(paths) {
 /** The edge of the first of the paths with a common dock that parts from another at a point, or joins it there. */
 function firstParting(point, paths, lines) {
   const near = new Set([...(lines.get(`y${point.y}`) ?? []), ...(lines.get(`x${point.x}`) ?? [])]);
-  const passing = [...near].map((path) => [path, passesOf(path.points, point)]);
+  const passing = [...near].map((path) => [path, passesOf(path.turns, point)]);
   const ways = new Set(passing.flatMap(([, passes]) => passes));
   const parts = ([, passes]) => passes.some((one) => [...ways].some((other) => isParting(one, other)));
   const parting = new Set(passing.filter(parts).map(([path]) => path));

@@ -29,6 +29,41 @@ function distance(one, other, most) {
   return last[other.length];
 }
 
+/** A word in small letters, and which letters it has: a bit for each remainder of their numbers. */
+function lettered(word) {
+  const bare = word.toLowerCase();
+  let has = 0;
+  for (let at = 0; at < bare.length; at += 1) {
+    has |= 1 << (bare.charCodeAt(at) & 31);
+  }
+  return { word, bare, has };
+}
+
+// Lists that words are looked for in again and again.
+const LETTERED = new WeakMap();
+
+function allLettered(known) {
+  if (!Array.isArray(known)) {
+    return [...known].map(lettered);
+  }
+  if (!LETTERED.has(known)) {
+    LETTERED.set(known, known.map(lettered));
+  }
+  return LETTERED.get(known);
+}
+
+/** Whether at most so many letters are those of the one alone: each is a wrong one. */
+function hasFew(letters, most) {
+  let left = letters;
+  for (let found = 0; left !== 0; found += 1) {
+    if (found === most) {
+      return false;
+    }
+    left &= left - 1;
+  }
+  return true;
+}
+
 // A word of up to two letters is near to nothing but itself in other letters: nearly every word would be.
 const allowedFor = (word) => Math.min(3, Math.floor((word.length + 1) / 4));
 
@@ -47,13 +82,16 @@ function wrongLetters(one, other, most) {
  * @param {Iterable<string>} known
  */
 function nearest(word, known) {
-  const bare = word.toLowerCase();
+  const { bare, has } = lettered(word);
   let best;
   let least = allowedFor(word) + 1;
-  for (const it of known) {
-    const wrong = wrongLetters(bare, it.toLowerCase(), least - 1);
-    if (wrong < least && it !== word) {
-      [best, least] = [it, wrong];
+  for (const it of allLettered(known)) {
+    if (it.word === word || !hasFew(has & ~it.has, least - 1) || !hasFew(it.has & ~has, least - 1)) {
+      continue;
+    }
+    const wrong = wrongLetters(bare, it.bare, least - 1);
+    if (wrong < least) {
+      [best, least] = [it.word, wrong];
     }
   }
   return best;

@@ -119,7 +119,12 @@ function grouped(members, pointOf) {
   for (const member of members) {
     const { x, y } = pointOf(member) ?? {};
     const key = `${x} ${y}`;
-    groups.set(key, [...(groups.get(key) ?? []), member]);
+    const group = groups.get(key);
+    if (group) {
+      group.push(member);
+    } else {
+      groups.set(key, [member]);
+    }
   }
   return [...groups.values()];
 }

@@ -68,6 +68,21 @@ test('its junction points are where its sections meet', WITH_PROGRAM, async () =
   assert.deepEqual(children.map(({ ports }) => ports), [undefined, undefined, undefined, undefined]);
 });
 
+test('an edge with very many targets is split as one with few', WITH_PROGRAM, async () => {
+  const elk = new ELK({ program: PROGRAM });
+  const targets = Array.from({ length: 400 }, (_, at) => `t${at}`);
+  const children = ['s', ...targets].map((id) => ({ id, width: 10, height: 10 }));
+  const begun = performance.now();
+  const { edges } = await elk.layout({ id: 'r', children, edges: [{ id: 'e', sources: ['s'], targets }] });
+  const seconds = (performance.now() - begun) / 1000;
+  elk.terminateWorker();
+  assertTree(edges[0], { at: 'source', id: 's' }, targets.sort());
+  // Each point at which sections meet has one way more behind it than before it.
+  const ends = edges[0].sections.filter(({ outgoingSections }) => outgoingSections);
+  assert.equal(edges[0].junctionPoints.length, ends.length);
+  assert.ok(seconds < 10, `${seconds} seconds`);
+});
+
 test('several sources with several targets are refused in plain words', WITH_PROGRAM, async () => {
   await assert.rejects(placedEdges([{ id: 'e', sources: ['a', 'b'], targets: ['c', 'd'] }]), {
     name: 'Hyperedge',

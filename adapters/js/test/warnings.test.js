@@ -37,6 +37,16 @@ test('an option without effect is told, with the name that was meant', () => {
   }
 });
 
+test('very many unknown options are told in little time, each with what was meant', () => {
+  const names = Array.from({ length: 5000 }, (_, at) => `elk.directon${at % 2 ? '' : 'x'.repeat(4 + (at % 90))}${at}`);
+  const begun = performance.now();
+  const found = messages({ id: 'r', layoutOptions: Object.fromEntries(names.map((name) => [name, '1'])) });
+  assert.equal(found.length, names.length);
+  assert.match(found[1], /directon1"\] is no option of ELK; did you mean "elk\.direction"\?$/);
+  assert.match(found[0], /xxxx0"\] is no option of ELK$/);
+  assert.ok(performance.now() - begun < 10_000);
+});
+
 test('options of every element are looked at, and those of a call', () => {
   const port = { id: 'p', layoutOptions: { portConstraints: 'FREE' } };
   const edge = { id: 'e', source: 'a', target: 'a', layoutOptions: { 'elk.direction': 'UP' } };

@@ -67,11 +67,28 @@ def _chains_from(first: Element, by_id: Dict[Any, Element]) -> Iterator[List[Ele
             followed.append(follow(section))
 
 
+def _way_to(start: Point, end: Point) -> int:
+    if start[1] == end[1]:
+        return LEFT if end[0] < start[0] else RIGHT
+    return UP if end[1] < start[1] else DOWN
+
+
+def _turns_of(points: Route) -> Route:
+    """The points of a route but those at which it goes straight on: a way through many sections has few turns."""
+    last = len(points) - 1
+    return [
+        point
+        for at, point in enumerate(points)
+        if at in (0, last) or _way_to(points[at - 1], point) != _way_to(point, points[at + 1])
+    ]
+
+
 class Path(NamedTuple):
     """A way of an edge from a node to a node; the edge is known by its place among all."""
 
     edge: int
     points: Route
+    turns: Route
     nodes: Tuple[Optional[Place], Optional[Place]]
 
 
@@ -80,18 +97,13 @@ def _paths_of(edge: int, levels: Levels) -> Iterator[Path]:
     sections = elements_of(declared.get("sections"))
     for chain in _chains_of(sections):
         points = _without_repeats([point for section in chain for point in points_of(section)])
+        turns = _turns_of(points)
         if len(sections) == 1:
-            yield Path(edge, points, (levels.node_at(declared, "source"), levels.node_at(declared, "target")))
+            yield Path(edge, points, turns, (levels.node_at(declared, "source"), levels.node_at(declared, "target")))
         else:
             # A section of several tells its ends by itself.
             shapes = chain[0].get("incomingShape"), chain[-1].get("outgoingShape")
-            yield Path(edge, points, (levels.node_of(shapes[0]), levels.node_of(shapes[1])))
-
-
-def _way_to(start: Point, end: Point) -> int:
-    if start[1] == end[1]:
-        return LEFT if end[0] < start[0] else RIGHT
-    return UP if end[1] < start[1] else DOWN
+            yield Path(edge, points, turns, (levels.node_of(shapes[0]), levels.node_of(shapes[1])))
 
 
 def _is_between(low: Any, value: Any, high: Any) -> bool:
@@ -119,7 +131,7 @@ Lines = Dict[Tuple[str, Any], Set[int]]
 def _lines_of(paths: List[Path]) -> Lines:
     lines: Lines = {}
     for at, path in enumerate(paths):
-        for (_, top), (right, bottom) in zip(path.points, path.points[1:]):
+        for (_, top), (right, bottom) in zip(path.turns, path.turns[1:]):
             lines.setdefault(("y", bottom) if top == bottom else ("x", right), set()).add(at)
     return lines
 
@@ -127,7 +139,7 @@ def _lines_of(paths: List[Path]) -> Lines:
 def _first_parting(point: Point, paths: List[Path], lines: Lines) -> Optional[int]:
     """The edge of the first of the paths with a common dock that parts from another at a point, or joins it there."""
     near = lines.get(("y", point[1]), set()) | lines.get(("x", point[0]), set())
-    passing = {at: _passes_of(paths[at].points, point) for at in near}
+    passing = {at: _passes_of(paths[at].turns, point) for at in near}
     ways = {way for passes in passing.values() for way in passes}
     # Two routes that pass a point part there where they have one way in common: with two they run along together, with
     # none they cross.
