@@ -65,12 +65,16 @@ function chainsFrom(first, byId) {
   return chains;
 }
 
-/** The points of a route but those at which it goes straight on: a way through many sections has few turns. */
-function turnsOf(points) {
-  const isStraight = (point, at) =>
-    at > 0 && at + 1 < points.length && wayTo(points[at - 1], point) === wayTo(point, points[at + 1]);
-  return points.filter((point, at) => !isStraight(point, at));
+/** Whether a route goes straight on at the second of three points, along a level or an upright line. */
+function isStraight(before, point, after) {
+  const isLevel = before.y === point.y && point.y === after.y;
+  const isUpright = before.x === point.x && point.x === after.x;
+  return (isLevel || isUpright) && wayTo(before, point) === wayTo(point, after);
 }
+
+/** The points of a route but those at which it goes straight on: a way through many sections has few turns. */
+const turnsOf = (points) =>
+  points.filter((point, at) => at === 0 || at + 1 === points.length || !isStraight(points[at - 1], point, points[at + 1]));
 
 /** The ways of an edge from a node to a node. */
 function pathsOf(edge, levels) {

@@ -39,7 +39,7 @@ function lettered(word) {
   return { word, bare, has };
 }
 
-// Lists that words are looked for in again and again.
+// Lists that words are looked for in again and again; none is changed.
 const LETTERED = new WeakMap();
 
 function allLettered(known) {
@@ -90,6 +90,9 @@ function nearest(word, known) {
       continue;
     }
     const wrong = wrongLetters(bare, it.bare, least - 1);
+    if (wrong === 0) {
+      return it.word;
+    }
     if (wrong < least) {
       [best, least] = [it.word, wrong];
     }

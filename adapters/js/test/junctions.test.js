@@ -47,6 +47,14 @@ test('three routes part at two points along one trunk, each told once', () => {
   assert.deepEqual(junctionsOf(...routes), { 1: ['20 0'], 2: ['20 40'] });
 });
 
+test('slanted routes part where they turn, however little', () => {
+  const routes = [
+    edge('1', ['a.p', 'b.p'], '0 0', '5 5', '10 20', '50 20'),
+    edge('2', ['a.p', 'c.p'], '0 0', '5 5', '50 5'),
+  ];
+  assert.deepEqual(junctionsOf(...routes), { 1: ['5 5'] });
+});
+
 test('two turns at one point part where they turn apart', () => {
   const routes = [
     edge('1', ['a.p', 'b.p'], '0 0', '20 0', '20 -40', '50 -40'),

@@ -73,13 +73,20 @@ def _way_to(start: Point, end: Point) -> int:
     return UP if end[1] < start[1] else DOWN
 
 
+def _is_straight(before: Point, point: Point, after: Point) -> bool:
+    """Whether a route goes straight on at the second of three points, along a level or an upright line."""
+    is_level = before[1] == point[1] == after[1]
+    is_upright = before[0] == point[0] == after[0]
+    return (is_level or is_upright) and _way_to(before, point) == _way_to(point, after)
+
+
 def _turns_of(points: Route) -> Route:
     """The points of a route but those at which it goes straight on: a way through many sections has few turns."""
     last = len(points) - 1
     return [
         point
         for at, point in enumerate(points)
-        if at in (0, last) or _way_to(points[at - 1], point) != _way_to(point, points[at + 1])
+        if at in (0, last) or not _is_straight(points[at - 1], point, points[at + 1])
     ]
 
 

@@ -7,7 +7,7 @@ import unittest
 import xml.etree.ElementTree as xml
 
 from .program import PROGRAM, TOP, with_node, with_program
-from elk_layout import Placed, layout, layout_many, to_svg
+from elk_layout import Placed, junction_points, layout, layout_many, to_svg
 
 SCRIPT = """
 const { toSvg } = require(process.argv[1] + '/adapters/js/svg.js');
@@ -153,6 +153,16 @@ class Pictures(unittest.TestCase):
             edge.pop("junctionPoints", None)
         for child in node.get("children", ()):
             self.forget_junctions(child)
+
+    def test_slanted_routes_part_where_they_turn_however_little(self):
+        nodes = [{"id": id, "x": 0, "y": 0, "width": 10, "height": 10} for id in "abc"]
+        routes = {"b": [(0, 0), (5, 5), (10, 20), (50, 20)], "c": [(0, 0), (5, 5), (50, 5)]}
+        edges = []
+        for target, route in routes.items():
+            start, *bends, end = ({"x": x, "y": y} for x, y in route)
+            section = {"id": f"{target}_s0", "startPoint": start, "bendPoints": bends, "endPoint": end}
+            edges.append({"id": target, "sources": ["a"], "targets": [target], "sections": [section]})
+        self.assertEqual(junction_points({"id": "r", "children": nodes, "edges": edges}), {"b": [(5, 5)]})
 
     @with_node
     @with_program
