@@ -7,6 +7,7 @@ import json
 import random
 
 SIZES = {10: 3, 30: 2, 100: 2, 300: 1, 1000: 1, 2000: 1}
+SMALL = {15: 30, 30: 30, 60: 20}
 LARGEST = 2000
 MOST_EDGES = 2048
 WIDTHS = (40, 60, 80, 100)
@@ -289,7 +290,12 @@ def boxes(size, draws):
     return {"id": "root", "layoutOptions": {"elk.algorithm": "box", "elk.spacing.nodeNode": 12}, "children": children}
 
 
-OTHER = {it.__name__: it for it in (circuits, nested, split, boxes)}
+def small(size, draws):
+    """A small graph in which few edges cross: a state machine, or one with cycles. Only many of them tell."""
+    return flat(draws.pick((states, cyclic)), size, draws)
+
+
+OTHER = {it.__name__: it for it in (circuits, nested, split, boxes, small)}
 FAMILIES = (*FLAT, *OTHER)
 # Of the most nodes these would have more edges than a document may have.
 TOO_MANY_EDGES = ("dense", "cyclic", "states", "circuits", "nested", "split")
@@ -304,7 +310,7 @@ def document(family, nodes, seed):
 def documents():
     """All documents: family, nodes, seed, document."""
     for family in FAMILIES:
-        for nodes, seeds in SIZES.items():
+        for nodes, seeds in (SMALL if family == "small" else SIZES).items():
             if nodes == LARGEST and family in TOO_MANY_EDGES or family == "boxes" and nodes in (30, 300):
                 continue
             for seed in range(1, (1 if family == "boxes" else seeds) + 1):
