@@ -1,58 +1,67 @@
 //! Exchanges of neighbours in an order that is tried, some of them by chance.
 //!
-//! Simulated annealing by Kirkpatrick, Gelatt and Vecchi 1983: an exchange that lowers the crossings is
-//! kept, and one that adds some with a chance that falls as the work goes on.
+//! Simulated annealing by Kirkpatrick, Gelatt and Vecchi 1983: an exchange that adds no crossing is kept, and one that adds some
+//! with a chance that falls as the work goes on.
 
+use crate::easing::ease;
 use crate::effort::Effort;
 use crate::flat::{Flat, Span, number_at};
 use crate::lots::Lots;
+use crate::middles::Middles;
 use crate::neighbours::exchange_at;
-use crate::pairs::{Pairs, more_by_exchange, turn};
+use crate::pairs::{LOOK, Pairs, more_by_exchange, turn};
 use std::alloc::{AllocError, Global};
 
-/// By what an exchange is kept: the chance in 65,536 that one more crossing is, at first and now, the
-/// crossings as they stand, and the work that is left.
+/// An exchange that adds more crossings than this isn't kept.
+const MOST: usize = 8;
+
+/// By what an exchange is kept: the chance in 65,536 that one more crossing is at first, what a lot has to be below for each
+/// number of more crossings, the crossings as they stand, and the work that is left.
 #[derive(Drop)]
 pub(crate) struct Annealing {
     hottest: u64,
-    chance: u64,
+    bounds: [u64; 9],
     crossings: u64,
     lots: Lots,
     effort: Effort,
 }
 
+/// The chance of one half.
+const HALF: u64 = 32768;
+
+/// The chance at first for an order of so many crossings of so many links: a quarter where nothing crosses, and more the more links
+/// cross, up to a half.
+fn hottest_for(crossings: u64, links: u64) -> u64 {
+    let share = crossings.saturating_mul(32768) / links.max(1);
+    share.saturating_add(16384).min(HALF)
+}
+
 impl Annealing {
-    /// For an order of so many crossings, with so much work: at first three in ten of the exchanges that add
-    /// one crossing are kept.
-    pub(crate) fn of(crossings: u64, work: u64) -> Annealing {
+    /// For an order of so many crossings of so many links, with so much work.
+    pub(crate) fn of(crossings: u64, links: u64, work: u64) -> Annealing {
         Annealing {
-            hottest: 19661,
-            chance: 0,
+            hottest: hottest_for(crossings, links),
+            bounds: [0; 9],
             crossings,
             lots: Lots::of_seed(1),
             effort: Effort::of(work),
         }
     }
 
-    /// Another by the chances of a seed, where eleven in twenty are kept at first.
+    /// Another by the chances of a seed, where one half is kept at first.
     pub(crate) fn again(crossings: u64, work: u64, seed: u64) -> Annealing {
         Annealing {
-            hottest: 36045,
-            chance: 0,
+            hottest: HALF,
+            bounds: [0; 9],
             crossings,
             lots: Lots::of_seed(seed),
             effort: Effort::of(work),
         }
     }
 
-    /// Links were looked at.
-    fn spend(&mut self, links: u64) {
-        self.effort.spend(links);
-    }
-
-    /// The crossings as they stand.
-    pub(crate) fn crossings(&self) -> u64 {
-        self.crossings
+    /// Work was done.
+    fn spend(&mut self, work: u64) {
+        self.effort.spend(work);
     }
 
     /// Whether no work is left.
@@ -60,48 +69,40 @@ impl Annealing {
         self.effort.is_spent()
     }
 
-    /// Whether no work is left, or nothing crosses.
-    fn is_done(&self) -> bool {
-        self.is_spent() || self.crossings == 0
+    /// Whether no more than so much work is left, or nothing crosses.
+    fn is_done(&self, left: u64) -> bool {
+        self.effort.left() <= left || self.crossings == 0
     }
 
-    /// Lets the chance fall to none with the work that is left.
+    /// Lets the chances fall to none with the work that is left.
     fn cool(&mut self) {
         self.spend(1);
-        self.chance = self.effort.part_left(self.hottest);
+        let chance = self.effort.part_left(self.hottest);
+        let mut bound: u64 = 2147483648;
+        for at in 0..9_usize {
+            self.bounds[at] = bound;
+            bound = bound.saturating_mul(chance) / 65536;
+        }
     }
 
-    /// Whether so many more crossings are kept.
-    fn keeps(&mut self, more: u32) -> bool {
-        if more > 8 {
-            return false;
-        }
-        for _ in 0..more {
-            if self.lots.draw() % 65536 >= self.chance {
-                return false;
-            }
-        }
-        true
+    /// Whether an exchange is kept that adds so many crossings.
+    fn keeps(&mut self, more: usize) -> bool {
+        more <= MOST && self.lots.draw() < self.bounds[more]
     }
 
-    /// Whether an exchange is kept that brings so many more crossings: where it lowers them, and by chance
-    /// where it doesn't.
+    /// Whether an exchange is kept that brings so many more crossings: where it adds none, and else by chance.
     fn accepts(&mut self, more: i32) -> bool {
-        if more < 0 {
-            return true;
-        }
-        if self.chance == 0 {
-            return false;
-        }
-        if more == 0 {
-            return self.lots.draw() % 2 == 0;
-        }
-        self.keeps(more.unsigned_abs())
+        more <= 0 || self.keeps(more as usize)
     }
 
     /// An exchange was made.
     fn note(&mut self, more: i32) {
         self.crossings = self.crossings.saturating_add_signed(i64::from(more));
+    }
+
+    /// From now on not all crossings count alike, so how many there are isn't known any more.
+    fn forget_crossings(&mut self) {
+        self.crossings = u64::MAX;
     }
 }
 
@@ -117,8 +118,8 @@ fn consider(
     if annealing.is_spent() {
         return lower;
     }
-    let (more, looks) = more_by_exchange(flat, pairs, upper, lower);
-    annealing.spend(u64::from(looks));
+    let (more, work) = more_by_exchange(flat, pairs, upper, lower);
+    annealing.spend(work);
     if !annealing.accepts(more) {
         return lower;
     }
@@ -144,19 +145,34 @@ fn anneal_rows(flat: &mut Flat, pairs: &mut Pairs, annealing: &mut Annealing) {
     }
 }
 
+/// Exchanges neighbours of all rows again and again, until so much work is left or nothing crosses.
+fn anneal_until(flat: &mut Flat, pairs: &mut Pairs, annealing: &mut Annealing, left: u64) {
+    for _ in 0..annealing.effort.whole() {
+        if annealing.is_done(left) {
+            return;
+        }
+        annealing.cool();
+        anneal_rows(flat, pairs, annealing);
+    }
+}
+
 /// Exchanges neighbours of all rows again and again, until the work is done or nothing crosses.
+///
+/// In the last sixth of the work a crossing of two links between middles of long edges weighs twice. In the end neighbours that
+/// cross as much either way are put so that their links are short.
 pub(crate) fn anneal(
     alloc: Global,
     flat: &mut Flat,
     annealing: &mut Annealing,
 ) -> Result<(), AllocError> {
     let mut pairs = Pairs::of(alloc, flat.place.len())?;
-    for _ in 0..annealing.effort.whole() {
-        if annealing.is_done() {
-            return Ok(());
-        }
-        annealing.cool();
-        anneal_rows(flat, &mut pairs, annealing);
+    let last = annealing.effort.whole() / 6;
+    anneal_until(flat, &mut pairs, annealing, last);
+    if annealing.crossings == 0 {
+        return Ok(());
     }
-    Ok(())
+    pairs.weigh(Middles::of(alloc, flat)?);
+    annealing.forget_crossings();
+    anneal_until(flat, &mut pairs, annealing, 0);
+    ease(alloc, flat, pairs.middles())
 }

@@ -25,6 +25,11 @@ impl Effort {
         self.left == 0
     }
 
+    /// What is left.
+    pub(crate) fn left(&self) -> u64 {
+        self.left
+    }
+
     /// All of it, also what is spent.
     pub(crate) fn whole(&self) -> u64 {
         self.whole
@@ -50,14 +55,15 @@ pub(crate) const USUAL: u32 = 7;
 /// The greatest effort; what is asked for beyond it counts as this.
 const GREATEST: u32 = 1000;
 
-/// The work that a level is worth by the usual effort: 1,000 for each unit and link, at most 2^24, and none
-/// past 2^18 of these.
-fn usual_work(layered: &Layered) -> u64 {
+/// The work that a level is worth by an effort of 1: 64 for each of its units and links, where that is little 144, at most 2^20, and
+/// none past 2^18 of these.
+fn least_work(layered: &Layered) -> u64 {
     let size = size_of(layered);
     if size > 262144 {
         return 0;
     }
-    size.saturating_mul(1000).min(16777216)
+    let work = size.saturating_mul(64);
+    work.max(size.saturating_mul(144).min(12288)).min(1048576)
 }
 
 /// The most work that a level is worth by any effort: 2^28.
@@ -66,6 +72,5 @@ const MOST: u64 = 268_435_456;
 /// The work that a level is worth by an effort.
 pub(crate) fn work_for(layered: &Layered, effort: u32) -> u64 {
     let times = effort.min(GREATEST) as u64;
-    let work = usual_work(layered).saturating_mul(times) / USUAL as u64;
-    work.min(MOST)
+    least_work(layered).saturating_mul(times).min(MOST)
 }

@@ -42,6 +42,11 @@ pub(crate) struct Ends {
 }
 
 impl Ends {
+    /// How many far ends there are, two of each link.
+    pub(crate) fn len(&self) -> usize {
+        self.far.len()
+    }
+
     /// The far ends of a unit's links to the left, and of those to the right.
     pub(crate) fn of(&self, unit: u32) -> (&[Far], &[Far]) {
         let unit = unit as usize;

@@ -1,7 +1,7 @@
 //! Orders of the rows of a layered drawing with few crossings.
 //!
 //! The rows are swept by the barycentre rule of Sugiyama, Tagawa and Toda 1981, forward and backward; a
-//! search goes on from there, by sweeps from shuffled rows and by simulated annealing; and in the end
+//! search goes on from there, by sweeps from other starts and by simulated annealing; and in the end
 //! neighbours are exchanged as long as an exchange lowers the crossings. Crossings are counted by tail key,
 //! with a vector kernel over the head keys; an exchange is judged by the links of the two neighbours alone.
 //! The search works on a list of its own and keeps what it counted of pairs of units. Of what it finds the
@@ -10,11 +10,14 @@
 
 mod annealing;
 mod counting;
+mod depth_first;
+mod easing;
 mod effort;
 mod exchanging;
 mod fans;
 mod flat;
 mod lots;
+mod middles;
 mod neighbours;
 mod ordering;
 mod pairs;

@@ -6,40 +6,56 @@
 
 use crate::fans::Far;
 use crate::flat::Flat;
+use crate::middles::Middles;
 use crate::neighbours::compare;
 use std::alloc::{AllocError, Global};
 
-/// What is known of two units of a row: how many more crossings their links have where the unit of the
-/// lesser number stands below the other, and how many pairs of links were compared for that; none were where
-/// nothing is known.
+/// What is known of two units of a row: how many more crossings their links have where the unit of the lesser number stands below
+/// the other. Where nothing is known the greater one is 0.
 #[derive(Clone, Copy)]
 struct Pair {
     greater: u32,
     more: i32,
-    looks: u32,
 }
 
 /// Where nothing is known.
 const NOTHING: Pair = Pair {
     greater: 0,
     more: 0,
-    looks: 0,
 };
 
 /// For each unit so many others are kept, by their numbers.
 const KEPT: usize = 16;
 
+/// The work of a look at two units, in pairs of links that are compared.
+pub(crate) const LOOK: u64 = 4;
+
 /// What is known of pairs of units. A pair may take the place of another.
 #[derive(Drop)]
 pub(crate) struct Pairs {
     list: Vec<Pair>,
+    middles: Middles,
 }
 
 impl Pairs {
     /// Nothing is known yet of pairs of so many units.
     pub(crate) fn of(alloc: Global, units: usize) -> Result<Pairs, AllocError> {
         let list: Vec<Pair> = vec![in alloc; NOTHING; units.saturating_mul(KEPT)]?;
-        Ok(Pairs { list })
+        Ok(Pairs {
+            list,
+            middles: Middles::none(alloc),
+        })
+    }
+
+    /// From now on crossings of links between middles weigh twice. What was known is forgotten.
+    pub(crate) fn weigh(&mut self, middles: Middles) {
+        self.list.as_mut_slice().fill(NOTHING);
+        self.middles = middles;
+    }
+
+    /// The middles between which crossings weigh twice.
+    pub(crate) fn middles(&self) -> &Middles {
+        &self.middles
     }
 
     /// What is kept at a place.
@@ -72,61 +88,46 @@ fn place_of(lesser: u32, greater: u32) -> usize {
     (lesser as usize * KEPT).wrapping_add(greater as usize % KEPT)
 }
 
-/// A number in 32 bits, or the greatest of them.
-fn in_few_bits(number: u64) -> u32 {
-    match u32::try_from(number) {
-        Ok(number) => number,
-        Err(_) => u32::MAX,
-    }
-}
-
-/// What is known of two units, once their links are compared.
-fn compared(flat: &Flat, lesser: u32, greater: u32) -> Pair {
+/// What is known of two units, once their links are compared, and the work of that.
+fn compared(flat: &Flat, middles: &Middles, lesser: u32, greater: u32) -> (Pair, u64) {
     let (more, looks) = compare(flat, lesser, greater);
-    Pair {
-        greater,
-        more,
-        looks: in_few_bits(looks),
-    }
+    let more = more.wrapping_add(middles.more_of(flat, lesser, greater));
+    (Pair { greater, more }, looks.wrapping_add(LOOK))
 }
 
-/// What is known of two units.
-fn pair_of(flat: &Flat, pairs: &mut Pairs, lesser: u32, greater: u32) -> Pair {
+/// What is known of two units, and the work of finding it.
+fn pair_of(flat: &Flat, pairs: &mut Pairs, lesser: u32, greater: u32) -> (Pair, u64) {
     let i = place_of(lesser, greater);
     let known = pairs.at(i);
-    if known.greater == greater && known.looks > 0 {
-        return known;
+    if known.greater == greater {
+        return (known, LOOK);
     }
-    let pair = compared(flat, lesser, greater);
+    let (pair, work) = compared(flat, &pairs.middles, lesser, greater);
     pairs.put(i, pair);
-    pair
+    (pair, work)
 }
 
-/// How many more crossings the exchange of two neighbours brings, and how many pairs of links are looked at
-/// for that.
+/// A number, or its negative where the upper unit is the greater one.
+fn turned(upper: u32, lower: u32, number: i32) -> i32 {
+    let sign = 1_i32.wrapping_sub(((upper > lower) as i32).wrapping_mul(2));
+    number.wrapping_mul(sign)
+}
+
+/// How many more crossings the exchange of two neighbours brings, and the work of finding it.
 pub(crate) fn more_by_exchange(
     flat: &Flat,
     pairs: &mut Pairs,
     upper: u32,
     lower: u32,
-) -> (i32, u32) {
-    if upper < lower {
-        let pair = pair_of(flat, pairs, upper, lower);
-        (pair.more, pair.looks)
-    } else {
-        let pair = pair_of(flat, pairs, lower, upper);
-        (pair.more.wrapping_neg(), pair.looks)
-    }
+) -> (i32, u64) {
+    let (pair, work) = pair_of(flat, pairs, upper.min(lower), upper.max(lower));
+    (turned(upper, lower, pair.more), work)
 }
 
 /// Two links whose near ends are exchanged cross where they didn't, or don't where they did: their far ends
 /// bring less the other way round, or more.
 fn turn_ends(pairs: &mut Pairs, upper: u32, lower: u32) {
-    if upper < lower {
-        pairs.add(upper, lower, -2);
-    } else {
-        pairs.add(lower, upper, 2);
-    }
+    pairs.add(upper.min(lower), upper.max(lower), turned(upper, lower, -2));
 }
 
 /// The same for one link of the upper and each of the lower.
@@ -146,10 +147,25 @@ fn turn_side(pairs: &mut Pairs, upper: &[Far], lower: &[Far]) {
     }
 }
 
+/// What is turned once more where the links of two middles lead to middles.
+fn turn_middles(pairs: &mut Pairs, upper: &[Far], lower: &[Far]) {
+    if upper.is_empty() || lower.is_empty() {
+        return;
+    }
+    let (above, below) = (upper[0].unit, lower[0].unit);
+    if pairs.middles.have(above, below) {
+        turn_ends(pairs, above, below);
+    }
+}
+
 /// Two neighbours are to be exchanged: what is known of units beside their row is kept true.
 pub(crate) fn turn(flat: &Flat, pairs: &mut Pairs, upper: u32, lower: u32) {
     let (left, right) = flat.ends.of(upper);
     let (lower_left, lower_right) = flat.ends.of(lower);
     turn_side(pairs, left, lower_left);
     turn_side(pairs, right, lower_right);
+    if pairs.middles.have(upper, lower) {
+        turn_middles(pairs, left, lower_left);
+        turn_middles(pairs, right, lower_right);
+    }
 }

@@ -213,8 +213,8 @@ fn searched_on(
 ///
 /// The exchanges begin from the first of fewest crossings among these five orders, and go through the rows
 /// from the top, again and again. What they reach is the answer, unless a search finds an order with fewer
-/// crossings: by sweeps from shuffled rows, and by simulated annealing of what is best then. By the usual
-/// effort, 7, the search looks at 1,000 links for each unit and link of the level and at most at 2^24, so
+/// crossings: by sweeps from other starts, and by simulated annealing of what is best then. By the usual
+/// effort, 7, the search compares some 450 pairs of links for each unit and link of the level and at most 7 * 2^20, so
 /// small levels are searched more thoroughly than large ones, and a level of more than 2^18 units and links
 /// not at all. Nothing in it is chance or measured time: equal drawings have equal answers.
 pub fn reduce(alloc: Global, layered: &Layered, start: Order) -> Result<Order, AllocError>
@@ -237,8 +237,7 @@ pub fn reduce(alloc: Global, layered: &Layered, start: Order) -> Result<Order, A
 /// The effort is a factor on the work of the search: 7 is that of `reduce`, 0 is no search, and what is
 /// above 1,000 counts as 1,000. By more than 7 the answer of 7 is annealed again and again, first by three
 /// more, then each time with half as much more. So from 7 on an answer has at most the crossings that it has
-/// by less effort. For each one of effort the search looks at most at 2^24 / 7 links, and by no effort at
-/// more than 2^28.
+/// by less effort. For each one of effort the search compares at most 2^20 pairs of links, and by no effort more than 2^28.
 pub fn reduce_with_effort(
     alloc: Global,
     layered: &Layered,

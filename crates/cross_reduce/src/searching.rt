@@ -1,4 +1,4 @@
-//! A search for an order with few crossings: sweeps from shuffled rows, and then exchanges by chance.
+//! A search for an order with few crossings: sweeps from other starts, and then exchanges by chance.
 ghost use Rattle.std.specs.Prelude.{◌≡◌, ◌⊎◌, ℕ, List, IfOk, OnOk};
 ghost use Rattle.elk_layers.specs.Layered.{plain, rows_of, IsSound, AreRows};
 ghost use Rattle.elk_layers.specs.Crossings.{HasSameRows, NoBetterSwap};
@@ -13,7 +13,7 @@ use crate::flat::{Flat, flat_of};
 use crate::neighbours::lower_rows;
 use crate::reducing::{Counted, fewer};
 use crate::reordering::order_in;
-use crate::starts::{shuffle, sweep_again};
+use crate::starts::{start_anew, sweep_again};
 use elk_layers::{Layered, Order};
 use std::alloc::{AllocError, Global};
 
@@ -40,17 +40,17 @@ fn sweep_and_exchange(
     Ok(())
 }
 
-/// The rows shuffled, and then swept eight times.
-fn shuffled_and_swept(
+/// The rows ordered anew, and then swept four times.
+fn started_and_swept(
     alloc: Global,
     flat: &mut Flat,
     start: u64,
     size: u64,
     effort: &mut Effort,
 ) -> Result<(), AllocError> {
-    effort.spend(size.saturating_mul(16));
-    shuffle(alloc, flat, start)?;
-    for sweep in 0..8_u64 {
+    effort.spend(size.saturating_mul(8));
+    start_anew(alloc, flat, start)?;
+    for sweep in 0..4_u64 {
         let towards = side_of(start, sweep);
         sweep_and_exchange(alloc, flat, towards, size, effort)?;
     }
@@ -74,7 +74,7 @@ fn fewer_of(
     Ok(best)
 }
 
-/// The kept order, or one with fewer crossings that sweeps find from up to 32 shuffles.
+/// The kept order, or one with fewer crossings that sweeps find from up to 32 starts.
 fn best_start(
     alloc: Global,
     layered: &Layered,
@@ -93,7 +93,7 @@ fn best_start(
         if kept.crossings == 0 || effort.is_spent() {
             return Ok(kept);
         }
-        shuffled_and_swept(alloc, &mut flat, start, size_of(layered), &mut effort)?;
+        started_and_swept(alloc, &mut flat, start, size_of(layered), &mut effort)?;
         kept = fewer_of(alloc, layered, kept, &flat)?;
     }
     Ok(kept)
@@ -112,20 +112,18 @@ fn annealed(
     ensures fewer { IfOk result (λ k. IsKeptOrFewer (plain layered.now) (rows_of kept.order) (rows_of k.order)) }
 {
     let mut flat = flat_of(alloc, layered, &kept.order)?;
-    let mut annealing = Annealing::of(kept.crossings, work);
+    let links = layered.links.len() as u64;
+    let mut annealing = Annealing::of(kept.crossings, links, work);
     anneal(alloc, &mut flat, &mut annealing)?;
-    if annealing.crossings() >= kept.crossings {
-        return Ok(kept);
-    }
     let best = fewer_of(alloc, layered, kept, &flat)?;
     Ok(best)
 }
 
 /// The kept order, or one with fewer crossings that a search finds.
 ///
-/// Three tenths of the work go to sweeps from shuffled rows: up to 32 starts with eight sweeps each,
-/// forward and backward in turn, after each of which neighbours are exchanged where that lowers the
-/// crossings. With the rest the best of these orders is annealed. The search ends where nothing crosses.
+/// Two sevenths of the work go to sweeps from up to 32 starts, which are orders of depth-first searches. Each is swept four times,
+/// forward and backward in turn, and after each sweep neighbours are exchanged where that lowers the crossings. With the rest the
+/// best of these orders is annealed. The search ends where nothing crosses.
 /// The work is bounded by the units and links alone, and what seems to be chance has fixed seeds, so equal
 /// drawings have equal answers.
 pub(crate) fn search(
@@ -142,11 +140,11 @@ pub(crate) fn search(
     if kept.crossings == 0 || work == 0 {
         return Ok(kept);
     }
-    let swept = best_start(alloc, layered, kept, work / 10 * 3)?;
+    let swept = best_start(alloc, layered, kept, work / 7 * 2)?;
     if swept.crossings == 0 {
         return Ok(swept);
     }
-    let best = annealed(alloc, layered, swept, work / 10 * 7)?;
+    let best = annealed(alloc, layered, swept, work / 7 * 5)?;
     Ok(best)
 }
 
