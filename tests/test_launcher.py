@@ -155,8 +155,12 @@ class Launcher(unittest.TestCase):
         (self.copy.top / "release/elk-x86_64-linux.gz").write_bytes(packed(b"#!/bin/sh\nexit 5\n"))
         self.ends("adapters/js/bin/elk")
 
-    def test_the_static_program_is_taken_where_the_other_can_not_start(self):
+    def test_the_static_program_is_taken_first(self):
         self.copy.release({"elk-x86_64-linux": TOO_OLD, "elk-x86_64-linux-static": self.real})
+        self.answers()
+
+    def test_the_other_program_is_taken_where_the_static_one_can_not_start(self):
+        self.copy.release({"elk-x86_64-linux": self.real, "elk-x86_64-linux-static": TOO_OLD})
         self.answers()
 
     def test_the_program_for_arm_is_taken_there(self):

@@ -1,17 +1,19 @@
-/* The program's way to Linux, without a C library: its start, its system calls, and the copying of bytes that the compiler asks for. */
+/* The program's way to Linux, without a C library: its start and its system calls. */
 #include "runtime.h"
 
 typedef __INT64_TYPE__ word;
 
 enum {
     STEP = 1 << 20,        /* memory grows by at least so many bytes, where it may */
+    MUCH = 1 << 24,        /* with so many bytes or more, by an eighth of them, and in large pages */
+    IN_LARGE_PAGES = 14,
     LEAST_FAULT = -4095,   /* an answer of the system from here to -1 is a fault's number, negative */
     TOO_LONG = -2,
     MISSING = -1
 };
 
 #if defined __x86_64__
-enum { READ = 0, WRITE = 1, BREAK = 12, SIGNAL = 13, EXIT = 231 };
+enum { READ = 0, WRITE = 1, BREAK = 12, SIGNAL = 13, ADVISE = 28, EXIT = 231 };
 
 static word ask(word number, word first, word second, word third, word fourth)
 {
@@ -26,7 +28,7 @@ static word ask(word number, word first, word second, word third, word fourth)
 /* Linux begins here, with the words of the command line on the stack. */
 __asm__(".globl _start\n_start: xor %ebp, %ebp\n mov %rsp, %rdi\n and $-16, %rsp\n call begin\n ud2");
 #elif defined __aarch64__
-enum { READ = 63, WRITE = 64, BREAK = 214, SIGNAL = 134, EXIT = 94 };
+enum { READ = 63, WRITE = 64, BREAK = 214, SIGNAL = 134, ADVISE = 233, EXIT = 94 };
 
 static word ask(word number, word first, word second, word third, word fourth)
 {
@@ -74,9 +76,27 @@ static int grow_to(const unsigned char *end)
     return 1;
 }
 
+/* Asks for large pages, of which the system has to note far fewer. Without them the program works as well. */
+static void ask_for_large_pages(unsigned char *from)
+{
+    unsigned char *page = (unsigned char *)((size_t)from & ~(size_t)4095);
+    ask(ADVISE, (word)page, reached - page, IN_LARGE_PAGES, 0);
+}
+
+/* Grows by more than is due, where there is much already. */
+static int grow_much(const unsigned char *end)
+{
+    unsigned char *before = reached;
+    size_t held = (size_t)(end - memory);
+    if (held < MUCH || !grow_to(end + held / 8))
+        return 0;
+    ask_for_large_pages(before);
+    return 1;
+}
+
 int memory_reach(const unsigned char *end)
 {
-    return end <= reached || grow_to(end + STEP) || grow_to(end);
+    return end <= reached || grow_much(end) || grow_to(end + STEP) || grow_to(end);
 }
 
 static word told(word answer)
@@ -121,61 +141,4 @@ word rattle_arg(size_t index, unsigned char *into, size_t length)
             return TOO_LONG;
         into[at] = (unsigned char)text[at];
     }
-}
-
-/* As in C, for the compiler, which makes calls of them. */
-void *memcpy(void *into, const void *from, size_t length)
-{
-#if defined __x86_64__
-    void *at = into;
-    __asm__ volatile("rep movsb" : "+D"(at), "+S"(from), "+c"(length) : : "memory");
-#else
-    unsigned char *to = into;
-    const unsigned char *at = from;
-    for (; length >= 16; length -= 16, to += 16, at += 16)
-        __builtin_memcpy(to, at, 16);
-    while (length--)
-        *to++ = *at++;
-#endif
-    return into;
-}
-
-void *memmove(void *into, const void *from, size_t length)
-{
-    unsigned char *to = into;
-    const unsigned char *at = from;
-    if ((size_t)(to - at) >= length)
-        return memcpy(into, from, length);
-    while (length--)
-        to[length] = at[length];
-    return into;
-}
-
-void *memset(void *into, int byte, size_t length)
-{
-    unsigned char *to = into;
-#if defined __x86_64__
-    __asm__ volatile("rep stosb" : "+D"(to), "+c"(length) : "a"(byte) : "memory");
-#else
-    uint64_t eight = (unsigned char)byte * (~(uint64_t)0 / 255);
-    for (; length >= 8; length -= 8, to += 8)
-        __builtin_memcpy(to, &eight, 8);
-    while (length--)
-        *to++ = (unsigned char)byte;
-#endif
-    return into;
-}
-
-int memcmp(const void *left, const void *right, size_t length)
-{
-    const unsigned char *one = left, *other = right;
-    for (size_t at = 0; at < length; at++)
-        if (one[at] != other[at])
-            return one[at] - other[at];
-    return 0;
-}
-
-int bcmp(const void *left, const void *right, size_t length)
-{
-    return memcmp(left, right, length);
 }

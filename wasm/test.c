@@ -1,7 +1,20 @@
-/* Tries the heap and the whole numbers of 128 bits as a program of this machine, whose compiler has such numbers of its own.
- * A line tells each case that fails; the last line counts. */
+/* Tries the heap, the whole numbers of 128 bits and the copying of bytes as a program of this machine, whose compiler has such numbers
+ * and such copying of its own. A line tells each case that fails; the last line counts. */
 #include "heap.c"
 #include "wide.h"
+
+/* What bytes.c has, by names of its own here. */
+#define memcpy own_copy
+#define memmove own_move
+#define memset own_set
+#define memcmp own_compare
+#define bcmp own_compare_bytes
+#include "bytes.c"
+#undef memcpy
+#undef memmove
+#undef memset
+#undef memcmp
+#undef bcmp
 
 #include <stdint.h>
 #include <stdio.h>
@@ -252,12 +265,64 @@ static void refusals(void)
     holds(heap_take(1) != 0, "there is no memory once it may grow again");
 }
 
+enum { AROUND = 24, LENGTHS = 1200 };
+
+static unsigned char given[LENGTHS + 2 * AROUND], made[LENGTHS + 2 * AROUND], due[LENGTHS + 2 * AROUND];
+
+/* Both ways' bytes, with what lies around them, are to be the same. */
+static void begin_bytes(void)
+{
+    for (size_t at = 0; at < sizeof given; at++) {
+        given[at] = (unsigned char)drawn();
+        due[at] = made[at] = (unsigned char)drawn();
+    }
+}
+
+static void end_bytes(const char *name)
+{
+    holds(!memcmp(made, due, sizeof due), name);
+}
+
+static int sign_of(int number)
+{
+    return (number > 0) - (number < 0);
+}
+
+static void bytes_are_right(size_t length, size_t from, size_t to)
+{
+    begin_bytes();
+    holds(own_copy(made + to, given + from, length) == made + to, "a copy isn't where it was due");
+    memcpy(due + to, given + from, length);
+    end_bytes("copied bytes are wrong");
+    holds(own_move(made + to, made + from, length) == made + to, "what was moved isn't where it was due");
+    memmove(due + to, due + from, length);
+    end_bytes("moved bytes are wrong");
+    holds(own_set(made + to, (int)length, length) == made + to, "what was set isn't where it was due");
+    memset(due + to, (int)length, length);
+    end_bytes("set bytes are wrong");
+    memcpy(made + to, given + from, length);
+    holds(!own_compare(made + to, given + from, length), "equal bytes aren't the same");
+    if (length)
+        made[to + drawn() % length] ^= (unsigned char)(1 << drawn() % 8);
+    holds(sign_of(own_compare(made + to, given + from, length)) == sign_of(memcmp(made + to, given + from, length)), "bytes are compared wrongly");
+    holds(!own_compare_bytes(made + to, given + from, length) == !memcmp(made + to, given + from, length), "bytes are the same wrongly");
+}
+
+static void bytes(void)
+{
+    for (size_t length = 0; length < LENGTHS; length += length < 70 ? 1 : 1 + drawn() % 60)
+        for (size_t from = 0; from < AROUND; from += 1 + drawn() % 3)
+            for (size_t to = 0; to < AROUND; to++)
+                bytes_are_right(length, from, to);
+}
+
 int main(void)
 {
     numbers();
+    bytes();
     use();
     growth();
     refusals();
-    printf("heap and wide: %d passed, %d failed\n", passed, failed);
+    printf("heap, wide and bytes: %d passed, %d failed\n", passed, failed);
     return failed != 0;
 }
