@@ -79,11 +79,16 @@ class Copy:
         return sorted(str(it.relative_to(self.top.parent)) for it in self.top.parent.rglob("*"))
 
 
+def setUpModule():
+    """Without a program of these sources the launcher would build one here, which takes an hour."""
+    if not PROGRAM.exists():
+        PROGRAM.parent.mkdir(parents=True, exist_ok=True)
+        done = subprocess.run([TOP / "tools/unpack", PROGRAM])
+        assert done.returncode == 0, "there is no program, and the release is of other sources: build it first"
+
+
 class Launcher(unittest.TestCase):
     def setUp(self):
-        if not PROGRAM.exists():
-            PROGRAM.parent.mkdir(parents=True, exist_ok=True)
-            subprocess.run([TOP / "tools/unpack", PROGRAM])
         folder = tempfile.TemporaryDirectory()
         self.addCleanup(folder.cleanup)
         self.room = pathlib.Path(folder.name)
