@@ -1,0 +1,56 @@
+"""Commands of pages do what the pages say, pasted as they are."""
+import pathlib
+import re
+import subprocess
+import tempfile
+import unittest
+
+TOP = pathlib.Path(__file__).resolve().parent.parent
+NEEDED = ("elk", "examples", "adapters", "crates", "release", "tools")
+
+
+def commands_of(text):
+    """Gives each command of the indented blocks and the lines that the page shows below it."""
+    for block in re.findall(r"(?:^    .*\n)+", text, re.M):
+        lines = [line[4:] for line in block.splitlines()]
+        starts = [number for number, line in enumerate(lines) if line.startswith("$ ")]
+        for start, end in zip(starts, [*starts[1:], len(lines)]):
+            yield lines[start][2:], lines[start + 1 : end]
+
+
+class Pages(unittest.TestCase):
+    def setUp(self):
+        self.room = tempfile.TemporaryDirectory()
+        self.addCleanup(self.room.cleanup)
+        for name in NEEDED:
+            (pathlib.Path(self.room.name) / name).symlink_to(TOP / name)
+
+    def run_in_room(self, script):
+        return subprocess.run(["bash", "-c", script], cwd=self.room.name, stdout=subprocess.PIPE, stderr=subprocess.STDOUT, text=True)
+
+    def test_the_commands_of_the_format_write_what_the_page_shows(self):
+        shown = list(commands_of((TOP / "docs/FORMAT.md").read_text()))
+        self.assertGreater(len(shown), 8)
+        before = ""
+        for command, lines in shown:
+            with self.subTest(command):
+                # The status is that of the command above it.
+                ran = self.run_in_room(f"{before} >/dev/null 2>&1; {command}" if "$?" in command else command)
+                before = command
+                if lines:
+                    self.assertEqual(ran.stdout.splitlines(), lines)
+                else:
+                    self.assertEqual(ran.returncode, 0, ran.stdout)
+
+    def test_the_commands_of_the_front_page_end_in_a_picture(self):
+        part = (TOP / "README.md").read_text().partition("## Try it")[2].partition("\n## ")[0]
+        lines = [line[4:] for line in part.splitlines() if line.startswith("    ")]
+        self.assertEqual(len(lines), 3)
+        ran = self.run_in_room("set -e\n" + "\n".join(lines))
+        self.assertEqual(ran.returncode, 0, ran.stdout)
+        self.assertIn("yes\n", ran.stdout)
+        self.assertIn("<svg", (pathlib.Path(self.room.name) / "placed/diagram.svg").read_text())
+
+
+if __name__ == "__main__":
+    unittest.main()
