@@ -1,5 +1,5 @@
 'use strict';
-// Mistakes that are often made, and what is told of each: the table of docs/EDITORS.md.
+// Common mistakes and their messages: the table of docs/EDITORS.md.
 
 const assert = require('node:assert/strict');
 const { readFileSync } = require('node:fs');
@@ -23,15 +23,15 @@ const pinned = (port) => graph({ children: [box('a', { layoutOptions: { 'elk.por
 
 // Each mistake with a document that has it; a text is one that isn't even JSON.
 const MISTAKES = [
-  ['a comma too much', '{"id": "root", "children": [{"id": "a"},]}'],
+  ['one comma too many', '{"id": "root", "children": [{"id": "a"},]}'],
   ['an end is misspelt', edge({ sources: ['a'], targets: ['B'] })],
-  ['an end is a number where the id is a text', graph({ children: [box('a'), box('1')], edges: [{ id: 'e', sources: ['a'], targets: [1] }] })],
+  ['an end is a number, and the id is a text', graph({ children: [box('a'), box('1')], edges: [{ id: 'e', sources: ['a'], targets: [1] }] })],
   ['an edge has no target', edge({ sources: ['a'] })],
-  ['`from` and `to` stand for the ends', edge({ from: 'a', to: 'b' })],
+  ['`from` and `to` instead of `source` and `target`', edge({ from: 'a', to: 'b' })],
   ['`sources` is a text', edge({ sources: 'a', targets: ['b'] })],
-  ['a port is named that is not of the node', edge({ source: 'a', sourcePort: 'out', target: 'b' })],
+  ['a port of another node is named', edge({ source: 'a', sourcePort: 'out', target: 'b' })],
   ['an edge leads into a box', graph({ children: [box('a'), group()], edges: [{ id: 'e', sources: ['a'], targets: ['c'] }] })],
-  ['an edge joins a box with what stands in it', graph({ children: [group()], edges: [{ id: 'e', sources: ['c'], targets: ['group'] }] })],
+  ['an edge joins a box with a node in it', graph({ children: [group()], edges: [{ id: 'e', sources: ['c'], targets: ['group'] }] })],
   ['an edge has several sources and several targets', edge({ sources: ['a', 'b'], targets: ['b', 'a'] })],
   ['two nodes have one id', graph({ children: [box('a'), box('b'), group({ children: [box('a')] })] })],
   ['an edge has no id', graph({ edges: [{ sources: ['a'], targets: ['b'] }] })],
@@ -39,13 +39,13 @@ const MISTAKES = [
   ['a size is a text', graph({ children: [box('a', { width: '30px' }), box('b')] })],
   ['a size is negative', graph({ children: [box('a', { height: -20 }), box('b')] })],
   ['a value is misspelt', options({ 'elk.direction': 'RIHGT' })],
-  ['an algorithm is not here', options({ 'elk.algorithm': 'stress' })],
+  ["an algorithm that this engine doesn't have", options({ 'elk.algorithm': 'stress' })],
   ['a padding is one number', options({ 'elk.padding': '12' })],
   ['a level of boxes has edges', options({ 'elk.algorithm': 'box' })],
-  ['a port faces one side and stands at another', pinned({ id: 'p', x: -4, y: 5, width: 4, height: 4, layoutOptions: { 'elk.port.side': 'EAST' } })],
+  ['a port faces one side and is placed at another', pinned({ id: 'p', x: -4, y: 5, width: 4, height: 4, layoutOptions: { 'elk.port.side': 'EAST' } })],
   ['an option is misspelt', options({ 'elk.directon': 'DOWN' })],
-  ['an option lacks a part of its name', options({ 'elk.spacing.nodeNodeBetweenLayers': '40' })],
-  ['an option stands at the wrong element', options({ 'elk.port.side': 'EAST' })],
+  ['an option without a part of its name', options({ 'elk.spacing.nodeNodeBetweenLayers': '40' })],
+  ['an option at the wrong element', options({ 'elk.port.side': 'EAST' })],
   ['a member is misspelt', graph({ children: [box('a'), { id: 'b', widht: 30, height: 20 }] })],
 ];
 
@@ -54,9 +54,9 @@ const told = (document) => {
   return [...faults, ...warnings].map(({ message }) => message);
 };
 
-test('the page tells what is told of each mistake', () => {
+test('the page has the message of each mistake', () => {
   const page = readFileSync(path.join(TOP, 'docs', 'EDITORS.md'), 'utf8');
-  const [, section] = page.split('| mistake | what is told |\n|---|---|\n');
+  const [, section] = page.split('| mistake | message |\n|---|---|\n');
   const rows = section.split('\n\n')[0].split('\n').map((line) => line.slice(2, -2));
   assert.deepEqual(rows, MISTAKES.map(([mistake, document]) => `${mistake} | ${told(document)[0]}`));
 });

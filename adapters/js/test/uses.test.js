@@ -1,5 +1,5 @@
 'use strict';
-// Forty uses of elkjs, each tried: the rows of docs/ELKJS.md.
+// Forty uses of elkjs, each tried: the rows of a table of docs/EDITORS.md.
 
 const assert = require('node:assert/strict');
 const { readFileSync } = require('node:fs');
@@ -66,7 +66,7 @@ const USES = {
     const data = { onClick: () => {} };
     assert.equal((await layout(pair({ children: [box('a', { data }), box('b')] }))).children[0].data, data);
   },
-  async 'the given object is the one that is written into'() {
+  async 'the given graph is modified'() {
     const graph = pair();
     const placed = await layout(graph);
     assert.notEqual(placed, graph);
@@ -84,10 +84,10 @@ const USES = {
   async 'options by an ending of their names'() {
     assert.deepEqual(gap(await withOptions({ 'spacing.nodeNodeBetweenLayers': '50' })), [80, 0]);
   },
-  async '`properties` in place of `layoutOptions`'() {
+  async '`properties` instead of `layoutOptions`'() {
     assert.deepEqual(gap(await layout(pair({ properties: { 'elk.direction': 'DOWN' } }))), [0, 40]);
   },
-  async 'numbers and truth values as values of options'() {
+  async 'numbers and booleans as values of options'() {
     assert.deepEqual(gap(await withOptions({ 'elk.layered.spacing.nodeNodeBetweenLayers': 50, 'elk.separateConnectedComponents': true })), [80, 0]);
   },
   async '`new ELK({ defaultLayoutOptions })`'() {
@@ -177,7 +177,7 @@ const USES = {
       assert.equal(placed.children[0].ports[0].x, 30, rule);
     }
   },
-  async 'a port that is called like a node'() {
+  async 'a port with the name of a node'() {
     const a = box('a', { ports: [{ id: 'b', width: 4, height: 4 }] });
     assert.equal((await layout(pair({ children: [a, box('b')] }))).children[0].ports[0].id, 'b');
   },
@@ -239,7 +239,7 @@ for (const [use, trial] of Object.entries(USES)) {
   test(`use of elkjs: ${use}`, WITH_PROGRAM, trial);
 }
 
-const page = readFileSync(path.join(TOP, 'docs', 'ELKJS.md'), 'utf8');
+const page = readFileSync(path.join(TOP, 'docs', 'EDITORS.md'), 'utf8');
 
 test('the page has these uses, each the same, another or refused', () => {
   const rows = [...page.matchAll(/^\| (?:\d+) \| (.*) \| (.*) \|$/gm)].map(([, use, here]) => [use, here]);
@@ -247,9 +247,8 @@ test('the page has these uses, each the same, another or refused', () => {
   assert.equal(rows.length, 40);
   const odd = rows.filter(([, here]) => !/^(the same|differs: .+|refused: .+)/.test(here));
   assert.deepEqual(odd, []);
-  const editors = readFileSync(path.join(TOP, 'docs', 'EDITORS.md'), 'utf8');
   for (const [, heading] of rows.map(([, here]) => /\(([^()]+)\)$/.exec(here)).filter(Boolean)) {
-    assert.ok(editors.includes(`\n## ${heading}\n`), heading);
+    assert.ok(page.includes(`\n## ${heading}\n`), heading);
   }
   for (const [use, here] of rows.filter(([, it]) => it.startsWith('refused: '))) {
     assert.match(here, /^refused: (OptionValue|CrossLevel|Hyperedge|DoubleId and UnknownEnd)/, use);
