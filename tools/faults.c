@@ -1,10 +1,10 @@
-/* Stands before the C library's allocations, reads and writes, and refuses one of them.
+/* Comes before the C library's allocations, reads and writes, and refuses one of them.
  *
- * Loaded by LD_PRELOAD. The environment says what fails, counted from 0:
- *   FAULT_MEMORY=N   the Nth allocation has no room
- *   FAULT_READ=N     the Nth read of standard input fails
- *   FAULT_WRITE=N    the Nth write to standard output fails
- *   FAULT_NOTE=N     the Nth write to standard error fails
+ * Loaded with LD_PRELOAD. The environment says what fails, counted from 0:
+ *   FAULT_MEMORY=N   the Nth allocation gets no memory
+ *   FAULT_READ=N     the Nth read of stdin fails
+ *   FAULT_WRITE=N    the Nth write to stdout fails
+ *   FAULT_NOTE=N     the Nth write to stderr fails
  *   FAULT_PIECE=N    a read or write moves at most N bytes
  */
 #define _GNU_SOURCE
