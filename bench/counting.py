@@ -1,8 +1,8 @@
-"""What is counted of a drawing whose routes turn by right angles: read off its boxes and routes alone.
+"""The measures of a drawing with right angles, from its boxes and routes alone.
 
-Two edges cross at a point that lies strictly inside a horizontal piece of the one and strictly inside a vertical piece of the
-other. So a piece that edges with a common dock share is no crossing, nor is the point where one of them turns off; and where a
-third edge crosses the shared piece, it crosses each of them.
+Two edges cross at a point that lies strictly inside a horizontal piece of one and strictly inside a vertical piece of the other. So
+neither a piece that edges share from a common dock nor the point where one of them turns off is a crossing. A third edge that crosses
+the shared piece crosses each of them.
 """
 import bisect
 import dataclasses

@@ -46,7 +46,7 @@ def near(one, other):
 
 
 def is_straight(first, middle, last):
-    """Whether a point lies between two others, but for some hundredths."""
+    """Whether a point lies between two others, within some hundredths."""
     across, down = last[0] - first[0], last[1] - first[1]
     square = across * across + down * down
     along = (middle[0] - first[0]) * across + (middle[1] - first[1]) * down
