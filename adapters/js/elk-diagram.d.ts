@@ -1,21 +1,21 @@
 import ELK = require('./elk');
 import { Theme } from './svg';
 
-/** <elk-diagram>: lays out the graph that it is given, and draws it within itself as `toSvg` does. */
+/** <elk-diagram>: lays out its graph and draws it as `toSvg` does. */
 declare class ElkDiagram extends HTMLElement {
-  /** What lays out for all elements, made at the first graph; a page that serves the worker by itself sets its own. */
+  /** The engine of all elements, made for the first graph; a page that serves the worker itself sets its own. */
   static elk?: Pick<ELK, 'layout'>;
 
-  /** The graph in ELK's JSON; it stays as it is. Set it anew after a change. The attribute holds it as a text. */
+  /** The graph in ELK's JSON; it stays unchanged. Set it again after a change. The attribute has it as text. */
   graph: object | undefined;
 
   /** Options of every element of the graph that has none of its own. */
   layoutOptions: ELK.AnyOptions | undefined;
 
-  /** The colours, 'auto' where nothing is said; also an attribute. */
+  /** The colours, 'auto' by default; also an attribute. */
   theme: Theme;
 
-  /** Whether edges have arrow heads; false by the attribute arrows="false". */
+  /** Whether edges have arrow heads; the attribute arrows="false" sets it to false. */
   arrows: boolean;
 
   /** The placed graph that is shown. */
@@ -32,9 +32,9 @@ declare global {
   }
 
   interface HTMLElementEventMap {
-    /** A graph is drawn: the placed one. */
+    /** A graph was drawn; the detail is the placed graph. */
     'elk-placed': CustomEvent<object>;
-    /** A graph isn't drawn: a Refusal, a ProgramError, or a SyntaxError where the attribute is no JSON. */
+    /** A graph couldn't be drawn: a Refusal, a ProgramError, or a SyntaxError if the attribute isn't JSON. */
     'elk-error': CustomEvent<Error>;
   }
 }

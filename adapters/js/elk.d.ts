@@ -1,11 +1,11 @@
-// The types of elkjs, so that what compiles with them compiles with these, and what this engine adds to them.
+// The types of elkjs, so code that compiles with them compiles with these, and the types that this engine adds.
 
 declare class ELK {
   constructor(given?: ELK.ELKConstructorArguments);
 
   /**
-   * Lays out a graph. The given object stays as it is; the result's elements and lists are its own.
-   * The promise is rejected by a Refusal where the engine doesn't draw the graph.
+   * Lays out a graph. The given object stays unchanged; the result has its own elements and lists.
+   * If the engine can't draw the graph, the promise is rejected with a Refusal.
    */
   layout<T extends ELK.AnyNode>(
     graph: T & ELK.NoElkNode<T>,
@@ -22,10 +22,10 @@ declare class ELK {
   /** The kinds of drawing that the algorithms make. */
   knownLayoutCategories(): Promise<ELK.ElkLayoutCategoryDescription[]>;
 
-  /** Ends what lays out. Waiting calls fail; a later call starts it again. */
+  /** Ends the worker or the process. Waiting calls fail; a later call starts a new one. */
   terminateWorker(): void;
 
-  /** The options of every call that gives none. */
+  /** Options for calls that have none. */
   defaultLayoutOptions?: ELK.AnyOptions;
 }
 
@@ -73,9 +73,9 @@ declare namespace ELK {
 
   export interface ElkEdge extends ElkGraphElement {
     id: string;
-    /** Where the route parts from those of other edges with the same port, or joins them; each is told at one edge. */
+    /** The points where the route parts from those of other edges with the same port, or joins them; each belongs to one edge. */
     junctionPoints?: ElkPoint[];
-    /** The node to whose content the points are relative. */
+    /** The node to which the points are relative. */
     container?: string;
   }
 
@@ -84,7 +84,7 @@ declare namespace ELK {
     sourcePort?: string;
     target: string;
     targetPort?: string;
-    /** These are in documents of others; here every edge has sections. */
+    /** Other engines write these; here every edge has sections. */
     sourcePoint?: ElkPoint;
     targetPoint?: ElkPoint;
     bendPoints?: ElkPoint[];
@@ -103,17 +103,17 @@ declare namespace ELK {
     bendPoints?: ElkPoint[];
     incomingShape?: string;
     outgoingShape?: string;
-    /** Of an edge with several ends: the sections before this one, and those after it. */
+    /** For an edge with several ends: the sections before this one, and those after it. */
     incomingSections?: string[];
     outgoingSections?: string[];
   }
 
   export interface ElkLayoutArguments {
-    /** Options of every element that has none of its own; they stand in place of the constructor's. */
+    /** Options of every element that has none of its own; they override those of the constructor. */
     layoutOptions?: LayoutOptions;
-    /** Whether `logging` of the result tells which program answered, and what had no effect. */
+    /** Whether the result has `logging`: which program answered, and what had no effect. */
     logging?: boolean;
-    /** Whether it tells how many seconds that took. */
+    /** Whether `logging` has the time in seconds. */
     measureExecutionTime?: boolean;
   }
 
@@ -140,23 +140,23 @@ declare namespace ELK {
   }
 
   export interface ELKConstructorArguments {
-    /** The options of every call that gives none. */
+    /** Options for calls that have none. */
     defaultLayoutOptions?: AnyOptions;
-    /** Taken as elkjs takes it, without effect. */
+    /** Accepted as in elkjs, without effect. */
     algorithms?: string[];
-    /** Where the script of a worker stands, `lib/elk-worker.js`. */
+    /** The address of the worker's script, `lib/elk-worker.js`. */
     workerUrl?: string;
-    /** Makes a worker of that script. */
+    /** Makes a worker from that script. */
     workerFactory?: (url?: string) => any;
-    /** 'ceil', the default, rounds sizes up and places of ports to the nearest; 'exact' hands all on as given. */
+    /** 'ceil', the default, rounds sizes up and places of ports to the nearest whole number; 'exact' sends everything as given. */
     numbers?: 'ceil' | 'exact';
-    /** In Node, the path of the program `elk`, which then answers in place of the module. */
+    /** In Node, the path of the program `elk`, which then answers instead of the module. */
     program?: string;
-    /** Is told of what has no effect; else the console is, once for each name. */
+    /** Receives a warning for everything that has no effect; by default the console shows each name once. */
     onWarning?: (warning: Warning) => void;
   }
 
-  /** elkjs calls them so too. */
+  /** The other name in elkjs. */
   export type ElkConstructorArguments = ELKConstructorArguments;
 
   /** A graph with its drawing. */
@@ -167,10 +167,10 @@ declare namespace ELK {
 
   // What this engine adds.
 
-  /** A graph may also have numbers for ids: 1 and '1' are two. */
+  /** Ids may also be numbers: 1 and '1' differ. */
   export type Id = string | number;
 
-  /** Values may also be numbers and truth values. */
+  /** Values may also be numbers and booleans. */
   export interface AnyOptions {
     [key: string]: string | number | boolean;
   }
@@ -212,7 +212,7 @@ declare namespace ELK {
     targetPort?: Id;
   }
 
-  /** A node with any ids, values of options and forms of edges that the engine takes. */
+  /** A node with any ids, values of options and forms of edges that the engine accepts. */
   export interface AnyNode extends AnyShape {
     children?: AnyNode[];
     ports?: AnyPort[];
@@ -224,10 +224,10 @@ declare namespace ELK {
     [K in keyof T]: K extends 'children' ? Items<T[K], AnyShape> : K extends 'edges' ? Items<T[K], Routed> : T[K];
   } & PlacedRoot;
 
-  /** What graphs of elkjs, and of no type at all, are not: for these the types of elkjs hold. */
+  /** Excludes graphs with the types of elkjs, or without a type; these get the types of elkjs. */
   export type NoElkNode<T> = 0 extends 1 & T ? never : T extends ElkNode ? never : unknown;
 
-  /** What the items of a list have besides, once they are placed. */
+  /** The items of a list with the members that they get when they are placed. */
   export type Items<L, Added> = L extends readonly (infer Item)[] ? (Item & Added)[] : L;
 
   export interface Routed {
@@ -241,13 +241,13 @@ declare namespace ELK {
     y: number;
     width: number;
     height: number;
-    /** The certificate of a level, where it was drawn as given. */
+    /** The certificate of a level, if it was drawn as given. */
     layering?: ElkLayering;
-    /** Where the call asked for it. */
+    /** If the call asked for it. */
     logging?: ElkLogging;
   }
 
-  /** Layers by child, reversed edges, and a flow that shows that the span is least. */
+  /** Layers by child, reversed edges, and a flow which shows that the span is minimal. */
   export interface ElkLayering {
     layers: number[];
     reversed: Id[];
@@ -263,32 +263,32 @@ declare namespace ELK {
     children: ElkLogging[];
   }
 
-  /** One thing for which a document is refused. */
+  /** One reason for which a document is refused. */
   export interface Fault {
     /** The number of the rule, 0 to 13, and its name, such as CrossLevel. */
     readonly rule: number;
     readonly name: string;
-    /** The id of the element at which the rule found something, where it names one. */
+    /** The id of the element at fault, if the rule names one. */
     readonly id?: Id;
-    /** The members that lead to what is wrong, and the same as a script would write it. */
+    /** The members that lead to the fault, and the same as a script would write it. */
     readonly steps: readonly (string | number)[];
     readonly path: string;
-    /** What stands there, and what may. */
+    /** The value there, and the allowed values in words. */
     readonly found?: unknown;
     readonly allowed?: string;
-    /** What was meant, perhaps. */
+    /** What may have been meant. */
     readonly near?: Id;
-    /** At an end of an edge: which. */
+    /** For an end of an edge: which end. */
     readonly end?: 'source' | 'target';
-    /** At an option: its name and, where they are few, all its values. */
+    /** For an option: its name and, if they are few, all its values. */
     readonly option?: string;
     readonly values?: readonly string[];
-    /** The sentence on this place, and the whole one with the rule. */
+    /** The part of the message about this place, and the whole message with the rule. */
     readonly detail: string;
     readonly message: string;
   }
 
-  /** Something that has not the effect that was meant. */
+  /** Something that doesn't have the intended effect. */
   export interface Warning {
     readonly kind:
       | 'unknownOption'
@@ -312,9 +312,9 @@ declare namespace ELK {
     /** The number of the rule, 0 to 13, and its name, such as CrossLevel. */
     readonly rule: number;
     readonly name: string;
-    /** The id of the element at which the rule found something, where it names one. */
+    /** The id of the element at fault, if the rule names one. */
     readonly id?: Id;
-    /** Of the first fault. */
+    /** These are from the first fault. */
     readonly path?: string;
     readonly found?: unknown;
     readonly allowed?: string;
@@ -325,7 +325,7 @@ declare namespace ELK {
     readonly faults: readonly Fault[];
   }
 
-  /** The program can't be started, or ended before it had replied. */
+  /** The program can't be started, or ended before it replied. */
   export class ProgramError extends Error {
     readonly status?: number;
     readonly signal?: string;

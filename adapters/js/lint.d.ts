@@ -1,6 +1,6 @@
 import ELK = require('./elk');
 
-/** Where something stands in a text: line and column from 1, the line itself, and where in it that is. */
+/** A place in a text: line and column from 1, the line itself, and the position in it. */
 export interface Place {
   line?: number;
   column?: number;
@@ -9,16 +9,16 @@ export interface Place {
 }
 
 export interface Judgement {
-  /** What the document is refused for, in the order of the rules; none where it is laid out. */
+  /** Why the document is refused, in the order of the rules; empty if it can be laid out. */
   faults: (ELK.Fault & Place)[];
-  /** What has not the effect that was meant. */
+  /** What doesn't have the intended effect. */
   warnings: (ELK.Warning & Place)[];
 }
 
 /**
- * All that can be said of the text of a document before it is laid out.
- * @param how as the program takes it; with `call` as `ELK.layout` takes it, which takes more; with `isPlaced` as
- *   `elk check` takes it
+ * All faults and warnings for the text of a document, without a layout.
+ * @param how by default as the program takes it; with `call` as `ELK.layout` takes it, which accepts more; with
+ *   `isPlaced` as `elk check` takes it
  */
 export function lint(
   text: string,
