@@ -11,7 +11,7 @@ from typing import List, NoReturn, Optional
 
 from .errors import ProgramError
 from .files import Failure, Task, lay_out_files, pairs_of
-from .many import shown
+from .streams import shown
 from .program import find_program
 
 REPORT = "refused.jsonl"
@@ -54,7 +54,7 @@ def main(words: Optional[List[str]] = None) -> int:
     given = parser.parse_args(words)
     options = dict(it.partition("=")[::2] for it in given.option)
     try:
-        program = find_program(given.program)
+        find_program(given.program)
         pairs = pairs_of(given.files, given.output)
         if given.jobs < 1:
             raise ValueError(f"--jobs is at least 1, not {given.jobs}")
@@ -64,7 +64,7 @@ def main(words: Optional[List[str]] = None) -> int:
     except ProgramError as error:
         print(error, file=sys.stderr)
         return NO_PROGRAM
-    task = Task(options, given.numbers, program, given.svg, not given.no_arrows)
+    task = Task(options, given.numbers, given.program, given.svg, not given.no_arrows)
     found = shown(lay_out_files(pairs, task, given.jobs), sys.stderr.isatty(), len(pairs))
     faults = [it for it in found if it]
     report = Path(given.output) / REPORT

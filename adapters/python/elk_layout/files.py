@@ -11,7 +11,7 @@ from pathlib import Path
 from typing import Any, Dict, Iterator, List, Optional, Tuple
 
 from .calls import layout
-from .document import Element, Placed
+from .document import Element, Numbers, Placed
 from .errors import STANDS_TOO_DEEP, ElkError, Refusal
 from .faults import NOT_JSON, not_json_at
 
@@ -21,7 +21,7 @@ class Task:
     """What is done with each file."""
 
     options: Optional[Dict[str, str]] = None
-    numbers: str = "ceil"
+    numbers: Numbers = "ceil"
     program: Optional[str] = None
     has_pictures: bool = False
     has_arrows: bool = True

@@ -9,11 +9,11 @@ from .calls import layout
 from .document import Element
 from .errors import TOO_MANY, Refusal
 from .junctions import route_of
-from .letters import width_of
+from .text_width import width_of
 from .levels import Levels, Place, elements_of, number_or_0
-from .plain import plain
+from .json_values import plain
 from .program import Program
-from .shared import table
+from .tables import table
 
 # The name of an attribute, or a function of a node and its attributes.
 OfNode = Union[str, Callable[[Any, Mapping[str, Any]], Any], None]
