@@ -16,7 +16,7 @@ from .junctions import junction_points
 from .svg import to_svg
 from .verdict import Verdict
 
-__version__ = "0.1.0"
+__version__ = "0.3.0"
 
 __all__ = [
     "ElkError",
