@@ -3,9 +3,10 @@
 from __future__ import annotations
 
 import json
+import os
 import re
 from itertools import chain
-from typing import Any, Dict, Iterable, List, Literal, Mapping, NamedTuple, Optional
+from typing import Any, Dict, Iterable, List, Literal, Mapping, NamedTuple, Optional, Union
 
 from .errors import refusal_of_deep
 from .options import carried_by, general_for, sent_options, spellings, stand_ins
@@ -13,8 +14,10 @@ from .copies import copied
 from .json_values import PLAIN, decode, encode, encode_plain, plain
 from .picture.looks import Theme
 from .rounding import make_port_whole, make_size_whole
+from .saving import image_of, kind_of, write_picture
 
 Element = Dict[str, Any]
+Path = Union[str, "os.PathLike[str]"]
 
 KINDS = {"ports": "port", "edges": "edge", "children": "node"}
 LISTS = KINDS.keys()
@@ -237,8 +240,19 @@ class Placed(Element):
 
         return to_svg(self, arrows=arrows, theme=theme)
 
-    def _repr_svg_(self) -> str:
-        return self.to_svg()
+    def save(self, path: Path, *, arrows: bool = True, theme: Optional[Theme] = None, scale: float = 1) -> None:
+        """Writes the picture to a file whose name ends with .svg, .png or .pdf.
+
+        For PNG and PDF the command rsvg-convert or the package cairosvg has to be there; they are light if nothing else
+        is said, and `scale` makes them larger.
+        """
+        is_text = kind_of(path) == ".svg"
+        write_picture(self.to_svg(arrows=arrows, theme=theme or ("auto" if is_text else "light")), path, scale)
+
+    def _repr_mimebundle_(self, include: Any = None, exclude: Any = None) -> Dict[str, str]:
+        # Pages that nbconvert makes lack pictures in SVG, and those that LaTeX prints have no elements of HTML.
+        svg = self.to_svg()
+        return {"image/svg+xml": svg, "text/html": image_of(svg)}
 
 
 def _options_of(document: Element) -> Element:
