@@ -211,7 +211,9 @@ class Install(unittest.TestCase):
         self.prefix = pathlib.Path(folder.name).resolve() / "a prefix"
 
     def install(self, *words, **more):
-        return subprocess.run([TOP / "tools/install", *words], capture_output=True, text=True, env={**os.environ, **more}, check=True).stdout
+        done = subprocess.run([TOP / "tools/install", *words], capture_output=True, text=True, env={**os.environ, **more}, check=True)
+        self.assertEqual(done.stderr, "")
+        return done.stdout
 
     def program_answers(self):
         done = subprocess.run(["elk", "demo", "3"], env={"PATH": f"{self.prefix}/bin"}, capture_output=True)

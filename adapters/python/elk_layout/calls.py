@@ -5,20 +5,23 @@ from __future__ import annotations
 import os
 from typing import Any, Dict, Iterable, Iterator, Literal, Mapping, Optional, Sized, Union, overload
 
-from .batch import HOPELESS, Batch, Ticket
-from .document import Element, Placed, Sender, placed_of
+from .document import Element, Numbers, Placed, Sender, placed_of
 from .errors import ElkError, ProgramError, Refusal, refusal_of
-from .many import Progress, answered, shown
-from .program import Program, find_program
+from .pool import Pool
+from .process import HOPELESS, Request
+from .program import Command, Program, find_program
+from .streams import Progress, answered, shown
 from .verdict import Verdict, judge
 
 # How many documents of a stream are held at once for each process, where nothing is said.
 HELD = 256
 
 Options = Optional[Mapping[str, Any]]
+#: Whether a refusal is raised, or is the result.
+Errors = Literal["raise", "return"]
 
-# The process that answers single documents, by its program. A copy of this process has none.
-_kept: Dict[str, Batch] = {}
+# The processes that answer single documents, by their programs. A copy of this Python has none.
+_kept: Dict[Command, Pool] = {}
 os.register_at_fork(after_in_child=_kept.clear)
 
 
@@ -27,7 +30,7 @@ def layout(
     document: Element,
     *,
     options: Options = None,
-    numbers: str = "ceil",
+    numbers: Numbers = "ceil",
     errors: Literal["raise"] = "raise",
     program: Program = None,
 ) -> Placed: ...
@@ -35,7 +38,7 @@ def layout(
 
 @overload
 def layout(
-    document: Element, *, options: Options = None, numbers: str = "ceil", errors: str, program: Program = None
+    document: Element, *, options: Options = None, numbers: Numbers = "ceil", errors: Errors, program: Program = None
 ) -> Union[Placed, Refusal]: ...
 
 
@@ -43,8 +46,8 @@ def layout(
     document: Element,
     *,
     options: Options = None,
-    numbers: str = "ceil",
-    errors: str = "raise",
+    numbers: Numbers = "ceil",
+    errors: Errors = "raise",
     program: Program = None,
 ) -> Union[Placed, Refusal]:
     """Lays out a document of ELK's JSON, which stays as it is.
@@ -57,23 +60,31 @@ def layout(
     One process answers all calls. It is kept, and started again when it dies.
     """
     raises = _is_raising(errors)
-    ticket = _ticket(document, Sender(numbers, options))
-    if not ticket.is_done:
-        path = find_program(program)
-        _kept.setdefault(path, Batch(path)).ask(ticket)
-    if isinstance(ticket.error, ProgramError):
-        raise ticket.error
-    result: Union[Placed, Refusal] = _result(ticket, raises, options)
+    request = _request(document, Sender(numbers, options))
+    if not request.is_done:
+        _ask(find_program(program), request)
+    if isinstance(request.error, ProgramError):
+        raise request.error
+    result: Union[Placed, Refusal] = _result(request, raises, options)
     return result
+
+
+def _ask(command: Command, request: Request) -> None:
+    """Asks the kept process; one that is closed meanwhile answers no more, and another is kept then."""
+    while not (_kept.get(command) or _kept.setdefault(command, Pool(command))).ask(request):
+        pass
 
 
 def close() -> None:
     """Ends the kept processes, once they have answered. A later call starts them again."""
-    while _kept:
-        _kept.popitem()[1].close()
+    # Threads that go on calling keep others meanwhile, which are theirs to close.
+    for command in list(_kept):
+        pool = _kept.pop(command, None)
+        if pool:
+            pool.close()
 
 
-def check(placed: Element, *, numbers: str = "ceil", program: Program = None) -> Verdict:
+def check(placed: Element, *, numbers: Numbers = "ceil", program: Program = None) -> Verdict:
     """Judges a placed document, whoever placed it; a Refusal is raised where it isn't placed.
 
     With `exact` fractions anywhere in it are refused, else only those that are read.
@@ -87,7 +98,7 @@ def layout_many(
     *,
     processes: int = 1,
     options: Options = None,
-    numbers: str = "ceil",
+    numbers: Numbers = "ceil",
     errors: Literal["raise"] = "raise",
     program: Program = None,
     held: Optional[int] = None,
@@ -102,8 +113,8 @@ def layout_many(
     *,
     processes: int = 1,
     options: Options = None,
-    numbers: str = "ceil",
-    errors: str,
+    numbers: Numbers = "ceil",
+    errors: Errors,
     program: Program = None,
     held: Optional[int] = None,
     progress: Progress = False,
@@ -116,8 +127,8 @@ def layout_many(
     *,
     processes: int = 1,
     options: Options = None,
-    numbers: str = "ceil",
-    errors: str = "raise",
+    numbers: Numbers = "ceil",
+    errors: Errors = "raise",
     program: Program = None,
     held: Optional[int] = None,
     progress: Progress = False,
@@ -132,23 +143,32 @@ def layout_many(
     """
     raises = _is_raising(errors)
     sender = Sender(numbers, options)
-    batch = Batch(find_program(program), processes)
+    pool = Pool(find_program(program), processes)
     if total is None and isinstance(documents, Sized):
         total = len(documents)
-    tickets = answered((_ticket(it, sender) for it in documents), batch, held or HELD * processes)
-    return shown(_results(tickets, raises, options), progress, total)
+    requests = answered((_request(it, sender) for it in documents), pool, held or HELD * processes)
+    return shown(_results(requests, raises, options), progress, total)
 
 
 def replies(
     lines: Iterable[Union[str, bytes]], *, processes: int = 1, program: Program = None, held: Optional[int] = None
 ) -> Iterator[str]:
-    """The replies of the program to lines of text, in order: for each its answer, or the line of its refusal."""
-    batch = Batch(find_program(program), processes)
-    tickets = (Ticket((it.encode() if isinstance(it, str) else it).rstrip(b"\n") + b"\n") for it in lines)
-    for ticket in answered(tickets, batch, held or HELD * processes):
-        if ticket.error:
-            raise ticket.error
-        yield ticket.reply or ""
+    """The replies of the program to lines of text, in order: for each its answer, or the line of its refusal.
+
+    A text with line feeds within is one line too: to JSON they are the same as blanks.
+    """
+    pool = Pool(find_program(program), processes)
+    for index, request in enumerate(answered(map(_line_request, lines), pool, held or HELD * processes)):
+        if request.error:
+            request.error.index = index
+            raise request.error
+        yield request.reply or ""
+
+
+def _line_request(text: Union[str, bytes]) -> Request:
+    line = (text.encode() if isinstance(text, str) else text).rstrip(b"\n")
+    # Between values a carriage return is blank too, and within a text JSON takes neither.
+    return Request(line.replace(b"\n", b"\r") + b"\n")
 
 
 def _is_raising(errors: str) -> bool:
@@ -157,20 +177,20 @@ def _is_raising(errors: str) -> bool:
     return errors == "raise"
 
 
-def _ticket(document: Any, sender: Sender) -> Ticket:
+def _request(document: Any, sender: Sender) -> Request:
     try:
         sent = sender.sent_of(document)
-        return Ticket(sent.line, (document, sent.is_all))
+        return Request(sent.line, sent)
     except Refusal as refusal:
-        ticket = Ticket(b"")
-        ticket.error = refusal
-        return ticket
+        request = Request(b"")
+        request.error = refusal
+        return request
 
 
-def _results(tickets: Iterator[Ticket], raises: bool, options: Options) -> Iterator[Any]:
-    for index, ticket in enumerate(tickets):
+def _results(requests: Iterator[Request], raises: bool, options: Options) -> Iterator[Any]:
+    for index, request in enumerate(requests):
         try:
-            result = _result(ticket, raises, options)
+            result = _result(request, raises, options)
         except ElkError as error:
             error.index = index
             raise
@@ -179,12 +199,11 @@ def _results(tickets: Iterator[Ticket], raises: bool, options: Options) -> Itera
         yield result
 
 
-def _result(ticket: Ticket, raises: bool, options: Options) -> Any:
-    reply, error = ticket.reply or "", ticket.error
+def _result(request: Request, raises: bool, options: Options) -> Any:
+    reply, error = request.reply or "", request.error
     if reply.startswith("{"):
-        document, is_all = ticket.about
-        return placed_of(document, reply, is_all)
-    error = error or refusal_of(reply, ticket.line, ticket.about[0], options)
+        return placed_of(request.about, reply)
+    error = error or refusal_of(reply, request.line, request.about.document(), options)
     error = error or ProgramError(f"the reply is no answer: {reply[:80]}")
     if raises or getattr(error, "status", None) in HOPELESS:
         raise error

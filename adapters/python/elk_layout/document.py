@@ -3,18 +3,27 @@
 from __future__ import annotations
 
 import json
+import os
 import re
-from typing import Any, Dict, Mapping, NamedTuple, Optional
+from itertools import chain
+from typing import Any, Dict, Iterable, List, Literal, Mapping, NamedTuple, Optional, Union
 
 from .errors import refusal_of_deep
 from .options import carried_by, general_for, sent_options, spellings, stand_ins
-from .plain import PLAIN, decode, encode, encode_plain, plain
-from .whole import make_port_whole, make_size_whole
+from .copies import copied
+from .json_values import PLAIN, decode, encode, encode_plain, plain
+from .picture.looks import Theme
+from .rounding import make_port_whole, make_size_whole
+from .saving import image_of, kind_of, write_picture
 
 Element = Dict[str, Any]
+Path = Union[str, "os.PathLike[str]"]
 
 KINDS = {"ports": "port", "edges": "edge", "children": "node"}
 LISTS = KINDS.keys()
+
+#: Whether fractions are made whole, or handed on and refused.
+Numbers = Literal["ceil", "exact"]
 
 # The members that the engine reads, by docs/FORMAT.md. Nothing else is sent, so that neither a fraction in a label nor
 # a program's own data stands in its way.
@@ -25,6 +34,12 @@ READ = {
         ("id", "sources", "targets", "source", "target", "sourcePort", "targetPort", "layoutOptions")
     ),
 }
+
+# What it is sent besides if it can be sent as it stands: labels come back in the answer.
+HANDED_ON = {kind: members | {"labels"} for kind, members in READ.items()}
+
+# All whole numbers below are told from their neighbours by every reader of JSON.
+MOST_SURE = 2**53
 
 # What else is read of a placed document.
 PLACED = {
@@ -45,29 +60,64 @@ FRACTION = re.compile(r"[:,\[]-?[0-9]+[.e]")
 MARKS = (".", "e-", "e+")
 
 
-def _reads_all(element: Element, kind: str, is_root: bool = False) -> bool:
-    """Whether the engine reads all members and options of an element, and of all that it holds, and nothing is to be
-    asked for besides, but at the root.
+def _reads_all_of(node: Element, is_root: bool = False) -> bool:
+    """Whether the program may be sent all that a node holds: it reads it, or hands it on as it is, and nothing is to be
+    asked for besides, except at the root.
+
+    Its lists are looked at as wholes, since most of their elements have the same few members.
     """
-    if not READ[kind].issuperset(element):
+    if not is_root and node.get("children") and stand_ins({}):
         return False
-    if "layoutOptions" in element and not spellings().issuperset(element["layoutOptions"]):
+    return all(name not in node or _reads_all_in(node[name], kind) for name, kind in KINDS.items())
+
+
+def _reads_all_in(elements: Any, kind: str) -> bool:
+    members = {name for shape in set(map(tuple, elements)) for name in shape}
+    if not HANDED_ON[kind].issuperset(members):
         return False
-    if kind != "node":
-        return True
-    lists = element.keys() & LISTS
-    if not lists:
-        return True
-    if not is_root and element.get("children") and stand_ins({}):
+    if "layoutOptions" in members and not all(map(_reads_options_of, elements)):
         return False
-    return all(_reads_all(it, KINDS[name]) for name in lists for it in element[name])
+    if "labels" in members and not _hands_labels_on(elements):
+        return False
+    return LISTS.isdisjoint(members) or all(map(_reads_all_of, elements))
+
+
+def _reads_options_of(element: Element) -> bool:
+    return spellings().issuperset(element.get("layoutOptions", ()))
+
+
+def _hands_labels_on(elements: Iterable[Element]) -> bool:
+    """Whether the program hands labels on as they are: they are of texts and small whole numbers alone."""
+    labels = [label for it in elements if "labels" in it for label in it["labels"]]
+    values = list(chain.from_iterable(map(dict.values, labels)))
+    numbers = [abs(it) for it in values if isinstance(it, int)]
+    has_texts = {str}.issuperset(map(type, set(chain.from_iterable(labels))))
+    return has_texts and {str, int}.issuperset(map(type, values)) and max(numbers, default=0) < MOST_SURE
+
+
+def _has_fraction(text: str) -> bool:
+    return any(mark in text for mark in MARKS) and bool(FRACTION.search(text))
 
 
 class Sent(NamedTuple):
-    """What is sent for a document: the line with its line feed, and whether that has all that the document has."""
+    """What is sent for a document: the line with its line feed, and what the answer is put into.
+
+    That is a copy of the document, since the document may be another one when the answer comes. If the line has all
+    that the document has, the answer has it too, except the root's own options: `is_all` says so, and the copy has
+    these alone.
+    """
 
     line: bytes
+    copy: Any
     is_all: bool
+
+    def document(self) -> Any:
+        """The document for which this was sent."""
+        if not self.is_all:
+            return self.copy
+        document = decode(self.line.decode())
+        document.pop("layoutOptions", None)
+        return {**document, **self.copy}
 
 
 def _role(node: Element, is_root: bool) -> str:
@@ -83,7 +133,7 @@ class Sender:
     """
 
     def __init__(
-        self, numbers: str = "ceil", options: Optional[Mapping[str, Any]] = None, is_placed: bool = False
+        self, numbers: Numbers = "ceil", options: Optional[Mapping[str, Any]] = None, is_placed: bool = False
     ) -> None:
         if numbers not in ("ceil", "exact"):
             raise ValueError(f"numbers is 'ceil' or 'exact', not {numbers!r}")
@@ -106,23 +156,30 @@ class Sender:
         except RecursionError:
             raise refusal_of_deep(document) from None
         try:
-            return Sent(text.encode() + b"\n", is_all)
+            line = text.encode() + b"\n"
         except UnicodeEncodeError:
             # Half of a pair of surrogates has no bytes of its own.
-            return Sent(json.dumps(json.loads(text)).encode() + b"\n", is_all)
+            line = json.dumps(json.loads(text)).encode() + b"\n"
+        return Sent(line, copied(_options_of(document) if is_all else document, LISTS), is_all)
 
     def _text_of_all(self, document: Any) -> Optional[str]:
         """The text of a document that needs no other members and numbers than it has, which is most of the work less."""
         if not self._is_rounding or self._general or not isinstance(document, dict):
             return None
         try:
-            if not _reads_all(document, "node", True):
+            if not (HANDED_ON["node"].issuperset(document) and _reads_options_of(document)):
+                return None
+            if not (_hands_labels_on([document]) and _reads_all_of(document, True)):
                 return None
             options = sent_options(document, {}, "levels")
-            text = encode_plain({**document, "layoutOptions": options} if options else document)
-        except (TypeError, ValueError):
+            own = encode_plain({name: value for name, value in document.items() if name != "layoutOptions"})
+            asked = encode_plain(options)
+        except (AttributeError, TypeError, ValueError):
             return None
-        return None if any(mark in text for mark in MARKS) and FRACTION.search(text) else text
+        if _has_fraction(own) or _has_fraction(asked):
+            return None
+        # Names of options have points, so that the two are looked at one by one.
+        return f'{own[:-1]}{"," if len(own) > 2 else ""}"layoutOptions":{asked}}}' if options else own
 
     def _node(self, node: Any, is_root: bool = False) -> Any:
         if not isinstance(node, dict):
@@ -177,53 +234,68 @@ class Sender:
 class Placed(Element):
     """A placed document. A notebook shows it as its picture."""
 
-    def to_svg(self, *, arrows: bool = True, theme: str = "auto") -> str:
+    def to_svg(self, *, arrows: bool = True, theme: Theme = "auto") -> str:
         """The picture as a document of SVG."""
         from .svg import to_svg
 
         return to_svg(self, arrows=arrows, theme=theme)
 
-    def _repr_svg_(self) -> str:
-        return self.to_svg()
+    def save(self, path: Path, *, arrows: bool = True, theme: Optional[Theme] = None, scale: float = 1) -> None:
+        """Writes the picture to a file whose name ends with .svg, .png or .pdf.
+
+        For PNG and PDF the command rsvg-convert or the package cairosvg has to be there; they are light if nothing else
+        is said, and `scale` makes them larger.
+        """
+        is_text = kind_of(path) == ".svg"
+        write_picture(self.to_svg(arrows=arrows, theme=theme or ("auto" if is_text else "light")), path, scale)
+
+    def _repr_mimebundle_(self, include: Any = None, exclude: Any = None) -> Dict[str, str]:
+        # Pages that nbconvert makes lack pictures in SVG, and those that LaTeX prints have no elements of HTML.
+        svg = self.to_svg()
+        return {"image/svg+xml": svg, "text/html": image_of(svg)}
 
 
-def placed_of(document: Element, reply: str, is_all: bool) -> Placed:
-    """A document with the engine's answer put in. Its elements and lists are its own; all else it shares.
+def _options_of(document: Element) -> Element:
+    return {"layoutOptions": document["layoutOptions"]} if "layoutOptions" in document else {}
 
-    `is_all` says that all of the document was sent, so that the answer has it.
-    """
+
+def placed_of(sent: Sent, reply: str) -> Placed:
+    """The placed document, by the reply to what was sent for it."""
     answer = decode(reply)
-    if not is_all:
-        return Placed(_placed_node(document, answer))
+    if not sent.is_all:
+        return Placed(_placed_node(sent.copy, answer))
     # More may have been asked for at the root.
     answer.pop("layoutOptions", None)
-    if "layoutOptions" in document:
-        answer["layoutOptions"] = document["layoutOptions"]
+    answer.update(sent.copy)
     return Placed(answer)
 
 
 def _placed_node(node: Element, answer: Element) -> Element:
     placed = _placed_shape(node, answer)
-    for name, place in PLACERS.items():
-        if name in node:
-            placed[name] = [place(*pair) for pair in zip(node[name], answer[name])]
+    for name in LISTS:
+        elements = node.get(name)
+        if elements:
+            placed[name] = _placed_all(name, elements, answer[name])
     return placed
+
+
+def _placed_all(name: str, elements: List[Element], answers: List[Element]) -> List[Element]:
+    place = PLACERS[name]
+    return [place(element, answer) for element, answer in zip(elements, answers)]
 
 
 def _placed_shape(shape: Element, answer: Element) -> Element:
-    placed = dict(shape)
     for name in WRITTEN:
         if name in answer:
-            placed[name] = answer[name]
-    return placed
+            shape[name] = answer[name]
+    return shape
 
 
 def _placed_edge(edge: Element, answer: Element) -> Element:
-    placed = dict(edge)
     for name in OUTDATED:
-        placed.pop(name, None)
-    placed["sections"] = answer["sections"]
-    return placed
+        edge.pop(name, None)
+    edge["sections"] = answer["sections"]
+    return edge
 
 
 PLACERS = {"ports": _placed_shape, "edges": _placed_edge, "children": _placed_node}

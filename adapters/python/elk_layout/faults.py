@@ -9,12 +9,12 @@ from dataclasses import dataclass
 from decimal import Decimal
 from typing import Any, Dict, Iterable, Iterator, List, Optional, Tuple
 
-from .near import nearest
-from .nesting import deep_node_steps, steps_too_deep
+from .nearest import nearest
+from .depth import deep_node_steps, steps_too_deep
 from .options import carried_by
 from .rules import NOWHERE, PORT, Context, Element, Find, Step, finds_in
-from .shared import table
-from .values import is_number, near_value
+from .tables import table
+from .option_values import is_number, near_value
 
 TOO_LONG, NOT_JSON, TOO_DEEP = 0, 1, 6
 

@@ -4,6 +4,7 @@ from __future__ import annotations
 
 import json
 import os
+import sys
 from concurrent.futures import ProcessPoolExecutor
 from dataclasses import dataclass
 from functools import partial
@@ -11,9 +12,13 @@ from pathlib import Path
 from typing import Any, Dict, Iterator, List, Optional, Tuple
 
 from .calls import layout
-from .document import Element, Placed
+from .document import Element, Numbers, Placed
 from .errors import STANDS_TOO_DEEP, ElkError, Refusal
 from .faults import NOT_JSON, not_json_at
+
+
+# The name of a file that stands for stdin.
+STDIN = "-"
 
 
 @dataclass(frozen=True)
@@ -21,10 +26,16 @@ class Task:
     """What is done with each file."""
 
     options: Optional[Dict[str, str]] = None
-    numbers: str = "ceil"
+    numbers: Numbers = "ceil"
     program: Optional[str] = None
     has_pictures: bool = False
     has_arrows: bool = True
+
+    def placed(self, file: str) -> Placed:
+        return layout(read_document(file), options=self.options, numbers=self.numbers, program=self.program)
+
+    def picture(self, placed: Placed) -> str:
+        return placed.to_svg(arrows=self.has_arrows)
 
 
 @dataclass(frozen=True)
@@ -49,6 +60,8 @@ class Failure:
 
 def pairs_of(files: List[str], folder: str) -> List[Tuple[str, Path]]:
     """The files, each with the one that is written for it: in the folder they lie as they lie to one another."""
+    if STDIN in files:
+        raise ValueError("stdin, as -, is laid out to stdout: leave -o/--output away")
     paths = [Path(os.path.abspath(it)) for it in files]
     top = os.path.commonpath([it.parent for it in paths])
     targets = [(Path(folder) / it.relative_to(top)).with_suffix(".json") for it in paths]
@@ -75,20 +88,20 @@ def lay_out_files(pairs: List[Tuple[str, Path]], task: Task, jobs: int = 1) -> I
 def _lay_out(task: Task, pair: Tuple[str, Path]) -> Optional[Failure]:
     file, target = pair
     try:
-        placed = layout(_read(file), options=task.options, numbers=task.numbers, program=task.program)
-        _write(placed, target, task)
+        _write(task.placed(file), target, task)
     except Refusal as it:
         return Failure(file, f"refused by rule {it.rule}, {it.name}", str(it), it.rule, it.name, it.id, it.path)
     except ElkError as error:
         return Failure(file, "left by the program", str(error))
     except OSError as error:
-        return Failure(file, "not read or not written", str(error))
+        return Failure(file, "not read or not written", error.strerror or str(error))
     return None
 
 
-def _read(file: str) -> Element:
+def read_document(file: str) -> Element:
+    """The document of a file; a Refusal if it is no JSON."""
     try:
-        document: Element = json.loads(Path(file).read_bytes())
+        document: Element = json.loads(sys.stdin.buffer.read() if file == STDIN else Path(file).read_bytes())
     except json.JSONDecodeError as error:
         fault = not_json_at(error.lineno, error.colno, error.msg)
         raise Refusal(fault.rule, fault.name, faults=[fault]) from error
@@ -99,12 +112,16 @@ def _read(file: str) -> Element:
     return document
 
 
+def placed_text(placed: Element) -> str:
+    """A placed document as the program writes it."""
+    return json.dumps(placed, ensure_ascii=False, separators=(",", ":"), sort_keys=True) + "\n"
+
+
 def _write(placed: Placed, target: Path, task: Task) -> None:
     target.parent.mkdir(parents=True, exist_ok=True)
-    # As the program writes it.
-    _put(target, json.dumps(placed, ensure_ascii=False, separators=(",", ":"), sort_keys=True) + "\n")
+    _put(target, placed_text(placed))
     if task.has_pictures:
-        _put(target.with_suffix(".svg"), placed.to_svg(arrows=task.has_arrows))
+        _put(target.with_suffix(".svg"), task.picture(placed))
 
 
 def _put(target: Path, text: str) -> None:

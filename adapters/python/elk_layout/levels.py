@@ -4,7 +4,7 @@ from __future__ import annotations
 
 from typing import Any, Dict, List, NamedTuple, Optional
 
-from .whole import is_measure
+from .rounding import is_measure
 
 Element = Dict[str, Any]
 

@@ -5,7 +5,7 @@ from __future__ import annotations
 from functools import lru_cache
 from typing import Any, Callable, Dict, FrozenSet, List, Mapping, NamedTuple, Optional, Set, Tuple
 
-from .shared import table
+from .tables import table
 
 # Whose options an element of a role reads.
 READS = {"levels": ("levels", "nodes"), "nodes": ("nodes",), "ports": ("ports",), "edges": ("edges",)}

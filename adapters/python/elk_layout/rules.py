@@ -9,8 +9,8 @@ from __future__ import annotations
 from typing import Any, Callable, Dict, Iterator, List, NamedTuple, Optional, Tuple, Union
 
 from .options import READS
-from .shared import table
-from .values import algorithm_named, is_number, is_taken
+from .tables import table
+from .option_values import algorithm_named, is_number, is_taken
 
 Step = Union[str, int]
 

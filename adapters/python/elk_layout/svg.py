@@ -7,12 +7,12 @@ from typing import Any, Dict, Iterable, Iterator, List, Optional, Tuple
 
 from .junctions import Point, junctions_of, point_of, points_of
 from .levels import Declared, Element, Levels, Place, elements_of, end_ids, number_or_0
-from .picture.looks import LOOK, class_of, ink_on, paints_of, style_of, wishes_of
+from .picture.looks import LOOK, Theme, class_of, ink_on, paints_of, style_of, wishes_of
 from .picture.marks import Box, box_at, escaped, group, id_of, num, rectangle, size_of, title_of, words_of
 from .picture.routes import dot_at, line_of, passes
 from .picture.shapes import met_at, room_in, shape_of
 from .picture.texts import TEXT, fitted, text_at
-from .whole import is_measure
+from .rounding import is_measure
 
 CORNER, MARGIN, TITLE = LOOK["corner"], LOOK["margin"], LOOK["title"]
 
@@ -54,7 +54,7 @@ def _points_in(edge: Element) -> List[Point]:
 class Picture:
     """One picture: a document's levels, and how it is drawn."""
 
-    def __init__(self, placed: Element, arrows: bool, theme: str) -> None:
+    def __init__(self, placed: Element, arrows: bool, theme: Theme) -> None:
         self.levels = Levels(placed)
         #: For each edge the node to whose content its points are relative.
         self.homes = [self.levels.level_of(declared) for declared in self.levels.declared]
@@ -328,7 +328,7 @@ def _sheet_of(picture: Picture) -> Box:
     return Box(left - MARGIN, top - MARGIN, right - left + 2 * MARGIN, bottom - top + 2 * MARGIN)
 
 
-def to_svg(placed: Element, *, arrows: bool = True, theme: str = "auto") -> str:
+def to_svg(placed: Element, *, arrows: bool = True, theme: Theme = "auto") -> str:
     """Draws a placed document as a document of SVG.
 
     Edges have heads at their targets, or none. The theme is light or dark; with "auto" the reader's setting decides.

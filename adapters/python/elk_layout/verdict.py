@@ -8,6 +8,7 @@ from dataclasses import dataclass
 from typing import Any, Optional, Tuple
 
 from .errors import Id, ProgramError, refusal_of
+from .program import Command
 
 # The definitions of a good drawing, by docs/FORMAT.md.
 DEFINITIONS = {
@@ -45,12 +46,12 @@ class Verdict:
         return f"no: definition {self.definition}, {self.name}, fails at {places}"
 
 
-def judge(program: str, line: bytes, placed: Any = None) -> Verdict:
+def judge(command: Command, line: bytes, placed: Any = None) -> Verdict:
     """Asks the program about a placed document, by the line that is sent for it; a Refusal where that is none."""
     try:
-        ended = subprocess.run([program, "check"], input=line, stdout=subprocess.PIPE, stderr=subprocess.PIPE)
+        ended = subprocess.run([*command, "check"], input=line, stdout=subprocess.PIPE, stderr=subprocess.PIPE)
     except OSError as cause:
-        raise ProgramError(f"the program {program} can't be started: {cause}") from cause
+        raise ProgramError(f"the program {command[-1]} can't be started: {cause}") from cause
     words, notes = ended.stdout.decode().strip(), ended.stderr.decode("utf-8", "replace").strip()
     if ended.returncode == 0:
         return Verdict(True)
@@ -59,7 +60,7 @@ def judge(program: str, line: bytes, placed: Any = None) -> Verdict:
     refusal = refusal_of(notes, line, placed, is_placed=True)
     if ended.returncode == 2 and refusal:
         raise refusal
-    raise ProgramError(f"the program {program} ended with the status {ended.returncode}: {notes}", ended.returncode)
+    raise ProgramError(f"the program {command[-1]} ended with the status {ended.returncode}: {notes}", ended.returncode)
 
 
 def _failure(words: str) -> Verdict:

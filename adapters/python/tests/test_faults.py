@@ -9,7 +9,7 @@ from dataclasses import asdict
 
 from .program import PROGRAM, TOP, with_node, with_program
 from elk_layout import Refusal, layout, layout_many
-from elk_layout.near import nearest
+from elk_layout.nearest import nearest
 
 COUNT = 400
 

@@ -1,4 +1,4 @@
-"""The command, which lays out files into a folder."""
+"""The command, which lays out files and checks them."""
 
 import json
 import os
@@ -10,7 +10,7 @@ import unittest
 from pathlib import Path
 
 from .program import PACKAGE, PROGRAM, chain, with_program
-from elk_layout import to_svg
+from elk_layout import __version__, to_svg
 
 
 class Command(unittest.TestCase):
@@ -19,12 +19,13 @@ class Command(unittest.TestCase):
         self.addCleanup(folder.cleanup)
         self.folder = Path(folder.name)
 
-    def run_command(self, *words, **more):
+    def run_command(self, *words, given=None, **more):
         environment = {**os.environ, "PYTHONPATH": str(PACKAGE), "ELK_PROGRAM": PROGRAM, **more}
         return subprocess.run(
             [sys.executable, "-m", "elk_layout", *map(str, words)],
             **{"stdout": subprocess.PIPE, "stderr": subprocess.PIPE, "cwd": self.folder, "env": environment},
             text=True,
+            input=given,
         )
 
     def file(self, name, document):
@@ -62,7 +63,11 @@ class Command(unittest.TestCase):
         ]
         for jobs in (1, 2):
             ended = self.run_command("layout", *files, "-o", "out", "--jobs", jobs)
-            self.assertEqual((ended.returncode, ended.stderr), (2, ""))
+            self.assertEqual(ended.returncode, 2)
+            said = ended.stderr.splitlines()
+            self.assertEqual([it.split(": ")[0] for it in said], files[1:])
+            self.assertIn('double.json: the id "é" stands twice', said[0])
+            self.assertEqual(said[4], "missing.json: No such file or directory")
             self.assertEqual(
                 ended.stdout.splitlines(),
                 [
@@ -89,12 +94,55 @@ class Command(unittest.TestCase):
         first, second = json.loads((self.folder / "out" / "a.json").read_text())["children"]
         self.assertEqual(first["x"], second["x"])
 
+    @with_program
+    def test_one_document_goes_from_stdin_to_stdout(self):
+        text = json.dumps(chain(2))
+        own = subprocess.run([PROGRAM, "layout"], input=text, stdout=subprocess.PIPE, text=True).stdout
+        self.file("a.json", chain(2))
+        for words, given in ((["layout", "-"], text), (["layout", "a.json"], None)):
+            ended = self.run_command(*words, given=given)
+            self.assertEqual((ended.returncode, ended.stdout, ended.stderr), (0, own, ""))
+        ended = self.run_command("layout", "-", "--svg", given=text)
+        self.assertEqual(ended.stdout, to_svg(json.loads(own)))
+        ended = self.run_command("layout", "-", given='{"id":1,"children":[{"id":1}]}')
+        self.assertEqual((ended.returncode, ended.stdout), (2, ""))
+        self.assertEqual(ended.stderr, "-: the id 1 stands twice: children[0].id is 1, as id is (rule 7, DoubleId)\n")
+
+    @with_program
+    def test_placed_documents_are_checked(self):
+        placed = self.run_command("layout", "-", given=json.dumps(chain(2))).stdout
+        self.file("good.json", placed)
+        moved = json.loads(placed)
+        moved["children"][1]["x"] = moved["children"][0]["x"]
+        self.file("bad.json", moved)
+        bad = 'no: definition 6, Apart, fails at "n0", "n1"'
+        for files, given, status, out, notes in (
+            (["-"], placed, 0, "yes\n", ""),
+            (["good.json", "good.json"], None, 0, "good.json: yes\n" * 2, ""),
+            (["good.json", "bad.json"], None, 1, f"good.json: yes\nbad.json: {bad}\n", ""),
+            (["bad.json"], None, 1, f"{bad}\n", ""),
+            (["none.json", "good.json"], None, 2, "good.json: yes\n", "none.json: No such file or directory\n"),
+        ):
+            with self.subTest(files):
+                ended = self.run_command("check", *files, given=given)
+                self.assertEqual((ended.returncode, ended.stdout, ended.stderr), (status, out, notes))
+        ended = self.run_command("check", "-", given="{}")
+        self.assertEqual((ended.returncode, ended.stdout), (2, ""))
+        self.assertIn("-: ", ended.stderr)
+
+    def test_the_version_is_told(self):
+        ended = self.run_command("--version")
+        self.assertEqual((ended.returncode, ended.stdout), (0, f"elk-layout {__version__}\n"))
+
     def test_words_that_are_not_taken_are_told(self):
         self.file("a.json", chain(2))
         self.file("b/a.json", chain(2))
         for words, note in (
             ([], "required"),
-            (["layout", "a.json"], "-o/--output"),
+            (["layout", "a.json", "b/a.json"], "-o/--output"),
+            (["layout", "-", "-o", "out"], "leave -o/--output away"),
+            (["check"], "required"),
+            (["draw", "a.json"], "invalid choice"),
             (["layout", "a.json", "-o", "."], "is one of the given files"),
             (["layout", "a.json", "a.json", "-o", "out", "--jobs", "0"], "--jobs is at least 1"),
             (["layout", "a.json", "a.txt", "-o", "out"], "would both be written"),

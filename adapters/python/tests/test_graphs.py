@@ -1,9 +1,10 @@
 """Graphs of networkx become documents, and placed documents graphs."""
 
+import math
 import unittest
 
 from .program import PROGRAM, needs, with_program
-from elk_layout import Refusal, check, from_networkx, layout, positions, to_networkx
+from elk_layout import Refusal, check, draw, from_edges, from_networkx, layout, positions, routes, to_networkx
 
 try:
     import networkx
@@ -46,13 +47,13 @@ class Documents(unittest.TestCase):
             label=lambda node, data: node.upper(),
             ports=lambda node, data: ["p"],
             edge_label=None,
-            edge_options=lambda source, target, data: {"elk.layered.priority.shortness": data["weight"]},
+            edge_options=lambda source, target, data: {"elk.layered.priority.shortness": 7 - data["weight"]},
             target_port=lambda source, target, data: "p",
         )
         self.assertEqual([(it["width"], it["height"]) for it in document["children"]], [(10, 7), (10, 7)])
         self.assertEqual([it["labels"][0]["text"] for it in document["children"]], ["A", "B"])
         self.assertEqual([it["targets"] for it in document["edges"]], [["b.p"], ["b.p"]])
-        self.assertEqual([it["layoutOptions"]["elk.layered.priority.shortness"] for it in document["edges"]], [3, 1])
+        self.assertEqual([it["layoutOptions"]["elk.layered.priority.shortness"] for it in document["edges"]], [4, 6])
 
     def test_edges_without_a_direction_lead_from_their_first_end_to_their_second(self):
         graph = networkx.Graph([("b", "a"), ("c", "a"), ("c", "c")])
@@ -92,6 +93,76 @@ class Documents(unittest.TestCase):
         graph = networkx.DiGraph([("a", "b", {"target_port": "in"})])
         with self.assertRaisesRegex(ValueError, "the node 'b' has no port 'in', which the edge \\('a', 'b'\\) names"):
             from_networkx(graph)
+
+    def test_parents_hold_their_nodes(self):
+        graph = networkx.DiGraph([("a", "b")])
+        graph.add_node("a", parent="box")
+        graph.add_node("box", label="a box", options={"elk.direction": "UP"})
+        graph.add_node("b", parent="box")
+        graph.add_node("c", width=10)
+        root = from_networkx(graph, options={"elk.direction": "DOWN", "elk.spacing.nodeNode": 5})
+        self.assertEqual([it["id"] for it in root["children"]], ["box", "c"])
+        box = root["children"][0]
+        self.assertEqual([it["id"] for it in box["children"]], ["a", "b"])
+        self.assertNotIn("width", box)
+        # Where a group says nothing itself, the options of the call hold, and its label has room.
+        self.assertEqual((box["layoutOptions"]["elk.direction"], box["layoutOptions"]["elk.spacing.nodeNode"]), ("UP", 5))
+        self.assertIn("top=28", box["layoutOptions"]["elk.padding"])
+        for parents, words in (
+            ({"a": "nowhere"}, "the parent of a node is 'nowhere', which is no node of the graph"),
+            ({"a": "a"}, "the node 'a' stands in itself, by its parents"),
+            ({"a": "b", "b": "c", "c": "a"}, "the node 'a' stands in itself, by its parents"),
+        ):
+            with self.subTest(parents), self.assertRaisesRegex(ValueError, words):
+                from_networkx(graph, parent=lambda key, data: parents.get(key))
+
+    def test_attributes_ask_for_looks(self):
+        graph = networkx.DiGraph()
+        graph.add_node("a", color="#c00", fillcolor="navy", fontcolor="white", shape="ellipse", style="filled,dashed", penwidth="2")
+        graph.add_node("b", style={"shape": "round"}, fill=None)
+        graph.add_edge("a", "b", color="red", width=1.5, style="dotted")
+        graph.add_edge("b", "a")
+        document = from_networkx(graph)
+        first = {"shape": "ellipse", "fill": "navy", "stroke": "#c00", "color": "white", "width": 2, "dash": "dashed"}
+        self.assertEqual([it["style"] for it in document["children"]], [first, {"shape": "round"}])
+        self.assertEqual([it.get("style") for it in document["edges"]], [{"stroke": "red", "width": 1.5, "dash": "dotted"}, None])
+
+    def test_weights_make_edges_shorter(self):
+        weights = [3, 2.5, "4", 1, 0, -5, None, math.nan, 10**9]
+        graph = networkx.DiGraph()
+        graph.add_edges_from((at, at + 1, {"weight": weight}) for at, weight in enumerate(weights))
+        name = "elk.layered.priority.shortness"
+        found = [it.get("layoutOptions", {}).get(name) for it in from_networkx(graph)["edges"]]
+        self.assertEqual(found, [3, 3, 4, None, None, None, None, None, 2**20])
+        self.assertEqual([it for it in from_networkx(graph, weight=None)["edges"] if "layoutOptions" in it], [])
+
+    def test_what_is_missing_is_left_out(self):
+        graph = networkx.DiGraph([(1, 2, {"label": math.nan, "source_port": math.nan, "color": math.nan})])
+        graph.add_node(1, label=math.nan, width=math.nan, options=None, parent=math.nan, ports=math.nan)
+        graph.add_node(2, label=None, height=None)
+        document = from_networkx(graph)
+        self.assertEqual([it for it in (*document["children"], *document["edges"]) if "labels" in it or "style" in it], [])
+        self.assertEqual([(it["width"], it["height"]) for it in document["children"]], [(40, 30), (40, 30)])
+
+    def test_texts_as_sizes_are_numbers_or_refused_by_name(self):
+        graph = networkx.DiGraph()
+        graph.add_node("a", width="50", height=" 20.5 ")
+        self.assertEqual([(it["width"], it["height"]) for it in from_networkx(graph)["children"]], [(50, 20.5)])
+        for member, wrong in (("width", "wide"), ("height", ""), ("width", "inf"), ("height", [1]), ("width", True)):
+            with self.subTest((member, wrong)):
+                graph.nodes["a"].update({"width": 1, "height": 1, member: wrong})
+                with self.assertRaisesRegex(ValueError, f"^the {member} of the node 'a' is .*, and has to be a number$"):
+                    from_networkx(graph)
+        heavy = networkx.DiGraph([("a", "b", {"weight": "heavy"})])
+        with self.assertRaisesRegex(ValueError, "the weight of the edge \\('a', 'b'\\) is 'heavy', and has to be a number"):
+            from_networkx(heavy)
+
+    def test_keys_of_multigraphs_stay_and_edges_without_directions_have_no_heads(self):
+        graph = networkx.MultiDiGraph([("a", "b", "x"), ("a", "b", (1, 2))])
+        self.assertEqual([it["key"] for it in from_networkx(graph)["edges"]], ["x", (1, 2)])
+        for directed in (networkx.DiGraph, networkx.Graph):
+            (edge,) = from_networkx(directed([("a", "b")]))["edges"]
+            self.assertEqual(("key" in edge, edge.get("directed")), (False, None if directed is networkx.DiGraph else False))
 
     def test_large_graphs_are_refused_with_the_limits(self):
         path = networkx.path_graph(2047)
@@ -138,6 +209,32 @@ class Drawings(unittest.TestCase):
             self.assertEqual(sorted(map(str, back.edges())), sorted(map(str, ends)))
             self.assertEqual({key: data["pos"] for key, data in back.nodes(data=True)}, positions(graph, program=PROGRAM))
 
+    def test_routes_are_told_by_the_names_of_edges(self):
+        multi = networkx.MultiDiGraph([("a", "b", "x"), ("a", "b", "y"), ("b", "a", 0), ("b", "b", 1)])
+        single = networkx.Graph([("a", "b"), ("b", "c")])
+        nested = networkx.DiGraph([((0, 1), (2, 3))])
+        nested.add_node((0, 1), parent="box")
+        nested.add_node((2, 3), parent="box")
+        nested.add_node("box")
+        for graph, names in ((multi, set(multi.edges(keys=True))), (single, set(single.edges)), (nested, set(nested.edges))):
+            placed = layout(from_networkx(graph, size=(30, 20)), program=PROGRAM)
+            found, places = routes(placed), positions(placed)
+            self.assertEqual(set(found), names)
+            self.assertEqual(set(places), set(graph))
+            self.assertEqual(found, routes(graph, size=(30, 20), program=PROGRAM))
+            for (source, target, *_), points in found.items():
+                for end, (x, y) in ((source, points[0]), (target, points[-1])):
+                    self.assertEqual(abs(x - places[end][0]), 15)
+                    self.assertLessEqual(abs(y - places[end][1]), 10)
+            self.assertEqual(to_networkx(placed).number_of_edges(), len(names))
+        self.assertEqual(set(to_networkx(layout(from_networkx(multi), program=PROGRAM)).edges(keys=True)), set(multi.edges(keys=True)))
+        with self.assertRaisesRegex(TypeError, "a placed document is drawn as it stands, without size"):
+            routes(placed, size=(1, 1))
+
+    def test_pictures_of_graphs_without_directions_have_no_heads(self):
+        heads = [layout(from_networkx(it([(1, 2)])), program=PROGRAM).to_svg().count('stroke="none"/>') for it in (networkx.DiGraph, networkx.Graph)]
+        self.assertEqual(heads[0] - heads[1], 1)
+
     def test_routes_lead_from_node_to_node_at_all_levels(self):
         inner = {"id": "box", "children": [{"id": "b", "width": 30, "height": 30}, {"id": "c", "width": 30, "height": 30}]}
         edges = [{"id": "in", "sources": ["b"], "targets": ["c"]}, {"id": "out", "source": "a", "target": "box"}]
@@ -167,6 +264,81 @@ class Drawings(unittest.TestCase):
         matplotlib.use("Agg")
         graph = networkx.DiGraph([("a", "b"), ("b", "c")])
         networkx.draw(graph, positions(graph, program=PROGRAM))
+
+    @needs("matplotlib")
+    def test_matplotlib_draws_nodes_routes_and_labels(self):
+        import matplotlib
+        from matplotlib import patches, pyplot
+
+        matplotlib.use("Agg")
+        graph = networkx.DiGraph()
+        graph.add_node("box", label="a group")
+        graph.add_node("a", parent="box", shape="ellipse", fillcolor="#ff0000")
+        graph.add_node("b", parent="box", label=5, shape="diamond")
+        graph.add_node("c", ports=["p"], style="dashed")
+        graph.add_edges_from([("a", "b", {"label": "on", "width": 3}), ("box", "c", {"target_port": "p", "style": "dotted"})])
+        figure, given = pyplot.subplots()
+        for undirected in (False, True):
+            axes = draw(graph.to_undirected() if undirected else graph, ax=given if undirected else None, program=PROGRAM)
+            self.assertEqual(sorted(it.get_text() for it in axes.texts), ["5", "a", "a group", "c", "on"])
+            kinds = [it.__class__ for it in axes.patches]
+            counts = [kinds.count(it) for it in (patches.Ellipse, patches.FancyBboxPatch, patches.Rectangle, patches.PathPatch)]
+            self.assertEqual(counts, [1, 2, 1, 2])
+            # The diamond, and a head for each edge that has one.
+            self.assertEqual(kinds.count(patches.Polygon), 1 if undirected else 3)
+            (ellipse,) = [it for it in axes.patches if isinstance(it, patches.Ellipse)]
+            self.assertEqual(ellipse.get_facecolor(), (1, 0, 0, 1))
+            self.assertIn("--", [it.get_linestyle() for it in axes.patches])
+            axes.figure.canvas.draw()
+        self.assertIs(axes, given)
+        # Of itself a unit is a point of print.
+        own = draw(graph, program=PROGRAM)
+        placed = layout(from_networkx(graph), program=PROGRAM)
+        self.assertEqual([round(it * 72) for it in own.figure.get_size_inches()], [placed["width"] + 16, placed["height"] + 16])
+        pyplot.close("all")
+
+
+@needs("pandas")
+class Frames(unittest.TestCase):
+    def frame(self, **columns):
+        import pandas
+
+        return pandas.DataFrame(columns)
+
+    def test_rows_are_edges_and_columns_are_attributes(self):
+        frame = self.frame(source=["a", "a", "b"], target=["b", "c", "c"], label=["x", None, "z"], weight=[1, 2, math.nan])
+        document = from_edges(frame, options={"elk.direction": "DOWN"})
+        self.assertEqual([it["id"] for it in document["children"]], ["a", "b", "c"])
+        self.assertEqual([(it["sources"], it["targets"]) for it in document["edges"]], [(["a"], ["b"]), (["a"], ["c"]), (["b"], ["c"])])
+        self.assertEqual([it.get("labels") for it in document["edges"]], [[{"text": "x"}], None, [{"text": "z"}]])
+        self.assertEqual([it.get("layoutOptions") for it in document["edges"]], [None, {"elk.layered.priority.shortness": 2}, None])
+        self.assertEqual(document["layoutOptions"], {"elk.direction": "DOWN"})
+
+    def test_columns_and_nodes_have_other_names(self):
+        nodes = self.frame(label=["one", None, "alone"], width=[math.nan, 70, 20])
+        nodes.index = [1, 2, 3]
+        frame = self.frame(**{"from": [1, 2], "to": [2, 1], "name": ["x", "y"]})
+        document = from_edges(frame, source="from", target="to", key="name", nodes=nodes, directed=False)
+        self.assertEqual([(it["id"], it["width"]) for it in document["children"]], [(1, 40), (2, 70), (3, 20)])
+        self.assertEqual([it.get("labels") for it in document["children"]], [[{"text": "one"}], None, [{"text": "alone"}]])
+        self.assertEqual([(it["key"], it["directed"]) for it in document["edges"]], [("x", False), ("y", False)])
+
+    def test_what_is_wrong_is_told_by_name(self):
+        for columns, reading, wanted, words in (
+            ({"source": ["a"], "to": ["b"]}, {}, ValueError, "the frame has no column 'target'"),
+            ({"source": ["a", None], "target": ["b", "c"]}, {}, ValueError, "the source of the edge in row 1 is missing"),
+            ({"source": ["a"], "target": ["b"], "weight": ["much"]}, {}, ValueError, "the weight of the edge .* is 'much'"),
+            ({"source": ["a"], "target": ["b"]}, {"colour": 1}, TypeError, "colour"),
+        ):
+            with self.subTest(words), self.assertRaisesRegex(wanted, words):
+                from_edges(self.frame(**columns), **reading)
+
+    @with_program
+    def test_they_are_laid_out(self):
+        frame = self.frame(source=range(50), target=[at // 2 + 50 for at in range(50)])
+        placed = layout(from_edges(frame), program=PROGRAM)
+        self.assertTrue(check(placed, program=PROGRAM))
+        self.assertEqual(len(routes(placed)), 50)
 
 
 if __name__ == "__main__":

@@ -181,7 +181,7 @@ class Laid(unittest.TestCase):
                         self.assertEqual(lay_out(document), json.loads(answer.read_text()))
                     self.assertTrue(check(lay_out(document), program=PROGRAM))
 
-    def test_the_given_document_stays_and_shares_only_what_is_not_laid_out(self):
+    def test_the_given_document_stays_and_shares_no_list_and_no_object(self):
         mine = object()
         document = {**chain(3), "mine": mine}
         document["children"][0]["labels"] = labels = [{"text": "first", "width": 3.5}]
@@ -191,7 +191,8 @@ class Laid(unittest.TestCase):
         placed = lay_out(document)
         self.assertEqual({**document, "mine": 0}, before)
         self.assertIs(placed["mine"], mine)
-        self.assertIs(placed["children"][0]["labels"], labels)
+        self.assertEqual(placed["children"][0]["labels"], labels)
+        self.assertIsNot(placed["children"][0]["labels"][0], labels[0])
         self.assertIsNot(placed["children"][1]["children"], document["children"][1]["children"])
         self.assertEqual(set(placed["edges"][0]), {"id", "sources", "targets", "sections"})
         self.assertTrue(check(placed, program=PROGRAM))
@@ -279,7 +280,7 @@ class Found(unittest.TestCase):
                 with self.subTest(found):
                     environment = {"PATH": path, **({} if named is None else {"ELK_PROGRAM": named})}
                     with unittest.mock.patch.dict(os.environ, environment, clear=True):
-                        self.assertEqual(find_program(given), found)
+                        self.assertEqual(find_program(given), (found,))
 
 
 if __name__ == "__main__":

@@ -1,7 +1,9 @@
 """The notebook runs from its first cell to its last, and shows pictures."""
 
+import base64
 import json
 import os
+import re
 import shutil
 import subprocess
 import tempfile
@@ -35,10 +37,16 @@ class Notebook(unittest.TestCase):
             )
             self.assertEqual(ended.returncode, 0, ended.stderr.decode())
             outputs = outputs_of(json.loads((Path(folder) / "run.ipynb").read_text()))
+            words = ["--to", "html", str(Path(folder) / "run.ipynb"), "--output", "page.html"]
+            ended = subprocess.run(["jupyter-nbconvert", *words], stderr=subprocess.PIPE, env=environment, timeout=SECONDS)
+            self.assertEqual(ended.returncode, 0, ended.stderr.decode())
+            page = (Path(folder) / "page.html").read_text()
         pictures = ["".join(it["data"]["image/svg+xml"]) for it in outputs if "image/svg+xml" in it.get("data", ())]
         self.assertEqual(len(pictures), 3)
         for picture in pictures:
             self.assertTrue(xml.fromstring(picture).tag.endswith("svg"))
+        shown = [base64.b64decode(it).decode() for it in re.findall('<img[^>]* src="data:image/svg[+]xml;base64,([^"]+)"', page)]
+        self.assertEqual(shown, pictures)
         said = ["".join(it["text"]) for it in outputs if it["output_type"] == "stream"]
         self.assertEqual(said[0], "yes\n")
         self.assertIn("rule 8, UnknownEnd", said[1])

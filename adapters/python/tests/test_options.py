@@ -7,8 +7,8 @@ import unittest
 from .program import PROGRAM, TOP, chain, with_node, with_program
 from elk_layout import layout, options
 from elk_layout.document import Sender
-from elk_layout.shared import table
-from elk_layout.values import is_taken, near_value
+from elk_layout.tables import table
+from elk_layout.option_values import is_taken, near_value
 
 KEYS = [
     *("elk.direction", "org.eclipse.elk.direction", "direction", "eclipse.elk.direction", "side", "placement", "strategy"),

@@ -1,13 +1,20 @@
 """Pictures are the same as those of the adapter for JavaScript."""
 
+import base64
 import json
+import os
 import random
+import re
+import shutil
 import subprocess
+import sys
+import tempfile
 import unittest
+import unittest.mock
 import xml.etree.ElementTree as xml
 
-from .program import PROGRAM, TOP, with_node, with_program
-from elk_layout import Placed, junction_points, layout, layout_many, to_svg
+from .program import PROGRAM, TOP, needs, with_node, with_program
+from elk_layout import Placed, junction_points, layout, layout_many, saving, to_svg
 
 SCRIPT = """
 const { toSvg } = require(process.argv[1] + '/adapters/js/svg.js');
@@ -188,7 +195,55 @@ class Pictures(unittest.TestCase):
     def test_a_notebook_shows_a_result_as_its_picture(self):
         placed = layout({"id": "r", "children": [{"id": "a", "width": 30, "height": 30}]}, program=PROGRAM)
         self.assertIsInstance(placed, Placed)
-        self.assertEqual(placed._repr_svg_(), to_svg(placed))
+        shown = placed._repr_mimebundle_()
+        self.assertEqual(shown["image/svg+xml"], to_svg(placed))
+        data = re.fullmatch('<img alt="[^"]+" style="[^"]+" src="data:image/svg[+]xml;base64,([^"]+)">', shown["text/html"])[1]
+        self.assertEqual(base64.b64decode(data).decode(), to_svg(placed))
+
+
+class Saved(unittest.TestCase):
+    def setUp(self):
+        folder = tempfile.TemporaryDirectory()
+        self.addCleanup(folder.cleanup)
+        self.folder = folder.name
+        self.placed = Placed({"id": "r", "width": 60, "height": 40, "children": [{"id": "a", "x": 12, "y": 12, "width": 30, "height": 10}]})
+
+    def saved(self, name, **how):
+        path = os.path.join(self.folder, name)
+        self.placed.save(path, **how)
+        with open(path, "rb") as file:
+            return file.read()
+
+    def test_svg_is_written_as_it_is(self):
+        self.assertEqual(self.saved("a.svg").decode(), to_svg(self.placed))
+        self.assertEqual(self.saved("b.SVG", theme="dark", arrows=False).decode(), to_svg(self.placed, theme="dark", arrows=False))
+
+    def assert_converts(self):
+        png = self.saved("a.png", scale=2)
+        self.assertEqual(png[:8], b"\x89PNG\r\n\x1a\n")
+        # The drawing with a margin of 8 on each side, twice as large.
+        self.assertEqual((int.from_bytes(png[16:20], "big"), int.from_bytes(png[20:24], "big")), (152, 112))
+        self.assertEqual(self.saved("a.pdf")[:5], b"%PDF-")
+
+    @unittest.skipUnless(shutil.which("rsvg-convert"), "rsvg-convert isn't there")
+    def test_png_and_pdf_come_from_the_command(self):
+        with unittest.mock.patch.dict(sys.modules, {"cairosvg": None}):
+            self.assert_converts()
+
+    @needs("cairosvg")
+    def test_png_and_pdf_come_from_the_package_without_the_command(self):
+        with unittest.mock.patch.dict(os.environ, {"PATH": "/nowhere"}):
+            self.assert_converts()
+
+    def test_what_is_missing_is_told(self):
+        nothing = unittest.mock.patch.object(saving.importlib.util, "find_spec", return_value=None)
+        with nothing, unittest.mock.patch.dict(os.environ, {"PATH": "/nowhere"}):
+            with self.assertRaisesRegex(RuntimeError, "becomes PNG by the command rsvg-convert .* or by the Python package cairosvg"):
+                self.saved("a.png")
+        for name in ("a.gif", "a", "svg"):
+            with self.subTest(name), self.assertRaisesRegex(ValueError, "may be .svg, .png, .pdf"):
+                self.saved(name)
+        self.assertEqual(os.listdir(self.folder), [])
 
 
 if __name__ == "__main__":

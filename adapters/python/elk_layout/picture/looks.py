@@ -3,28 +3,29 @@
 from __future__ import annotations
 
 import re
-from typing import Any, Dict, List, NamedTuple, Optional, Tuple
+from typing import Any, Dict, List, Literal, NamedTuple, Optional, Tuple, get_args
 
 from ..levels import Element
-from ..shared import table
+from ..tables import table
 
 LOOK = table("look")
 
 # What each colour paints.
 PAINTED = {"paper": ("fill", "stroke"), "ink": ("fill", "stroke"), "paleInk": ("fill", "stroke"), "tint": ("fill",)}
 
-THEMES = ("auto", "light", "dark")
+#: The colours of a picture: those of light pages, of dark ones, or as the reader's setting says.
+Theme = Literal["auto", "light", "dark"]
 
 
-def paints_of(theme: str) -> Dict[str, Any]:
+def paints_of(theme: Theme) -> Dict[str, Any]:
     """The colours with which a theme is drawn. Where the reader's setting decides, a style replaces them on dark pages."""
-    if theme not in THEMES:
+    if theme not in get_args(Theme):
         raise ValueError(f"the theme of a picture is {theme!r}, and may be auto, light or dark")
     paints: Dict[str, Any] = LOOK["dark" if theme == "dark" else "light"]
     return paints
 
 
-def style_of(theme: str) -> List[str]:
+def style_of(theme: Theme) -> List[str]:
     """The style of a picture, which the reader's setting turns dark; it yields to every style of a page."""
     if theme != "auto":
         return []

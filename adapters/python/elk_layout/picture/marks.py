@@ -8,9 +8,9 @@ from decimal import ROUND_HALF_UP, Decimal
 from typing import Any, Iterable, NamedTuple, Tuple
 
 from ..levels import Element, number_or_0
-from ..nesting import steps_too_deep
-from ..plain import plain
-from ..shared import table
+from ..depth import steps_too_deep
+from ..json_values import plain
+from ..tables import table
 
 # Text of XML takes no other control characters, and no half of a pair.
 UNFIT = re.compile("[\u0000-\u0008\u000b\u000c\u000e-\u001f\ufffe\uffff\ud800-\udfff]")

@@ -3,7 +3,7 @@
 from __future__ import annotations
 
 import math
-from typing import List, Set
+from typing import List, Set, Tuple
 
 from ..junctions import Point
 from .looks import LOOK
@@ -44,25 +44,26 @@ def _path_of(points: List[Point], joints: Set[Point]) -> str:
     return "".join((*steps, f"L{at(points[last])}"))
 
 
-def _head_of(start: Point, tip: Point, length: float, ink: str) -> str:
-    back = _towards(tip, start, length)
-    half = ARROW["width"] / ARROW["length"] / 2
-    x, y = (tip[1] - back[1]) * half, (back[0] - tip[0]) * half
-    corners = [tip, (back[0] + x, back[1] + y), (back[0] - x, back[1] - y)]
-    return f'<path d="M{"L".join(map(at, corners))}Z" fill="{ink}" stroke="none"/>'
-
-
-def line_of(points: List[Point], joints: Set[Point], has_head: bool, ink: str) -> str:
-    """The line of a route, with a head at its end where it has one."""
-    if not has_head or len(points) < 2:
-        return f'<path d="{_path_of(points, joints)}"/>'
+def head_at(points: List[Point]) -> Tuple[Point, List[Point]]:
+    """Where a route ends within its head, so that neither its end nor a bend shows at the tip, and the head's corners."""
     start, tip = points[-2:]
     piece = _length_of(start, tip)
     # A head is no longer than the piece that it ends, as far as it can still be seen.
     length = min(ARROW["length"], max(piece, ARROW["shortest"]))
-    # The line ends within its head, so that neither its end nor a bend shows at the tip.
-    end = _towards(tip, start, min(length - 1, piece))
-    return f'<path d="{_path_of([*points[:-1], end], joints)}"/>{_head_of(start, tip, length, ink)}'
+    back = _towards(tip, start, length)
+    half = ARROW["width"] / ARROW["length"] / 2
+    x, y = (tip[1] - back[1]) * half, (back[0] - tip[0]) * half
+    corners = [tip, (back[0] + x, back[1] + y), (back[0] - x, back[1] - y)]
+    return _towards(tip, start, min(length - 1, piece)), corners
+
+
+def line_of(points: List[Point], joints: Set[Point], has_head: bool, ink: str) -> str:
+    """The line of a route, with a head at its end if it has one."""
+    if not has_head or len(points) < 2:
+        return f'<path d="{_path_of(points, joints)}"/>'
+    end, corners = head_at(points)
+    head = f'<path d="M{"L".join(map(at, corners))}Z" fill="{ink}" stroke="none"/>'
+    return f'<path d="{_path_of([*points[:-1], end], joints)}"/>{head}'
 
 
 def passes(points: List[Point], box: Box) -> bool:

@@ -7,7 +7,7 @@ import re
 from typing import List, NamedTuple, Optional
 
 from ..junctions import Point
-from ..letters import begin, width_of
+from ..text_width import begin, width_of
 from .looks import LOOK
 from .marks import escaped, num
 

@@ -4,7 +4,7 @@ from __future__ import annotations
 
 from functools import lru_cache
 
-from .shared import table
+from .tables import table
 
 
 @lru_cache(maxsize=None)

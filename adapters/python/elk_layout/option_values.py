@@ -5,8 +5,8 @@ from __future__ import annotations
 import re
 from typing import Any, Dict, Iterable, Optional
 
-from .near import nearest
-from .shared import table
+from .nearest import nearest
+from .tables import table
 
 Option = Dict[str, Any]
 

@@ -12,11 +12,12 @@ import time
 import unittest
 import unittest.mock
 
-from .program import PACKAGE, PUPPET
+from .program import PACKAGE, PROGRAM, PUPPET, with_program
 from elk_layout import ProgramError, Refusal, close, layout, layout_many, replies
-from elk_layout.batch import Batch, Ticket, _running
 from elk_layout.calls import _kept
-from elk_layout.many import HELD_BYTES
+from elk_layout.pool import Pool
+from elk_layout.process import Request, State, running
+from elk_layout.streams import HELD_BYTES
 
 
 def ask(id, **more):
@@ -24,13 +25,13 @@ def ask(id, **more):
 
 
 def pid():
-    return layout({"id": "pid"}, program=PUPPET) and _kept[PUPPET]._runs[0]._process.pid
+    return layout({"id": "pid"}, program=PUPPET) and _kept[PUPPET,].processes[0].pid
 
 
-def asked(batch, text):
-    ticket = Ticket(text.encode() + b"\n")
-    batch.ask(ticket)
-    return ticket.reply
+def asked(pool, text):
+    request = Request(text.encode() + b"\n")
+    pool.ask(request)
+    return request.reply
 
 
 class Kept(unittest.TestCase):
@@ -83,15 +84,15 @@ class Kept(unittest.TestCase):
         self.assertNotEqual(pid(), before)
 
     def test_letters_that_are_torn_between_two_pieces_are_whole(self):
-        batch = Batch(PUPPET)
-        self.assertEqual(asked(batch, '{"id": "pieces é 😀"}'), '{"id": "pieces é 😀"}')
-        batch.stop()
+        pool = Pool((PUPPET,))
+        self.assertEqual(asked(pool, '{"id": "pieces é 😀"}'), '{"id": "pieces é 😀"}')
+        pool.stop()
 
     def test_very_long_lines_pass_both_ways(self):
-        batch = Batch(PUPPET)
+        pool = Pool((PUPPET,))
         text = '{"id": "%s"}' % ("ü" * 3_000_000)
-        self.assertEqual(asked(batch, text), text)
-        batch.stop()
+        self.assertEqual(asked(pool, text), text)
+        pool.stop()
 
     def test_threads_get_their_own_replies(self):
         wrong = []
@@ -145,7 +146,7 @@ class Kept(unittest.TestCase):
             "from elk_layout import layout, layout_many\nfrom elk_layout.calls import _kept\n"
             "layout({'id': 'a'}, program=sys.argv[2])\n"
             "stream = layout_many(({'id': f'slow 5'} for _ in range(3)), program=sys.argv[2], held=1)\n"
-            "print(_kept[sys.argv[2]]._runs[0]._process.pid)\n"
+            "print(_kept[sys.argv[2],].processes[0].pid)\n"
         )
         words = [sys.executable, "-W", "error", "-c", script, str(PACKAGE), PUPPET]
         ended = subprocess.run(words, stdout=subprocess.PIPE, stderr=subprocess.PIPE, timeout=20)
@@ -223,22 +224,22 @@ class Streams(unittest.TestCase):
             os.kill(child, 0)
 
     def test_a_run_reads_only_so_much_and_another_takes_over(self):
-        batch = Batch(PUPPET, 1, most_bytes=1000)
-        tickets = [batch.put(Ticket(b'{"id": "pid %d"}\n' % at)) for at in range(200)]
-        while not all(it.is_done for it in tickets):
-            batch.turn()
-        batch.stop()
-        pids = [it.reply.split('"pid": ')[1] for it in tickets]
-        self.assertEqual([f'"pid {at}"' in it.reply for at, it in enumerate(tickets)], [True] * 200)
+        pool = Pool((PUPPET,), 1, most_bytes=1000)
+        requests = [pool.put(Request(b'{"id": "pid %d"}\n' % at)) for at in range(200)]
+        while not all(it.is_done for it in requests):
+            pool.turn()
+        pool.stop()
+        pids = [it.reply.split('"pid": ')[1] for it in requests]
+        self.assertEqual([f'"pid {at}"' in it.reply for at, it in enumerate(requests)], [True] * 200)
         self.assertGreater(len(set(pids)), 3)
 
     def test_a_run_that_has_read_its_most_and_waits_for_nothing_ends(self):
-        batch = Batch(PUPPET, 1, most_bytes=100)
-        before = len(_running)
-        pids = {asked(batch, '{"id": "pid %d"}' % at) for at in range(12)}
-        self.assertEqual((len(_running) - before, batch._retired), (1, []))
+        pool = Pool((PUPPET,), 1, most_bytes=100)
+        before = len(running)
+        pids = {asked(pool, '{"id": "pid %d"}' % at) for at in range(12)}
+        self.assertEqual((len(running) - before, len(pool.processes)), (1, 1))
         self.assertEqual(len(pids), 12)
-        batch.stop()
+        pool.stop()
 
     def test_no_document_makes_no_result(self):
         self.assertEqual(list(self.many([])), [])
@@ -264,9 +265,168 @@ class Streams(unittest.TestCase):
                 self.many([], **wrong)
 
 
+class Sources(unittest.TestCase):
+    """Streams whose source raises, is slow, or gives one object again and again."""
+
+    def given_before(self, wanted, stream):
+        """What a stream gives before it raises an error of a class."""
+        seen = []
+        with self.assertRaises(wanted):
+            for result in stream:
+                seen.append(result)
+        return seen
+
+    def test_what_was_read_before_the_source_raises_is_given_first(self):
+        def documents(count):
+            for at in range(count):
+                yield {"id": str(at)}
+            raise KeyError("the end of the source")
+
+        for count, processes in ((300, 1), (500, 2), (0, 1)):
+            with self.subTest(count=count, processes=processes):
+                stream = layout_many(documents(count), processes=processes, program=PUPPET)
+                seen = self.given_before(KeyError, stream)
+                self.assertEqual([it["id"] for it in seen], [str(at) for at in range(count)])
+
+    def test_what_was_read_before_a_document_that_is_no_json_is_given_first(self):
+        stream = layout_many([{"id": "a"}, {"id": "b"}, {"id": object()}, {"id": "c"}], program=PUPPET)
+        self.assertEqual([it["id"] for it in self.given_before(TypeError, stream)], ["a", "b"])
+
+    def test_a_slow_source_holds_no_result_back(self):
+        read = []
+
+        def documents():
+            for at in range(8):
+                time.sleep(0.1)
+                read.append(at)
+                yield {"id": str(at)}
+
+        for processes in (1, 2):
+            with self.subTest(processes=processes):
+                read.clear()
+                ahead = [len(read) - done for done, _ in enumerate(layout_many(documents(), processes=processes, program=PUPPET), 1)]
+                # Python itself takes longer to start the first process than the source to give the first document.
+                self.assertLessEqual(max(ahead[2:]), 1, ahead)
+
+    def test_a_source_may_give_one_object_again_and_again(self):
+        whole, mine = {"id": 0, "children": [{"id": "a"}]}, {"id": 0, "labels": [{"text": ""}], "children": ({"id": "a"},)}
+
+        def documents(document):
+            for at in range(20):
+                document["id"] = at
+                document["children"][0]["id"] = f"a{at}"
+                document.get("labels", [{}])[0]["text"] = f"label {at}"
+                yield document
+
+        for document in (whole, mine):
+            with self.subTest(document):
+                results = list(layout_many(documents(document), program=PUPPET))
+                self.assertEqual([(it["id"], it["children"][0]["id"]) for it in results], [(at, f"a{at}") for at in range(20)])
+                texts = [it["labels"][0]["text"] for it in results if "labels" in it]
+                self.assertEqual(texts, [f"label {at}" for at in range(20)] if document is mine else [])
+
+    @with_program
+    def test_a_refusal_speaks_of_the_document_as_it_was(self):
+        def documents():
+            document = {"id": "r", "children": [{"id": "a"}, {"id": "b"}], "mine": []}
+            for id in ("b", "a", "b"):
+                document["children"][1]["id"] = id
+                yield document
+
+        results = list(layout_many(documents(), errors="return", program=PROGRAM))
+        self.assertEqual([isinstance(it, Refusal) for it in results], [False, True, False])
+        self.assertIn('children[1].id is "a"', str(results[1]))
+
+    def test_a_line_with_line_feeds_within_is_one_line(self):
+        for lines in (['{"id":\n1}', '{"id":2}', '{"id":3}'], [b'{"id":1\n\n}\n', b'\n{"id":2}', '{"id":3}\n\n']):
+            with self.subTest(lines):
+                self.assertEqual(list(replies(lines, program=PUPPET)), [f'{{"id": {at}}}' for at in (1, 2, 3)])
+
+    @with_program
+    def test_a_line_feed_within_a_text_stays_a_fault(self):
+        found = list(replies(['{"id":"a\nb"}', "", '{"id":"c"}'], program=PROGRAM))
+        self.assertEqual(found[:2], ["refused 1 NotJson -"] * 2)
+        self.assertIn('"id":"c"', found[2])
+
+
+class Interrupted(unittest.TestCase):
+    """Copies of this Python, threads, and signals that come in the middle of a call."""
+
+    def tearDown(self):
+        close()
+
+    def in_a_copy(self, deed):
+        """Whether a deed is true in a copy of this Python that must not take longer than some seconds."""
+        child = os.fork()
+        if child == 0:
+            signal.alarm(20)
+            try:
+                good = deed()
+            except BaseException:
+                good = False
+            os._exit(0 if good else 1)
+        return os.waitpid(child, 0)[1] == 0
+
+    def test_a_copy_in_the_middle_of_a_stream_goes_on_with_processes_of_its_own(self):
+        for processes in (1, 2):
+            with self.subTest(processes=processes):
+                ids = [str(at) for at in range(400)]
+                stream = layout_many(({"id": id} for id in ids), processes=processes, program=PUPPET)
+                first = [next(stream)["id"] for _ in range(3)]
+                self.assertTrue(self.in_a_copy(lambda: [it["id"] for it in stream] == ids[3:]))
+                self.assertEqual(first + [it["id"] for it in stream], ids)
+
+    def test_a_copy_that_lets_a_stream_go_ends_no_process_of_the_original(self):
+        stream = layout_many(({"id": str(at)} for at in range(400)), program=PUPPET)
+        next(stream)
+        self.assertTrue(self.in_a_copy(lambda: stream.close() is None))
+        self.assertEqual(len(list(stream)), 399)
+
+    def test_closing_comes_to_an_end_while_threads_go_on_calling(self):
+        end = threading.Event()
+        wrong = []
+
+        def work(name):
+            while not end.is_set():
+                wrong.extend([name] if ask(name)["id"] != name else [])
+
+        threads = [threading.Thread(target=work, args=(name,)) for name in "abcdef"]
+        for thread in threads:
+            thread.start()
+        closing = threading.Thread(target=lambda: [close() for _ in range(20)], daemon=True)
+        closing.start()
+        closing.join(20)
+        is_closed = not closing.is_alive()
+        end.set()
+        for thread in threads:
+            thread.join()
+        self.assertEqual((is_closed, wrong), (True, []))
+
+    def test_a_call_in_a_signal_handler_that_interrupts_another_call_is_refused(self):
+        script = (
+            "import signal, sys; sys.path.insert(0, sys.argv[1])\n"
+            "from elk_layout import close, layout\n"
+            "found = []\n"
+            "def handle(*_):\n"
+            "    for call in (lambda: layout({'id': 'in'}, program=sys.argv[2]), close):\n"
+            "        try:\n"
+            "            call()\n"
+            "        except RuntimeError as error:\n"
+            "            found.append('interrupts another' in str(error))\n"
+            "signal.signal(signal.SIGALRM, handle)\n"
+            "layout({'id': 'first'}, program=sys.argv[2])\n"
+            "signal.setitimer(signal.ITIMER_REAL, 0.2)\n"
+            "print(layout({'id': 'slow 1'}, program=sys.argv[2])['id'], found)\n"
+            "print(layout({'id': 'after'}, program=sys.argv[2])['id'])\n"
+        )
+        words = [sys.executable, "-c", script, str(PACKAGE), PUPPET]
+        ended = subprocess.run(words, stdout=subprocess.PIPE, stderr=subprocess.PIPE, timeout=20)
+        self.assertEqual((ended.stderr, ended.stdout), (b"", b"slow 1 [True, True]\nafter\n"))
+
+
 def a_child():
     """One of the processes that are running."""
-    return next(iter(_running))._process.pid
+    return next(iter(running)).pid
 
 
 if __name__ == "__main__":
