@@ -150,7 +150,7 @@ test('a refusal has what mends it', WITH_PROGRAM, async () => {
   const elk = new ELK({ program: PROGRAM });
   const children = [{ id: 'a', width: 30.5 }, { id: 'box', children: [{ id: 'c', layoutOptions: { 'portConstraints': 'FIXD_POS' } }] }];
   const edges = [{ id: 'e', sources: ['a'], targets: ['C', 'a'] }, { id: 'f', sources: ['a'], targets: ['c'] }];
-  const graph = { id: 'r', properties: { spacing: 1, nodeNodeBetweenLayers: 'wide' }, children, edges };
+  const graph = { id: 'r', properties: { spacing: 1, nodeNodeBetweenLayers: 'wide', hierarchyHandling: 'SEPARATE_CHILDREN' }, children, edges };
   const error = await elk.layout(graph, { layoutOptions: { 'elk.edgeRouting': 'SPLINES' } }).catch((it) => it);
   elk.terminateWorker();
   assert.ok(error instanceof ELK.Refusal);

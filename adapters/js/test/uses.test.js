@@ -167,7 +167,11 @@ const USES = {
   async 'an edge across the border of a box, under `elk.hierarchyHandling` INCLUDE_CHILDREN'() {
     const group = { id: 'group', children: [box('c')] };
     const layoutOptions = { 'elk.hierarchyHandling': 'INCLUDE_CHILDREN' };
-    await refused(layout({ id: 'root', layoutOptions, children: [box('a'), group], edges: [{ id: 'ac', sources: ['a'], targets: ['c'] }] }), 'CrossLevel');
+    const { children: [, { x, children: [c] }], edges: [{ sections: [{ endPoint }] }] } = await layout({
+      ...{ id: 'root', layoutOptions, children: [box('a'), group] },
+      edges: [{ id: 'ac', sources: ['a'], targets: ['c'] }],
+    });
+    assert.equal(endPoint.x, x + c.x);
   },
   async 'ports, and `elk.portConstraints` FIXED_SIDE, FIXED_ORDER, FIXED_POS'() {
     for (const rule of ['FREE', 'FIXED_SIDE', 'FIXED_ORDER', 'FIXED_POS']) {
