@@ -117,6 +117,25 @@ function bundlesOutOfOrder(bundles, { rule, direction }) {
     .map((list) => list.sort((a, b) => a.border.port.rank - b.border.port.rank));
 }
 
+/** The room at each side of a node that labels of its ports take within it. */
+function labelRoomsOf({ ports }) {
+  const depthAt = (side) => Math.max(0, ...ports.filter((port) => port.side === side).map(({ room }) => room.depth));
+  return { top: depthAt('NORTH'), right: depthAt('EAST'), bottom: depthAt('SOUTH'), left: depthAt('WEST') };
+}
+
+/** Bundles at labelled ports cross the border so far before the next one that the label has room between them. */
+function keepRoomForLabels(bundles) {
+  const lengthOf = ({ border }) => border.port?.room.length ?? 0;
+  if (!bundles.some(lengthOf)) {
+    return;
+  }
+  const sorted = bundles.slice().sort((a, b) => a.at - b.at);
+  sorted.slice(1).forEach((bundle, k) => {
+    const least = sorted[k].at + lengthOf(sorted[k]);
+    bundle.at = bundle.given ?? Math.max(bundle.at, least);
+  });
+}
+
 /** Where the node's own ports stand that have their own places, by their sides. */
 function postsOf({ ports, rule }) {
   const posts = { NORTH: [], EAST: [], SOUTH: [], WEST: [] };
@@ -126,4 +145,15 @@ function postsOf({ ports, rule }) {
   return posts;
 }
 
-module.exports = { NEAR, bundlesOf, bundlesOutOfOrder, inOrderOfSlots, keepApart, keepOrder, pinsOf, postsOf };
+module.exports = {
+  NEAR,
+  bundlesOf,
+  bundlesOutOfOrder,
+  inOrderOfSlots,
+  keepApart,
+  keepOrder,
+  keepRoomForLabels,
+  labelRoomsOf,
+  pinsOf,
+  postsOf,
+};

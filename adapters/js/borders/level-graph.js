@@ -5,8 +5,8 @@
 const { elementsOf } = require('../levels');
 const { namesIn } = require('../stages/labels');
 const { paddingOf } = require('../stages/node-sizes');
-const { besidePort } = require('../stages/port-labels');
-const { AHEAD, BEHIND, SIDES, boxAt, outward } = require('../stages/sides');
+const { AHEAD, BEHIND, boxAt } = require('../stages/sides');
+const { labelRoomsOf } = require('./bundles');
 const { isForward } = require('./geometry');
 const { pinPorts, spotKey, spotsOf } = require('./spots');
 const { breakTies } = require('./ties');
@@ -98,16 +98,9 @@ class LevelGraph {
 
   /** The padding of a level with crossed borders, with room for labels of its ports that stand inside. */
   #padding() {
-    const { draft, portLabels } = this.model;
-    const { json, ports } = this.level;
-    const padding = paddingOf(draft, json);
-    const names = { NORTH: 'top', EAST: 'right', SOUTH: 'bottom', WEST: 'left' };
-    const lengths = SIDES.map((side) => {
-      const inside = ports.filter((port) => port.side === side && this.model.isLabelledInside(port.json));
-      const depths = inside.map((port) => outward(side, portLabels.get(port.json).size));
-      const room = inside.length > 0 ? Math.max(...depths) + 2 * besidePort(draft, json, side).out : 0;
-      return `${names[side]}=${Math.ceil((padding[names[side]] || NO_PADDING) + room)}`;
-    });
+    const padding = paddingOf(this.model.draft, this.level.json);
+    const labels = labelRoomsOf(this.level);
+    const lengths = Object.keys(padding).map((name) => `${name}=${(padding[name] || NO_PADDING) + labels[name]}`);
     return `[${lengths.join(',')}]`;
   }
 

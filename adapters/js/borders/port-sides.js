@@ -1,7 +1,8 @@
 'use strict';
 // The sides of the declared ports of nodes with open levels, and their order at each side.
 
-const { SIDES, AHEAD, BEHIND } = require('../stages/sides');
+const { besidePort } = require('../stages/port-labels');
+const { AHEAD, BEHIND, SIDES, along, outward } = require('../stages/sides');
 const { isForward, lineOf } = require('./geometry');
 
 /** How edges meet each port: they leave it or enter it outside, and within they lead on what enters or leaves there. */
@@ -46,6 +47,16 @@ function rank(model, node) {
   });
 }
 
+/** The room that labels of a port take within its node: inwards from the side, and along it behind the port's line. */
+function roomOf(model, { json, node, side }) {
+  if (!model.isLabelledInside(json)) {
+    return { depth: 0, length: 0 };
+  }
+  const { size } = model.portLabels.get(json);
+  const { out, aside } = besidePort(model.draft, node.json, side);
+  return { depth: Math.ceil(outward(side, size) + 2 * out), length: Math.ceil(along(side, size) + 2 * aside) };
+}
+
 /**
  * Finds the side of each port, by what it asks for or else by how edges meet it.
  * @param {import('./model').Model} model
@@ -59,6 +70,7 @@ function findPortSides(model) {
       const isFed = ways.has('entered') || (ways.has('leads in') && !ways.has('leads out'));
       const isBehind = !ways.has('left') && isFed;
       port.side = askedSide(model, port) ?? (isBehind ? BEHIND : AHEAD)[direction];
+      port.room = roomOf(model, port);
     }
     rank(model, node);
   }

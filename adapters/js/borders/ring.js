@@ -3,7 +3,8 @@
 // of the node has its own place, or several routes lead to one place, they change their height here, on slots.
 
 const { isUpright } = require('../stages/sides');
-const { NEAR, bundlesOf, bundlesOutOfOrder, inOrderOfSlots, keepApart, keepOrder, pinsOf, postsOf } = require('./bundles');
+const { NEAR, bundlesOf, bundlesOutOfOrder, inOrderOfSlots, keepApart, keepOrder } = require('./bundles');
+const { keepRoomForLabels, labelRoomsOf, pinsOf, postsOf } = require('./bundles');
 const { FRAMES } = require('./geometry');
 
 const STEP = 10;
@@ -66,6 +67,7 @@ class Ring {
     this.frame = FRAMES[this.direction];
     this.span = content.span(this.frame);
     this.rooms = roomsOf(this.direction, padding);
+    this.labelRooms = roomsOf(this.direction, labelRoomsOf(level));
     this.least = this.isFlat ? { u: least.width, v: least.height } : { u: least.height, v: least.width };
     this.bundles = bundlesOf({ level, pieces, cut });
     this.onAxis = this.bundles.filter(({ goal }) => !goal);
@@ -104,7 +106,12 @@ class Ring {
       bundle.pin = pins[0];
       bundle.at = bundle.given ?? (bundle.kept === undefined ? median(pins) : bundle.kept + this.shiftV);
     }
-    SIDES_OF_LEVEL.forEach((name) => keepApart(this.#named(this.onAxis, name)));
+    SIDES_OF_LEVEL.map((name) => this.#named(this.onAxis, name)).forEach((list) => {
+      keepApart(list);
+      keepRoomForLabels(list);
+    });
+    const ends = this.onAxis.map(({ at, border }) => at + (border.port?.room.length ?? 0) + NEAR);
+    this.sizeV = Math.max(this.sizeV, ...ends);
     for (const bundle of this.bundles) {
       bundle.isStraight = !bundle.goal && bundle.nets.every(({ pin }) => pin === bundle.at);
     }
@@ -176,7 +183,8 @@ class Ring {
     this.#lanes[goal] += STEP;
     const heights = [...this.onAxis.map(({ at }) => at), ...pinsOf(this.onAxis)];
     const isOnLine = (v) => heights.some((it) => Math.abs(it - v) < NEAR);
-    const laneV = beside(goal === 'low' ? this.#lanes.low : this.sizeV - this.#lanes.high, isOnLine);
+    const lane = this.labelRooms[goal] + this.#lanes[goal];
+    const laneV = beside(goal === 'low' ? lane : this.sizeV - lane, isOnLine);
     const portU = this.#placeAlong(given);
     return { slotU: freeU, points: [[freeU, laneV], [portU, laneV], [portU, borderV]] };
   }

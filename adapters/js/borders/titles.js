@@ -36,15 +36,18 @@ function freePlace({ x, y, width, height }, obstacles, from, to) {
  * @returns {{ labels: object[], lack: number }} the labels, and how much wider the node has to be for one without room
  */
 function slideLabels(labels, routes, size) {
-  const lines = routes.flatMap((points) => points.slice(1).map((q, k) => new Bounds().add(points[k]).add(q)));
-  const obstacles = lines;
+  const obstacles = routes.flatMap((points) => points.slice(1).map((q, k) => new Bounds().add(points[k]).add(q)));
   let lack = 0;
   const slid = labels.map((label) => {
     if (!isPlaced(label)) {
       return label;
     }
-    const place = freePlace(label, obstacles, Math.min(label.x, EDGE), size.width - EDGE - label.width);
-    lack = place === undefined ? Math.max(lack, Math.ceil(label.width) + CLEAR + EDGE) : lack;
+    const from = Math.min(label.x, EDGE);
+    const place = freePlace(label, obstacles, from, size.width - EDGE - label.width);
+    if (place === undefined) {
+      const beyond = freePlace(label, obstacles, from, Infinity);
+      lack = Math.max(lack, Math.ceil(beyond + label.width) + EDGE - size.width);
+    }
     const moved = { ...label, x: place ?? label.x };
     obstacles.push(new Bounds().add(moved));
     return moved;

@@ -234,14 +234,15 @@ function judgePairs(routes) {
 
 const isLabel = ({ x, width }) => Number.isFinite(x) && width > 0;
 
-/** The placed labels of nodes and edges, with their places in the whole drawing. */
+/** The placed labels of nodes, ports and edges, with their places in the whole drawing. */
 function labelsOf(scene) {
   const at = (labels, base, owner) =>
     list(labels)
       .filter(isLabel)
       .map(({ x, y, width, height, text }) => ({ x: base.x + x, y: base.y + y, w: width, h: height, owner, text }));
   const ofNodes = [...scene.nodes.values()].flatMap((node) => at(node.json.labels, node.box, node));
-  return [...ofNodes, ...scene.edges.flatMap((edge) => at(edge.json.labels, scene.containerOf(edge).box, edge.json.id))];
+  const ofPorts = [...scene.ports.values()].flatMap(({ json, box }) => at(json.labels, box));
+  return [...ofNodes, ...ofPorts, ...scene.edges.flatMap((edge) => at(edge.json.labels, scene.containerOf(edge).box, edge.json.id))];
 }
 
 /** Labels meet no line, leaf or other label. */
