@@ -18,7 +18,7 @@ const READ = {
 const WRITTEN = ['x', 'y', 'width', 'height', 'layering'];
 
 // What an earlier drawing may have left at an edge.
-const OUTDATED = ['sections', 'bendPoints', 'junctionPoints', 'sourcePoint', 'targetPoint', 'container'];
+const OUTDATED = ['sections', 'bendPoints', 'junctionPoints', 'sourcePoint', 'targetPoint', 'container', 'routing'];
 
 const listsOf = (element) => Object.keys(LISTS).filter((name) => Array.isArray(element[name]));
 

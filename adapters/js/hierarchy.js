@@ -5,6 +5,9 @@ const { commonHolder, elementsOf, endIds } = require('./levels');
 
 const HANDLINGS = ['INCLUDE_CHILDREN', 'SEPARATE_CHILDREN'];
 
+// What such levels have in common if they ask for nothing else.
+const SHARED = { direction: ['RIGHT', 'LEFT', 'DOWN', 'UP'], edgeRouting: ['ORTHOGONAL', 'POLYLINE', 'SPLINES'] };
+
 const nameIn = (value) => String(value ?? '').toUpperCase();
 
 /** What a node asks for, or else the nearest node around it that asks for something; nothing if none does. */
@@ -61,17 +64,18 @@ function edgesAcross(draft) {
   return found;
 }
 
-/** Gives the levels that are laid out with the one around them its direction, if they have none of their own. */
-function shareDirections(draft) {
+/** Gives levels the direction and the routing of the level around them, with which they are laid out, if they ask for none. */
+function shareOptions(draft) {
   const isShared = (node) => handlingOf(draft, node) === 'INCLUDE_CHILDREN';
   const inner = draft.nodes.filter((node) => draft.parents.get(node) && draft.isLevel(node));
-  for (const node of inner.filter(isShared)) {
-    const around = draft.parents.get(node);
-    const asked = nameIn(draft.option(node, 'direction'));
-    if (isShared(around) && (asked === '' || asked === 'UNDEFINED')) {
-      draft.ask(node, { direction: draft.directionOf(around) });
+  for (const node of inner.filter((it) => isShared(it) && isShared(draft.parents.get(it)))) {
+    for (const [name, values] of Object.entries(SHARED)) {
+      const [own, around] = [node, draft.parents.get(node)].map((it) => nameIn(draft.option(it, name)));
+      if (values.includes(around) && (own === '' || own === 'UNDEFINED')) {
+        draft.ask(node, { [name]: around });
+      }
     }
   }
 }
 
-module.exports = { edgesAcross, isAcross, shareDirections, wayOf };
+module.exports = { edgesAcross, isAcross, shareOptions, wayOf };

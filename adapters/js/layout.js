@@ -41,9 +41,9 @@ const NO_SIZE = { width: 0, height: 0 };
  *   says that the graph is one level of another, whose own node grows later
  * @param {{ ask: (text: string) => Promise<{ reply: string, seconds: number }> }} engine
  * @param {Map<number, object>} [lacks] what nodes lacked when they were laid out before, by their numbers
- * @returns {Promise<{ placed: object, seconds: number, padding: object, least: object, outlines: Map }>} the placed
- *   graph, how long the engine took, the padding and the least size that the graph's own node asks for, and the outlines
- *   of all that was placed, by ids
+ * @returns {Promise<{ placed: object, seconds: number, padding: object, least: object, outlines: Map, layering?: object }>} the placed
+ *   graph, how long the engine took, the padding and the least size that the graph's own node asks for, the outlines
+ *   of all that was placed, by ids, and the layers of these
  */
 async function drawn(graph, how, engine, lacks = new Map()) {
   // Taken now, so that the caller may go on with the graph while the call waits.
@@ -67,8 +67,9 @@ async function drawn(graph, how, engine, lacks = new Map()) {
   }
   const outlines = new Map(how.isLevel ? placed.children.map((child) => [child.id, outlineOf(child)]) : []);
   const padding = how.isLevel ? paddingOf(draft, placed) : undefined;
+  const { layering } = placed;
   finish(placed, draft);
-  return { placed, seconds, padding, least, outlines };
+  return { placed, seconds, padding, least, outlines, layering };
 }
 
 /** An engine that is asked for no text twice. */

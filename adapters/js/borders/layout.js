@@ -3,6 +3,7 @@
 // and what led to it goes straight on to the border from where it left the last column. In the level around, the node is
 // a leaf with pinned ports where the pieces arrive.
 
+const { flipped, gapsBetween, spanIn, stretchesOf } = require('../curves');
 const { elementsOf } = require('../levels');
 const { tidy, pointsOf } = require('../stages/sections');
 const { along, isUpright } = require('../stages/sides');
@@ -56,7 +57,7 @@ class Layout {
     for (let call = 0; call < MOST_CALLS; call += 1) {
       const sent = new LevelGraph(this, level, mode);
       this.work += sent.children.length + sent.pieces.length;
-      const drawn = await this.draw(sent.document(helpers), sent.framed);
+      const drawn = await this.draw(sent.document(helpers), sent.still);
       const missing = missingHelpers(level, sent, drawn.outlines, helpers);
       if (missing.length === 0) {
         return { ...drawn, sent };
@@ -96,7 +97,7 @@ class Layout {
   }
 
   /** What stands in a level between its borders. */
-  #contentOf(level, { sent, placed, padding, outlines }) {
+  #contentOf(level, { sent, placed, padding, outlines, layering }) {
     const { pieces } = sent;
     const children = placed.children.slice(0, level.children.length);
     const labels = placed.edges.slice(0, pieces.length).map((edge) => elementsOf(edge.labels));
@@ -104,23 +105,36 @@ class Layout {
     const boxes = [...children.flatMap(labelBoxesOf), ...labels.flat().filter(isPlaced).map(wholeBox)];
     const content = new Bounds().addAll(children.map(outlineOf)).addAll(boxes).addAll(cut.flat());
     const isFramed = level.borders.size > 0 || level.ports.length > 0;
-    return { level, pieces, children, labels, cut, content, padding, placed, isFramed };
+    const gaps = this.#gapsOf(sent, outlines, layering);
+    return { level, pieces, children, labels, cut, content, padding, placed, isFramed, gaps };
+  }
+
+  /** The gaps between the columns of a level, the leaves of its border left out. */
+  #gapsOf({ level, leaves }, outlines, { layers = [], parts = [] } = {}) {
+    const frame = FRAMES[level.direction];
+    const isLeaf = (id) => id === leaves.first?.id || id === leaves.last?.id;
+    const nodes = [...outlines].map(([id, outline], at) => {
+      return { id, span: spanIn(frame, outline), layer: layers[at], part: parts[at] };
+    });
+    return layers.length > 0 ? gapsBetween(nodes.filter(({ id }) => !isLeaf(id))) : [];
   }
 
   /** The content of a level, moved to where its ring leaves room for it, with its routes led on to the border. */
   #led(content, least) {
-    const { level, pieces, children, labels, cut, placed, isFramed } = content;
+    const { level, pieces, children, labels, cut, placed, isFramed, gaps } = content;
     const { size, shift, ends, pins } = isFramed ? new Ring({ ...content, least }).led() : asDrawn(placed);
     const moved = (it) => (isPlaced(it) ? { ...it, x: it.x + shift.x, y: it.y + shift.y } : it);
     const routes = pieces.map((piece, at) => {
       const { from = [], to = [] } = ends.get(piece) ?? {};
       return tidy([...from, ...cut[at].map(moved), ...to]);
     });
+    const by = FRAMES[level.direction].of(shift).u;
     const namesOf = (label) => placementOf(this.model, label, level.json);
     const titles = slideLabels(movedLabels(elementsOf(placed.labels), namesOf, placed, size), routes, size);
     return {
       ...{ size, pins, titles: titles.labels, lack: isFramed ? titles.lack : 0 },
       children: children.map(moved),
+      gaps: gaps.map(({ from, to, stub }) => ({ from: from + by, to: to + by, stub })),
       routes: new Map(pieces.map((piece, at) => [piece, routes[at]])),
       labels: new Map(pieces.map((piece, at) => [piece, labels[at].map(moved)])),
     };
@@ -223,6 +237,20 @@ class Layout {
       routes.set(edge, kept.length > 1 ? kept : [points[0], points.at(-1)]);
     }
     return routes;
+  }
+
+  /** The stretches of the route of an edge that isn't drawn orthogonal, in the whole drawing. */
+  stretchesOf(edge, origins) {
+    const hasStubs = edge.level.routing === 'SPLINES' || this.model.hasLoops;
+    return edge.pieces.flatMap(({ piece, isFlipped }) => {
+      const { level } = piece;
+      const { routes, gaps } = this.placed.get(level);
+      const origin = origins.get(level);
+      const found = stretchesOf(routes.get(piece), { frame: FRAMES[level.direction], gaps, hasStubs });
+      const moved = ({ x, y }) => ({ x: x + origin.x, y: y + origin.y });
+      const own = found.map((it) => ({ ...it, points: it.points.map(moved) }));
+      return isFlipped ? flipped(own) : own;
+    });
   }
 
   cost() {

@@ -2,6 +2,7 @@
 // The graph of one open level as the engine is asked for it: its pieces of edges, each child with an open level as a leaf
 // of known size, and its border as a thin leaf at each side that edges cross.
 
+const { optionsFor } = require('../curves');
 const { elementsOf } = require('../levels');
 const { namesIn } = require('../stages/labels');
 const { paddingOf } = require('../stages/node-sizes');
@@ -76,9 +77,10 @@ class LevelGraph {
     return this.leaves.first !== undefined || this.leaves.last !== undefined;
   }
 
-  /** The ids of the pieces that lead to the border. */
-  get framed() {
-    return new Set(this.pieces.filter(({ from, to }) => from.isFrame || to.isFrame).map(({ id }) => id));
+  /** The ids of the pieces whose labels stay in their layers: what is cut off, or drawn anew, is no place for them. */
+  get still() {
+    const isStill = ({ from, to }) => from.isFrame || to.isFrame || this.model.isBent;
+    return new Set(this.pieces.filter(isStill).map(({ id }) => id));
   }
 
   /** What is sent, with a helper edge for each of these. */
@@ -87,6 +89,7 @@ class LevelGraph {
     const { x, y, ports, width, height, labels, layoutOptions, ...rest } = json;
     const isBox = /box$/i.test(String(this.model.option(json, 'algorithm') ?? ''));
     const changed = {
+      ...(this.level.routing && optionsFor(this.model.draft, json)),
       ...(this.#isFramed && { separateConnectedComponents: false, padding: this.#padding() }),
       ...(isBox && this.pieces.length > 0 && { algorithm: 'layered' }),
     };

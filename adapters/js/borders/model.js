@@ -3,8 +3,9 @@
 // open where such an edge ends within its node; all levels around it are open then as well. The engine lays out all
 // others without any help.
 
+const { routingOf } = require('../curves');
 const { elementsOf, endIds } = require('../levels');
-const { isAcross, shareDirections, wayOf } = require('../hierarchy');
+const { isAcross, shareOptions, wayOf } = require('../hierarchy');
 const { roundUp } = require('../stages');
 const { Draft } = require('../stages/draft');
 const { portLabelsOf } = require('../stages/port-labels');
@@ -20,7 +21,7 @@ class Model {
    */
   constructor(root, { numbers, general }) {
     this.draft = new Draft(root, general);
-    shareDirections(this.draft);
+    shareOptions(this.draft);
     if (numbers === 'ceil') {
       roundUp(this.draft);
     }
@@ -30,6 +31,9 @@ class Model {
     this.edges = this.nodes.flatMap(({ json }) => elementsOf(json.edges).flatMap((edge) => this.#pairsOf(edge)));
     this.edges.forEach((edge) => this.#locate(edge));
     this.#markOpen();
+    this.hasLoops = this.edges.some(({ source, target }) => source.node === target.node);
+    /** Whether some routes are slanted or curved. */
+    this.isBent = this.levels.some(({ routing }) => routing);
     turnEdges(this);
     findPortSides(this);
     leadEdges(this);
@@ -40,6 +44,7 @@ class Model {
       ...{ json, parent, depth: parent ? parent.depth + 1 : 0, children: [], edges: [] },
       direction: this.draft.directionOf(json),
       rule: this.draft.ruleOf(json),
+      routing: routingOf(this.draft, json),
     };
     this.#byJson.set(json, node);
     node.ports = elementsOf(json.ports).map((port) => ({ json: port, node, id: port.id }));

@@ -1,14 +1,15 @@
 'use strict';
 // A drawing of open levels, written into the graph.
 
+const { pointsAlong, stretchesOf } = require('../curves');
 const { clearRoute } = require('../document');
 const { elementsOf, numberOr0 } = require('../levels');
 const { sectionsOf } = require('../stages/hyper');
 const { placeStack } = require('../stages/labels');
 const { besidePort } = require('../stages/port-labels');
-const { sectionOf } = require('../stages/sections');
+const { pointsOf, sectionOf } = require('../stages/sections');
 const { isUpright } = require('../stages/sides');
-const { isPlaced } = require('./geometry');
+const { FRAMES, isPlaced } = require('./geometry');
 const { placementOf } = require('./level-graph');
 const { pinPorts, spotsOf } = require('./spots');
 
@@ -83,10 +84,10 @@ class Result {
   #writeClosed(child, answer) {
     delete child.json.layering;
     Object.assign(child.json, answer.layering && { layering: answer.layering });
-    for (const { id, sections, labels } of elementsOf(answer.edges)) {
+    for (const { id, sections, labels, routing } of elementsOf(answer.edges)) {
       const edge = this.#edges.get(id);
       clearRoute(edge);
-      Object.assign(edge, { sections, container: child.json.id }, labels && { labels });
+      Object.assign(edge, { sections, container: child.json.id }, labels && { labels }, routing && { routing });
     }
     child.children.forEach((it, at) => this.#writeNode(it, answer.children[at]));
   }
@@ -104,7 +105,8 @@ class Result {
       const base = origins.get(around);
       const routes = list.map(({ points }) => points.map(({ x, y }) => ({ x: x - base.x, y: y - base.y })));
       clearRoute(json);
-      json.sections = this.#sectionsOf(list[0].edge, list, routes);
+      json.sections = this.#sectionsOf(list[0].edge, list, routes).map((section) => this.#bent(section, list, origins));
+      Object.assign(json, around.routing && { routing: around.routing });
       Object.assign(json, around.json.id !== undefined && { container: around.json.id });
       const { labels } = list[0].edge;
       Object.assign(json, labels.length > 0 && { labels: labels.map((it) => this.#placedLabel(it, origins, base)) });
@@ -118,6 +120,23 @@ class Result {
     }
     const twigs = list.map(({ edge }) => edge.ids[stem === 'source' ? 'target' : 'source']);
     return sectionsOf(json.id, routes, { stem, id: ids[stem], twigs });
+  }
+
+  /** A section of an edge that isn't drawn orthogonal. The sections of one of several ends keep their corners. */
+  #bent(section, list, origins) {
+    const [{ edge }] = list;
+    const { routing, direction } = edge.level;
+    if (!routing) {
+      return section;
+    }
+    const { x, y } = origins.get(edge.level);
+    const moved = (it) => ({ x: it.x - x, y: it.y - y });
+    const stretches =
+      list.length === 1
+        ? this.layout.stretchesOf(edge, origins).map((it) => ({ ...it, points: it.points.map(moved) }))
+        : stretchesOf(pointsOf(section), { frame: FRAMES[direction], gaps: [] });
+    const points = pointsAlong(stretches, routing);
+    return points.length > 0 ? sectionOf(points, section) : section;
   }
 
   /** A label of an edge, relative to what the edge's points are relative to. */

@@ -37,6 +37,8 @@ class Draft {
     this.leasts = new Map();
     /** The ids of the edges whose labels stay in their layers. */
     this.still = new Set();
+    /** The levels whose routes are slanted or curved, each with what is known of them. */
+    this.curved = new Map();
     /** The edges that are turned round. */
     this.turned = new Set();
     this.#enter(root, undefined);

@@ -152,7 +152,7 @@ function leafOf(draft, { edge, level, source, direction, slides }, { labels, end
       align: isInline || isUpright(side) ? 'center' : 'left',
     };
     placeStack(labels, at);
-    if (!end && !draft.still.has(edge.id)) {
+    if (!end && !draft.still.has(edge.id) && !draft.curved.has(level)) {
       const [axis, across] = isUpright(side) ? ['x', y] : ['y', x];
       slides.push({ edge, level, labels, place: at, axis, line: across + line, room: beside });
     }

@@ -1,9 +1,10 @@
 'use strict';
 // What is done with a graph before the engine reads it, and undone after its answer.
 
-const { shareDirections } = require('../hierarchy');
+const { shareOptions } = require('../hierarchy');
 const { elementsOf } = require('../levels');
 const { withWholePlace, withWholeSize } = require('../numbers');
+const { askForCurves } = require('./curves');
 const { Draft } = require('./draft');
 const { placeEdgeLabels } = require('./edge-labels');
 const { splitHyperedges } = require('./hyper');
@@ -63,7 +64,8 @@ function placeLabels(draft, lacks) {
 function draftOf(graph, { numbers, general, lacks, still = new Set() }) {
   const draft = new Draft(graph, general);
   draft.still = still;
-  shareDirections(draft);
+  shareOptions(draft);
+  const curves = askForCurves(draft);
   renamePorts(draft);
   splitHyperedges(draft);
   moveInsets(draft);
@@ -80,6 +82,7 @@ function draftOf(graph, { numbers, general, lacks, still = new Set() }) {
     }
     placeLabels(draft, lacks);
   }
+  curves.measure();
   return draft;
 }
 

@@ -145,8 +145,14 @@ const USES = {
     }
   },
   async '`elk.edgeRouting` POLYLINE, SPLINES'() {
-    await refused(withOptions({ 'elk.edgeRouting': 'POLYLINE' }), 'OptionValue');
-    await refused(withOptions({ 'elk.edgeRouting': 'SPLINES' }), 'OptionValue');
+    const graph = pair({ children: [box('a', { height: 90 }), box('b'), box('c')] });
+    graph.edges.push({ id: 'f', sources: ['a'], targets: ['c'] });
+    const sectionsIn = async (routing) => {
+      const { edges } = await layout({ ...graph, layoutOptions: { 'elk.edgeRouting': routing } });
+      return edges.map(({ sections: [section] }) => section);
+    };
+    assert.ok((await sectionsIn('POLYLINE')).some(({ startPoint: p, endPoint: q, bendPoints }) => p.y !== q.y && !bendPoints));
+    assert.ok((await sectionsIn('SPLINES')).some(({ bendPoints = [] }) => bendPoints.length > 0 && bendPoints.length % 3 === 2));
   },
   async 'parts that are not connected'() {
     const graph = pair({ children: [box('a'), box('b'), box('alone')] });
