@@ -2,8 +2,10 @@
 // The faults of a graph that a call was given, found in what was sent for it, and told in the caller's own words.
 
 const { faultsOf, notWritable, tooLong } = require('./faults');
+const { edgesAcross } = require('./hierarchy');
 const { isObject } = require('./levels');
 const { carriedBy } = require('./options');
+const { Draft } = require('./stages/draft');
 
 const valueAt = (root, steps) => steps.reduce((value, step) => value?.[step], root);
 
@@ -75,6 +77,10 @@ function originIn(graph, { owners = new Map(), general = {} }) {
     context.elements.find(({ value }) => value?.id === owners.get(element.value.id)) ??
     element;
 
+  let across;
+  /** Whether an edge crosses borders between levels that a call lays out together. */
+  const isDrawnAcross = (edge) => (across ??= edgesAcross(new Draft(graph, general))).has(edge);
+
   let inGraph;
   return (find, context) => {
     inGraph ??= stepsIn(context.value, owners);
@@ -98,6 +104,9 @@ function originIn(graph, { owners = new Map(), general = {} }) {
     }
     if (key === 'option') {
       return { ...turned, ...stepsToOption(given.value, told.option.name, steps, general) };
+    }
+    if (key === 'cross' || key === 'whole') {
+      return isDrawnAcross(given.value) ? undefined : turned;
     }
     if (key === 'many' && owners.size > 0) {
       return { ...turned, key: 'manyWithLabels' };

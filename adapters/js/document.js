@@ -18,7 +18,7 @@ const READ = {
 const WRITTEN = ['x', 'y', 'width', 'height', 'layering'];
 
 // What an earlier drawing may have left at an edge.
-const OUTDATED = ['sections', 'bendPoints', 'junctionPoints', 'sourcePoint', 'targetPoint', 'container'];
+const OUTDATED = ['sections', 'bendPoints', 'junctionPoints', 'sourcePoint', 'targetPoint', 'container', 'routing'];
 
 const listsOf = (element) => Object.keys(LISTS).filter((name) => Array.isArray(element[name]));
 
@@ -112,10 +112,15 @@ function placeNode(node, answer) {
   }
 }
 
-function placeEdge(edge, answer) {
+/** Takes the route of an earlier drawing from an edge. */
+function clearRoute(edge) {
   for (const name of OUTDATED) {
     delete edge[name];
   }
+}
+
+function placeEdge(edge, answer) {
+  clearRoute(edge);
   edge.sections = answer.sections;
 }
 
@@ -161,4 +166,4 @@ function finish(graph, draft) {
   tellEnds(graph);
 }
 
-module.exports = { copyOf, documentOf, finish, place, READ };
+module.exports = { clearRoute, copyOf, documentOf, finish, place, READ };

@@ -234,6 +234,8 @@ declare namespace ELK {
     sections?: ElkEdgeSection[];
     junctionPoints?: ElkPoint[];
     container?: any;
+    /** If the routes aren't orthogonal. The bend points of SPLINES are control points, two for each piece. */
+    routing?: 'POLYLINE' | 'SPLINES';
   }
 
   export interface PlacedRoot {

@@ -140,7 +140,9 @@ function firstParting(point, paths, lines) {
 /** The paths of the edges at each dock: at one node and one anchor, in document order. */
 function pathsByDock(levels) {
   const docks = new Map();
-  for (const path of levels.declared.flatMap(({ edge }) => pathsOf(edge, levels))) {
+  // Slanted and curved routes part by degrees.
+  const orthogonal = levels.declared.filter(({ edge }) => edge.routing === undefined);
+  for (const path of orthogonal.flatMap(({ edge }) => pathsOf(edge, levels))) {
     for (const [node, anchor] of [[path.nodes[0], path.points[0]], [path.nodes[1], path.points.at(-1)]]) {
       if (!anchor || !node) {
         continue;

@@ -1,11 +1,17 @@
 'use strict';
 // The steps of one layout: what is done to a graph before the engine reads it, what the engine answers, and what is done after.
 
+const { layOutAcross } = require('./borders');
+const { outlineOf } = require('./borders/geometry');
+const { faultsOfCall } = require('./call-faults');
 const { copyOf, documentOf, finish, place } = require('./document');
+const { edgesAcross } = require('./hierarchy');
 const { junctionPoints } = require('./junctions');
 const { ProgramError } = require('./program-error');
-const { refusalOf } = require('./refusals');
+const { Refusal, refusalOf } = require('./refusals');
 const { draftOf, lacksOf } = require('./stages');
+const { Draft } = require('./stages/draft');
+const { paddingOf } = require('./stages/node-sizes');
 
 function answerOf(reply, text, call) {
   const refusal = refusalOf(reply, text, call);
@@ -25,19 +31,28 @@ function tellJunctions(placed) {
   }
 }
 
+const NO_SIZE = { width: 0, height: 0 };
+
 /**
  * Levels that turn out too small for their labels are laid out once more, with the room that they lack.
  * @param {object} graph stays as it is
  * @param {{ numbers: 'ceil' | 'exact', general: object }} how whether numbers are made whole, and the options that count
- *   wherever an element has none of its own
+ *   wherever an element has none of its own; `still` has the ids of edges whose labels stay in their layers, `isLevel`
+ *   says that the graph is one level of another, whose own node grows later
  * @param {{ ask: (text: string) => Promise<{ reply: string, seconds: number }> }} engine
  * @param {Map<number, object>} [lacks] what nodes lacked when they were laid out before, by their numbers
- * @returns {Promise<{ placed: object, seconds: number }>} the placed graph, and how long the engine took
+ * @returns {Promise<{ placed: object, seconds: number, padding: object, least: object, outlines: Map, layering?: object }>} the placed
+ *   graph, how long the engine took, the padding and the least size that the graph's own node asks for, the outlines
+ *   of all that was placed, by ids, and the layers of these
  */
-async function laidOut(graph, how, engine, lacks = new Map()) {
+async function drawn(graph, how, engine, lacks = new Map()) {
   // Taken now, so that the caller may go on with the graph while the call waits.
   const placed = copyOf(graph);
   const draft = draftOf(placed, { ...how, lacks });
+  const least = draft.leasts.get(0) ?? NO_SIZE;
+  if (how.isLevel) {
+    draft.leasts.delete(0);
+  }
   const isLast = draft.leasts.size === 0 || lacks.size > 0;
   const again = isLast ? undefined : copyOf(graph);
   const document = documentOf(placed, how);
@@ -47,12 +62,64 @@ async function laidOut(graph, how, engine, lacks = new Map()) {
   place(placed, answerOf(reply, text, { graph, owners, general: how.general }));
   const more = isLast ? undefined : lacksOf(draft);
   if (more) {
-    const drawn = await laidOut(again, how, engine, more);
-    return { ...drawn, seconds: seconds + drawn.seconds };
+    const last = await drawn(again, how, engine, more);
+    return { ...last, seconds: seconds + last.seconds };
   }
+  const outlines = new Map(how.isLevel ? placed.children.map((child) => [child.id, outlineOf(child)]) : []);
+  const padding = how.isLevel ? paddingOf(draft, placed) : undefined;
+  const { layering } = placed;
   finish(placed, draft);
+  return { placed, seconds, padding, least, outlines, layering };
+}
+
+/** An engine that is asked for no text twice. */
+function remembering(engine) {
+  const replies = new Map();
+  const ask = (text) => {
+    if (replies.has(text)) {
+      return replies.get(text).then(({ reply }) => ({ reply, seconds: 0 }));
+    }
+    replies.set(text, engine.ask(text));
+    return replies.get(text);
+  };
+  return { ask };
+}
+
+/** Refuses a graph for what is wrong with it, apart from edges that cross borders and are drawn. */
+function refuseFaults(graph, how) {
+  const sent = copyOf(graph);
+  const { owners } = draftOf(sent, { ...how, lacks: new Map() });
+  const faults = faultsOfCall(JSON.stringify(documentOf(sent, how)), graph, { owners, general: how.general });
+  if (faults.length > 0) {
+    throw new Refusal(faults[0], faults);
+  }
+}
+
+/**
+ * Lays out a graph.
+ * @param {object} graph stays as it is
+ * @param {{ numbers: 'ceil' | 'exact', general: object }} how whether numbers are made whole, and the options that count
+ *   wherever an element has none of its own
+ * @param {{ ask: (text: string) => Promise<{ reply: string, seconds: number }> }} engine
+ * @returns {Promise<{ placed: object, seconds: number }>} the placed graph, and how long the engine took
+ */
+async function laidOut(graph, how, engine) {
+  if (edgesAcross(new Draft(graph, how.general)).size === 0) {
+    const { placed, seconds } = await drawn(graph, how, engine);
+    tellJunctions(placed);
+    return { placed, seconds };
+  }
+  refuseFaults(graph, how);
+  const placed = copyOf(graph);
+  const single = remembering(engine);
+  let sum = 0;
+  await layOutAcross(placed, how, async (document, still) => {
+    const { seconds, ...rest } = await drawn(document, { ...how, still, isLevel: true }, single);
+    sum += seconds;
+    return rest;
+  });
   tellJunctions(placed);
-  return { placed, seconds };
+  return { placed, seconds: sum };
 }
 
 module.exports = { laidOut };

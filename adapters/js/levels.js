@@ -23,14 +23,14 @@ function endIds(edge, end) {
 const namesPort = (edge, end) => !isExtended(edge) && (edge[`${end}Port`] ?? undefined) !== undefined;
 
 /** The nearest node that holds both, each counted among the nodes that it holds itself. */
-function commonHolder(places, one, other) {
+function commonHolder(parentOf, one, other) {
   const holders = new Set();
-  for (let node = one; node; node = places.get(node).parent) {
+  for (let node = one; node; node = parentOf(node)) {
     holders.add(node);
   }
   let node = other;
   while (node && !holders.has(node)) {
-    node = places.get(node).parent;
+    node = parentOf(node);
   }
   return node;
 }
@@ -105,9 +105,9 @@ class Levels {
     if (container || !source || !target) {
       return container ?? at;
     }
-    const [above, beside] = [source, target].map((node) => this.places.get(node).parent);
-    return commonHolder(this.places, above, beside) ?? at;
+    const parentOf = (node) => this.places.get(node).parent;
+    return commonHolder(parentOf, parentOf(source), parentOf(target)) ?? at;
   }
 }
 
-module.exports = { Levels, elementsOf, endIds, isObject, namesPort, numberOr0 };
+module.exports = { Levels, commonHolder, elementsOf, endIds, isObject, namesPort, numberOr0 };

@@ -37,11 +37,11 @@ const LAYOUT_ALGORITHMS = [
     id: LAYERED,
     name: 'layered',
     description:
-      'Nodes with ports, edges between siblings, self-loops, and nodes within nodes, up to 50 levels, ' +
+      'Nodes with ports, edges, also between levels, self-loops, and nodes within nodes, up to 50 levels, ' +
       'in all four directions and under all port constraints.',
     category: LAYERED,
     knownOptions: LAYOUT_OPTIONS.map(({ id }) => id),
-    supportedFeatures: ['SELF_LOOPS', 'MULTI_EDGES', 'PORTS', 'COMPOUND'],
+    supportedFeatures: ['SELF_LOOPS', 'MULTI_EDGES', 'PORTS', 'COMPOUND', 'CLUSTERS'],
   },
   {
     id: BOX,

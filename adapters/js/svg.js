@@ -6,7 +6,7 @@ const { junctionPoints, pointsOf } = require('./junctions');
 const { elementsOf, endIds, Levels, numberOr0 } = require('./levels');
 const { inkOn, paintsOf, styleOf, wishesOf } = require('./picture/looks');
 const { escaped, group, idOf, num, rectangle, sizeOf, titleOf, wordsOf } = require('./picture/marks');
-const { dotAt, keyOf, lineOf, passes } = require('./picture/routes');
+const { curveOf, dotAt, isCurve, keyOf, lineOf, passes } = require('./picture/routes');
 const { metAt, roomIn, shapeOf } = require('./picture/shapes');
 const { fitted, heightOf, textAt } = require('./picture/texts');
 
@@ -255,7 +255,8 @@ function linesOf(declared, picture, ink) {
     const points = routeOf(section, declared, { picture, isOnly: sections.length === 1 });
     const isLast = !(section.outgoingSections?.length > 0);
     const hasHead = picture.arrows && edge.directed !== false && isLast;
-    return points.length === 0 ? '' : lineOf(points, { joints: picture.sharp, hasHead, ink });
+    const draw = edge.routing === 'SPLINES' && isCurve(points) ? curveOf : lineOf;
+    return points.length === 0 ? '' : draw(points, { joints: picture.sharp, hasHead, ink });
   });
 }
 

@@ -69,6 +69,21 @@ function passes(points, { left, top, width, height }) {
   });
 }
 
+/** Whether points are those of a curve: a start, and two control points and an end for each piece of it. */
+const isCurve = (points) => points.length > 2 && points.length % 3 === 1;
+
+/** The line of a curve, with a head at its end where it has one. */
+function curveOf(points, { hasHead, ink }) {
+  const [start, , from, tip] = points.slice(-4);
+  // A last piece that runs straight has room for the head along all of it.
+  const isStraight = (start.x === from.x && from.x === tip.x) || (start.y === from.y && from.y === tip.y);
+  const length = Math.min(ARROW.length, Math.max(lengthOf(isStraight ? start : from, tip), ARROW.shortest));
+  // It ends within its head.
+  const all = hasHead ? [...points.slice(0, -1), towards(tip, from, Math.min(length - 1, lengthOf(from, tip)))] : points;
+  const steps = all.map((point, k) => `${k === 0 ? 'M' : k % 3 === 1 ? 'C' : ' '}${at(point)}`);
+  return `<path d="${steps.join('')}"/>${hasHead ? headOf(from, tip, length, ink) : ''}`;
+}
+
 const dotAt = ({ x, y }, ink) => `<circle cx="${num(x)}" cy="${num(y)}" r="${DOT}" fill="${ink}" stroke="none"/>`;
 
-module.exports = { dotAt, keyOf, lineOf, passes };
+module.exports = { curveOf, dotAt, isCurve, keyOf, lineOf, passes };

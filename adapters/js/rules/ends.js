@@ -115,4 +115,4 @@ function joinsIn(elements) {
   return { ends, edges, joins };
 }
 
-module.exports = { crossLevels, doubleIds, hyperedges, joinsIn, nodeOf, nodesOf, unknownEnds };
+module.exports = { crossLevels, doubleIds, hyperedges, joinsIn, nodesOf, unknownEnds };

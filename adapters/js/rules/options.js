@@ -5,7 +5,7 @@ const { prefixes } = require('../data/options.json');
 const { isObject } = require('../levels');
 const { isReadBy, OPTIONS } = require('../options');
 const { ALGORITHMS, algorithmNamed, isTaken } = require('../values');
-const { nodeOf } = require('./ends');
+const { nodesOf } = require('./ends');
 const { find, has } = require('./members');
 
 const isFixed = ({ options }) => options.isGood && options.values.portConstraints === 'FIXED_POS';
@@ -49,11 +49,11 @@ function optionsOf(element) {
 /** The first edge of each level, by the node of the level. */
 function firstEdges({ joins }) {
   const first = new Map();
-  for (const { edge, ends } of joins) {
-    const source = ends.find(({ end }) => end === 'source')?.element;
-    const level = source && nodeOf(source).holder;
-    if (level && !first.has(level)) {
-      first.set(level, edge);
+  for (const join of joins) {
+    const [source, target] = nodesOf(join) ?? [];
+    const level = source?.holder;
+    if (level && level === target.holder && !first.has(level)) {
+      first.set(level, join.edge);
     }
   }
   return first;

@@ -35,6 +35,10 @@ class Draft {
     this.altered = new Set();
     /** The least sizes that levels ask for, by their nodes' numbers. */
     this.leasts = new Map();
+    /** The ids of the edges whose labels stay in their layers. */
+    this.still = new Set();
+    /** The levels whose routes are slanted or curved, each with what is known of them. */
+    this.curved = new Map();
     /** The edges that are turned round. */
     this.turned = new Set();
     this.#enter(root, undefined);
@@ -148,9 +152,11 @@ class Draft {
     return id;
   }
 
-  /** The node, the port where one is named, and the id at an end of an edge; nothing where it names nothing. */
-  endOf(edge, end) {
-    const [id] = endIds(edge, end);
+  /**
+   * The node, the port if one is named, and the id at an end of an edge; nothing if it names nothing. Of several ids
+   * it is the first, unless another is asked for.
+   */
+  endOf(edge, end, id = endIds(edge, end)[0]) {
     return (namesPort(edge, end) ? undefined : this.#nodesById.get(id)) ?? this.#portsById.get(id);
   }
 
@@ -185,9 +191,13 @@ class Draft {
 
   /** Whether a level keeps the order of the document in each of its layers. */
   keepsOrder(level) {
-    const asked = (name) => this.option(level, name);
-    const order = asked('layered.order') ?? new Map(standIns(asked, () => true)).get('layered.order');
-    return String(order).toUpperCase() === 'DOCUMENT';
+    return String(this.sentOption(level, 'layered.order')).toUpperCase() === 'DOCUMENT';
+  }
+
+  /** An option that a level is sent with: its own, or one that stands for an option of ELK. */
+  sentOption(level, name) {
+    const asked = (it) => this.option(level, it);
+    return asked(name) ?? new Map(standIns(asked, () => true)).get(name);
   }
 
   /** Where in a list an element is added: behind a child and what was added there before, or else at the end. */

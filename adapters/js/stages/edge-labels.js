@@ -14,7 +14,7 @@ const { AHEAD, BEHIND, along, boxAt, isUpright, sideOfEnd, spotsAt } = require('
 const FULL = 'org.eclipse.elk.';
 
 /** Where a label stands along its edge. */
-function kindOf(draft, edge, label) {
+function placeOfLabel(draft, edge, label) {
   const names = namesIn(draft.option(label, 'edgeLabels.placement') ?? draft.option(edge, 'edgeLabels.placement'));
   return ['HEAD', 'TAIL'].find((name) => names.has(name)) ?? 'CENTER';
 }
@@ -42,7 +42,7 @@ function placeEdgeLabels(draft, strips, sides) {
 function placeAlong(draft, strips, sides, found, labels, slides) {
   const { edge, level } = found;
   const byKind = { TAIL: [], CENTER: [], HEAD: [] };
-  labels.forEach((label) => byKind[kindOf(draft, edge, label)].push(label));
+  labels.forEach((label) => byKind[placeOfLabel(draft, edge, label)].push(label));
   const kinds = draft.turned.has(edge) ? ['HEAD', 'CENTER', 'TAIL'] : ['TAIL', 'CENTER', 'HEAD'];
   const direction = draft.directionOf(level);
   const ends = { source: found.source, target: found.target };
@@ -152,7 +152,7 @@ function leafOf(draft, { edge, level, source, direction, slides }, { labels, end
       align: isInline || isUpright(side) ? 'center' : 'left',
     };
     placeStack(labels, at);
-    if (!end) {
+    if (!end && !draft.still.has(edge.id) && !draft.curved.has(level)) {
       const [axis, across] = isUpright(side) ? ['x', y] : ['y', x];
       slides.push({ edge, level, labels, place: at, axis, line: across + line, room: beside });
     }
@@ -160,4 +160,4 @@ function leafOf(draft, { edge, level, source, direction, slides }, { labels, end
   return { leaf, place };
 }
 
-module.exports = { placeEdgeLabels };
+module.exports = { placeEdgeLabels, placeOfLabel };

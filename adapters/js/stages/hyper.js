@@ -129,4 +129,4 @@ function grouped(members, pointOf) {
   return [...groups.values()];
 }
 
-module.exports = { splitHyperedges };
+module.exports = { sectionsOf, splitHyperedges };

@@ -1,8 +1,10 @@
 'use strict';
 // What is done with a graph before the engine reads it, and undone after its answer.
 
+const { shareOptions } = require('../hierarchy');
 const { elementsOf } = require('../levels');
 const { withWholePlace, withWholeSize } = require('../numbers');
+const { askForCurves } = require('./curves');
 const { Draft } = require('./draft');
 const { placeEdgeLabels } = require('./edge-labels');
 const { splitHyperedges } = require('./hyper');
@@ -56,10 +58,14 @@ function placeLabels(draft, lacks) {
  * The draft of a graph: what the engine reads in its place.
  * @param {object} graph is written into
  * @param {{ numbers: 'ceil' | 'exact', general: object }} how whether numbers are made whole, and the options that
- *   count wherever an element has none of its own; `lacks` is what nodes lacked in an answer before
+ *   count wherever an element has none of its own; `lacks` is what nodes lacked in an answer before, `still` the ids of
+ *   edges whose labels stay in their layers
  */
-function draftOf(graph, { numbers, general, lacks }) {
+function draftOf(graph, { numbers, general, lacks, still = new Set() }) {
   const draft = new Draft(graph, general);
+  draft.still = still;
+  shareOptions(draft);
+  const curves = askForCurves(draft);
   renamePorts(draft);
   splitHyperedges(draft);
   moveInsets(draft);
@@ -76,7 +82,8 @@ function draftOf(graph, { numbers, general, lacks }) {
     }
     placeLabels(draft, lacks);
   }
+  curves.measure();
   return draft;
 }
 
-module.exports = { draftOf, lacksOf };
+module.exports = { draftOf, lacksOf, roundUp };

@@ -15,7 +15,7 @@ function renamePorts(draft) {
     }
   }
   // An edge of the extended form that names both means the node.
-  for (const { edge } of renamed.size > 0 ? draft.edges() : []) {
+  for (const edge of renamed.size > 0 ? draft.nodes.flatMap(({ edges }) => elementsOf(edges)) : []) {
     for (const name of ENDS.map((end) => `${end}Port`)) {
       if (renamed.has(edge[name])) {
         draft.change(edge, { [name]: renamed.get(edge[name]) });

@@ -130,9 +130,12 @@ function growLeaf(draft, node, least, sides) {
   Object.assign(node, grown);
 }
 
+/** The padding that a level asks for. */
+const paddingOf = (draft, node) => sidesIn(draft.option(node, 'padding'), 12);
+
 /** A level has padding for its labels inside, and more of it at the far sides where it was too small without. */
 function padLevel(draft, node, { groups, frame, lack }) {
-  const padding = sidesIn(draft.option(node, 'padding'), 12);
+  const padding = paddingOf(draft, node);
   const pad = sidesIn(draft.option(node, 'nodeLabels.padding'), 5);
   const room = { top: 0, bottom: 0, left: 0, right: 0 };
   for (const { row, column, size } of groups) {
@@ -196,4 +199,4 @@ function lacksOf(draft) {
   return lacks.size > 0 ? lacks : undefined;
 }
 
-module.exports = { lacksOf, sizeNodes };
+module.exports = { lacksOf, paddingOf, sizeNodes };

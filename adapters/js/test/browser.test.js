@@ -120,6 +120,17 @@ test('a page of one script lays out, from a file, and stays free meanwhile', WIT
   assert.deepEqual(page.faults, []);
 });
 
+test('a page lays out edges that cross the borders of boxes', WITH_BOTH, async () => {
+  const page = await pageOfFile();
+  const [x, container] = await page.evaluate(`(async () => {
+    const { children: [a, b] } = pair();
+    const graph = { ...pair(), children: [a, { id: 'box', children: [b] }] };
+    const { children: [, { x, children: [within] }], edges: [{ container, sections: [{ endPoint }] }] } = await new ELK().layout(graph);
+    return [endPoint.x - x - within.x, container];
+  })()`);
+  assert.deepEqual([x, container, page.faults], [0, 'r', []]);
+});
+
 test('a page draws what it has laid out', WITH_BOTH, async () => {
   const page = await pageOfFile();
   const texts = await page.evaluate(`new ELK().layout(pair()).then((placed) => {

@@ -256,7 +256,7 @@ const REFUSED = [
   [8, 'UnknownEnd', 'e', /^the edge "e" has an end that is no node/, pair({ targets: ['nobody'] })],
   [9, 'Hyperedge', 'e', /several sources and several targets/, pair({ sources: ['a', 'b'], targets: ['a', 'b'] })],
   [9, 'Hyperedge', 'e', /not exactly one source and one target/, pair({ targets: [] })],
-  [10, 'CrossLevel', 'e', /^the edge "e" joins nodes of two levels: its target is the whole document/, pair({ targets: ['r'] })],
+  [10, 'CrossLevel', 'e', /^the edge "e" joins nodes of two levels: its target is the whole document/, pair({ targets: ['r'] }, { hierarchyHandling: 'SEPARATE_CHILDREN' })],
   [11, 'OptionValue', 'r', /^an option of "r" has a value/, pair({}, { algorithm: 'stress' })],
   [11, 'OptionValue', undefined, /^an option of an element without an id/, { layoutOptions: { direction: 'ASIDE' } }],
   [12, 'PortInside', 'p', /^the port "p" touches no side of its node/, port({ x: 20, y: 20, width: 5, height: 5 })],

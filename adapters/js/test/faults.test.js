@@ -150,8 +150,8 @@ test('a refusal has what mends it', WITH_PROGRAM, async () => {
   const elk = new ELK({ program: PROGRAM });
   const children = [{ id: 'a', width: 30.5 }, { id: 'box', children: [{ id: 'c', layoutOptions: { 'portConstraints': 'FIXD_POS' } }] }];
   const edges = [{ id: 'e', sources: ['a'], targets: ['C', 'a'] }, { id: 'f', sources: ['a'], targets: ['c'] }];
-  const graph = { id: 'r', properties: { spacing: 1, nodeNodeBetweenLayers: 'wide' }, children, edges };
-  const error = await elk.layout(graph, { layoutOptions: { 'elk.edgeRouting': 'SPLINES' } }).catch((it) => it);
+  const graph = { id: 'r', properties: { spacing: 1, nodeNodeBetweenLayers: 'wide', hierarchyHandling: 'SEPARATE_CHILDREN' }, children, edges };
+  const error = await elk.layout(graph, { layoutOptions: { 'elk.algorithm': 'stress' } }).catch((it) => it);
   elk.terminateWorker();
   assert.ok(error instanceof ELK.Refusal);
   const { rule, name, id, path: at, found, allowed, near } = error;
@@ -161,9 +161,9 @@ test('a refusal has what mends it', WITH_PROGRAM, async () => {
     [
       [8, 'e', 'edges[0].targets[0]', 'C', 'c'],
       [10, 'f', 'edges[1]', undefined, undefined],
-      [11, 'r', 'layoutOptions["elk.edgeRouting"] of the call', 'SPLINES', undefined],
+      [11, 'r', 'layoutOptions["elk.algorithm"] of the call', 'stress', undefined],
       [11, 'r', 'properties.nodeNodeBetweenLayers', 'wide', undefined],
-      [11, 'box', 'layoutOptions["elk.edgeRouting"] of the call', 'SPLINES', undefined],
+      [11, 'box', 'layoutOptions["elk.algorithm"] of the call', 'stress', undefined],
       [11, 'c', 'children[1].children[0].layoutOptions.portConstraints', 'FIXD_POS', 'FIXED_POS'],
     ],
   );

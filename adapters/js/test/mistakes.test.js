@@ -19,6 +19,8 @@ const edge = (more) => graph({ edges: [{ id: 'e', ...more }] });
 
 const group = (more) => box('group', { children: [box('c')], ...more });
 
+const separate = { 'elk.hierarchyHandling': 'SEPARATE_CHILDREN' };
+
 const pinned = (port) => graph({ children: [box('a', { layoutOptions: { 'elk.portConstraints': 'FIXED_POS' }, ports: [port] }), box('b')] });
 
 // Each mistake with a document that has it; a text is one that isn't even JSON.
@@ -30,8 +32,7 @@ const MISTAKES = [
   ['`from` and `to` instead of `source` and `target`', edge({ from: 'a', to: 'b' })],
   ['`sources` is a text', edge({ sources: 'a', targets: ['b'] })],
   ['a port of another node is named', edge({ source: 'a', sourcePort: 'out', target: 'b' })],
-  ['an edge leads into a box', graph({ children: [box('a'), group()], edges: [{ id: 'e', sources: ['a'], targets: ['c'] }] })],
-  ['an edge joins a box with a node in it', graph({ children: [group()], edges: [{ id: 'e', sources: ['c'], targets: ['group'] }] })],
+  ['an edge leads into a box with SEPARATE_CHILDREN', graph({ children: [box('a'), group({ layoutOptions: separate })], edges: [{ id: 'e', sources: ['a'], targets: ['c'] }] })],
   ['an edge has several sources and several targets', edge({ sources: ['a', 'b'], targets: ['b', 'a'] })],
   ['two nodes have one id', graph({ children: [box('a'), box('b'), group({ children: [box('a')] })] })],
   ['an edge has no id', graph({ edges: [{ sources: ['a'], targets: ['b'] }] })],

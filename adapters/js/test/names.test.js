@@ -46,7 +46,8 @@ test('a refusal names the caller\'s element', WITH_PROGRAM, async () => {
   graph.children[0].ports[1].width = -1;
   await assert.rejects(layout(graph), { name: 'OutOfRange', id: 'b', message: /size of "b" is/ });
   const across = [box('c', { children: [box('d')] })];
-  const many = { ...namesakes([{ id: 'many', sources: ['a'], targets: ['b', 'd'] }]) };
+  const layoutOptions = { 'elk.hierarchyHandling': 'SEPARATE_CHILDREN' };
+  const many = { ...namesakes([{ id: 'many', sources: ['a'], targets: ['b', 'd'] }]), layoutOptions };
   many.children.push(...across);
   await assert.rejects(layout(many), { name: 'CrossLevel', id: 'many' });
 });

@@ -145,8 +145,14 @@ const USES = {
     }
   },
   async '`elk.edgeRouting` POLYLINE, SPLINES'() {
-    await refused(withOptions({ 'elk.edgeRouting': 'POLYLINE' }), 'OptionValue');
-    await refused(withOptions({ 'elk.edgeRouting': 'SPLINES' }), 'OptionValue');
+    const graph = pair({ children: [box('a', { height: 90 }), box('b'), box('c')] });
+    graph.edges.push({ id: 'f', sources: ['a'], targets: ['c'] });
+    const sectionsIn = async (routing) => {
+      const { edges } = await layout({ ...graph, layoutOptions: { 'elk.edgeRouting': routing } });
+      return edges.map(({ sections: [section] }) => section);
+    };
+    assert.ok((await sectionsIn('POLYLINE')).some(({ startPoint: p, endPoint: q, bendPoints }) => p.y !== q.y && !bendPoints));
+    assert.ok((await sectionsIn('SPLINES')).some(({ bendPoints = [] }) => bendPoints.length > 0 && bendPoints.length % 3 === 2));
   },
   async 'parts that are not connected'() {
     const graph = pair({ children: [box('a'), box('b'), box('alone')] });
@@ -167,7 +173,11 @@ const USES = {
   async 'an edge across the border of a box, under `elk.hierarchyHandling` INCLUDE_CHILDREN'() {
     const group = { id: 'group', children: [box('c')] };
     const layoutOptions = { 'elk.hierarchyHandling': 'INCLUDE_CHILDREN' };
-    await refused(layout({ id: 'root', layoutOptions, children: [box('a'), group], edges: [{ id: 'ac', sources: ['a'], targets: ['c'] }] }), 'CrossLevel');
+    const { children: [, { x, children: [c] }], edges: [{ sections: [{ endPoint }] }] } = await layout({
+      ...{ id: 'root', layoutOptions, children: [box('a'), group] },
+      edges: [{ id: 'ac', sources: ['a'], targets: ['c'] }],
+    });
+    assert.equal(endPoint.x, x + c.x);
   },
   async 'ports, and `elk.portConstraints` FIXED_SIDE, FIXED_ORDER, FIXED_POS'() {
     for (const rule of ['FREE', 'FIXED_SIDE', 'FIXED_ORDER', 'FIXED_POS']) {

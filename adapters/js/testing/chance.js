@@ -1,7 +1,7 @@
 'use strict';
 // Numbers drawn by chance from a seed, the same in every run.
 
-/** Draws for a seed: numbers below a limit or from low to high, whether what has a probability is, one of a list. */
+/** Draws for a seed: parts of 1, numbers below a limit or from low to high, whether what has a probability is, one of a list. */
 function chance(seed) {
   let state = seed >>> 0;
   const next = () => {
@@ -12,6 +12,7 @@ function chance(seed) {
   };
   const below = (limit) => Math.floor(next() * limit);
   return {
+    part: next,
     below,
     from: (low, high) => low + below(high - low + 1),
     is: (probability) => next() < probability,
