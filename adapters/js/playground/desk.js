@@ -25,16 +25,13 @@ class Desk {
     this.#worker ??= this.#started();
   }
 
-  get isBusy() {
-    return this.#current !== undefined;
-  }
-
   /**
    * @param {object} message what the worker is asked
    * @param {(news: object) => void} [onNews] is told what the worker tells before its answer
+   * @param {{ isPatient?: boolean }} [how] whether what is under way goes on however long it takes
    * @returns {Promise<object>} its answer; a Stopped where it was stopped, or a newer one came before it was answered
    */
-  ask(message, onNews = () => {}) {
+  ask(message, onNews = () => {}, { isPatient = false } = {}) {
     return new Promise((resolve, reject) => {
       const request = { message, onNews, resolve, reject };
       if (!this.#current) {
@@ -43,7 +40,9 @@ class Desk {
       }
       this.#waiting?.reject(new Stopped('a newer request came'));
       this.#waiting = request;
-      this.#timer ??= setTimeout(() => this.#restart(), PATIENCE);
+      if (!isPatient) {
+        this.#timer ??= setTimeout(() => this.#restart(), PATIENCE);
+      }
     });
   }
 

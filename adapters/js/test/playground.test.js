@@ -2,19 +2,24 @@
 // The playground, in real browsers and without one.
 
 const assert = require('node:assert/strict');
+const { spawnSync } = require('node:child_process');
+const { createHash } = require('node:crypto');
 const { mkdtempSync, readFileSync, readdirSync, rmSync, writeFileSync } = require('node:fs');
 const { tmpdir } = require('node:os');
 const path = require('node:path');
 const test = require('node:test');
 const { setTimeout: rest } = require('node:timers/promises');
 const { pathToFileURL } = require('node:url');
+const { deflateRawSync } = require('node:zlib');
 const { Program } = require('../module');
 const { moduleBytes } = require('../module-file');
 const { examples, playground } = require('../pack/playground');
 const { Studio } = require('../playground/answer');
+const { formatted } = require('../playground/format');
 const { documentIn, hashOf } = require('../playground/link');
-const { placeOf } = require('../playground/source');
+const { elementAt, placesIn } = require('../playground/places');
 const { verdictOf } = require('../playground/verdict');
+const { Ways } = require('../playground/ways');
 const { Browser, WITH_BROWSER } = require('../testing/browser');
 const { Firefox, WITH_FIREFOX } = require('../testing/firefox');
 const { WITH_MODULE } = require('../testing/module');
@@ -38,6 +43,11 @@ async function started() {
   return new Studio(new Program(await WebAssembly.compile(await moduleBytes())));
 }
 
+test('the editor of the page is what its packages make, where they are here', () => {
+  const { status, stderr } = spawnSync(path.join(__dirname, '..', 'pack', 'editor'), ['--check'], { encoding: 'utf8' });
+  assert.equal(status, 0, stderr);
+});
+
 /** All that the playground tells of a text. */
 async function toldOf(asked) {
   studio ??= started();
@@ -51,7 +61,21 @@ async function toldOf(asked) {
 test('the page needs no network', WITH_MODULE, () => {
   const page = playground();
   assert.match(page, /default-src 'none'/);
-  assert.doesNotMatch(page, /(?:src|href)="(?!data:)/);
+  assert.doesNotMatch(page, /<[^>]*(?:src|href)="(?!data:)/);
+});
+
+test('the page runs no script but its own', WITH_MODULE, () => {
+  const page = playground();
+  const [, script] = /<script>(.*)<\/script>/s.exec(page);
+  const [, sources] = /script-src ([^;]*);/.exec(page);
+  const sum = createHash('sha256').update(script).digest('base64');
+  assert.equal(sources, `'sha256-${sum}' 'wasm-unsafe-eval' blob:`);
+});
+
+test('the page is of one file below 1.4 MB, and names the licence of what it holds', WITH_MODULE, () => {
+  const page = playground();
+  assert.ok(Buffer.byteLength(page) < 1_400_000);
+  assert.match(page, /CodeMirror, MIT License\n\nCopyright \d+ Marijn Haverbeke/);
 });
 
 const OTHERWISE = {
@@ -101,7 +125,7 @@ test('verdicts are told in words', () => {
   }
 });
 
-test('an element of the drawing is found in the text', () => {
+test('elements of the drawing and places in the text lead to one another', () => {
   const text = '{ "id": "r", "edges": [{ "id": 1 }],\n "children": [{ "id": "1", "children": [{ "id": "é" }] }, { "id": 2 }] }';
   const cases = [
     ['node', 'r', 1, '"r"'],
@@ -110,11 +134,61 @@ test('an element of the drawing is found in the text', () => {
     ['node', 'é', 2, '"é"'],
     ['node', '2', 2, '2 }'],
   ];
+  const places = placesIn(text);
   for (const [kind, id, line, words] of cases) {
     const column = text.split('\n')[line - 1].indexOf(words) + 1;
-    assert.deepEqual(placeOf(text, { kind, id }), { line, column }, `${kind} ${id}`);
+    const found = places.find((it) => it.kind === kind && it.id === id);
+    assert.deepEqual([found.line, found.column], [line, column], `${kind} ${id}`);
+    assert.equal(elementAt(places, text.indexOf(words)), found, `${kind} ${id}`);
   }
-  assert.equal(placeOf(text, { kind: 'edge', id: 'none' }), undefined);
+  assert.equal(elementAt(places, text.indexOf(', { "id": 2')).id, 'r');
+  assert.equal(elementAt(places, text.length), undefined);
+  assert.deepEqual(placesIn('{ "id": '), []);
+});
+
+test('a text that is formatted keeps each value as it was written', () => {
+  const text = '{"id":12345678901234567890,"a":[ ],"b":{ },"c":"x{,}\\"","d":1.50e5,"a":[1,{"k":[[]]}]}';
+  const lines = ['{', '  "id": 12345678901234567890,', '  "a": [],', '  "b": {},', '  "c": "x{,}\\"",', '  "d": 1.50e5,'];
+  assert.equal(formatted(text), [...lines, '  "a": [1, { "k": [[]] }]', '}', ''].join('\n'));
+  for (const { text: example } of examples()) {
+    assert.deepEqual(JSON.parse(formatted(example)), JSON.parse(example));
+    assert.equal(formatted(formatted(example)), formatted(example));
+  }
+});
+
+test('undoing leads back to what was done with a text', () => {
+  const ways = new Ways();
+  ways.choose('placed', 3);
+  assert.equal(ways.after(4, false), 'placed');
+  assert.equal(ways.after(2, true), 'layout');
+  assert.equal(ways.after(3, true), 'placed');
+  assert.equal(ways.after(2, true), 'layout');
+  // What is written now stands where the other way began.
+  assert.equal(ways.after(3, false), 'layout');
+});
+
+test('nodes without a size are drawn with that of their text, which is told', WITH_MODULE, async () => {
+  const text = '{ "id": "r",\n "children": [{ "id": "a node of many letters" }, { "id": "b", "height": 50 }, { "id": "c", "width": 9, "height": 9 }] }';
+  const { drawing, notes, verdict } = await toldOf({ text });
+  const [a, b, c] = JSON.parse(drawing.placed).children;
+  assert.ok(a.width > 100 && a.height >= 30, JSON.stringify(a));
+  assert.deepEqual([b.width, b.height, c.width, c.height], [30, 50, 9, 9]);
+  assert.deepEqual(notes, [
+    { message: '2 nodes have no size, so they take the sizes of their texts; write "width" and "height" to choose', line: 2, column: 23 },
+  ]);
+  assert.equal(verdict.line, 'yes');
+});
+
+test('a drawing that was saved here is judged as it was', WITH_MODULE, async () => {
+  for (const id of ['machine', 'buses', 'circuit']) {
+    const { drawing } = await toldOf(examples().find((it) => it.id === id));
+    const { faults, verdict } = await toldOf({ text: formatted(drawing.placed), isPlaced: true });
+    assert.deepEqual([faults, verdict.line], [[], 'yes'], id);
+    const moved = JSON.parse(drawing.placed);
+    moved.children[1].x += 1;
+    const other = await toldOf({ text: JSON.stringify(moved), isPlaced: true });
+    assert.ok(other.faults.length > 0 || !other.verdict.isGood, id);
+  }
 });
 
 test('a link carries any document, compressed or not', async () => {
@@ -136,6 +210,14 @@ test('a link carries any document, compressed or not', async () => {
   }
   assert.equal(await documentIn('#other'), undefined);
   await assert.rejects(documentIn('#z=AAAA'));
+});
+
+/** A link that is short and unpacks to a hundred megabytes. */
+const bomb = () => `#z=${deflateRawSync(Buffer.alloc(100 * 2 ** 20, ' ')).toString('base64url')}`;
+
+test('what a link unpacks to is bounded', async () => {
+  await assert.rejects(documentIn(bomb()), /longer than 1 MiB/);
+  await assert.rejects(hashOf({ text: ' '.repeat(2 ** 20 + 1), isPlaced: false }), /longer than 1 MiB/);
 });
 
 const pair = (layoutOptions = {}) =>
@@ -185,25 +267,32 @@ const verdict = `document.getElementById('verdict').innerText`;
 
 const isDrawn = (id) => `(${texts}).includes('${id}') && !document.body.classList.contains('outdated') && ${verdict} !== ''`;
 
-const selected = `(() => {
-  const { value, selectionStart, selectionEnd } = document.getElementById('text');
-  return value.slice(selectionStart, selectionEnd);
-})()`;
+const mirror = `document.querySelector('.CodeMirror').CodeMirror`;
+
+const selected = `${mirror}.getSelection()`;
+
+const textOfPage = `${mirror}.getValue()`;
+
+const toldWords = `document.getElementById('told').innerText`;
+
+const isHidden = (id) => `document.getElementById('${id}').hidden`;
 
 /** Types a whole document in place of the one that is there. */
 async function typeAll(page, text) {
-  await page.evaluate(`document.getElementById('text').focus(), document.getElementById('text').select()`);
+  await page.evaluate(`${mirror}.focus(), ${mirror}.execCommand('selectAll')`);
   await page.type(text);
 }
 
 /** Puts a long document in, as a paste does. */
-async function putIn(page, text) {
-  await page.evaluate(`(() => {
-    const area = document.getElementById('text');
-    area.value = ${JSON.stringify(text)};
-    area.dispatchEvent(new Event('input'));
-  })()`);
-}
+const putIn = (page, text) => page.evaluate(`${mirror}.setValue(${JSON.stringify(text)})`);
+
+const undo = (page) => page.evaluate(`${mirror}.undo()`);
+
+const choose = (id, value) => `(() => {
+  const it = document.getElementById('${id}');
+  it.value = '${value}';
+  it.dispatchEvent(new Event('change'));
+})()`;
 
 async function savedFile(folder, name) {
   for (const since = Date.now(); Date.now() - since < SECONDS * 1000; ) {
@@ -244,19 +333,8 @@ const CASES = {
     await typeAll(page, pair({ 'elk.direction': 'ASIDE' }));
     const words = await until(page, `document.querySelector('#told button')?.textContent`);
     assert.match(words, /^line 1, column 47: an option of "pair" has a value that is not taken/);
-    const [marks, off] = await page.evaluate(`(() => {
-      const letters = document.createElement('span');
-      letters.textContent = 'x'.repeat(100);
-      document.getElementById('room').append(letters);
-      const letter = letters.getBoundingClientRect().width / 100;
-      letters.remove();
-      const marks = [...document.querySelectorAll('#marks .fault')];
-      const { left, width } = marks[0].style;
-      return [marks.length, Math.max(Math.abs(parseFloat(left) - 8 - 46 * letter), Math.abs(parseFloat(width) - 7 * letter))];
-    })()`);
-    assert.equal(marks, 1);
-    assert.ok(off < 1, `the mark is ${off} pixels off`);
-    assert.equal(await page.evaluate(`document.getElementById('text').getAttribute('aria-invalid')`), 'true');
+    assert.deepEqual(await page.evaluate(`[...document.querySelectorAll('.CodeMirror-line .of-fault')].map((it) => it.innerText)`), ['"ASIDE"']);
+    assert.equal(await page.evaluate(`${mirror}.getInputField().getAttribute('aria-invalid')`), 'true');
     await page.evaluate(`document.querySelector('#told button').click()`);
     assert.equal(await page.evaluate(selected), '"ASIDE"');
     await page.type('"DOWN"');
@@ -301,12 +379,12 @@ const CASES = {
     await page.press('0');
     await until(page, `${viewBox} === '${fitted}'`);
     await page.press('e');
-    assert.match(await until(page, `document.getElementById('edge').textContent`), /^line: a → newer$/);
+    assert.match(await until(page, `document.getElementById('lit').textContent`), /^line: a → newer$/);
     await page.press('Enter');
     assert.equal(await page.evaluate(selected), '"line"');
     await page.evaluate(`document.getElementById('stage').focus()`);
     await page.press('Escape');
-    await until(page, `document.getElementById('edge').textContent === ''`);
+    await until(page, `document.getElementById('lit').textContent === ''`);
   },
 
   'a click on a node leads to its text': async (page) => {
@@ -320,7 +398,7 @@ const CASES = {
   },
 
   'every control has a name': async (page) => {
-    const nameless = await page.evaluate(`[...document.querySelectorAll('button, input, select, textarea, [tabindex], progress')]
+    const nameless = await page.evaluate(`[...document.querySelectorAll('button, input, select, [contenteditable=true], [tabindex]:not([tabindex="-1"]), progress')]
       .filter((it) => !(it.ariaLabel || it.innerText || it.labels?.[0]?.innerText)).map(({ id, outerHTML }) => id || outerHTML)`);
     assert.deepEqual(nameless, []);
     assert.equal(await page.evaluate(`document.querySelector('footer').getAttribute('role')`), 'status');
@@ -343,11 +421,178 @@ const CASES = {
   'a link brings the document back': async (page) => {
     await page.evaluate(click('link'));
     const link = await until(page, `location.hash && location.href`);
-    const text = await page.evaluate(`document.getElementById('text').value`);
+    const text = await page.evaluate(textOfPage);
     await page.open('about:blank');
     await page.open(link);
     await until(page, isDrawn('newer'));
-    assert.equal(await page.evaluate(`document.getElementById('text').value`), text);
+    assert.equal(await page.evaluate(textOfPage), text);
+  },
+
+  'a reload keeps the text, even if a link of a former one was copied': async (page) => {
+    await page.evaluate(click('link'));
+    await until(page, `location.hash`);
+    await putIn(page, pair().replaceAll('"a"', '"kept"'));
+    await until(page, isDrawn('kept'));
+    assert.equal(await page.evaluate(`location.hash`), '');
+    await page.open(await page.evaluate(`location.href`));
+    await until(page, isDrawn('kept'));
+    assert.match(await page.evaluate(textOfPage), /"kept"/);
+  },
+
+  'a word that is dragged within the editor stays a word': async (page) => {
+    const before = await page.evaluate(textOfPage);
+    await page.evaluate(`(() => {
+      const line = document.querySelector('.CodeMirror-line');
+      const { left, top, height } = line.getBoundingClientRect();
+      const dataTransfer = new DataTransfer();
+      dataTransfer.setData('text/plain', ' ');
+      const at = { clientX: left + 5, clientY: top + height / 2, bubbles: true, cancelable: true };
+      for (const kind of ['dragover', 'drop']) {
+        line.dispatchEvent(new DragEvent(kind, { dataTransfer, ...at }));
+      }
+    })()`);
+    const after = await page.evaluate(textOfPage);
+    assert.equal(after.length, before.length + 1);
+    assert.equal(after.replace(' ', ''), before.replace(' ', ''));
+    await until(page, isDrawn('kept'));
+  },
+
+  'undoing comes back over a large example': async (page) => {
+    const before = await page.evaluate(textOfPage);
+    await page.evaluate(choose('examples', 'large'));
+    assert.ok((await page.evaluate(textOfPage)).length > 100_000);
+    await undo(page);
+    assert.equal(await page.evaluate(textOfPage), before);
+    await until(page, isDrawn('kept'));
+  },
+
+  'undoing out of a placed document lays out again': async (page) => {
+    await page.evaluate(choose('examples', 'overlap'));
+    await until(page, `${verdict}.startsWith('check: no')`);
+    const way = `document.getElementById('way').value`;
+    assert.equal(await page.evaluate(way), 'placed');
+    await undo(page);
+    assert.equal(await page.evaluate(way), 'layout');
+    await until(page, isDrawn('kept'));
+  },
+
+  'what is told of a text goes with it': async (page) => {
+    await putIn(page, pair());
+    await until(page, isDrawn('a'));
+    await page.evaluate(`${mirror}.replaceRange(' ', { line: 0, ch: 1 })`);
+    assert.equal(await page.evaluate(isHidden('verdict')), true);
+    await putIn(page, pair({ 'elk.direction': 'ASIDE' }));
+    await until(page, `!${isHidden('told')}`);
+    await putIn(page, slow());
+    assert.equal(await page.evaluate(`document.getElementById('told').inert`), true);
+    await until(page, `!${isHidden('busy')}`);
+    await page.evaluate(click('stop'));
+    assert.deepEqual(await page.evaluate(`[${isHidden('told')}, ${isHidden('verdict')}]`), [true, true]);
+  },
+
+  'the classes of a document mean nothing to the page': async (page) => {
+    const styled = (element, names) => ({ ...element, style: { class: names, stroke: '#112233' } });
+    const { children: [a, b], edges: [line], ...root } = JSON.parse(pair());
+    const children = [styled(a, 'target lit edge'), styled(b, 'moving')];
+    await putIn(page, JSON.stringify({ ...root, children, edges: [styled(line, 'node lighting')] }));
+    await until(page, isDrawn('a'));
+    const [strokes, titles] = await page.evaluate(`(() => {
+      const all = [...document.getElementById('picture').shadowRoot.querySelectorAll('[data-id=a], [data-id=b], [data-id=line]')];
+      return [all.map((it) => getComputedStyle(it).stroke), all.map((it) => getComputedStyle(it).opacity)];
+    })()`);
+    assert.deepEqual([strokes, titles], [Array(3).fill('rgb(17, 34, 51)'), ['1', '1', '1']]);
+    await page.evaluate(`document.getElementById('stage').focus()`);
+    for (let press = 0; press < 2; press += 1) {
+      await page.press('e');
+      assert.equal(await until(page, `document.getElementById('lit').textContent`), 'line: a → b');
+    }
+    await page.press('Escape');
+  },
+
+  'keys reach nodes': async (page) => {
+    await page.evaluate(`document.getElementById('stage').focus()`);
+    await page.press('n');
+    await page.press('n');
+    assert.equal(await until(page, `document.getElementById('lit').textContent`), 'b');
+    await page.press('Enter');
+    assert.equal(await page.evaluate(selected), '"b"');
+  },
+
+  'arrows come and go without a layout': async (page) => {
+    await page.evaluate(`(() => {
+      const { postMessage } = Worker.prototype;
+      window.asked = [];
+      Worker.prototype.postMessage = function (message) {
+        window.asked.push(message.kind);
+        return postMessage.call(this, message);
+      };
+    })()`);
+    const heads = `document.getElementById('picture').shadowRoot.querySelectorAll('g[data-id] path[stroke="none"]').length`;
+    for (const count of [0, 1]) {
+      await page.evaluate(click('arrows'));
+      await until(page, `${heads} === ${count}`);
+    }
+    assert.deepEqual(await page.evaluate('window.asked'), ['picture', 'picture']);
+  },
+
+  'a document that is nested too deep is told so': async (page) => {
+    const nested = (open, close) => `{"id":"r","width":9,"height":9,${open.repeat(3000)}${close.repeat(3000)}}`;
+    const cases = [nested('"children":[{"id":"a",', '"x":0}]').replaceAll(',"x"', ',"x"'), `{"id":"r","width":9,"height":9,"data":${'['.repeat(3000)}${']'.repeat(3000)}}`];
+    for (const way of ['layout', 'placed']) {
+      for (const text of cases) {
+        await putIn(page, text);
+        await page.evaluate(choose('way', way));
+        await until(page, `!document.getElementById('told').inert && /nested|drawing keeps/.test(${toldWords} + ${verdict} + document.getElementById('status').innerText)`);
+        assert.doesNotMatch(await page.evaluate(toldWords), /stack|recursion|could not be done/i);
+      }
+    }
+    await page.evaluate(choose('way', 'layout'));
+  },
+
+  'formatting changes no number': async (page) => {
+    await putIn(page, pair().replace('"pair"', '12345678901234567890'));
+    await page.evaluate(click('format'));
+    assert.match(await page.evaluate(textOfPage), /^\{\n  "id": 12345678901234567890,\n/);
+  },
+
+  'the border is wide enough to be met': async (page) => {
+    const width = await page.evaluate(`(() => {
+      const { left, right, top, height } = document.getElementById('border').getBoundingClientRect();
+      let count = 0;
+      for (let x = left - 30; x < right + 30; x += 1) {
+        count += document.elementFromPoint(x + 0.5, top + height / 2).id === 'border' ? 1 : 0;
+      }
+      return count;
+    })()`);
+    assert.ok(width >= 24, `${width} pixels`);
+  },
+
+  'a broken link is told, and nothing is drawn in its place': async (page) => {
+    await page.open('about:blank');
+    await page.open(`${address}#z=AAAA`);
+    await until(page, `!${isHidden('told')}`);
+    assert.match(await page.evaluate(toldWords), /^The link carries no document that can be read/);
+    assert.deepEqual(await page.evaluate(`[${textOfPage}, ${isHidden('verdict')}]`), ['', true]);
+  },
+
+  'a link that unpacks to very much is refused, and the page stays free': async (page) => {
+    await page.open('about:blank');
+    await page.open(`${address}${bomb()}`);
+    await until(page, `!${isHidden('told')}`);
+    assert.match(await page.evaluate(toldWords), /longer than 1 MiB/);
+  },
+
+  'text and drawing are seen at a zoom of 400%': async (page) => {
+    await page.resize(320, 200);
+    const heights = await page.evaluate(`['editor', 'stage'].map((id) => {
+      const it = document.getElementById(id);
+      it.scrollIntoView();
+      const { top, bottom } = it.getBoundingClientRect();
+      return Math.min(bottom, innerHeight) - Math.max(top, 0);
+    })`);
+    assert.ok(Math.min(...heights) >= 100, heights.join());
+    assert.ok(await page.evaluate('document.documentElement.scrollWidth <= innerWidth'));
+    await page.resize(1280, 800);
   },
 };
 
@@ -370,7 +615,7 @@ const BROWSERS = {
 };
 
 for (const [name, { skip, start }] of Object.entries(BROWSERS)) {
-  test(`the playground in ${name}`, { skip: skip || WITH_MODULE.skip, timeout: 240_000 }, async (t) => {
+  test(`the playground in ${name}`, { skip: skip || WITH_MODULE.skip, timeout: 480_000 }, async (t) => {
     const folder = mkdtempSync(path.join(room, 'saved-'));
     const { page, close } = await start(folder);
     try {
