@@ -8,6 +8,7 @@ const { Refusal } = require('../refusals');
 const { runText } = require('../run-text');
 const { replyTo } = require('../server');
 const { toSvg } = require('../svg');
+const { chosenIn } = require('./choices');
 const { placesIn } = require('./places');
 const { replyOf } = require('./redrawn');
 const { giveSizes } = require('./sizes');
@@ -118,7 +119,7 @@ class Studio {
     tell({ phase: 'drawing' });
     tell({ drawing: { ...said, seconds, ...drawn(placed, look), placed: JSON.stringify(placed) } });
     const places = placesIn(text);
-    tell({ places });
+    tell({ places, chosen: chosenIn(JSON.parse(text)) });
     tell({ phase: 'checking' });
     // The engine has drawn what the adapter made of the document, and that is judged.
     return { ...said, notes: notesOn(sized, places), verdict: this.#judged(engine.reply) };
@@ -132,7 +133,7 @@ class Studio {
     if (value) {
       tell({ phase: 'drawing' });
       tell({ drawing: { ...said, ...drawn(value, look), placed: text } });
-      tell({ places: placesIn(text) });
+      tell({ places: placesIn(text), chosen: {} });
     }
     tell({ phase: 'checking' });
     if (faults.length === 0) {
@@ -140,6 +141,16 @@ class Studio {
     }
     const reply = value && isOfAdapter(value, faults) ? await this.#replyOf(text, value) : undefined;
     return reply ? { ...told({ faults: [], warnings: [] }), notes: [{ message: BY_ADAPTER }], verdict: this.#judged(reply) } : said;
+  }
+
+  /** The picture of a document without a fault alone; undefined where there is none. */
+  async sketch({ text, isPlaced, look }) {
+    if (isPlaced) {
+      return toSvg(JSON.parse(text), look);
+    }
+    const { faults } = lint(text, { call: HOW });
+    const drawing = faults.length > 0 ? undefined : await laidOut(JSON.parse(text), HOW, new Engine(this.#program));
+    return drawing && toSvg(drawing.placed, look);
   }
 
   /** What the engine wrote for a drawing that the adapter made; nothing where it is no such drawing. */
@@ -153,8 +164,8 @@ class Studio {
    * @param {string} asked.text a document, as a call of the adapter takes it
    * @param {boolean} [asked.isPlaced] whether it is to be judged as it is placed, and not laid out
    * @param {object} asked.look the options of the picture
-   * @param {(news: { phase: string } | { drawing: object } | { places: object[] }) => void} [tell] is told what is done
-   *   next, what is drawn, and where in the text its elements stand
+   * @param {(news: { phase: string } | { drawing: object } | { places: object[], chosen: object }) => void} [tell] is told
+   *   what is done next, what is drawn, where in the text its elements stand, and the options that have a control
    * @returns {Promise<object>} the faults, the warnings, the notes, and the verdict on a drawing without a fault
    */
   async answer({ text, isPlaced = false, look }, tell = () => {}) {

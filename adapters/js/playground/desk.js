@@ -49,7 +49,7 @@ class Desk {
   /** Ends what is under way, and what waits. */
   stop() {
     const requests = [this.#current, this.#waiting].filter(Boolean);
-    this.#end();
+    this.end();
     this.#waiting = undefined;
     requests.forEach(({ reject }) => reject(new Stopped('stopped')));
     this.prepare();
@@ -57,7 +57,7 @@ class Desk {
 
   #restart() {
     const [current, waiting] = [this.#current, this.#waiting];
-    this.#end();
+    this.end();
     this.#waiting = undefined;
     current?.reject(new Stopped('a newer request came'));
     if (waiting) {
@@ -65,7 +65,8 @@ class Desk {
     }
   }
 
-  #end() {
+  /** Ends the worker; the next request starts another. */
+  end() {
     clearTimeout(this.#timer);
     this.#timer = undefined;
     this.#current = undefined;
@@ -94,7 +95,7 @@ class Desk {
 
   #fail(why) {
     const requests = [this.#current, this.#waiting].filter(Boolean);
-    this.#end();
+    this.end();
     this.#waiting = undefined;
     requests.forEach(({ reject }) => reject(new Error(`the worker ended: ${why}`)));
   }

@@ -23,8 +23,22 @@ const LOOK = {
   inputStyle: 'contenteditable',
   spellcheck: false,
   // The key leads on to the next control, as everywhere in a page.
-  extraKeys: { Tab: false, 'Shift-Tab': false },
+  extraKeys: { Tab: false, 'Shift-Tab': false, 'Ctrl-Space': (mirror) => mirror.showHint() },
 };
+
+// What is written when words are offered without being asked for.
+const WRITTEN = /^["\w.]$/;
+
+/** Words as the editor offers them: each with what is to be known of it. */
+function offered(mirror, { from, to, list }) {
+  const [start, end] = [from, to].map((at) => mirror.posFromIndex(at));
+  const render = (host, _, { displayText, help }) => {
+    const about = document.createElement('small');
+    about.textContent = help;
+    host.append(displayText, about);
+  };
+  return { from: start, to: end, list: list.map(({ text, help }) => ({ text, displayText: text.replace(/: $/, ''), help, render })) };
+}
 
 class Editor {
   #mirror;
@@ -37,12 +51,26 @@ class Editor {
    * @param {object} listener
    * @param {string} listener.label the name of the editor
    * @param {(isUndone: boolean) => void} listener.onChange is told of each change, and whether it was undone or redone
-   * @param {() => void} listener.onCaret is told when the caret moves without a change
+   * @param {() => void} listener.onCaret is told when the caret moves
+   * @param {(isAsked: boolean) => object | undefined} listener.complete tells what can be written at the caret, as
+   *   `completionAt` does; where it wasn't asked for, it may tell nothing
    */
-  constructor(host, { label, onChange, onCaret }) {
-    this.#mirror = CodeMirror(host, { ...LOOK, screenReaderLabel: label });
-    this.#mirror.on('changes', (_, changes) => {
+  constructor(host, { label, onChange, onCaret, complete }) {
+    const hint = (mirror, { isAsked = true }) => {
+      const words = complete(isAsked);
+      return words && offered(mirror, words);
+    };
+    this.#mirror = CodeMirror(host, { ...LOOK, screenReaderLabel: label, hintOptions: { hint, completeSingle: false } });
+    this.#mirror.on('inputRead', (mirror, { text }) => {
+      if (text.length === 1 && WRITTEN.test(text[0]) && !mirror.state.completionActive) {
+        mirror.showHint({ isAsked: false });
+      }
+    });
+    // Before it is told that the caret has moved.
+    this.#mirror.on('change', () => {
       this.#text = undefined;
+    });
+    this.#mirror.on('changes', (_, changes) => {
       this.tell([]);
       onChange(changes.some(({ origin }) => origin === 'undo' || origin === 'redo'));
     });

@@ -4,19 +4,25 @@
 const packed = require('../page/packed');
 const { watch } = require('./bar');
 const { hearBorder } = require('./border');
+const { withOption } = require('./choices');
+const { completionAt, helpAt } = require('./completion');
+const { Controls } = require('./controls');
 const { Desk, Stopped } = require('./desk');
 const { hearDrops } = require('./drops');
 const { Editor } = require('./editor');
 const EXAMPLES = require('./texts');
 const { formatted } = require('./format');
+const { Gallery } = require('./gallery');
 const { keepText, keptText } = require('./kept');
 const { largeText } = require('./large');
 const { hashOf } = require('./link');
 const { elementAt } = require('./places');
 const { copied, pngOf, save } = require('./save');
 const script = require('./script');
+const { Search } = require('./search');
 const { Themes } = require('./themes');
 const { Told, linesOf, many, summaryOf } = require('./told');
+const { Tour } = require('./tour');
 const { View } = require('./view');
 const { Ways } = require('./ways');
 
@@ -25,7 +31,7 @@ const REST = 60;
 const LONG_REST = 250;
 const LONG_TEXT = 100_000;
 
-const LARGE = [['large', 'A graph of 2,000 nodes', 2000]];
+const LARGE = { id: 'large', title: 'A graph of 2,000 nodes', nodes: 2000 };
 
 const find = (id) => document.getElementById(id);
 
@@ -74,7 +80,21 @@ const view = new View(find('stage'), find('picture'), {
   onChoice: seek,
 });
 
-const editor = new Editor(find('editor'), { label: 'Document, as text of JSON', onChange: changed, onCaret: pointed });
+const editor = new Editor(find('editor'), {
+  label: 'Document, as text of JSON',
+  onChange: changed,
+  onCaret: pointed,
+  complete,
+});
+
+const isLong = () => editor.text.length > LONG_TEXT;
+
+const idsOfNodes = () => places.slice(1).filter(({ kind }) => kind === 'node').map(({ id }) => id);
+
+/** What can be written at the caret; of a long text only if that is asked for, and of others unasked only options. */
+function complete(isAsked) {
+  return isAsked || !isLong() ? completionAt(editor.text, editor.caret, idsOfNodes()) : undefined;
+}
 
 const told = new Told(find('told'), {
   onPlace: (place) => editor.goTo(place),
@@ -89,8 +109,42 @@ const themes = new Themes(find('theme'), (isDark) => {
   view.isDark = isDark;
 });
 
-/** Marks the element of the drawing in whose text the caret stands. */
+const controls = new Controls(find('choices'), (name, value) => {
+  try {
+    const change = withOption(editor.text, name, value);
+    if (change) {
+      editor.change(change);
+    }
+  } catch {
+    say('An option is written into a document of JSON: mend its faults first.');
+  }
+});
+
+const gallery = new Gallery(find('gallery'), find('cards'), {
+  examples: [...EXAMPLES, LARGE],
+  withoutPicture: 'open it to see',
+  onChoice: ({ text = largeText(LARGE.nodes), isPlaced }) => open({ text, isPlaced }),
+  sketch,
+});
+
+const tour = new Tour(
+  {
+    ...{ tour: find('tour'), count: find('tour-count'), title: find('tour-title'), words: find('tour-words') },
+    ...{ back: find('tour-back'), next: find('tour-next'), close: find('tour-close') },
+  },
+  (text) => open({ text }),
+);
+
+new Search(find('sought'), () => (isCurrent ? places : []), (node, words) => {
+  find('found').textContent = words;
+  if (node) {
+    view.reveal(node);
+  }
+});
+
+/** Tells of the option at the caret, and marks the element of the drawing in whose text the caret stands. */
 function pointed() {
+  find('help').textContent = isLong() ? '' : helpAt(editor.text, editor.caret);
   if (isCurrent) {
     const element = editor.hasFocus ? elementAt(places, editor.caret) : undefined;
     view.point(element);
@@ -100,13 +154,13 @@ function pointed() {
 function changed(isUndone) {
   isCurrent = false;
   find('way').value = ways.after(editor.depth, isUndone);
-  find('examples').value = '';
+  controls.isOff = isPlaced();
   told.age();
   tellVerdict(undefined);
   forgetLink();
   enable();
   clearTimeout(pause);
-  pause = setTimeout(draw, editor.text.length > LONG_TEXT ? LONG_REST : REST);
+  pause = setTimeout(draw, isLong() ? LONG_REST : REST);
 }
 
 function enable() {
@@ -183,6 +237,7 @@ async function draw() {
       takeDrawing(drawing);
     } else if (isAsked()) {
       places = news.places;
+      controls.show(news.chosen);
       pointed();
     }
   };
@@ -240,18 +295,18 @@ async function redraw() {
 }
 
 /** Puts another document in the place of the text, which may be one of the examples. */
-function open({ text, isPlaced: isToBeJudged = false, id = '' }) {
+function open({ text, isPlaced: isToBeJudged = false }) {
   view.clear();
   shown = undefined;
   editor.replace(text);
   choose(isToBeJudged ? 'placed' : 'layout');
   forgetTold();
-  find('examples').value = id;
   draw();
 }
 
 function choose(way) {
   find('way').value = way;
+  controls.isOff = way === 'placed';
   ways.choose(way, editor.depth);
 }
 
@@ -340,21 +395,21 @@ async function readLink() {
   }
 }
 
-function offerExamples() {
-  const options = [...EXAMPLES.map(({ id, title }) => [id, title]), ...LARGE];
-  find('examples').append(...options.map(([id, title]) => new Option(title, id)));
+let sketches;
+
+/** The picture of an example, drawn beside what goes on with the text. */
+async function sketch({ text, isPlaced: isJudged }, theme) {
+  sketches ??= new Desk(workerOfPage);
+  const { svg } = await sketches.ask({ kind: 'sketch', text, isPlaced: isJudged, look: { arrows: true, theme } });
+  return svg;
 }
 
-function openExample(id) {
-  const [, , nodes] = LARGE.find(([it]) => it === id) ?? [];
-  const example = EXAMPLES.find((it) => it.id === id);
-  if (nodes ?? example) {
-    open(example ?? { id, text: largeText(nodes) });
-  }
+async function openGallery() {
+  await gallery.open(themes.isDark ? 'dark' : 'light');
+  sketches?.end();
 }
 
 function hearControls() {
-  find('examples').addEventListener('change', ({ target }) => openExample(target.value));
   find('way').addEventListener('change', ({ target }) => {
     choose(target.value);
     isCurrent = false;
@@ -366,6 +421,7 @@ function hearControls() {
     target.value = '';
   });
   Object.entries({
+    ...{ examples: openGallery, newcomers: () => tour.begin(), leave: () => find('gallery').close() },
     ...{ format, stop, link: copyLink, fit: () => view.fit(), in: () => view.zoom(1.25), out: () => view.zoom(0.8) },
     ...{ svg: () => saveAs('svg'), png: () => saveAs('png'), json: () => saveAs('json') },
   }).forEach(([id, act]) => find(id).addEventListener('click', act));
@@ -393,7 +449,6 @@ async function begin() {
 
 async function start() {
   desk.prepare();
-  offerExamples();
   hearControls();
   hearDrops(find('editor'), { onFile: openFile, onText: (text) => open({ text }) });
   hearBorder(find('border'), find('panes'));

@@ -15,6 +15,7 @@ studio.catch(() => {});
 const ANSWERS = {
   answer: async (asked, tell) => (await studio).answer(asked, tell),
   picture: async ({ placed, look }) => ({ svg: pictureOf(placed, look) }),
+  sketch: async (asked) => ({ svg: await (await studio).sketch(asked) }),
   unpack: async ({ hash }) => ({ given: await documentIn(hash) }),
 };
 

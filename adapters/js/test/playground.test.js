@@ -15,9 +15,12 @@ const { Program } = require('../module');
 const { moduleBytes } = require('../module-file');
 const { examples, playground } = require('../pack/playground');
 const { Studio } = require('../playground/answer');
+const { withOption } = require('../playground/choices');
+const { completionAt, helpAt } = require('../playground/completion');
 const { formatted } = require('../playground/format');
 const { documentIn, hashOf } = require('../playground/link');
 const { elementAt, placesIn } = require('../playground/places');
+const { STEPS } = require('../playground/tour');
 const { verdictOf } = require('../playground/verdict');
 const { Ways } = require('../playground/ways');
 const { Browser, WITH_BROWSER } = require('../testing/browser');
@@ -156,6 +159,62 @@ test('a text that is formatted keeps each value as it was written', () => {
   }
 });
 
+const COMPLETED = [
+  ['{ "layoutOptions": { "DIR| } }', ['"elk.direction": '], /^$/],
+  ['{ "layoutOptions": { "direction": "u|" } }', ['"UP"', '"UNDEFINED"'], /^elk\.direction: UNDEFINED, RIGHT, LEFT, DOWN, UP; default RIGHT$/],
+  ['{ "layoutOptions": { "elk.effort|": 3 } }', ['"elk.layered.effort"'], /^$/],
+  ['{ "layoutOptions": { "elk.layered.effort": |', ['7'], /^elk\.layered\.effort: whole, 1 to 1,000; default 7$/],
+  ['{ "layoutOptions": { "separateConnectedComponents": |', ['true', 'false'], /default false/],
+  ['{ "children": [{ "ports": [{ "layoutOptions": { "|" } }] }] }', ['"elk.port.side": ', '"elk.port.index": '], /^$/],
+  ['{ "children": [{ "wid|" }] }', ['"width": '], /^$/],
+  ['{ "edges": [{ "sources": ["|"] }] }', ['"a"', '"b"'], /^$/],
+  ['{ "edges": [{ "id": "|" }] }', [], /^$/],
+];
+
+test('what can be written at a place is told', () => {
+  for (const [given, words, help] of COMPLETED) {
+    const [before, after] = given.split('|');
+    const { from, to, list } = completionAt(before + after, before.length, ['a', 'b']);
+    const texts = list.map(({ text }) => text);
+    assert.deepEqual(words.length > 0 ? texts.filter((text) => words.includes(text)).sort() : texts, [...words].sort(), given);
+    assert.ok(from <= before.length && before.length <= to, given);
+    assert.match(helpAt(before + after, before.length), help, given);
+  }
+});
+
+const WRITTEN = [
+  ['{}', '{ "layoutOptions": { "elk.direction": "DOWN" } }'],
+  ['{ "id": 1 }', '{ "layoutOptions": { "elk.direction": "DOWN" }, "id": 1 }'],
+  ['{\n  "id": 1\n}', '{\n  "layoutOptions": { "elk.direction": "DOWN" },\n  "id": 1\n}'],
+  ['{"layoutOptions":{"org.eclipse.elk.direction":"UP","a":1}}', '{"layoutOptions":{"org.eclipse.elk.direction":"DOWN","a":1}}'],
+  ['{\n  "layoutOptions": {\n    "a": 1\n  }\n}', '{\n  "layoutOptions": {\n    "elk.direction": "DOWN",\n    "a": 1\n  }\n}'],
+  ['{ "layoutOptions": {} }', '{ "layoutOptions": { "elk.direction": "DOWN" } }'],
+];
+
+const changed = (text, { from, to, text: words }) => text.slice(0, from) + words + text.slice(to);
+
+test('an option is written into a text, and taken out of it', () => {
+  for (const [text, expected] of WRITTEN) {
+    const made = changed(text, withOption(text, 'direction', 'DOWN'));
+    assert.equal(made, expected);
+    const { layoutOptions = {}, ...rest } = JSON.parse(text);
+    const { layoutOptions: left, ...other } = JSON.parse(changed(made, withOption(made, 'direction', undefined)));
+    delete layoutOptions['org.eclipse.elk.direction'];
+    assert.deepEqual([left, other], [layoutOptions, rest], text);
+  }
+  assert.equal(withOption('[]', 'direction', 'UP'), undefined);
+  assert.equal(withOption('{ "layoutOptions": { "a": 1 } }', 'direction', undefined), undefined);
+});
+
+test('the tour has five steps, of which the last alone has faults, and all are mended by buttons', WITH_MODULE, async () => {
+  assert.equal(STEPS.length, 5);
+  for (const [at, { text }] of STEPS.entries()) {
+    const { faults, warnings, verdict } = await toldOf({ text });
+    assert.deepEqual([faults.map(({ mend }) => mend), warnings], [at === 4 ? ['"DOWN"', '"writer"'] : [], []], STEPS[at].title);
+    assert.equal(verdict?.line, at === 4 ? undefined : 'yes');
+  }
+});
+
 test('undoing leads back to what was done with a text', () => {
   const ways = new Ways();
   ways.choose('placed', 3);
@@ -288,6 +347,8 @@ const putIn = (page, text) => page.evaluate(`${mirror}.setValue(${JSON.stringify
 
 const undo = (page) => page.evaluate(`${mirror}.undo()`);
 
+const openExample = (id) => `document.querySelector('#cards [data-id=${id}]').click()`;
+
 const choose = (id, value) => `(() => {
   const it = document.getElementById('${id}');
   it.value = '${value}';
@@ -312,12 +373,10 @@ const PNG = Buffer.from('89504e470d0a1a0a', 'hex');
 const CASES = {
   'a text is drawn and judged as it is typed': async (page) => {
     await until(page, isDrawn('source'));
-    assert.equal(await page.evaluate(`document.getElementById('examples').value`), 'diagram');
     await typeAll(page, pair());
     await until(page, isDrawn('a'));
     assert.equal(await page.evaluate(verdict), 'check: yes, the drawing keeps all rules');
     assert.deepEqual(await page.evaluate(texts), ['a', 'b']);
-    assert.equal(await page.evaluate(`document.getElementById('examples').value`), '');
   },
 
   'the drawing has arrow heads where that is asked for': async (page) => {
@@ -459,7 +518,7 @@ const CASES = {
 
   'undoing comes back over a large example': async (page) => {
     const before = await page.evaluate(textOfPage);
-    await page.evaluate(choose('examples', 'large'));
+    await page.evaluate(openExample('large'));
     assert.ok((await page.evaluate(textOfPage)).length > 100_000);
     await undo(page);
     assert.equal(await page.evaluate(textOfPage), before);
@@ -467,7 +526,7 @@ const CASES = {
   },
 
   'undoing out of a placed document lays out again': async (page) => {
-    await page.evaluate(choose('examples', 'overlap'));
+    await page.evaluate(openExample('overlap'));
     await until(page, `${verdict}.startsWith('check: no')`);
     const way = `document.getElementById('way').value`;
     assert.equal(await page.evaluate(way), 'placed');
@@ -565,6 +624,117 @@ const CASES = {
       return count;
     })()`);
     assert.ok(width >= 24, `${width} pixels`);
+  },
+
+  'options are offered where they are written': async (page) => {
+    await putIn(page, '{ "id": "r", "layoutOptions": {  } }');
+    await page.evaluate(`${mirror}.focus(), ${mirror}.setCursor(0, 32), ${mirror}.showHint()`);
+    const offered = `[...document.querySelectorAll('.CodeMirror-hint')].map((it) => it.innerText)`;
+    assert.ok((await until(page, `(${offered}).length > 20 && ${offered}`)).some((it) => /^"elk\.direction"\s+elk\.direction: .*default RIGHT$/.test(it)));
+    await page.evaluate(`[...document.querySelectorAll('.CodeMirror-hint')].find((it) => it.innerText.startsWith('"elk.direction"')).click()`);
+    assert.equal(await page.evaluate(textOfPage), '{ "id": "r", "layoutOptions": { "elk.direction":  } }');
+    await until(page, `document.getElementById('help').textContent.startsWith('elk.direction: ')`);
+  },
+
+  'controls write options into the text, and show those that are there': async (page) => {
+    await putIn(page, pair());
+    await until(page, isDrawn('a'));
+    const control = (name) => `document.querySelector('#choices [data-option="${name}"]')`;
+    const change = (name, value) => `(() => {
+      const it = ${control(name)};
+      it.value = '${value}';
+      it.dispatchEvent(new Event('change'));
+    })()`;
+    await page.evaluate(change('direction', 'DOWN'));
+    await until(page, isDrawn('a'));
+    await page.evaluate(change('spacing.nodeNode', '55'));
+    await until(page, isDrawn('a'));
+    const { layoutOptions } = JSON.parse(await page.evaluate(textOfPage));
+    assert.deepEqual(layoutOptions, { 'elk.spacing.nodeNode': 55, 'elk.direction': 'DOWN' });
+    await putIn(page, pair({ 'elk.direction': 'left' }));
+    await until(page, `${control('direction')}.value === 'LEFT' && ${control('spacing.nodeNode')}.value === ''`);
+  },
+
+  'the gallery has a picture of each example without a fault': async (page) => {
+    await page.evaluate(click('examples'));
+    const count = examples().length - 1;
+    await until(page, `document.querySelectorAll('#cards svg').length === ${count}`);
+    await page.evaluate(openExample('machine'));
+    assert.equal(await page.evaluate(`document.getElementById('gallery').open`), false);
+    await until(page, isDrawn('idle'));
+  },
+
+  'the caret marks its element in the drawing': async (page) => {
+    const marked = `document.getElementById('picture').shadowRoot.querySelector('[data-marked]')?.dataset.id`;
+    for (const [words, id] of [['"busy", "width"', 'busy'], ['"reset", "sources"', 'reset']]) {
+      const at = (await page.evaluate(textOfPage)).indexOf(words);
+      await page.evaluate(`${mirror}.focus(), ${mirror}.setCursor(${mirror}.posFromIndex(${at}))`);
+      await until(page, `${marked} === '${id}'`);
+    }
+  },
+
+  'a node is found by its id or its text': async (page) => {
+    await page.evaluate(`(() => {
+      const field = document.getElementById('sought');
+      field.value = 'ON';
+      field.dispatchEvent(new Event('input'));
+    })()`);
+    await until(page, `document.getElementById('found').textContent === '1 of 2'`);
+    assert.equal(await page.evaluate(`document.getElementById('lit').textContent`), 'start');
+    await page.evaluate(`document.getElementById('sought').focus()`);
+    await page.press('Enter');
+    await until(page, `document.getElementById('lit').textContent === 'done'`);
+    await page.evaluate(click('fit'));
+  },
+
+  'what was meant is written by one click': async (page) => {
+    await putIn(page, pair({ 'elk.directon': 'DOWN' }).replace('["b"]', '["B"]'));
+    for (const words of ['Write "elk.direction"', 'Write "b"']) {
+      await until(page, `!document.getElementById('told').inert && document.querySelectorAll('#told .mend').length > 0`);
+      await page.evaluate(`[...document.querySelectorAll('#told .mend')].find((it) => it.innerText === '${words}').click()`);
+    }
+    await until(page, isDrawn('a'));
+    assert.equal(await page.evaluate(textOfPage), pair({ 'elk.direction': 'DOWN' }));
+  },
+
+  'the theme is chosen, and kept': async (page) => {
+    const colours = `[getComputedStyle(document.body).backgroundColor, getComputedStyle(document.getElementById('picture').shadowRoot.querySelector('svg > rect')).fill]`;
+    await page.evaluate(choose('theme', 'dark'));
+    assert.deepEqual(await page.evaluate(colours), ['rgb(22, 32, 43)', 'rgb(22, 32, 43)']);
+    await page.open(await page.evaluate('location.href'));
+    await until(page, isDrawn('a'));
+    assert.deepEqual(await page.evaluate(colours), ['rgb(22, 32, 43)', 'rgb(22, 32, 43)']);
+    await page.evaluate(choose('theme', 'auto'));
+  },
+
+  'paper gets the whole drawing': async (page) => {
+    const fitted = await page.evaluate(viewBox);
+    await page.evaluate(click('in'));
+    await until(page, `${viewBox} !== '${fitted}'`);
+    const zoomed = await page.evaluate(viewBox);
+    const [x, y, width, height] = (await page.evaluate(`(dispatchEvent(new Event('beforeprint')), ${viewBox})`)).split(' ').map(Number);
+    assert.ok(x === -8 && y === -8 && width > 0 && height > 0);
+    assert.equal(await page.evaluate(`(dispatchEvent(new Event('afterprint')), ${viewBox})`), zoomed);
+  },
+
+  'texts that are too small to be read are not drawn': async (page) => {
+    const shownTexts = `[...document.getElementById('picture').shadowRoot.querySelectorAll('text')].filter((it) => getComputedStyle(it).display !== 'none').length`;
+    assert.equal(await page.evaluate(shownTexts), 2);
+    await page.evaluate(openExample('large'));
+    await until(page, isDrawn('n7'));
+    assert.equal(await page.evaluate(shownTexts), 0);
+    await undo(page);
+    await until(page, isDrawn('a'));
+    assert.equal(await page.evaluate(shownTexts), 2);
+  },
+
+  'the tour leads through five documents': async (page) => {
+    await page.evaluate(click('newcomers'));
+    for (const id of ['first', 'second', 'third', 'fourth', 'fifth']) {
+      assert.match(await page.evaluate(textOfPage), new RegExp(`"id": "${id}"`));
+      await page.evaluate(click('tour-next'));
+    }
+    assert.equal(await page.evaluate(isHidden('tour')), true);
   },
 
   'a broken link is told, and nothing is drawn in its place': async (page) => {
