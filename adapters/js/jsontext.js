@@ -86,7 +86,19 @@ class Reader {
     this.#isStrict = isStrict;
   }
 
+  /** Reads the text; where no more can stand in one another on this stack, that is as deep as it may be. */
   document() {
+    try {
+      return this.#document();
+    } catch (error) {
+      if (error instanceof RangeError || error.name === 'InternalError') {
+        this.#fail('deep');
+      }
+      throw error;
+    }
+  }
+
+  #document() {
     if (this.#text.startsWith('\ufeff')) {
       this.#fail('mark');
     }

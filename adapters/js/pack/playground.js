@@ -1,12 +1,14 @@
 'use strict';
 // The playground as one file, which needs no network: the page, its worker, and the module within.
 
+const { createHash } = require('node:crypto');
 const { readFileSync } = require('node:fs');
 const path = require('node:path');
 const { packedModule } = require('../module-file');
 const { bundle } = require('./bundle');
 
 const SOURCES = path.join(__dirname, '..', 'playground');
+const VENDOR = path.join(SOURCES, 'vendor');
 const EXAMPLES = path.join(__dirname, '..', '..', '..', 'examples');
 
 const HOLE = '@MODULE@';
@@ -43,14 +45,22 @@ function pageScript() {
   });
 }
 
+/** The licence of the editor, as a comment. */
+const licence = () => `/*\n${read(VENDOR, 'LICENSE')}*/\n`;
+
+const styles = () => [read(VENDOR, 'codemirror.css'), read(SOURCES, 'style.css')].map((text) => text.trim()).join('\n');
+
+/** The policy by which a browser runs this very script of the page and no other. */
+const sourceOf = (script) => `'sha256-${createHash('sha256').update(script).digest('base64')}'`;
+
 /** The text of the page. */
 function playground() {
-  const script = pageScript();
+  const script = `\n'use strict';\n${licence()}${pageScript()}\n`;
   if (/<\/script|<!--/i.test(script)) {
     throw new Error('a module of the playground has what ends a script in a page');
   }
-  const [style] = [read(SOURCES, 'style.css').trim()];
-  return read(SOURCES, 'page.html').replace('@STYLE@', () => style).replace('@SCRIPT@', () => script);
+  const holes = { STYLE: styles(), SCRIPT: script, SOURCE: sourceOf(script) };
+  return read(SOURCES, 'page.html').replace(/@(STYLE|SCRIPT|SOURCE)@/g, (_, name) => holes[name]);
 }
 
 module.exports = { examples, playground };

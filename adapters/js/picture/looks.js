@@ -17,17 +17,17 @@ function paintsOf(theme) {
   return theme === 'dark' ? LOOK.dark : LOOK.light;
 }
 
-/** The style of a picture, which the reader's setting turns dark; it yields to every style of a page. */
-function styleOf(theme) {
-  if (theme !== 'auto') {
-    return [];
-  }
+/** The rules that turn a light picture dark; they yield to every style of a page. */
+function darkRules() {
   const replaced = (name, paint) =>
     `:where(.elk-picture [${name}="${LOOK.light[paint]}"]){${name}:${LOOK.dark[paint]}}`;
   const rules = Object.entries(PAINTED).flatMap(([paint, names]) => names.map((name) => replaced(name, paint)));
-  const opacity = `:where(.elk-picture [fill-opacity]){fill-opacity:${LOOK.dark.tintOpacity}}`;
-  return [`<style>@media (prefers-color-scheme:dark){${[...rules, opacity].join('')}}</style>`];
+  return [...rules, `:where(.elk-picture [fill-opacity]){fill-opacity:${LOOK.dark.tintOpacity}}`].join('');
 }
+
+/** The style of a picture, which the reader's setting turns dark. */
+const styleOf = (theme) =>
+  theme === 'auto' ? [`<style>@media (prefers-color-scheme:dark){${darkRules()}}</style>`] : [];
 
 // What a document may ask for can hold no markup, and name nothing outside of the picture.
 const COLOUR = /^(#[0-9a-f]{3,4}|#[0-9a-f]{6}|#[0-9a-f]{8}|[a-z]{3,24}|(rgb|hsl)a?\([0-9.,%/ -]{1,48}\))$/i;
@@ -77,4 +77,4 @@ function inkOn(fill) {
   return kept((isLight ? LOOK.light : LOOK.dark).ink);
 }
 
-module.exports = { inkOn, paintsOf, styleOf, wishesOf };
+module.exports = { darkRules, inkOn, paintsOf, styleOf, wishesOf };

@@ -25,16 +25,13 @@ class Desk {
     this.#worker ??= this.#started();
   }
 
-  get isBusy() {
-    return this.#current !== undefined;
-  }
-
   /**
    * @param {object} message what the worker is asked
    * @param {(news: object) => void} [onNews] is told what the worker tells before its answer
+   * @param {{ isPatient?: boolean }} [how] whether what is under way goes on however long it takes
    * @returns {Promise<object>} its answer; a Stopped where it was stopped, or a newer one came before it was answered
    */
-  ask(message, onNews = () => {}) {
+  ask(message, onNews = () => {}, { isPatient = false } = {}) {
     return new Promise((resolve, reject) => {
       const request = { message, onNews, resolve, reject };
       if (!this.#current) {
@@ -43,14 +40,16 @@ class Desk {
       }
       this.#waiting?.reject(new Stopped('a newer request came'));
       this.#waiting = request;
-      this.#timer ??= setTimeout(() => this.#restart(), PATIENCE);
+      if (!isPatient) {
+        this.#timer ??= setTimeout(() => this.#restart(), PATIENCE);
+      }
     });
   }
 
   /** Ends what is under way, and what waits. */
   stop() {
     const requests = [this.#current, this.#waiting].filter(Boolean);
-    this.#end();
+    this.end();
     this.#waiting = undefined;
     requests.forEach(({ reject }) => reject(new Stopped('stopped')));
     this.prepare();
@@ -58,7 +57,7 @@ class Desk {
 
   #restart() {
     const [current, waiting] = [this.#current, this.#waiting];
-    this.#end();
+    this.end();
     this.#waiting = undefined;
     current?.reject(new Stopped('a newer request came'));
     if (waiting) {
@@ -66,7 +65,8 @@ class Desk {
     }
   }
 
-  #end() {
+  /** Ends the worker; the next request starts another. */
+  end() {
     clearTimeout(this.#timer);
     this.#timer = undefined;
     this.#current = undefined;
@@ -95,7 +95,7 @@ class Desk {
 
   #fail(why) {
     const requests = [this.#current, this.#waiting].filter(Boolean);
-    this.#end();
+    this.end();
     this.#waiting = undefined;
     requests.forEach(({ reject }) => reject(new Error(`the worker ended: ${why}`)));
   }

@@ -1,167 +1,166 @@
 'use strict';
-// The text of the document, with the numbers of its lines and marks at places in it.
+// The text of the document in an editor, with marks at places in it.
 
-const TAB = 2;
+const CodeMirror = require('./vendor/codemirror');
 
 // What is marked at a place: a text, a word or a number, or else one letter.
 const TOKEN = /"(?:[^"\\\n]|\\.)*"?|[\w.+-]+|[^]/y;
 
 const MOST_MARKS = 100;
 
-// Browsers take long for more.
-const MOST_TYPED = 100_000;
+// Letters of one line that are coloured: more take long, and nobody reads such a line.
+const MOST_COLOURED = 20_000;
 
-function startsOf(text) {
-  const starts = [0];
-  for (let at = text.indexOf('\n'); at >= 0; at = text.indexOf('\n', at + 1)) {
-    starts.push(at + 1);
-  }
-  return starts;
-}
-
-const untabbed = (text) => {
-  let plain = '';
-  for (const letter of text) {
-    plain += letter === '\t' ? ' '.repeat(TAB - (plain.length % TAB)) : letter;
-  }
-  return plain;
+const LOOK = {
+  mode: { name: 'javascript', json: true },
+  lineNumbers: true,
+  matchBrackets: true,
+  autoCloseBrackets: true,
+  tabSize: 2,
+  indentUnit: 2,
+  undoDepth: Infinity,
+  maxHighlightLength: MOST_COLOURED,
+  inputStyle: 'contenteditable',
+  spellcheck: false,
+  // The key leads on to the next control, as everywhere in a page.
+  extraKeys: { Tab: false, 'Shift-Tab': false, 'Ctrl-Space': (mirror) => mirror.showHint() },
 };
 
+// What is written when words are offered without being asked for.
+const WRITTEN = /^["\w.]$/;
+
+/** Words as the editor offers them: each with what is to be known of it. */
+function offered(mirror, { from, to, list }) {
+  const [start, end] = [from, to].map((at) => mirror.posFromIndex(at));
+  const render = (host, _, { displayText, help }) => {
+    const about = document.createElement('small');
+    about.textContent = help;
+    host.append(displayText, about);
+  };
+  return { from: start, to: end, list: list.map(({ text, help }) => ({ text, displayText: text.replace(/: $/, ''), help, render })) };
+}
+
 class Editor {
-  #area;
-  #lines;
-  #marks;
-  #measure = document.createElement('canvas').getContext('2d');
-  #starts = [0];
-  #told = [];
-  #font;
+  #mirror;
+  #marks = [];
+  #numbered = [];
+  #text;
 
   /**
-   * @param {{ area: HTMLTextAreaElement, lines: HTMLElement, marks: HTMLElement }} parts
-   * @param {() => void} onChange
+   * @param {HTMLElement} host
+   * @param {object} listener
+   * @param {string} listener.label the name of the editor
+   * @param {(isUndone: boolean) => void} listener.onChange is told of each change, and whether it was undone or redone
+   * @param {() => void} listener.onCaret is told when the caret moves
+   * @param {(isAsked: boolean) => object | undefined} listener.complete tells what can be written at the caret, as
+   *   `completionAt` does; where it wasn't asked for, it may tell nothing
    */
-  constructor({ area, lines, marks }, onChange) {
-    this.#area = area;
-    this.#lines = lines;
-    this.#marks = marks;
-    area.addEventListener('input', () => {
-      this.#starts = startsOf(area.value);
-      this.tell([]);
-      onChange();
+  constructor(host, { label, onChange, onCaret, complete }) {
+    const hint = (mirror, { isAsked = true }) => {
+      const words = complete(isAsked);
+      return words && offered(mirror, words);
+    };
+    this.#mirror = CodeMirror(host, { ...LOOK, screenReaderLabel: label, hintOptions: { hint, completeSingle: false } });
+    this.#mirror.on('inputRead', (mirror, { text }) => {
+      if (text.length === 1 && WRITTEN.test(text[0]) && !mirror.state.completionActive) {
+        mirror.showHint({ isAsked: false });
+      }
     });
-    area.addEventListener('scroll', () => this.#follow(), { passive: true });
-    new ResizeObserver(() => this.#follow()).observe(area);
-    this.#starts = startsOf(area.value);
+    // Before it is told that the caret has moved.
+    this.#mirror.on('change', () => {
+      this.#text = undefined;
+    });
+    this.#mirror.on('changes', (_, changes) => {
+      this.tell([]);
+      onChange(changes.some(({ origin }) => origin === 'undo' || origin === 'redo'));
+    });
+    this.#mirror.on('cursorActivity', onCaret);
+    this.#mirror.getInputField().setAttribute('aria-describedby', 'told');
+    new ResizeObserver(() => this.#mirror.refresh()).observe(host);
   }
 
   get text() {
-    return this.#area.value;
+    this.#text ??= this.#mirror.getValue();
+    return this.#text;
+  }
+
+  /** How many changes can be undone. */
+  get depth() {
+    return this.#mirror.historySize().undo;
+  }
+
+  /** Where the caret stands, in letters from the beginning. */
+  get caret() {
+    return this.#mirror.indexFromPos(this.#mirror.getCursor());
+  }
+
+  get hasFocus() {
+    return this.#mirror.hasFocus();
+  }
+
+  focus() {
+    this.#mirror.focus();
   }
 
   /** Puts another text in. */
   replace(text) {
-    if (!this.#typed(text)) {
-      this.#area.value = text;
-      this.#area.dispatchEvent(new Event('input'));
-    }
-    this.#area.setSelectionRange(0, 0);
-    this.#area.scrollTo(0, 0);
+    this.#mirror.setValue(text);
+    this.#mirror.scrollTo(0, 0);
   }
 
-  /** Whether a text could be put in as if it were typed, so that undoing brings the former one back. */
-  #typed(text) {
-    if (this.text === '' || text === '' || text.length > MOST_TYPED) {
-      return false;
-    }
-    const before = document.activeElement;
-    this.#area.focus({ preventScroll: true });
-    this.#area.select();
-    const isDone = document.execCommand('insertText', false, text) && this.text === text;
-    if (before === document.body) {
-      this.#area.blur();
-    } else {
-      before?.focus({ preventScroll: true });
-    }
-    return isDone;
+  /** Puts a text in with which the page begins, so that nothing is undone beyond it. */
+  begin(text) {
+    this.replace(text);
+    this.#mirror.clearHistory();
+  }
+
+  /** Changes a part of the text, as one step that can be undone. */
+  change({ from, to, text }) {
+    const [start, end] = [from, to].map((at) => this.#mirror.posFromIndex(at));
+    this.#mirror.replaceRange(text, start, end);
   }
 
   /**
    * Marks places.
-   * @param {{ line: number, column: number, kind: 'fault' | 'warning' }[]} places
+   * @param {{ line: number, column: number, kind: string, message: string }[]} places
    */
   tell(places) {
-    this.#told = places.filter(({ line }) => line !== undefined).slice(0, MOST_MARKS);
-    this.#area.setAttribute('aria-invalid', String(places.some(({ kind }) => kind === 'fault')));
-    this.#font = undefined;
-    this.#marks.replaceChildren(...this.#told.map((place) => this.#markAt(place)));
-    this.#follow();
+    const mirror = this.#mirror;
+    const told = places.filter(({ kind }) => kind === 'fault' || kind === 'warning').slice(0, MOST_MARKS);
+    mirror.getInputField().setAttribute('aria-invalid', String(told.some(({ kind }) => kind === 'fault')));
+    mirror.operation(() => {
+      this.#marks.forEach((mark) => mark.clear());
+      this.#numbered.forEach(({ line, kind }) => mirror.removeLineClass(line, 'gutter', `of-${kind}`));
+      this.#marks = told.map((place) => {
+        const { from, to } = this.#rangeAt(place);
+        return mirror.markText(from, to, { className: `of-${place.kind}`, attributes: { title: place.message } });
+      });
+      this.#numbered = told.map(({ line, kind }) => ({
+        kind,
+        line: mirror.addLineClass(line - 1, 'gutter', `of-${kind}`),
+      }));
+    });
+  }
+
+  /** Puts another text in the place of what stands at a place. */
+  mend({ line, column, text }) {
+    const { from, to } = this.#rangeAt({ line, column });
+    this.#mirror.replaceRange(text, from, to);
   }
 
   /** Selects what stands at a place, and shows it. */
   goTo(place) {
-    const [start, end] = this.#rangeAt(place);
-    this.#area.focus();
-    this.#area.setSelectionRange(start, end);
-    const { top, left } = this.#pointAt(place.line, start);
-    const { clientHeight, clientWidth, scrollTop, scrollLeft } = this.#area;
-    const isSeen = top > scrollTop && top < scrollTop + clientHeight - this.#height * 2;
-    const isBeside = left > scrollLeft && left < scrollLeft + clientWidth - 40;
-    this.#area.scrollTo(isBeside ? scrollLeft : Math.max(0, left - clientWidth / 2), isSeen ? scrollTop : top - clientHeight / 3);
-  }
-
-  get #height() {
-    return Number.parseFloat(getComputedStyle(this.#area).lineHeight);
+    const { from, to } = this.#rangeAt(place);
+    this.focus();
+    this.#mirror.setSelection(from, to, { scroll: false });
+    this.#mirror.scrollIntoView({ from, to }, this.#mirror.getScrollInfo().clientHeight / 3);
   }
 
   #rangeAt({ line, column }) {
-    const start = Math.min(this.#starts[line - 1] + column - 1, this.text.length);
-    TOKEN.lastIndex = start;
-    return [start, start + (TOKEN.exec(this.text)?.[0].length ?? 0)];
-  }
-
-  /** Where a letter stands in the text's own room. */
-  #pointAt(line, at) {
-    const style = getComputedStyle(this.#area);
-    // The whole of it as one text is empty where a part of it is set by itself.
-    this.#font ??= `${style.fontWeight} ${style.fontSize} ${style.fontFamily}`;
-    this.#measure.font = this.#font;
-    const before = untabbed(this.text.slice(this.#starts[line - 1], at));
-    const [left, top] = [style.paddingLeft, style.paddingTop].map(Number.parseFloat);
-    return { left: left + this.#measure.measureText(before).width, top: top + (line - 1) * this.#height };
-  }
-
-  #markAt(place) {
-    const [start, end] = this.#rangeAt(place);
-    const mark = document.createElement('i');
-    const from = this.#pointAt(place.line, start);
-    const to = this.#pointAt(place.line, end);
-    mark.className = place.kind;
-    Object.assign(mark.style, {
-      left: `${from.left}px`,
-      top: `${from.top}px`,
-      width: `${Math.max(to.left - from.left, 6)}px`,
-      height: `${this.#height}px`,
-    });
-    return mark;
-  }
-
-  // Only the numbers that are seen are written, since a document may have many thousands of lines.
-  #follow() {
-    const { scrollTop, scrollLeft, clientHeight } = this.#area;
-    const height = this.#height;
-    const first = Math.floor(scrollTop / height);
-    const last = Math.min(this.#starts.length, first + Math.ceil(clientHeight / height) + 1);
-    const kinds = new Map([...this.#told].reverse().map(({ line, kind }) => [line, kind]));
-    const numbers = [];
-    for (let line = first + 1; line <= last; line += 1) {
-      const number = document.createElement('span');
-      number.textContent = line;
-      number.className = kinds.get(line) ?? '';
-      numbers.push(number);
-    }
-    this.#lines.replaceChildren(...numbers);
-    this.#lines.style.transform = `translateY(${first * height - scrollTop}px)`;
-    this.#marks.style.transform = `translate(${-scrollLeft}px, ${-scrollTop}px)`;
+    const from = { line: line - 1, ch: column - 1 };
+    TOKEN.lastIndex = from.ch;
+    const length = TOKEN.exec(this.#mirror.getLine(from.line) ?? '')?.[0].length ?? 0;
+    return { from, to: { line: from.line, ch: from.ch + length } };
   }
 }
 

@@ -5,6 +5,9 @@ const DEFLATED = 'z';
 const PLAIN = 't';
 const PLACED = 'placed';
 
+// A link of few letters may unpack to so much that no page can hold it.
+const MOST_BYTES = 2 ** 20;
+
 // So many bytes are turned into letters at once.
 const PIECE = 0x8000;
 
@@ -25,12 +28,33 @@ async function through(bytes, stream) {
   return new Uint8Array(await new Response(new Blob([bytes]).stream().pipeThrough(stream)).arrayBuffer());
 }
 
+/** What a stream gives, up to the bound of links. */
+async function upToBound(stream) {
+  const [reader, pieces] = [stream.getReader(), []];
+  let length = 0;
+  for (let read = await reader.read(); !read.done; read = await reader.read()) {
+    length += read.value.length;
+    if (length > MOST_BYTES) {
+      reader.cancel().catch(() => {});
+      throw new Error('its document is longer than 1 MiB');
+    }
+    pieces.push(read.value);
+  }
+  return new Uint8Array(await new Blob(pieces).arrayBuffer());
+}
+
+const unpacked = (bytes) => upToBound(new Blob([bytes]).stream().pipeThrough(new DecompressionStream('deflate-raw')));
+
 /**
  * The hash of a link that carries a document.
  * @param {{ text: string, isPlaced: boolean }} given
+ * @throws {Error} where the document is too long for a link
  */
 async function hashOf({ text, isPlaced }) {
   const bytes = new TextEncoder().encode(text);
+  if (bytes.length > MOST_BYTES) {
+    throw new Error('the document is longer than 1 MiB; save it as a file');
+  }
   const flag = isPlaced ? `&${PLACED}` : '';
   if (typeof CompressionStream !== 'function') {
     return `#${PLAIN}=${lettersOf(bytes)}${flag}`;
@@ -49,10 +73,13 @@ async function documentIn(hash) {
     return undefined;
   }
   if (kind === DEFLATED && typeof DecompressionStream !== 'function') {
-    throw new Error('this browser can not unpack it');
+    throw new Error('this browser can\'t unpack it');
   }
   const packed = bytesOf(letters);
-  const bytes = kind === PLAIN ? packed : await through(packed, new DecompressionStream('deflate-raw'));
+  if (packed.length > MOST_BYTES) {
+    throw new Error('its document is longer than 1 MiB');
+  }
+  const bytes = kind === PLAIN ? packed : await unpacked(packed);
   return { text: new TextDecoder('utf-8', { fatal: true }).decode(bytes), isPlaced: rest === `&${PLACED}` };
 }
 

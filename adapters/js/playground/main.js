@@ -2,31 +2,40 @@
 // The playground: a text on one side, its drawing on the other.
 
 const packed = require('../page/packed');
+const { watch } = require('./bar');
+const { hearBorder } = require('./border');
+const { withOption } = require('./choices');
+const { completionAt, helpAt } = require('./completion');
+const { Controls } = require('./controls');
 const { Desk, Stopped } = require('./desk');
+const { hearDrops } = require('./drops');
 const { Editor } = require('./editor');
 const EXAMPLES = require('./texts');
+const { formatted } = require('./format');
+const { Gallery } = require('./gallery');
+const { keepText, keptText } = require('./kept');
 const { largeText } = require('./large');
-const { documentIn, hashOf } = require('./link');
-const { pngOf, save } = require('./save');
+const { hashOf } = require('./link');
+const { elementAt } = require('./places');
+const { copied, pngOf, save } = require('./save');
 const script = require('./script');
-const { placeOf } = require('./source');
+const { Search } = require('./search');
+const { Themes } = require('./themes');
+const { Told, linesOf, many, summaryOf } = require('./told');
+const { Tour } = require('./tour');
 const { View } = require('./view');
+const { Ways } = require('./ways');
 
 // So long the keys must rest, in milliseconds, before a text is drawn: a large one longer.
-const REST = 200;
-const LONG_REST = 500;
+const REST = 60;
+const LONG_REST = 250;
 const LONG_TEXT = 100_000;
 
-// A layout that takes longer, in milliseconds, has a bar.
-const BAR_AFTER = 300;
-
-const LARGE = [['large', 'A graph of 2,000 nodes', 2000]];
+const LARGE = { id: 'large', title: 'A graph of 2,000 nodes', nodes: 2000 };
 
 const find = (id) => document.getElementById(id);
 
-const [status, told, verdict, hint] = ['status', 'told', 'verdict', 'hint'].map(find);
-
-const isDark = matchMedia('(prefers-color-scheme: dark)');
+const [status, verdict, hint] = ['status', 'verdict', 'hint'].map(find);
 
 let url;
 
@@ -38,43 +47,121 @@ function workerOfPage() {
 
 const desk = new Desk(workerOfPage);
 
-const lookOfPage = () => ({ arrows: find('arrows').checked, theme: isDark.matches ? 'dark' : 'light' });
+const ways = new Ways();
 
-// What is known of the text: the last answer that has a drawing, and whether it is that of the text as it stands.
+// What is known of the text: the last answer that has a drawing, and whether it is that of the text as it is.
 let shown;
 let isCurrent = false;
+let places = [];
 let pause;
 
 const say = (words) => {
   status.textContent = words;
 };
 
-const many = (count, thing) => `${count.toLocaleString('en')} ${thing}${count === 1 ? '' : 's'}`;
+const isPlaced = () => find('way').value === 'placed';
 
-const placeWords = ({ line, column }) => (line === undefined ? '' : `line ${line}, column ${column}: `);
+const lookOfPage = () => ({ arrows: find('arrows').checked, theme: 'light' });
+
+const isSame = (one, other) => one.arrows === other.arrows && one.theme === other.theme;
 
 /** Leads to the text of an element of the drawing. */
-function seek(chosen) {
-  const place = isCurrent && placeOf(editor.text, chosen);
+function seek({ kind, id }) {
+  const place = isCurrent && places.find((it) => it.kind === kind && it.id === id);
   if (place) {
     editor.goTo(place);
   }
 }
 
 const view = new View(find('stage'), find('picture'), {
-  onEdge: (words) => {
-    find('edge').textContent = words;
+  onLit: (words) => {
+    find('lit').textContent = words;
   },
   onChoice: seek,
 });
 
-const editor = new Editor({ area: find('text'), lines: find('lines'), marks: find('marks') }, () => {
+const editor = new Editor(find('editor'), {
+  label: 'Document, as text of JSON',
+  onChange: changed,
+  onCaret: pointed,
+  complete,
+});
+
+const isLong = () => editor.text.length > LONG_TEXT;
+
+const idsOfNodes = () => places.slice(1).filter(({ kind }) => kind === 'node').map(({ id }) => id);
+
+/** What can be written at the caret; of a long text only if that is asked for, and of others unasked only options. */
+function complete(isAsked) {
+  return isAsked || !isLong() ? completionAt(editor.text, editor.caret, idsOfNodes()) : undefined;
+}
+
+const told = new Told(find('told'), {
+  onPlace: (place) => editor.goTo(place),
+  onMend: (mend) => {
+    editor.mend(mend);
+    editor.focus();
+    draw();
+  },
+});
+
+const themes = new Themes(find('theme'), (isDark) => {
+  view.isDark = isDark;
+});
+
+const controls = new Controls(find('choices'), (name, value) => {
+  try {
+    const change = withOption(editor.text, name, value);
+    if (change) {
+      editor.change(change);
+    }
+  } catch {
+    say('An option is written into a document of JSON: mend its faults first.');
+  }
+});
+
+const gallery = new Gallery(find('gallery'), find('cards'), {
+  examples: [...EXAMPLES, LARGE],
+  withoutPicture: 'open it to see',
+  onChoice: ({ text = largeText(LARGE.nodes), isPlaced }) => open({ text, isPlaced }),
+  sketch,
+});
+
+const tour = new Tour(
+  {
+    ...{ tour: find('tour'), count: find('tour-count'), title: find('tour-title'), words: find('tour-words') },
+    ...{ back: find('tour-back'), next: find('tour-next'), close: find('tour-close') },
+  },
+  (text) => open({ text }),
+);
+
+new Search(find('sought'), () => (isCurrent ? places : []), (node, words) => {
+  find('found').textContent = words;
+  if (node) {
+    view.reveal(node);
+  }
+});
+
+/** Tells of the option at the caret, and marks the element of the drawing in whose text the caret stands. */
+function pointed() {
+  find('help').textContent = isLong() ? '' : helpAt(editor.text, editor.caret);
+  if (isCurrent) {
+    const element = editor.hasFocus ? elementAt(places, editor.caret) : undefined;
+    view.point(element);
+  }
+}
+
+function changed(isUndone) {
   isCurrent = false;
-  find('examples').value = '';
+  find('way').value = ways.after(editor.depth, isUndone);
+  controls.isOff = isPlaced();
+  told.age();
+  tellVerdict(undefined);
+  forgetLink();
   enable();
   clearTimeout(pause);
-  pause = setTimeout(draw, editor.text.length > LONG_TEXT ? LONG_REST : REST);
-});
+  pause = setTimeout(draw, isLong() ? LONG_REST : REST);
+}
 
 function enable() {
   ['svg', 'png', 'json'].forEach((id) => {
@@ -86,33 +173,8 @@ function enable() {
   document.body.classList.toggle('outdated', !isCurrent && !view.isEmpty);
 }
 
-/** A line of the list of faults and warnings; where it has a place, it leads there. */
-function lineOf({ message, line, column, kind }) {
-  const item = document.createElement('li');
-  item.className = kind;
-  const words = document.createElement(line === undefined ? 'span' : 'button');
-  if (line !== undefined) {
-    words.type = 'button';
-    words.addEventListener('click', () => editor.goTo({ line, column }));
-  }
-  const place = document.createElement('b');
-  place.textContent = `${kind === 'warning' ? 'Warning, ' : ''}${placeWords({ line, column })}`;
-  words.append(place, message);
-  item.append(words);
-  return item;
-}
-
-const restOf = (told, all, thing) => (all > told ? [{ message: `and ${many(all - told, thing)} more`, kind: 'rest' }] : []);
-
-function tellFaults({ faults, warnings, counts }) {
-  const lines = [
-    ...faults.map((it) => ({ ...it, kind: 'fault' })),
-    ...restOf(faults.length, counts.faults, 'fault'),
-    ...warnings.map((it) => ({ ...it, kind: 'warning' })),
-    ...restOf(warnings.length, counts.warnings, 'warning'),
-  ];
-  told.replaceChildren(...lines.map(lineOf));
-  told.hidden = lines.length === 0;
+function tell(lines) {
+  told.show(lines);
   editor.tell(lines.filter(({ line }) => line !== undefined));
 }
 
@@ -122,65 +184,25 @@ function tellVerdict(judged) {
   verdict.textContent = judged ? `check: ${judged.isGood ? 'yes' : 'no'}, ${judged.words}` : '';
 }
 
-/** What is said of an answer, and of the drawing that came before it. */
-function summaryOf({ faults, warnings, counts }, drawing) {
-  if (faults.length > 0) {
-    const [{ message, line, column }] = faults;
-    return `${many(counts.faults, 'fault')}: ${placeWords({ line, column })}${message}`;
-  }
-  if (!drawing) {
-    return 'This document has no size to draw: choose "Lay out".';
-  }
-  const { seconds, measures: { nodes, edges, width, height } } = drawing;
-  const time = seconds === undefined ? '' : `, engine ${Math.max(1, Math.round(seconds * 1000)).toLocaleString('en')} ms`;
-  const warned = warnings.length > 0 ? `; ${many(counts.warnings, 'warning')}` : '';
-  return `${many(nodes, 'node')}, ${many(edges, 'edge')}, ${width} by ${height}${time}${warned}`;
-}
-
 function takeDrawing(drawing) {
   shown = drawing;
   isCurrent = true;
   hint.hidden = true;
-  tellFaults(drawing);
+  tell(linesOf(drawing));
   tellVerdict(undefined);
   view.show(drawing.svg);
   enable();
 }
 
 function takeAnswer(answer, drawing) {
+  tell(linesOf(answer));
   if (!drawing) {
-    tellFaults(answer);
     hint.hidden = !view.isEmpty;
     hint.textContent = 'There is no drawing of a document with faults.';
   }
   tellVerdict(answer.verdict);
   say(summaryOf(answer, drawing));
   enable();
-}
-
-/** A bar for what takes long, until `end` is called. */
-function watch() {
-  const since = performance.now();
-  let phase = 'reading';
-  const seconds = () => Math.floor((performance.now() - since) / 1000);
-  const show = () => {
-    find('busy').hidden = false;
-    find('phase').textContent = `${phase} … ${seconds()} s`;
-  };
-  const first = setTimeout(() => {
-    say('Working; Stop ends it.');
-    show();
-  }, BAR_AFTER);
-  const ticks = setInterval(() => performance.now() - since > BAR_AFTER && show(), 250);
-  return {
-    tell: (next) => {
-      phase = next;
-    },
-    end: () => {
-      clearTimeout(first);
-      clearInterval(ticks);
-    },
-  };
 }
 
 let bar;
@@ -191,31 +213,42 @@ function endBar() {
   find('busy').hidden = true;
 }
 
-/** Draws the text as it stands. */
+/** Nothing that was told of a text before holds of this one. */
+function forgetTold() {
+  tell([]);
+  tellVerdict(undefined);
+}
+
+/** Draws the text as it is. */
 async function draw() {
   clearTimeout(pause);
   bar?.end();
-  const mine = watch();
+  const mine = watch({ busy: find('busy'), phase: find('phase') }, () => say('Working; Stop ends it.'));
   bar = mine;
-  const text = editor.text;
-  const asked = { kind: 'answer', text, isPlaced: find('way').value === 'placed', look: lookOfPage() };
-  let drawing;
+  const [text, look] = [editor.text, lookOfPage()];
+  keepText({ text, isPlaced: isPlaced() });
   const isAsked = () => text === editor.text && bar === mine;
+  let drawing;
   const onNews = (news) => {
     if (news.phase) {
       mine.tell(news.phase);
-    } else if (isAsked()) {
-      drawing = news.drawing;
+    } else if (isAsked() && news.drawing) {
+      drawing = { ...news.drawing, look };
       takeDrawing(drawing);
+    } else if (isAsked()) {
+      places = news.places;
+      controls.show(news.chosen);
+      pointed();
     }
   };
   try {
-    const answer = await desk.ask(asked, onNews);
+    const answer = await desk.ask({ kind: 'answer', text, isPlaced: isPlaced(), look }, onNews);
     if (isAsked()) {
       takeAnswer(answer, drawing);
     }
   } catch (error) {
     if (!(error instanceof Stopped)) {
+      forgetTold();
       say(`This failed: ${error.message}`);
     }
   } finally {
@@ -224,63 +257,72 @@ async function draw() {
       endBar();
     }
   }
+  await redraw();
 }
 
 function stop() {
   desk.stop();
   endBar();
+  forgetTold();
   say('Stopped. A change of the text draws anew.');
-  find('text').focus();
+  editor.focus();
 }
 
-/** The last drawing in a look, where the worker is free and still has it. */
+/** The drawing that is shown, in another look. */
 async function pictureIn(look) {
-  if (!isCurrent || desk.isBusy) {
-    return undefined;
+  const { svg } = await desk.ask({ kind: 'picture', placed: shown.placed, look }, undefined, { isPatient: true });
+  return svg;
+}
+
+/** Draws what is shown in the look that is asked for now, where it has another; nothing is laid out for that. */
+async function redraw() {
+  const [drawing, look] = [shown, lookOfPage()];
+  if (!isCurrent || !drawing || isSame(drawing.look, look)) {
+    return;
   }
   try {
-    return (await desk.ask({ kind: 'picture', look })).svg;
-  } catch {
-    // It was stopped, or a newer text came.
-    return undefined;
-  }
-}
-
-/** Draws the last drawing in another look, without laying it out again where that can be. */
-async function redraw() {
-  const svg = await pictureIn(lookOfPage());
-  if (svg !== undefined && isCurrent) {
-    shown = { ...shown, svg };
-    view.show(svg);
-  } else {
-    await draw();
+    const svg = await pictureIn(look);
+    if (shown === drawing && isCurrent) {
+      shown = { ...drawing, svg, look };
+      view.show(svg);
+      pointed();
+    }
+  } catch (error) {
+    if (!(error instanceof Stopped)) {
+      say(`This failed: ${error.message}`);
+    }
   }
 }
 
 /** Puts another document in the place of the text, which may be one of the examples. */
-function open({ text, isPlaced = false, id = '' }) {
-  find('way').value = isPlaced ? 'placed' : 'layout';
+function open({ text, isPlaced: isToBeJudged = false }) {
   view.clear();
-  tellVerdict(undefined);
   shown = undefined;
   editor.replace(text);
-  find('examples').value = id;
+  choose(isToBeJudged ? 'placed' : 'layout');
+  forgetTold();
   draw();
+}
+
+function choose(way) {
+  find('way').value = way;
+  controls.isOff = way === 'placed';
+  ways.choose(way, editor.depth);
 }
 
 function format() {
   try {
-    editor.replace(`${JSON.stringify(JSON.parse(editor.text), null, 2)}\n`);
-    draw();
+    JSON.parse(editor.text);
   } catch {
     say('Only a document of JSON is formatted: mend its faults first.');
+    return;
   }
+  editor.replace(formatted(editor.text));
+  draw();
 }
 
 async function openFile(file) {
-  if (file) {
-    open({ text: await file.text() });
-  }
+  open({ text: await file.text() });
 }
 
 const nameOfFile = () => {
@@ -291,16 +333,11 @@ const nameOfFile = () => {
   }
 };
 
-/** The picture as a file, which follows its reader's setting where it can be drawn so. */
-async function svgOfFile() {
-  const svg = await pictureIn({ ...lookOfPage(), theme: 'auto' });
-  return new Blob([svg ?? shown.svg], { type: 'image/svg+xml' });
-}
-
 const SAVED = {
-  svg: svgOfFile,
-  png: () => pngOf(shown.svg),
-  json: async () => new Blob([`${JSON.stringify(JSON.parse(shown.placed), null, 2)}\n`], { type: 'application/json' }),
+  // The file follows its reader's setting.
+  svg: async () => new Blob([await pictureIn({ ...lookOfPage(), theme: 'auto' })], { type: 'image/svg+xml' }),
+  png: async () => pngOf(await pictureIn({ ...lookOfPage(), theme: themes.isDark ? 'dark' : 'light' })),
+  json: async () => new Blob([formatted(shown.placed)], { type: 'application/json' }),
 };
 
 async function saveAs(kind) {
@@ -313,145 +350,110 @@ async function saveAs(kind) {
   }
 }
 
-/** Whether a text could be handed to the clipboard. */
-async function copied(text) {
-  try {
-    await navigator.clipboard.writeText(text);
-    return true;
-  } catch {
-    const area = document.createElement('textarea');
-    area.value = text;
-    document.body.append(area);
-    area.select();
-    const isDone = document.execCommand('copy');
-    area.remove();
-    return isDone;
-  }
-}
-
 let ownHash;
 
 async function copyLink() {
-  ownHash = await hashOf({ text: editor.text, isPlaced: find('way').value === 'placed' });
+  try {
+    ownHash = await hashOf({ text: editor.text, isPlaced: isPlaced() });
+  } catch ({ message }) {
+    say(`There is no link: ${message}.`);
+    return;
+  }
   location.replace(ownHash);
   const isDone = await copied(location.href);
   find('link').focus();
   say(isDone ? `The link is copied: ${many(location.href.length, 'letter')}.` : 'The link stands in the address bar.');
 }
 
-async function readHash() {
+/** The address of the page names no document any more, since the text is another one. */
+function forgetLink() {
+  if (location.hash !== '') {
+    ownHash = undefined;
+    history.replaceState(null, '', location.href.replace(/#.*/s, ''));
+  }
+}
+
+/** The document that a link carries; it is unpacked by the worker, which is ended where that takes too long. */
+async function documentOfLink() {
+  const { given } = await desk.ask({ kind: 'unpack', hash: location.hash });
+  return given;
+}
+
+const brokenLink = (message) => `The link carries no document that can be read: ${message}`;
+
+async function readLink() {
   if (location.hash === ownHash) {
-    return true;
+    return;
   }
   try {
-    const given = await documentIn(location.hash);
+    const given = await documentOfLink();
     if (given) {
       open(given);
     }
-    return given !== undefined;
   } catch ({ message }) {
-    say(`The link carries no document that can be read: ${message}.`);
-    return false;
+    say(`${brokenLink(message)}.`);
   }
 }
 
-function offerExamples() {
-  const options = [...EXAMPLES.map(({ id, title }) => [id, title]), ...LARGE];
-  find('examples').append(...options.map(([id, title]) => new Option(title, id)));
+let sketches;
+
+/** The picture of an example, drawn beside what goes on with the text. */
+async function sketch({ text, isPlaced: isJudged }, theme) {
+  sketches ??= new Desk(workerOfPage);
+  const { svg } = await sketches.ask({ kind: 'sketch', text, isPlaced: isJudged, look: { arrows: true, theme } });
+  return svg;
 }
 
-function openExample(id) {
-  const [, , nodes] = LARGE.find(([it]) => it === id) ?? [];
-  const example = EXAMPLES.find((it) => it.id === id);
-  if (nodes ?? example) {
-    open(example ?? { id, text: largeText(nodes) });
-  }
+async function openGallery() {
+  await gallery.open(themes.isDark ? 'dark' : 'light');
+  sketches?.end();
 }
 
 function hearControls() {
-  find('examples').addEventListener('change', ({ target }) => openExample(target.value));
-  find('way').addEventListener('change', draw);
-  find('file').addEventListener('change', ({ target }) => {
-    openFile(target.files[0]);
+  find('way').addEventListener('change', ({ target }) => {
+    choose(target.value);
+    isCurrent = false;
+    forgetTold();
+    draw();
+  });
+  find('file').addEventListener('change', async ({ target }) => {
+    await openFile(target.files[0]);
     target.value = '';
   });
   Object.entries({
+    ...{ examples: openGallery, newcomers: () => tour.begin(), leave: () => find('gallery').close() },
     ...{ format, stop, link: copyLink, fit: () => view.fit(), in: () => view.zoom(1.25), out: () => view.zoom(0.8) },
     ...{ svg: () => saveAs('svg'), png: () => saveAs('png'), json: () => saveAs('json') },
   }).forEach(([id, act]) => find(id).addEventListener('click', act));
   find('arrows').addEventListener('change', redraw);
-  isDark.addEventListener('change', redraw);
-  window.addEventListener('hashchange', readHash);
+  window.addEventListener('hashchange', readLink);
+  window.addEventListener('pagehide', () => keepText({ text: editor.text, isPlaced: isPlaced() }));
+  window.addEventListener('beforeprint', () => view.showWhole(true));
+  window.addEventListener('afterprint', () => view.showWhole(false));
 }
 
-function hearDrops() {
-  const over = (isOver) => document.body.classList.toggle('over', isOver);
-  document.addEventListener('dragover', (event) => {
-    event.preventDefault();
-    over(true);
-  });
-  document.addEventListener('dragleave', ({ relatedTarget }) => relatedTarget || over(false));
-  document.addEventListener('drop', (event) => {
-    event.preventDefault();
-    over(false);
-    const [file] = event.dataTransfer.files;
-    const text = event.dataTransfer.getData('text/plain');
-    if (file) {
-      openFile(file);
-    } else if (text) {
-      open({ text });
-    }
-  });
-  // A paste beside the text is a whole document.
-  document.addEventListener('paste', (event) => {
-    if (event.target !== find('text')) {
-      const [file] = event.clipboardData.files;
-      event.preventDefault();
-      if (file) {
-        openFile(file);
-      } else {
-        open({ text: event.clipboardData.getData('text/plain') });
-      }
-    }
-  });
-}
-
-/** The border between the two sides is moved by the pointer or the arrows. */
-function hearBorder() {
-  const border = find('border');
-  const panes = find('panes');
-  const isStacked = () => getComputedStyle(panes).flexDirection === 'column';
-  const put = (share) => {
-    const part = Math.round(Math.min(Math.max(share, 10), 90));
-    panes.style.setProperty('--share', `${part}%`);
-    border.setAttribute('aria-valuenow', part);
-  };
-  border.addEventListener('pointerdown', ({ pointerId }) => border.setPointerCapture(pointerId));
-  border.addEventListener('pointermove', ({ pointerId, clientX, clientY }) => {
-    if (border.hasPointerCapture(pointerId)) {
-      const { left, top, width, height } = panes.getBoundingClientRect();
-      put(isStacked() ? ((clientY - top) / height) * 100 : ((clientX - left) / width) * 100);
-    }
-  });
-  border.addEventListener('keydown', (event) => {
-    const by = { ArrowLeft: -4, ArrowUp: -4, ArrowRight: 4, ArrowDown: 4 }[event.key];
-    if (by) {
-      event.preventDefault();
-      put(Number(border.getAttribute('aria-valuenow')) + by);
-    }
-  });
+/** What the page begins with: the document of its link, else the last one that was here, else the first example. */
+async function begin() {
+  const kept = keptText();
+  try {
+    const given = location.hash === '' ? undefined : await documentOfLink();
+    editor.begin(kept?.text ?? '');
+    open(given ?? kept ?? EXAMPLES[0]);
+  } catch ({ message }) {
+    editor.begin('');
+    tell([{ kind: 'fault', message: brokenLink(message) }]);
+    hint.textContent = 'The link is broken. Choose an example, or type, paste or drop a document.';
+    say(`${brokenLink(message)}.`);
+  }
 }
 
 async function start() {
   desk.prepare();
-  offerExamples();
   hearControls();
-  hearDrops();
-  hearBorder();
+  hearDrops(find('editor'), { onFile: openFile, onText: (text) => open({ text }) });
+  hearBorder(find('border'), find('panes'));
   enable();
-  if (!(await readHash())) {
-    openExample(EXAMPLES[0].id);
-  }
+  await begin();
 }
 
 start();

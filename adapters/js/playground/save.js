@@ -19,7 +19,7 @@ function loaded(svg) {
   return new Promise((resolve, reject) => {
     const image = new Image();
     image.onload = () => resolve(image);
-    image.onerror = () => reject(new Error('the browser can not read the picture'));
+    image.onerror = () => reject(new Error('the browser can\'t read the picture'));
     image.src = `data:image/svg+xml;charset=utf-8,${encodeURIComponent(svg)}`;
   });
 }
@@ -37,9 +37,25 @@ async function pngOf(svg) {
     canvas.toBlob(resolve, 'image/png');
   });
   if (!blob) {
-    throw new Error('the browser can not make a picture of this size');
+    throw new Error('the browser can\'t make a picture of this size');
   }
   return blob;
 }
 
-module.exports = { pngOf, save };
+/** Whether a text could be handed to the clipboard. */
+async function copied(text) {
+  try {
+    await navigator.clipboard.writeText(text);
+    return true;
+  } catch {
+    const area = document.createElement('textarea');
+    area.value = text;
+    document.body.append(area);
+    area.select();
+    const isDone = document.execCommand('copy');
+    area.remove();
+    return isDone;
+  }
+}
+
+module.exports = { copied, pngOf, save };

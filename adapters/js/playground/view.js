@@ -1,5 +1,8 @@
 'use strict';
-// The drawing: it is moved, made larger and smaller, and its edges light up.
+// The drawing: it is moved, made larger and smaller, and its nodes and edges light up.
+
+const { text: TEXT } = require('../data/look.json');
+const { darkRules } = require('../picture/looks');
 
 // A small picture isn't blown up beyond this.
 const MOST_FIT = 2;
@@ -17,25 +20,49 @@ const STEP = 0.12;
 const MANY_EDGES = 500;
 const REST = 150;
 
+// Letters that are lower, in pixels, can't be read and aren't drawn.
+const READABLE = 4;
+
+// So large, as a part of the stage, a node is shown that was looked for.
+const FOUND = 0.25;
+
+// What a document can't name: its classes mean nothing here.
+const [LIT, MARKED, TARGET] = ['data-lit', 'data-marked', 'data-target'];
+
 const STYLE = `
   :host { display: block; }
   svg { position: absolute; inset: 0; width: 100%; height: 100%; transform-origin: 0 0; }
-  svg.moving { will-change: transform; overflow: visible; }
-  .target { stroke: transparent !important; stroke-width: 10 !important; fill: none !important; pointer-events: stroke; }
-  .edge.lit path:not(.target) { stroke: var(--accent) !important; stroke-width: 2.6 !important; }
-  .edge.lit path[stroke="none"]:not(.target), .edge.lit circle { fill: var(--accent) !important; stroke: none !important; }
-  .lighting .edge:not(.lit) { opacity: .25; }
+  svg[data-moving] { will-change: transform; overflow: visible; }
+  svg[data-far] text { display: none; }
+  [${TARGET}] { stroke: transparent !important; stroke-width: 10 !important; fill: none !important; pointer-events: stroke; }
+  g[${LIT}] path:not([${TARGET}]) { stroke: var(--accent) !important; stroke-width: 2.6 !important; }
+  g[${LIT}] path[stroke="none"]:not([${TARGET}]), g[${LIT}] circle { fill: var(--accent) !important; stroke: none !important; }
+  :not(g)[${LIT}] { stroke: var(--accent) !important; stroke-width: 2.6 !important; }
+  :not(g)[${MARKED}] { stroke: var(--accent) !important; stroke-width: 2.2 !important; stroke-dasharray: 5 3; }
+  g[${MARKED}] path:not([${TARGET}]):not([stroke="none"]) { stroke: var(--accent) !important; stroke-width: 2.2 !important; }
+  svg[data-lighting] g[data-id]:not([${LIT}]) { opacity: .25; }
+  @media print { svg { position: static; height: auto; max-height: 100vh; } svg[data-far] text { display: inline; } }
 `;
 
 const midOf = ([one, other]) => ({ x: (one.x + other.x) / 2, y: (one.y + other.y) / 2 });
 
 const distanceOf = ([one, other]) => Math.hypot(one.x - other.x, one.y - other.y);
 
+const isEdge = (element) => element.localName === 'g';
+
+const kindOf = (element) => (isEdge(element) ? 'edge' : 'node');
+
+const wordsOf = (element) => element?.querySelector('title')?.textContent ?? '';
+
 class View {
   #stage;
   #root;
+  #dark = document.createElement('style');
   #picture;
+  // In the order of the drawing, without its outermost level.
+  #nodes = [];
   #edges = [];
+  #byId = new Map();
   #whole;
   // The part of it that the stage shows, and the one for which it was drawn.
   #part;
@@ -46,27 +73,33 @@ class View {
   #pointers = new Map();
   #pressed;
   #lit;
-  #onEdge;
+  #marked;
+  #onLit;
   #onChoice;
 
   /**
    * @param {HTMLElement} stage
    * @param {HTMLElement} host what holds the picture, apart from the page's own style
    * @param {object} listener
-   * @param {(words: string) => void} listener.onEdge is told which edge lights up, and nothing where none does
+   * @param {(words: string) => void} listener.onLit is told what lights up, and nothing where nothing does
    * @param {(chosen: { kind: 'node' | 'edge', id: string }) => void} listener.onChoice is told which element is clicked
    */
-  constructor(stage, host, { onEdge, onChoice }) {
+  constructor(stage, host, { onLit, onChoice }) {
     this.#stage = stage;
-    this.#onEdge = onEdge;
+    this.#onLit = onLit;
     this.#onChoice = onChoice;
     this.#root = host.attachShadow({ mode: 'open' });
     const style = document.createElement('style');
     style.textContent = STYLE;
-    this.#root.append(style);
+    this.#root.append(style, this.#dark);
     this.#hearPointers();
     stage.addEventListener('keydown', (event) => this.#hearKey(event));
     new ResizeObserver(() => this.#resized()).observe(stage);
+  }
+
+  /** Shows a light picture on a dark page, or as it is. On paper it stays light. */
+  set isDark(isDark) {
+    this.#dark.textContent = isDark ? `@media screen{${darkRules()}}` : '';
   }
 
   get isEmpty() {
@@ -83,10 +116,8 @@ class View {
     picture.setAttribute('role', 'img');
     picture.setAttribute('aria-label', 'the drawing');
     this.#whole = { x, y, width, height };
-    this.#edges = [...picture.querySelectorAll('.edge')];
-    if (!this.#isLarge) {
-      this.#edges.forEach(widened);
-    }
+    this.#take(picture);
+    const [lit, marked] = [this.#lit, this.#marked].map((it) => it && this.#sameAs(it));
     this.#light(undefined);
     if (this.#picture) {
       this.#picture.replaceWith(picture);
@@ -95,6 +126,8 @@ class View {
     }
     this.#picture = picture;
     this.#drawnPart = undefined;
+    this.#light(lit);
+    this.#mark(marked);
     if (this.#isFitted || !this.#part) {
       this.fit();
     } else {
@@ -102,12 +135,55 @@ class View {
     }
   }
 
+  #take(picture) {
+    const all = [...picture.querySelectorAll('[data-id]')];
+    this.#edges = all.filter(isEdge);
+    this.#nodes = all.filter((it) => !isEdge(it)).slice(1);
+    this.#byId = new Map([...this.#nodes, ...this.#edges].map((it) => [`${kindOf(it)} ${it.dataset.id}`, it]));
+    if (!this.#isLarge) {
+      this.#edges.forEach(widened);
+    }
+  }
+
+  #sameAs(element) {
+    return this.#byId.get(`${kindOf(element)} ${element.dataset.id}`);
+  }
+
   clear() {
+    this.#light(undefined);
     this.#picture?.remove();
     this.#picture = undefined;
-    this.#edges = [];
+    [this.#edges, this.#nodes, this.#marked] = [[], [], undefined];
+    this.#byId = new Map();
     this.#isFitted = true;
-    this.#light(undefined);
+  }
+
+  /** Marks the element in whose text the caret stands; nothing where none is given. */
+  point(chosen) {
+    this.#mark(chosen && this.#byId.get(`${chosen.kind} ${chosen.id}`));
+  }
+
+  #mark(element) {
+    this.#marked?.removeAttribute(MARKED);
+    element?.setAttribute(MARKED, '');
+    this.#marked = element;
+  }
+
+  /** Lights an element and moves the drawing so that it stands in the middle, large enough to be read. */
+  reveal({ kind, id }) {
+    const element = this.#byId.get(`${kind} ${id}`);
+    if (!element) {
+      return;
+    }
+    const { x, y, width, height } = element.getBBox();
+    const { clientWidth, clientHeight } = this.#stage;
+    const scale = Math.min((clientWidth * FOUND) / width, (clientHeight * FOUND) / height, MOST_FIT);
+    const [wide, high] = [clientWidth / scale, clientHeight / scale];
+    this.#part = { x: x + (width - wide) / 2, y: y + (height - high) / 2, width: wide, height: high };
+    this.#isFitted = false;
+    this.#drawnPart = undefined;
+    this.#draw();
+    this.#light(element);
   }
 
   fit() {
@@ -151,24 +227,33 @@ class View {
     this.#draw();
   }
 
-  /** Lights the next edge, or the one before. */
-  lightNext(by) {
-    const count = this.#edges.length;
+  /** Lights the next of the nodes or edges, or the one before. */
+  #lightNext(list, by) {
+    const count = list.length;
     if (count > 0) {
-      const at = this.#lit ? this.#edges.indexOf(this.#lit) + by : by > 0 ? 0 : -1;
-      this.#light(this.#edges[(at + count) % count]);
+      const from = list.indexOf(this.#lit);
+      const at = from >= 0 ? from + by : by > 0 ? 0 : -1;
+      this.#light(list[(at + count) % count]);
     }
   }
 
-  #light(edge) {
-    if (this.#lit === edge) {
+  #light(element) {
+    if (this.#lit === element) {
       return;
     }
-    this.#lit?.classList.remove('lit');
-    edge?.classList.add('lit');
-    this.#lit = edge;
-    this.#picture?.classList.toggle('lighting', edge !== undefined);
-    this.#onEdge(edge ? edge.querySelector('title')?.textContent ?? '' : '');
+    this.#lit?.removeAttribute(LIT);
+    element?.setAttribute(LIT, '');
+    this.#lit = element;
+    this.#picture?.toggleAttribute('data-lighting', element !== undefined && isEdge(element));
+    this.#onLit(wordsOf(element));
+  }
+
+  /** Shows all of the picture, as for paper, or the part that was shown before. */
+  showWhole(isWhole) {
+    if (!this.isEmpty) {
+      const { x, y, width, height } = isWhole ? this.#whole : this.#part;
+      this.#picture.setAttribute('viewBox', `${x} ${y} ${width} ${height}`);
+    }
   }
 
   get #isLarge() {
@@ -198,8 +283,10 @@ class View {
     clearTimeout(this.#rest);
     const { x, y, width, height } = this.#part;
     this.#picture?.setAttribute('viewBox', `${x} ${y} ${width} ${height}`);
-    this.#picture?.classList.remove('moving');
+    this.#picture?.removeAttribute('data-moving');
     this.#picture?.style.removeProperty('transform');
+    const isFar = (TEXT.largest * this.#stage.clientWidth) / width < READABLE;
+    this.#picture?.toggleAttribute('data-far', isFar);
     this.#drawnPart = this.#part;
   }
 
@@ -208,7 +295,7 @@ class View {
     const [from, to] = [this.#drawnPart, this.#part];
     const scale = this.#stage.clientWidth / to.width;
     const [left, top] = [(from.x - to.x) * scale, (from.y - to.y) * scale];
-    this.#picture.classList.add('moving');
+    this.#picture.setAttribute('data-moving', '');
     this.#picture.style.transform = `translate(${left}px, ${top}px) scale(${from.width / to.width})`;
     clearTimeout(this.#rest);
     this.#rest = setTimeout(() => this.#drawPart(), REST);
@@ -261,7 +348,7 @@ class View {
     }
     this.#root.addEventListener('pointerover', ({ target }) => {
       if (this.#pointers.size === 0) {
-        this.#light(target.closest('.edge') ?? undefined);
+        this.#light(target.closest('g[data-id]') ?? undefined);
       }
     });
     stage.addEventListener('pointerleave', () => this.#light(undefined));
@@ -269,9 +356,9 @@ class View {
 
   #released(event) {
     const { place, target } = this.#pressed ?? {};
-    const drawn = target?.closest?.('.edge, .node');
+    const drawn = target?.closest?.('[data-id]');
     if (drawn && this.#pointers.size === 1 && distanceOf([place, this.#placeOf(event)]) < CLICK) {
-      this.#onChoice({ kind: drawn.matches('.edge') ? 'edge' : 'node', id: drawn.dataset.id });
+      this.#onChoice({ kind: kindOf(drawn), id: drawn.dataset.id });
     }
     this.#pressed = undefined;
   }
@@ -302,9 +389,11 @@ class View {
       '=': () => this.zoom(1.25),
       '-': () => this.zoom(0.8),
       0: () => this.fit(),
-      e: () => this.lightNext(1),
-      E: () => this.lightNext(-1),
-      Enter: () => this.#lit && this.#onChoice({ kind: 'edge', id: this.#lit.dataset.id }),
+      e: () => this.#lightNext(this.#edges, 1),
+      E: () => this.#lightNext(this.#edges, -1),
+      n: () => this.#lightNext(this.#nodes, 1),
+      N: () => this.#lightNext(this.#nodes, -1),
+      Enter: () => this.#lit && this.#onChoice({ kind: kindOf(this.#lit), id: this.#lit.dataset.id }),
       Escape: () => this.#light(undefined),
     };
     if (keys[event.key] && !event.ctrlKey && !event.metaKey && !event.altKey) {
@@ -319,7 +408,7 @@ function widened(edge) {
   const lines = [...edge.querySelectorAll('path:not([stroke="none"])')];
   lines.forEach((line) => {
     const target = line.cloneNode();
-    target.setAttribute('class', 'target');
+    target.setAttribute(TARGET, '');
     edge.append(target);
   });
 }

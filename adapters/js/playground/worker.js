@@ -3,7 +3,8 @@
 
 const { Program } = require('../module');
 const { moduleBytes } = require('../module-file');
-const { Studio } = require('./answer');
+const { Studio, pictureOf } = require('./answer');
+const { documentIn } = require('./link');
 
 const started = async () => new Studio(new Program(await WebAssembly.compile(await moduleBytes())));
 
@@ -11,11 +12,16 @@ const studio = started();
 // Whoever asks is told.
 studio.catch(() => {});
 
+const ANSWERS = {
+  answer: async (asked, tell) => (await studio).answer(asked, tell),
+  picture: async ({ placed, look }) => ({ svg: pictureOf(placed, look) }),
+  sketch: async (asked) => ({ svg: await (await studio).sketch(asked) }),
+  unpack: async ({ hash }) => ({ given: await documentIn(hash) }),
+};
+
 async function answerTo({ id, kind, ...asked }) {
   try {
-    const made = await studio;
-    const tell = (news) => self.postMessage({ id, news });
-    const answer = kind === 'picture' ? { svg: made.picture(asked.look) } : await made.answer(asked, tell);
+    const answer = await ANSWERS[kind](asked, (news) => self.postMessage({ id, news }));
     self.postMessage({ id, answer });
   } catch ({ message }) {
     self.postMessage({ id, error: message });

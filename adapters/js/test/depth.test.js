@@ -7,7 +7,7 @@ const test = require('node:test');
 const ELK = require('../elk');
 const { junctionPoints } = require('../junctions');
 const { lint } = require('../lint');
-const { placeOf } = require('../playground/source');
+const { placesIn } = require('../playground/places');
 const { toSvg } = require('../svg');
 const { PROGRAM, WITH_PROGRAM } = require('../testing/program');
 
@@ -149,8 +149,9 @@ test('a picture is drawn of nodes in any number that stand in one another', () =
 });
 
 test('the playground leads to an element of a text as far as its places are kept', () => {
-  assert.deepEqual(placeOf(nestedText(400), { kind: 'node', id: 'in' }), { line: 1, column: nestedText(400).indexOf('"in"') + 1 });
-  COUNTS.forEach((count) => assert.equal(placeOf(nestedText(count), { kind: 'node', id: 'in' }), undefined));
+  const { line, column } = placesIn(nestedText(400)).find(({ id }) => id === 'in');
+  assert.deepEqual([line, column], [1, nestedText(400).indexOf('"in"') + 1]);
+  COUNTS.forEach((count) => assert.deepEqual(placesIn(nestedText(count)), []));
 });
 
 test('a picture is drawn of what stands in itself, and of ids that are lists in one another', () => {

@@ -2,19 +2,27 @@
 // The playground, in real browsers and without one.
 
 const assert = require('node:assert/strict');
+const { spawnSync } = require('node:child_process');
+const { createHash } = require('node:crypto');
 const { mkdtempSync, readFileSync, readdirSync, rmSync, writeFileSync } = require('node:fs');
 const { tmpdir } = require('node:os');
 const path = require('node:path');
 const test = require('node:test');
 const { setTimeout: rest } = require('node:timers/promises');
 const { pathToFileURL } = require('node:url');
+const { deflateRawSync } = require('node:zlib');
 const { Program } = require('../module');
 const { moduleBytes } = require('../module-file');
 const { examples, playground } = require('../pack/playground');
 const { Studio } = require('../playground/answer');
+const { withOption } = require('../playground/choices');
+const { completionAt, helpAt } = require('../playground/completion');
+const { formatted } = require('../playground/format');
 const { documentIn, hashOf } = require('../playground/link');
-const { placeOf } = require('../playground/source');
+const { elementAt, placesIn } = require('../playground/places');
+const { STEPS } = require('../playground/tour');
 const { verdictOf } = require('../playground/verdict');
+const { Ways } = require('../playground/ways');
 const { Browser, WITH_BROWSER } = require('../testing/browser');
 const { Firefox, WITH_FIREFOX } = require('../testing/firefox');
 const { WITH_MODULE } = require('../testing/module');
@@ -38,6 +46,11 @@ async function started() {
   return new Studio(new Program(await WebAssembly.compile(await moduleBytes())));
 }
 
+test('the editor of the page is what its packages make, where they are here', () => {
+  const { status, stderr } = spawnSync(path.join(__dirname, '..', 'pack', 'editor'), ['--check'], { encoding: 'utf8' });
+  assert.equal(status, 0, stderr);
+});
+
 /** All that the playground tells of a text. */
 async function toldOf(asked) {
   studio ??= started();
@@ -51,7 +64,21 @@ async function toldOf(asked) {
 test('the page needs no network', WITH_MODULE, () => {
   const page = playground();
   assert.match(page, /default-src 'none'/);
-  assert.doesNotMatch(page, /(?:src|href)="(?!data:)/);
+  assert.doesNotMatch(page, /<[^>]*(?:src|href)="(?!data:)/);
+});
+
+test('the page runs no script but its own', WITH_MODULE, () => {
+  const page = playground();
+  const [, script] = /<script>(.*)<\/script>/s.exec(page);
+  const [, sources] = /script-src ([^;]*);/.exec(page);
+  const sum = createHash('sha256').update(script).digest('base64');
+  assert.equal(sources, `'sha256-${sum}' 'wasm-unsafe-eval' blob:`);
+});
+
+test('the page is of one file below 1.4 MB, and names the licence of what it holds', WITH_MODULE, () => {
+  const page = playground();
+  assert.ok(Buffer.byteLength(page) < 1_400_000);
+  assert.match(page, /CodeMirror, MIT License\n\nCopyright \d+ Marijn Haverbeke/);
 });
 
 const OTHERWISE = {
@@ -101,7 +128,7 @@ test('verdicts are told in words', () => {
   }
 });
 
-test('an element of the drawing is found in the text', () => {
+test('elements of the drawing and places in the text lead to one another', () => {
   const text = '{ "id": "r", "edges": [{ "id": 1 }],\n "children": [{ "id": "1", "children": [{ "id": "é" }] }, { "id": 2 }] }';
   const cases = [
     ['node', 'r', 1, '"r"'],
@@ -110,11 +137,117 @@ test('an element of the drawing is found in the text', () => {
     ['node', 'é', 2, '"é"'],
     ['node', '2', 2, '2 }'],
   ];
+  const places = placesIn(text);
   for (const [kind, id, line, words] of cases) {
     const column = text.split('\n')[line - 1].indexOf(words) + 1;
-    assert.deepEqual(placeOf(text, { kind, id }), { line, column }, `${kind} ${id}`);
+    const found = places.find((it) => it.kind === kind && it.id === id);
+    assert.deepEqual([found.line, found.column], [line, column], `${kind} ${id}`);
+    assert.equal(elementAt(places, text.indexOf(words)), found, `${kind} ${id}`);
   }
-  assert.equal(placeOf(text, { kind: 'edge', id: 'none' }), undefined);
+  assert.equal(elementAt(places, text.indexOf(', { "id": 2')).id, 'r');
+  assert.equal(elementAt(places, text.length), undefined);
+  assert.deepEqual(placesIn('{ "id": '), []);
+});
+
+test('a text that is formatted keeps each value as it was written', () => {
+  const text = '{"id":12345678901234567890,"a":[ ],"b":{ },"c":"x{,}\\"","d":1.50e5,"a":[1,{"k":[[]]}]}';
+  const lines = ['{', '  "id": 12345678901234567890,', '  "a": [],', '  "b": {},', '  "c": "x{,}\\"",', '  "d": 1.50e5,'];
+  assert.equal(formatted(text), [...lines, '  "a": [1, { "k": [[]] }]', '}', ''].join('\n'));
+  for (const { text: example } of examples()) {
+    assert.deepEqual(JSON.parse(formatted(example)), JSON.parse(example));
+    assert.equal(formatted(formatted(example)), formatted(example));
+  }
+});
+
+const COMPLETED = [
+  ['{ "layoutOptions": { "DIR| } }', ['"elk.direction": '], /^$/],
+  ['{ "layoutOptions": { "direction": "u|" } }', ['"UP"', '"UNDEFINED"'], /^elk\.direction: UNDEFINED, RIGHT, LEFT, DOWN, UP; default RIGHT$/],
+  ['{ "layoutOptions": { "elk.effort|": 3 } }', ['"elk.layered.effort"'], /^$/],
+  ['{ "layoutOptions": { "elk.layered.effort": |', ['7'], /^elk\.layered\.effort: whole, 1 to 1,000; default 7$/],
+  ['{ "layoutOptions": { "separateConnectedComponents": |', ['true', 'false'], /default false/],
+  ['{ "children": [{ "ports": [{ "layoutOptions": { "|" } }] }] }', ['"elk.port.side": ', '"elk.port.index": '], /^$/],
+  ['{ "children": [{ "wid|" }] }', ['"width": '], /^$/],
+  ['{ "edges": [{ "sources": ["|"] }] }', ['"a"', '"b"'], /^$/],
+  ['{ "edges": [{ "id": "|" }] }', [], /^$/],
+];
+
+test('what can be written at a place is told', () => {
+  for (const [given, words, help] of COMPLETED) {
+    const [before, after] = given.split('|');
+    const { from, to, list } = completionAt(before + after, before.length, ['a', 'b']);
+    const texts = list.map(({ text }) => text);
+    assert.deepEqual(words.length > 0 ? texts.filter((text) => words.includes(text)).sort() : texts, [...words].sort(), given);
+    assert.ok(from <= before.length && before.length <= to, given);
+    assert.match(helpAt(before + after, before.length), help, given);
+  }
+});
+
+const WRITTEN = [
+  ['{}', '{ "layoutOptions": { "elk.direction": "DOWN" } }'],
+  ['{ "id": 1 }', '{ "layoutOptions": { "elk.direction": "DOWN" }, "id": 1 }'],
+  ['{\n  "id": 1\n}', '{\n  "layoutOptions": { "elk.direction": "DOWN" },\n  "id": 1\n}'],
+  ['{"layoutOptions":{"org.eclipse.elk.direction":"UP","a":1}}', '{"layoutOptions":{"org.eclipse.elk.direction":"DOWN","a":1}}'],
+  ['{\n  "layoutOptions": {\n    "a": 1\n  }\n}', '{\n  "layoutOptions": {\n    "elk.direction": "DOWN",\n    "a": 1\n  }\n}'],
+  ['{ "layoutOptions": {} }', '{ "layoutOptions": { "elk.direction": "DOWN" } }'],
+];
+
+const changed = (text, { from, to, text: words }) => text.slice(0, from) + words + text.slice(to);
+
+test('an option is written into a text, and taken out of it', () => {
+  for (const [text, expected] of WRITTEN) {
+    const made = changed(text, withOption(text, 'direction', 'DOWN'));
+    assert.equal(made, expected);
+    const { layoutOptions = {}, ...rest } = JSON.parse(text);
+    const { layoutOptions: left, ...other } = JSON.parse(changed(made, withOption(made, 'direction', undefined)));
+    delete layoutOptions['org.eclipse.elk.direction'];
+    assert.deepEqual([left, other], [layoutOptions, rest], text);
+  }
+  assert.equal(withOption('[]', 'direction', 'UP'), undefined);
+  assert.equal(withOption('{ "layoutOptions": { "a": 1 } }', 'direction', undefined), undefined);
+});
+
+test('the tour has five steps, of which the last alone has faults, and all are mended by buttons', WITH_MODULE, async () => {
+  assert.equal(STEPS.length, 5);
+  for (const [at, { text }] of STEPS.entries()) {
+    const { faults, warnings, verdict } = await toldOf({ text });
+    assert.deepEqual([faults.map(({ mend }) => mend), warnings], [at === 4 ? ['"DOWN"', '"writer"'] : [], []], STEPS[at].title);
+    assert.equal(verdict?.line, at === 4 ? undefined : 'yes');
+  }
+});
+
+test('undoing leads back to what was done with a text', () => {
+  const ways = new Ways();
+  ways.choose('placed', 3);
+  assert.equal(ways.after(4, false), 'placed');
+  assert.equal(ways.after(2, true), 'layout');
+  assert.equal(ways.after(3, true), 'placed');
+  assert.equal(ways.after(2, true), 'layout');
+  // What is written now stands where the other way began.
+  assert.equal(ways.after(3, false), 'layout');
+});
+
+test('nodes without a size are drawn with that of their text, which is told', WITH_MODULE, async () => {
+  const text = '{ "id": "r",\n "children": [{ "id": "a node of many letters" }, { "id": "b", "height": 50 }, { "id": "c", "width": 9, "height": 9 }] }';
+  const { drawing, notes, verdict } = await toldOf({ text });
+  const [a, b, c] = JSON.parse(drawing.placed).children;
+  assert.ok(a.width > 100 && a.height >= 30, JSON.stringify(a));
+  assert.deepEqual([b.width, b.height, c.width, c.height], [30, 50, 9, 9]);
+  assert.deepEqual(notes, [
+    { message: '2 nodes have no size, so they take the sizes of their texts; write "width" and "height" to choose', line: 2, column: 23 },
+  ]);
+  assert.equal(verdict.line, 'yes');
+});
+
+test('a drawing that was saved here is judged as it was', WITH_MODULE, async () => {
+  for (const id of ['machine', 'buses', 'circuit']) {
+    const { drawing } = await toldOf(examples().find((it) => it.id === id));
+    const { faults, verdict } = await toldOf({ text: formatted(drawing.placed), isPlaced: true });
+    assert.deepEqual([faults, verdict.line], [[], 'yes'], id);
+    const moved = JSON.parse(drawing.placed);
+    moved.children[1].x += 1;
+    const other = await toldOf({ text: JSON.stringify(moved), isPlaced: true });
+    assert.ok(other.faults.length > 0 || !other.verdict.isGood, id);
+  }
 });
 
 test('a link carries any document, compressed or not', async () => {
@@ -136,6 +269,14 @@ test('a link carries any document, compressed or not', async () => {
   }
   assert.equal(await documentIn('#other'), undefined);
   await assert.rejects(documentIn('#z=AAAA'));
+});
+
+/** A link that is short and unpacks to a hundred megabytes. */
+const bomb = () => `#z=${deflateRawSync(Buffer.alloc(100 * 2 ** 20, ' ')).toString('base64url')}`;
+
+test('what a link unpacks to is bounded', async () => {
+  await assert.rejects(documentIn(bomb()), /longer than 1 MiB/);
+  await assert.rejects(hashOf({ text: ' '.repeat(2 ** 20 + 1), isPlaced: false }), /longer than 1 MiB/);
 });
 
 const pair = (layoutOptions = {}) =>
@@ -185,25 +326,34 @@ const verdict = `document.getElementById('verdict').innerText`;
 
 const isDrawn = (id) => `(${texts}).includes('${id}') && !document.body.classList.contains('outdated') && ${verdict} !== ''`;
 
-const selected = `(() => {
-  const { value, selectionStart, selectionEnd } = document.getElementById('text');
-  return value.slice(selectionStart, selectionEnd);
-})()`;
+const mirror = `document.querySelector('.CodeMirror').CodeMirror`;
+
+const selected = `${mirror}.getSelection()`;
+
+const textOfPage = `${mirror}.getValue()`;
+
+const toldWords = `document.getElementById('told').innerText`;
+
+const isHidden = (id) => `document.getElementById('${id}').hidden`;
 
 /** Types a whole document in place of the one that is there. */
 async function typeAll(page, text) {
-  await page.evaluate(`document.getElementById('text').focus(), document.getElementById('text').select()`);
+  await page.evaluate(`${mirror}.focus(), ${mirror}.execCommand('selectAll')`);
   await page.type(text);
 }
 
 /** Puts a long document in, as a paste does. */
-async function putIn(page, text) {
-  await page.evaluate(`(() => {
-    const area = document.getElementById('text');
-    area.value = ${JSON.stringify(text)};
-    area.dispatchEvent(new Event('input'));
-  })()`);
-}
+const putIn = (page, text) => page.evaluate(`${mirror}.setValue(${JSON.stringify(text)})`);
+
+const undo = (page) => page.evaluate(`${mirror}.undo()`);
+
+const openExample = (id) => `document.querySelector('#cards [data-id=${id}]').click()`;
+
+const choose = (id, value) => `(() => {
+  const it = document.getElementById('${id}');
+  it.value = '${value}';
+  it.dispatchEvent(new Event('change'));
+})()`;
 
 async function savedFile(folder, name) {
   for (const since = Date.now(); Date.now() - since < SECONDS * 1000; ) {
@@ -223,12 +373,10 @@ const PNG = Buffer.from('89504e470d0a1a0a', 'hex');
 const CASES = {
   'a text is drawn and judged as it is typed': async (page) => {
     await until(page, isDrawn('source'));
-    assert.equal(await page.evaluate(`document.getElementById('examples').value`), 'diagram');
     await typeAll(page, pair());
     await until(page, isDrawn('a'));
     assert.equal(await page.evaluate(verdict), 'check: yes, the drawing keeps all rules');
     assert.deepEqual(await page.evaluate(texts), ['a', 'b']);
-    assert.equal(await page.evaluate(`document.getElementById('examples').value`), '');
   },
 
   'the drawing has arrow heads where that is asked for': async (page) => {
@@ -244,19 +392,8 @@ const CASES = {
     await typeAll(page, pair({ 'elk.direction': 'ASIDE' }));
     const words = await until(page, `document.querySelector('#told button')?.textContent`);
     assert.match(words, /^line 1, column 47: an option of "pair" has a value that is not taken/);
-    const [marks, off] = await page.evaluate(`(() => {
-      const letters = document.createElement('span');
-      letters.textContent = 'x'.repeat(100);
-      document.getElementById('room').append(letters);
-      const letter = letters.getBoundingClientRect().width / 100;
-      letters.remove();
-      const marks = [...document.querySelectorAll('#marks .fault')];
-      const { left, width } = marks[0].style;
-      return [marks.length, Math.max(Math.abs(parseFloat(left) - 8 - 46 * letter), Math.abs(parseFloat(width) - 7 * letter))];
-    })()`);
-    assert.equal(marks, 1);
-    assert.ok(off < 1, `the mark is ${off} pixels off`);
-    assert.equal(await page.evaluate(`document.getElementById('text').getAttribute('aria-invalid')`), 'true');
+    assert.deepEqual(await page.evaluate(`[...document.querySelectorAll('.CodeMirror-line .of-fault')].map((it) => it.innerText)`), ['"ASIDE"']);
+    assert.equal(await page.evaluate(`${mirror}.getInputField().getAttribute('aria-invalid')`), 'true');
     await page.evaluate(`document.querySelector('#told button').click()`);
     assert.equal(await page.evaluate(selected), '"ASIDE"');
     await page.type('"DOWN"');
@@ -301,12 +438,12 @@ const CASES = {
     await page.press('0');
     await until(page, `${viewBox} === '${fitted}'`);
     await page.press('e');
-    assert.match(await until(page, `document.getElementById('edge').textContent`), /^line: a → newer$/);
+    assert.match(await until(page, `document.getElementById('lit').textContent`), /^line: a → newer$/);
     await page.press('Enter');
     assert.equal(await page.evaluate(selected), '"line"');
     await page.evaluate(`document.getElementById('stage').focus()`);
     await page.press('Escape');
-    await until(page, `document.getElementById('edge').textContent === ''`);
+    await until(page, `document.getElementById('lit').textContent === ''`);
   },
 
   'a click on a node leads to its text': async (page) => {
@@ -320,7 +457,7 @@ const CASES = {
   },
 
   'every control has a name': async (page) => {
-    const nameless = await page.evaluate(`[...document.querySelectorAll('button, input, select, textarea, [tabindex], progress')]
+    const nameless = await page.evaluate(`[...document.querySelectorAll('button, input, select, [contenteditable=true], [tabindex]:not([tabindex="-1"]), progress')]
       .filter((it) => !(it.ariaLabel || it.innerText || it.labels?.[0]?.innerText)).map(({ id, outerHTML }) => id || outerHTML)`);
     assert.deepEqual(nameless, []);
     assert.equal(await page.evaluate(`document.querySelector('footer').getAttribute('role')`), 'status');
@@ -343,11 +480,289 @@ const CASES = {
   'a link brings the document back': async (page) => {
     await page.evaluate(click('link'));
     const link = await until(page, `location.hash && location.href`);
-    const text = await page.evaluate(`document.getElementById('text').value`);
+    const text = await page.evaluate(textOfPage);
     await page.open('about:blank');
     await page.open(link);
     await until(page, isDrawn('newer'));
-    assert.equal(await page.evaluate(`document.getElementById('text').value`), text);
+    assert.equal(await page.evaluate(textOfPage), text);
+  },
+
+  'a reload keeps the text, even if a link of a former one was copied': async (page) => {
+    await page.evaluate(click('link'));
+    await until(page, `location.hash`);
+    await putIn(page, pair().replaceAll('"a"', '"kept"'));
+    await until(page, isDrawn('kept'));
+    assert.equal(await page.evaluate(`location.hash`), '');
+    await page.open(await page.evaluate(`location.href`));
+    await until(page, isDrawn('kept'));
+    assert.match(await page.evaluate(textOfPage), /"kept"/);
+  },
+
+  'a word that is dragged within the editor stays a word': async (page) => {
+    const before = await page.evaluate(textOfPage);
+    await page.evaluate(`(() => {
+      const line = document.querySelector('.CodeMirror-line');
+      const { left, top, height } = line.getBoundingClientRect();
+      const dataTransfer = new DataTransfer();
+      dataTransfer.setData('text/plain', ' ');
+      const at = { clientX: left + 5, clientY: top + height / 2, bubbles: true, cancelable: true };
+      for (const kind of ['dragover', 'drop']) {
+        line.dispatchEvent(new DragEvent(kind, { dataTransfer, ...at }));
+      }
+    })()`);
+    const after = await page.evaluate(textOfPage);
+    assert.equal(after.length, before.length + 1);
+    assert.equal(after.replace(' ', ''), before.replace(' ', ''));
+    await until(page, isDrawn('kept'));
+  },
+
+  'undoing comes back over a large example': async (page) => {
+    const before = await page.evaluate(textOfPage);
+    await page.evaluate(openExample('large'));
+    assert.ok((await page.evaluate(textOfPage)).length > 100_000);
+    await undo(page);
+    assert.equal(await page.evaluate(textOfPage), before);
+    await until(page, isDrawn('kept'));
+  },
+
+  'undoing out of a placed document lays out again': async (page) => {
+    await page.evaluate(openExample('overlap'));
+    await until(page, `${verdict}.startsWith('check: no')`);
+    const way = `document.getElementById('way').value`;
+    assert.equal(await page.evaluate(way), 'placed');
+    await undo(page);
+    assert.equal(await page.evaluate(way), 'layout');
+    await until(page, isDrawn('kept'));
+  },
+
+  'what is told of a text goes with it': async (page) => {
+    await putIn(page, pair());
+    await until(page, isDrawn('a'));
+    await page.evaluate(`${mirror}.replaceRange(' ', { line: 0, ch: 1 })`);
+    assert.equal(await page.evaluate(isHidden('verdict')), true);
+    await putIn(page, pair({ 'elk.direction': 'ASIDE' }));
+    await until(page, `!${isHidden('told')}`);
+    await putIn(page, slow());
+    assert.equal(await page.evaluate(`document.getElementById('told').inert`), true);
+    await until(page, `!${isHidden('busy')}`);
+    await page.evaluate(click('stop'));
+    assert.deepEqual(await page.evaluate(`[${isHidden('told')}, ${isHidden('verdict')}]`), [true, true]);
+  },
+
+  'the classes of a document mean nothing to the page': async (page) => {
+    const styled = (element, names) => ({ ...element, style: { class: names, stroke: '#112233' } });
+    const { children: [a, b], edges: [line], ...root } = JSON.parse(pair());
+    const children = [styled(a, 'target lit edge'), styled(b, 'moving')];
+    await putIn(page, JSON.stringify({ ...root, children, edges: [styled(line, 'node lighting')] }));
+    await until(page, isDrawn('a'));
+    const [strokes, titles] = await page.evaluate(`(() => {
+      const all = [...document.getElementById('picture').shadowRoot.querySelectorAll('[data-id=a], [data-id=b], [data-id=line]')];
+      return [all.map((it) => getComputedStyle(it).stroke), all.map((it) => getComputedStyle(it).opacity)];
+    })()`);
+    assert.deepEqual([strokes, titles], [Array(3).fill('rgb(17, 34, 51)'), ['1', '1', '1']]);
+    await page.evaluate(`document.getElementById('stage').focus()`);
+    for (let press = 0; press < 2; press += 1) {
+      await page.press('e');
+      assert.equal(await until(page, `document.getElementById('lit').textContent`), 'line: a → b');
+    }
+    await page.press('Escape');
+  },
+
+  'keys reach nodes': async (page) => {
+    await page.evaluate(`document.getElementById('stage').focus()`);
+    await page.press('n');
+    await page.press('n');
+    assert.equal(await until(page, `document.getElementById('lit').textContent`), 'b');
+    await page.press('Enter');
+    assert.equal(await page.evaluate(selected), '"b"');
+  },
+
+  'arrows come and go without a layout': async (page) => {
+    await page.evaluate(`(() => {
+      const { postMessage } = Worker.prototype;
+      window.asked = [];
+      Worker.prototype.postMessage = function (message) {
+        window.asked.push(message.kind);
+        return postMessage.call(this, message);
+      };
+    })()`);
+    const heads = `document.getElementById('picture').shadowRoot.querySelectorAll('g[data-id] path[stroke="none"]').length`;
+    for (const count of [0, 1]) {
+      await page.evaluate(click('arrows'));
+      await until(page, `${heads} === ${count}`);
+    }
+    assert.deepEqual(await page.evaluate('window.asked'), ['picture', 'picture']);
+  },
+
+  'a document that is nested too deep is told so': async (page) => {
+    const nested = (open, close) => `{"id":"r","width":9,"height":9,${open.repeat(3000)}${close.repeat(3000)}}`;
+    const cases = [nested('"children":[{"id":"a",', '"x":0}]').replaceAll(',"x"', ',"x"'), `{"id":"r","width":9,"height":9,"data":${'['.repeat(3000)}${']'.repeat(3000)}}`];
+    for (const way of ['layout', 'placed']) {
+      for (const text of cases) {
+        await putIn(page, text);
+        await page.evaluate(choose('way', way));
+        await until(page, `!document.getElementById('told').inert && /nested|drawing keeps/.test(${toldWords} + ${verdict} + document.getElementById('status').innerText)`);
+        assert.doesNotMatch(await page.evaluate(toldWords), /stack|recursion|could not be done/i);
+      }
+    }
+    await page.evaluate(choose('way', 'layout'));
+  },
+
+  'formatting changes no number': async (page) => {
+    await putIn(page, pair().replace('"pair"', '12345678901234567890'));
+    await page.evaluate(click('format'));
+    assert.match(await page.evaluate(textOfPage), /^\{\n  "id": 12345678901234567890,\n/);
+  },
+
+  'the border is wide enough to be met': async (page) => {
+    const width = await page.evaluate(`(() => {
+      const { left, right, top, height } = document.getElementById('border').getBoundingClientRect();
+      let count = 0;
+      for (let x = left - 30; x < right + 30; x += 1) {
+        count += document.elementFromPoint(x + 0.5, top + height / 2).id === 'border' ? 1 : 0;
+      }
+      return count;
+    })()`);
+    assert.ok(width >= 24, `${width} pixels`);
+  },
+
+  'options are offered where they are written': async (page) => {
+    await putIn(page, '{ "id": "r", "layoutOptions": {  } }');
+    await page.evaluate(`${mirror}.focus(), ${mirror}.setCursor(0, 32), ${mirror}.showHint()`);
+    const offered = `[...document.querySelectorAll('.CodeMirror-hint')].map((it) => it.innerText)`;
+    assert.ok((await until(page, `(${offered}).length > 20 && ${offered}`)).some((it) => /^"elk\.direction"\s+elk\.direction: .*default RIGHT$/.test(it)));
+    await page.evaluate(`[...document.querySelectorAll('.CodeMirror-hint')].find((it) => it.innerText.startsWith('"elk.direction"')).click()`);
+    assert.equal(await page.evaluate(textOfPage), '{ "id": "r", "layoutOptions": { "elk.direction":  } }');
+    await until(page, `document.getElementById('help').textContent.startsWith('elk.direction: ')`);
+  },
+
+  'controls write options into the text, and show those that are there': async (page) => {
+    await putIn(page, pair());
+    await until(page, isDrawn('a'));
+    const control = (name) => `document.querySelector('#choices [data-option="${name}"]')`;
+    const change = (name, value) => `(() => {
+      const it = ${control(name)};
+      it.value = '${value}';
+      it.dispatchEvent(new Event('change'));
+    })()`;
+    await page.evaluate(change('direction', 'DOWN'));
+    await until(page, isDrawn('a'));
+    await page.evaluate(change('spacing.nodeNode', '55'));
+    await until(page, isDrawn('a'));
+    const { layoutOptions } = JSON.parse(await page.evaluate(textOfPage));
+    assert.deepEqual(layoutOptions, { 'elk.spacing.nodeNode': 55, 'elk.direction': 'DOWN' });
+    await putIn(page, pair({ 'elk.direction': 'left' }));
+    await until(page, `${control('direction')}.value === 'LEFT' && ${control('spacing.nodeNode')}.value === ''`);
+  },
+
+  'the gallery has a picture of each example without a fault': async (page) => {
+    await page.evaluate(click('examples'));
+    const count = examples().length - 1;
+    await until(page, `document.querySelectorAll('#cards svg').length === ${count}`);
+    await page.evaluate(openExample('machine'));
+    assert.equal(await page.evaluate(`document.getElementById('gallery').open`), false);
+    await until(page, isDrawn('idle'));
+  },
+
+  'the caret marks its element in the drawing': async (page) => {
+    const marked = `document.getElementById('picture').shadowRoot.querySelector('[data-marked]')?.dataset.id`;
+    for (const [words, id] of [['"busy", "width"', 'busy'], ['"reset", "sources"', 'reset']]) {
+      const at = (await page.evaluate(textOfPage)).indexOf(words);
+      await page.evaluate(`${mirror}.focus(), ${mirror}.setCursor(${mirror}.posFromIndex(${at}))`);
+      await until(page, `${marked} === '${id}'`);
+    }
+  },
+
+  'a node is found by its id or its text': async (page) => {
+    await page.evaluate(`(() => {
+      const field = document.getElementById('sought');
+      field.value = 'ON';
+      field.dispatchEvent(new Event('input'));
+    })()`);
+    await until(page, `document.getElementById('found').textContent === '1 of 2'`);
+    assert.equal(await page.evaluate(`document.getElementById('lit').textContent`), 'start');
+    await page.evaluate(`document.getElementById('sought').focus()`);
+    await page.press('Enter');
+    await until(page, `document.getElementById('lit').textContent === 'done'`);
+    await page.evaluate(click('fit'));
+  },
+
+  'what was meant is written by one click': async (page) => {
+    await putIn(page, pair({ 'elk.directon': 'DOWN' }).replace('["b"]', '["B"]'));
+    for (const words of ['Write "elk.direction"', 'Write "b"']) {
+      await until(page, `!document.getElementById('told').inert && document.querySelectorAll('#told .mend').length > 0`);
+      await page.evaluate(`[...document.querySelectorAll('#told .mend')].find((it) => it.innerText === '${words}').click()`);
+    }
+    await until(page, isDrawn('a'));
+    assert.equal(await page.evaluate(textOfPage), pair({ 'elk.direction': 'DOWN' }));
+  },
+
+  'the theme is chosen, and kept': async (page) => {
+    const colours = `[getComputedStyle(document.body).backgroundColor, getComputedStyle(document.getElementById('picture').shadowRoot.querySelector('svg > rect')).fill]`;
+    await page.evaluate(choose('theme', 'dark'));
+    assert.deepEqual(await page.evaluate(colours), ['rgb(22, 32, 43)', 'rgb(22, 32, 43)']);
+    await page.open(await page.evaluate('location.href'));
+    await until(page, isDrawn('a'));
+    assert.deepEqual(await page.evaluate(colours), ['rgb(22, 32, 43)', 'rgb(22, 32, 43)']);
+    await page.evaluate(choose('theme', 'auto'));
+  },
+
+  'paper gets the whole drawing': async (page) => {
+    const fitted = await page.evaluate(viewBox);
+    await page.evaluate(click('in'));
+    await until(page, `${viewBox} !== '${fitted}'`);
+    const zoomed = await page.evaluate(viewBox);
+    const [x, y, width, height] = (await page.evaluate(`(dispatchEvent(new Event('beforeprint')), ${viewBox})`)).split(' ').map(Number);
+    assert.ok(x === -8 && y === -8 && width > 0 && height > 0);
+    assert.equal(await page.evaluate(`(dispatchEvent(new Event('afterprint')), ${viewBox})`), zoomed);
+  },
+
+  'texts that are too small to be read are not drawn': async (page) => {
+    const shownTexts = `[...document.getElementById('picture').shadowRoot.querySelectorAll('text')].filter((it) => getComputedStyle(it).display !== 'none').length`;
+    assert.equal(await page.evaluate(shownTexts), 2);
+    await page.evaluate(openExample('large'));
+    await until(page, isDrawn('n7'));
+    assert.equal(await page.evaluate(shownTexts), 0);
+    await undo(page);
+    await until(page, isDrawn('a'));
+    assert.equal(await page.evaluate(shownTexts), 2);
+  },
+
+  'the tour leads through five documents': async (page) => {
+    await page.evaluate(click('newcomers'));
+    for (const id of ['first', 'second', 'third', 'fourth', 'fifth']) {
+      assert.match(await page.evaluate(textOfPage), new RegExp(`"id": "${id}"`));
+      await page.evaluate(click('tour-next'));
+    }
+    assert.equal(await page.evaluate(isHidden('tour')), true);
+  },
+
+  'a broken link is told, and nothing is drawn in its place': async (page) => {
+    await page.open('about:blank');
+    await page.open(`${address}#z=AAAA`);
+    await until(page, `!${isHidden('told')}`);
+    assert.match(await page.evaluate(toldWords), /^The link carries no document that can be read/);
+    assert.deepEqual(await page.evaluate(`[${textOfPage}, ${isHidden('verdict')}]`), ['', true]);
+  },
+
+  'a link that unpacks to very much is refused, and the page stays free': async (page) => {
+    await page.open('about:blank');
+    await page.open(`${address}${bomb()}`);
+    await until(page, `!${isHidden('told')}`);
+    assert.match(await page.evaluate(toldWords), /longer than 1 MiB/);
+  },
+
+  'text and drawing are seen at a zoom of 400%': async (page) => {
+    await page.resize(320, 200);
+    const heights = await page.evaluate(`['editor', 'stage'].map((id) => {
+      const it = document.getElementById(id);
+      it.scrollIntoView();
+      const { top, bottom } = it.getBoundingClientRect();
+      return Math.min(bottom, innerHeight) - Math.max(top, 0);
+    })`);
+    assert.ok(Math.min(...heights) >= 100, heights.join());
+    assert.ok(await page.evaluate('document.documentElement.scrollWidth <= innerWidth'));
+    await page.resize(1280, 800);
   },
 };
 
@@ -370,7 +785,7 @@ const BROWSERS = {
 };
 
 for (const [name, { skip, start }] of Object.entries(BROWSERS)) {
-  test(`the playground in ${name}`, { skip: skip || WITH_MODULE.skip, timeout: 240_000 }, async (t) => {
+  test(`the playground in ${name}`, { skip: skip || WITH_MODULE.skip, timeout: 480_000 }, async (t) => {
     const folder = mkdtempSync(path.join(room, 'saved-'));
     const { page, close } = await start(folder);
     try {

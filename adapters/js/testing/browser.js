@@ -19,7 +19,7 @@ const WORDS = [
   '--disable-component-update',
 ];
 
-const SECONDS = 120;
+const SECONDS = 480;
 
 function isThere(file) {
   try {
@@ -107,6 +107,11 @@ class Page {
     await this.send('Input.dispatchKeyEvent', { type: 'keyUp', key });
   }
 
+  /** Shows the page in a window of another size. */
+  async resize(width, height) {
+    await this.send('Emulation.setDeviceMetricsOverride', { width, height, deviceScaleFactor: 1, mobile: false });
+  }
+
   /** Shows the page as to a reader who has set light or dark. */
   async prefer(value) {
     await this.send('Emulation.setEmulatedMedia', { features: [{ name: 'prefers-color-scheme', value }] });
@@ -190,7 +195,7 @@ class Browser {
     const page = new Page(this, sessionId);
     this.#pages.set(sessionId, page);
     await Promise.all(['Page', 'Runtime', 'Log'].map((domain) => page.send(`${domain}.enable`)));
-    await page.send('Emulation.setDeviceMetricsOverride', { width, height, deviceScaleFactor: 1, mobile: false });
+    await page.resize(width, height);
     await page.open(url);
     return page;
   }

@@ -17,7 +17,7 @@ const firefoxFile = () => process.env.ELK_FIREFOX ?? programOf(NAMES);
 /** What a test that asks a Firefox is given: whether it is left out, and why. */
 const WITH_FIREFOX = { skip: firefoxFile() ? false : 'no Firefox stands: ELK_FIREFOX names one, or the path has one' };
 
-const SECONDS = 240;
+const SECONDS = 480;
 
 const PREFERENCES = {
   'marionette.port': 0,
@@ -148,9 +148,14 @@ class Firefox {
   /** Shows an address, such as `file:///..`, in a window whose page has this size. */
   async open(url, { width = 1000, height = 700 } = {}) {
     await this.send('WebDriver:Navigate', { url });
+    await this.resize(width, height);
+    return this;
+  }
+
+  /** Gives the page another size, as far as the window takes it. */
+  async resize(width, height) {
     const [beside, above] = await this.evaluate('[outerWidth - innerWidth, outerHeight - innerHeight]');
     await this.send('WebDriver:SetWindowRect', { width: width + beside, height: height + above });
-    return this;
   }
 
   /** The value of an expression in the page, or that to which its promise resolves. It must be JSON. */

@@ -1,0 +1,26 @@
+'use strict';
+// Whether a placed document is what the engine makes of it. Labels and edges with several ends are placed by the
+// adapter, and a drawing with them is judged by what the engine has drawn.
+
+const { elementsIn } = require('../elements');
+const { laidOut } = require('../layout');
+const { elementsOf } = require('../levels');
+
+const PLACED = ['x', 'y', 'width', 'height'];
+
+const lengthsOf = (element) => PLACED.map((name) => element[name]);
+
+/** All places and routes of a drawing, in the order of its elements. */
+const drawingOf = (root) =>
+  elementsIn(root).map(({ value }) => [lengthsOf(value), value.sections ?? [], elementsOf(value.labels).map(lengthsOf)]);
+
+/**
+ * Lays a placed document out once more.
+ * @returns {Promise<string | undefined>} what the engine wrote, where that makes the very drawing
+ */
+async function replyOf(placed, how, engine) {
+  const { placed: anew } = await laidOut(placed, how, engine);
+  return JSON.stringify(drawingOf(anew)) === JSON.stringify(drawingOf(placed)) ? engine.reply : undefined;
+}
+
+module.exports = { replyOf };
