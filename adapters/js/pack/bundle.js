@@ -8,6 +8,9 @@ const TOP = path.join(__dirname, '..');
 
 const REQUIRED = /\brequire\('([^']+)'\)/g;
 
+// A comment that fills whole lines.
+const COMMENT = /^[ \t]*(?:\/\/.*|\/\*(?:(?!\*\/)[^])*\*\/)\n/gm;
+
 /** Where a module stands, below the package: that of pages where they have one in place of Node's. */
 const placeOf = (id) => [`page/${id}`, id].find((place) => existsSync(path.join(TOP, place)));
 
@@ -32,11 +35,12 @@ function textOf(place) {
  * @param {object} [given]
  * @param {Record<string, string>} [given.texts] modules that stand in no file, and need no others
  * @param {Record<string, string>} [given.places] where modules stand that are taken from elsewhere
+ * @param {boolean} [given.isShort] whether comments that fill whole lines are left out
  */
-function bundle(entry, { texts = {}, places = {} } = {}) {
+function bundle(entry, { texts = {}, places = {}, isShort = false } = {}) {
   const modules = new Map();
   const joined = (place) =>
-    textOf(place).replace(REQUIRED, (_, name) => {
+    textOf(place).replace(isShort ? COMMENT : '', '').replace(REQUIRED, (_, name) => {
       const id = idOf(name, place);
       take(id);
       return `require('${id}')`;

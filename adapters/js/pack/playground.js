@@ -31,12 +31,13 @@ const embedded = (value) => JSON.stringify(value).replace(/</g, '\\u003c');
 
 function workerScript() {
   const texts = { 'page/packed.js': `module.exports = '${HOLE}';` };
-  return `'use strict';\n${bundle('playground/worker.js', { texts })};\n`;
+  return `'use strict';\n${bundle('playground/worker.js', { texts, isShort: true })};\n`;
 }
 
 function pageScript() {
   const [before, after] = workerScript().split(HOLE).map(embedded);
   return bundle('playground/main.js', {
+    isShort: true,
     texts: {
       'page/packed.js': `module.exports = '${packedModule().toString('base64')}';`,
       'playground/script.js': `module.exports = (packed) => [${before}, packed, ${after}];`,
