@@ -93,7 +93,8 @@ class Refused(unittest.TestCase):
             file.write_text('{"id":0,"children":[' * 100_000 + "]}" * 100_000)
             words = [sys.executable, "-m", "elk_layout", "layout", str(file), "-o", f"{folder}/out", "--program", PROGRAM]
             ended = subprocess.run(words, stdout=subprocess.PIPE, stderr=subprocess.PIPE, cwd=Path(__file__).parents[1])
-            self.assertEqual((ended.returncode, ended.stderr), (2, b""))
+            self.assertEqual((ended.returncode, ended.stderr.count(b"\n")), (2, 1))
+            self.assertIn(b"deep.json: the document is no JSON text that is taken", ended.stderr)
             told = json.loads((Path(folder) / "out" / "refused.jsonl").read_text())
             self.assertEqual((told["rule"], told["name"]), (1, "NotJson"))
             self.assertIn("stand too deep in one another", told["reason"])
