@@ -146,7 +146,7 @@ def layout_many(
     pool = Pool(find_program(program), processes)
     if total is None and isinstance(documents, Sized):
         total = len(documents)
-    requests = answered((_request(it, sender) for it in documents), pool, held or HELD * processes)
+    requests = answered(documents, lambda it: _request(it, sender), pool, held or HELD * processes)
     return shown(_results(requests, raises, options), progress, total)
 
 
@@ -158,7 +158,7 @@ def replies(
     A text with line feeds within is one line too: to JSON they are the same as blanks.
     """
     pool = Pool(find_program(program), processes)
-    for index, request in enumerate(answered(map(_line_request, lines), pool, held or HELD * processes)):
+    for index, request in enumerate(answered(lines, _line_request, pool, held or HELD * processes)):
         if request.error:
             request.error.index = index
             raise request.error

@@ -2,7 +2,6 @@
 
 from __future__ import annotations
 
-import marshal
 from collections.abc import Mapping
 from typing import AbstractSet, Any, Dict, List, Optional, Tuple
 
@@ -41,14 +40,6 @@ def copied(document: Any, lists: AbstractSet[str]) -> Any:
 
     `lists` names the members that become lists if they are tuples, and elements of lists become objects of class dict.
     """
-    try:
-        # By far the fastest, but for values of Python's own classes alone, and not for very deep ones.
-        return marshal.loads(marshal.dumps(document))
-    except ValueError:
-        return _copied_one_by_one(document, lists)
-
-
-def _copied_one_by_one(document: Any, lists: AbstractSet[str]) -> Any:
     copies = _Copies(lists)
     whole = copies.of(document)
     while copies.waiting:

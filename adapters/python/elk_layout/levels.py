@@ -15,7 +15,7 @@ def elements_of(values: Any) -> List[Element]:
 
 
 def number_or_0(value: Any) -> Any:
-    return value if is_measure(value) else 0
+    return value if value.__class__ is int or is_measure(value) else 0
 
 
 def _is_extended(edge: Element) -> bool:

@@ -22,9 +22,9 @@ FOLDER = Path(__file__).resolve().parent
 OWN = FOLDER / "bin" / "elk"
 OWN_MODULE = FOLDER / "module" / "bin" / "elk"
 
-# The launcher of the repository and its command, if the package stands in it.
-LAUNCHER = FOLDER.parents[2] / "elk"
-MODULE = FOLDER.parents[1] / "js" / "bin" / "elk"
+# The launcher of the repository and its command, if the package stands in it. It may stand in the root of a system too.
+LAUNCHER = Path(os.path.abspath(FOLDER / "../../../elk"))
+MODULE = Path(os.path.abspath(FOLDER / "../../js/bin/elk"))
 
 # The systems for which there is a program.
 SYSTEMS = (("Linux", "x86_64"), ("Linux", "aarch64"))

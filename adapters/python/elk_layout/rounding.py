@@ -16,6 +16,11 @@ NOISE = 1e-6
 
 def is_measure(value: Any) -> bool:
     """Whether a value is a number of some kind and finite. True and False are no numbers in JSON."""
+    # By far most are of these classes, and the general question takes long.
+    if value.__class__ is int:
+        return True
+    if value.__class__ is float:
+        return math.isfinite(value)
     return isinstance(value, (Real, Decimal)) and not isinstance(value, bool) and math.isfinite(value)
 
 

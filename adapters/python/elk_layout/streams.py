@@ -5,7 +5,7 @@ from __future__ import annotations
 import sys
 import time
 from collections import deque
-from typing import Any, Callable, Deque, Iterable, Iterator, Optional, Union
+from typing import Any, Callable, Deque, Iterable, Iterator, Optional, TypeVar, Union
 
 from .pool import Pool
 from .process import Request
@@ -16,6 +16,10 @@ HELD_BYTES = 2**20
 
 # The time within which the processes of a quick source are looked after once, since each look costs some microseconds.
 LOOK_SECONDS = 0.001
+# How much of the time that a slow source takes for a document is waited for replies before it is asked for the next.
+SHARE = 0.25
+
+Given = TypeVar("Given")
 
 Progress = Union[bool, Callable[[int, Optional[int]], Any]]
 
@@ -37,10 +41,10 @@ class _Waiting:
     def done(self, seconds: float) -> Iterator[Request]:
         """Gives what is done, before more is read.
 
-        `seconds` is how long the source took for its last document. If that was long, the replies get as long: else a
-        slow source would hold each result back until its next document comes.
+        `seconds` is how long the source took for its last document. If that was long, a share of it is waited for the
+        replies: else a slow source would hold each result back until its next document comes.
         """
-        rest = seconds if seconds >= LOOK_SECONDS else 0.0
+        rest = seconds * SHARE if seconds >= LOOK_SECONDS else 0.0
         until = time.monotonic() + rest
         while self._requests and self._looks(rest):
             self._pool.turn(rest)
@@ -76,26 +80,28 @@ class _Waiting:
             yield from self._first_ones()
 
 
-def answered(requests: Iterable[Request], pool: Pool, held: int) -> Iterator[Request]:
-    """Hands the lines of requests in and gives the requests back in order, each with its reply or its error.
+def answered(source: Iterable[Given], request_of: Callable[[Given], Request], pool: Pool, held: int) -> Iterator[Request]:
+    """Makes a request of each item of a source, and gives the requests back in order, each with its reply or its error.
 
-    `held` is how many are at the processes, or wait for one before them, at once. If the source raises, what was read
-    before is given first.
+    `held` is how many are at the processes, or wait for one before them, at once. If the source raises, or an item is
+    none of which a request can be made, what was read before is given first.
     """
     waiting = _Waiting(pool, held)
-    source = iter(requests)
+    items = iter(source)
     fault: Optional[Exception] = None
     try:
         while not fault:
             asked_at = time.monotonic()
             try:
-                waiting.put(next(source))
+                item = next(items)
+                took = time.monotonic() - asked_at
+                waiting.put(request_of(item))
             except StopIteration:
                 break
             except Exception as error:
                 fault = error
             else:
-                yield from waiting.done(time.monotonic() - asked_at)
+                yield from waiting.done(took)
         yield from waiting.all()
         if fault:
             raise fault

@@ -10,9 +10,10 @@ import unittest
 import unittest.mock
 from decimal import Decimal
 from fractions import Fraction
+from pathlib import Path
 
 from .program import PROGRAM, TOP, chain, needs, with_program
-from elk_layout import Refusal, check, layout, options
+from elk_layout import Refusal, check, layout, options, program
 from elk_layout.document import Sender
 from elk_layout.program import find_program
 
@@ -264,6 +265,12 @@ class Laid(unittest.TestCase):
 
 
 class Found(unittest.TestCase):
+    def test_the_package_may_stand_in_the_root_of_a_system(self):
+        names = {"__file__": "/elk_layout/program.py", "__package__": "elk_layout", "__name__": "elk_layout.program"}
+        exec(Path(program.__file__).read_text(), names)
+        self.assertEqual((str(names["LAUNCHER"]), str(program.LAUNCHER)), ("/elk", str(TOP / "elk")))
+        self.assertEqual(str(program.MODULE), str(TOP / "adapters/js/bin/elk"))
+
     def test_the_program_is_the_given_one_else_that_of_the_environment_the_path_or_the_repository(self):
         with tempfile.TemporaryDirectory() as folder:
             on_path = os.path.join(folder, "elk")

@@ -12,7 +12,7 @@ import time
 import unittest
 import unittest.mock
 
-from .program import PACKAGE, PROGRAM, PUPPET, with_program
+from .program import PACKAGE, PROGRAM, PUPPET, needs, with_program
 from elk_layout import ProgramError, Refusal, close, layout, layout_many, replies
 from elk_layout.calls import _kept
 from elk_layout.pool import Pool
@@ -296,8 +296,8 @@ class Sources(unittest.TestCase):
         read = []
 
         def documents():
-            for at in range(8):
-                time.sleep(0.1)
+            for at in range(6):
+                time.sleep(0.2)
                 read.append(at)
                 yield {"id": str(at)}
 
@@ -305,8 +305,8 @@ class Sources(unittest.TestCase):
             with self.subTest(processes=processes):
                 read.clear()
                 ahead = [len(read) - done for done, _ in enumerate(layout_many(documents(), processes=processes, program=PUPPET), 1)]
-                # Python itself takes longer to start the first process than the source to give the first document.
-                self.assertLessEqual(max(ahead[2:]), 1, ahead)
+                # A busy machine may take longer for a reply, and takes longer to start the first process.
+                self.assertLessEqual((sorted(ahead)[2], max(ahead[2:])), (1, 2), ahead)
 
     def test_a_source_may_give_one_object_again_and_again(self):
         whole, mine = {"id": 0, "children": [{"id": "a"}]}, {"id": 0, "labels": [{"text": ""}], "children": ({"id": "a"},)}
@@ -324,6 +324,20 @@ class Sources(unittest.TestCase):
                 self.assertEqual([(it["id"], it["children"][0]["id"]) for it in results], [(at, f"a{at}") for at in range(20)])
                 texts = [it["labels"][0]["text"] for it in results if "labels" in it]
                 self.assertEqual(texts, [f"label {at}" for at in range(20)] if document is mine else [])
+
+    @needs("numpy")
+    def test_what_is_no_value_of_json_is_shared(self):
+        import numpy
+
+        mine, array = object(), numpy.array([1.5])
+        document = {"id": "a", "mine": mine, "own": [{"array": array, "number": numpy.float64(2.5), "key": (1, [2])}]}
+        document["own"].append(document["own"])
+        (placed,) = layout_many([document], program=PUPPET)
+        (own, itself), given = placed["own"], document["own"][0]
+        self.assertIs(placed["mine"], mine)
+        self.assertIs(itself, placed["own"])
+        self.assertIsNot(own, given)
+        self.assertEqual([own[it] is given[it] for it in given], [True] * 3)
 
     @with_program
     def test_a_refusal_speaks_of_the_document_as_it_was(self):

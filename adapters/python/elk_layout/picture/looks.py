@@ -68,9 +68,13 @@ class Wishes(NamedTuple):
     classes: Tuple[str, ...]
 
 
+NO_WISHES = Wishes("box", None, None, None, ())
+
+
 def wishes_of(element: Element) -> Wishes:
     style = element.get("style")
-    style = style if isinstance(style, dict) else {}
+    if not isinstance(style, dict):
+        return NO_WISHES
     shape, names = style.get("shape"), style.get("class")
     return Wishes(
         SHAPES.get(shape, "box") if isinstance(shape, str) else "box",

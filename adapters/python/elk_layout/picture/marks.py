@@ -59,6 +59,8 @@ def words_of(value: Any) -> str:
 
 
 def num(value: Any) -> str:
+    if value.__class__ is int:
+        return str(value)
     # Places are whole or halves; bends may need a little more.
     number = number_or_0(value)
     if number == int(number):
