@@ -296,10 +296,12 @@ declare namespace ELK {
       | 'unknownOption'
       | 'unclearOption'
       | 'foreignOption'
+      | 'unknownValue'
       | 'misplacedOption'
       | 'shortOption'
       | 'adapterOption'
       | 'unknownMember'
+      | 'wideLabel'
       | 'doubleMember';
     readonly id?: Id;
     readonly steps: readonly (string | number)[];

@@ -4,6 +4,7 @@
 const { layOutAcross } = require('./borders');
 const { outlineOf } = require('./borders/geometry');
 const { faultsOfCall } = require('./call-faults');
+const { tellCoordinates } = require('./coordinates');
 const { copyOf, documentOf, finish, place } = require('./document');
 const { edgesAcross } = require('./hierarchy');
 const { junctionPoints } = require('./junctions');
@@ -25,10 +26,12 @@ function answerOf(reply, text, call) {
   return JSON.parse(reply);
 }
 
-function tellJunctions(placed) {
+/** Tells what only the whole drawing has: where routes part, and the coordinates that are asked for. */
+function tellWhole(placed, { general }) {
   for (const [edge, points] of junctionPoints(placed)) {
     edge.junctionPoints = points;
   }
+  tellCoordinates(placed, general);
 }
 
 const NO_SIZE = { width: 0, height: 0 };
@@ -106,7 +109,7 @@ function refuseFaults(graph, how) {
 async function laidOut(graph, how, engine) {
   if (edgesAcross(new Draft(graph, how.general)).size === 0) {
     const { placed, seconds } = await drawn(graph, how, engine);
-    tellJunctions(placed);
+    tellWhole(placed, how);
     return { placed, seconds };
   }
   refuseFaults(graph, how);
@@ -118,7 +121,7 @@ async function laidOut(graph, how, engine) {
     sum += seconds;
     return rest;
   });
-  tellJunctions(placed);
+  tellWhole(placed, how);
   return { placed, seconds: sum };
 }
 

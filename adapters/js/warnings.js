@@ -3,13 +3,14 @@
 // that are read. The drawing is made all the same.
 
 const FAULTS = require('./data/faults.json');
-const { adapter, prefixes } = require('./data/options.json');
+const { adapter, instead: INSTEAD, prefixes } = require('./data/options.json');
 const { elementsIn } = require('./elements');
 const { ALL_NAMES, CLEAR_KEYS, meanings } = require('./endings');
 const { filled, pathOf, textOf } = require('./faults');
 const { isObject } = require('./levels');
 const { nearest } = require('./near');
-const { OPTIONS } = require('./options');
+const { OPTIONS, carriedBy } = require('./options');
+const { measured, namesIn } = require('./stages/labels');
 
 const { members: MEMBERS, readers: READERS, kinds: KINDS, warnings: WORDS } = FAULTS;
 
@@ -85,7 +86,8 @@ const optionWarning = remembered((key, kind) => {
   const [option] = names;
   const at = READ.get(option);
   if (at === undefined) {
-    return ['foreignOption', { option }];
+    const instead = INSTEAD[option];
+    return ['foreignOption', { option, instead: instead === undefined ? '' : `: ${instead}` }];
   }
   const readers = at.map((it) => READERS[it]).join(' and ');
   const isRead = at.some((it) => PLACES[kind].includes(it));
@@ -184,6 +186,22 @@ function* membersOf(element) {
   }
 }
 
+/** The labels within a leaf that are wider than it and for which it doesn't grow. */
+function* wideLabelsOf(element, general) {
+  const { value } = element;
+  const isSized = typeof value.width === 'number' && Array.isArray(value.labels) && !element.isLevel;
+  for (const [at, label] of element.kind === 'node' && isSized ? value.labels.entries() : []) {
+    const asked = (name, from) => from.map((it) => carriedBy(it).get(name)).find(Boolean) ?? general.get(name);
+    const namesOf = (name, ...from) => namesIn(asked(name, from.filter(isObject))?.value);
+    const isInside = namesOf('nodeLabels.placement', label, value).has('INSIDE');
+    const width = isInside && isObject(label) ? measured(label).width : 0;
+    if (width > value.width && !namesOf('nodeSize.constraints', value).has('NODE_LABELS')) {
+      const told = { found: textOf(Math.ceil(width)), room: textOf(value.width) };
+      yield toldOf('wideLabel', { steps: [...element.steps, 'labels', at], id: value.id, ...told });
+    }
+  }
+}
+
 /**
  * What a document has without effect, in document order.
  * @param {unknown} document
@@ -202,6 +220,7 @@ function* warningsIn(document, isCall, general) {
       yield toldOf(warning, { steps: ['layoutOptions', key], isOfCall: true, ...told });
     }
   }
+  const carried = carriedBy({ layoutOptions: general });
   const holders = isCall ? ['layoutOptions', 'properties'] : ['layoutOptions'];
   for (const element of elementsIn(document).filter(({ value }) => isObject(value))) {
     for (const holding of withLabels(element)) {
@@ -211,6 +230,7 @@ function* warningsIn(document, isCall, general) {
       }
     }
     yield* membersOf(element);
+    yield* isCall ? wideLabelsOf(element, carried) : [];
   }
 }
 

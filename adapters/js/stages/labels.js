@@ -95,4 +95,4 @@ function placeStack(labels, { x, y, width, gap, align }) {
   }
 }
 
-module.exports = { isTrue, labelsOf, namesIn, numberIn, placeStack, sidesIn, sizeIn, stackOf };
+module.exports = { isTrue, labelsOf, measured, namesIn, numberIn, placeStack, sidesIn, sizeIn, stackOf };

@@ -4,6 +4,7 @@
 
 const { greatest } = require('../extremes');
 const { numberOr0 } = require('../levels');
+const { ENDS } = require('./draft');
 const { placeStack, stackOf } = require('./labels');
 const { pointsOf, route } = require('./sections');
 const { BORDERS, along, axesOf, isUpright, linesAt, outward, placeAt } = require('./sides');
@@ -22,13 +23,35 @@ function placeLoops(draft, strips, loops) {
   for (const { source, target } of draft.edges()) {
     [source, target].forEach(({ port }) => counts.set(port, (counts.get(port) ?? 0) + 1));
   }
+  const others = [...draft.edges()].filter(({ source, target }) => source.node === target.node);
+  const columns = new Map();
   for (const [loop, labels] of loops) {
-    placeLoop(draft, strips, sides, loop, labels, (port) => counts.get(port) > 1);
+    placeLoop(draft, strips, { sides, columns, others }, loop, labels, (port) => counts.get(port) > 1);
   }
 }
 
-function placeLoop(draft, strips, sides, { edge, level, source, target }, labels, isShared) {
-  const [side, other] = [source, target].map((it, at) => sideOfEnd(sides, it, edge, ['source', 'target'][at]));
+/** The labels of loops at one side of a node: how long they are together, where they stand, and what places them. */
+function columnOf(columns, node, side) {
+  if (!columns.has(node)) {
+    columns.set(node, new Map());
+  }
+  const ofNode = columns.get(node);
+  return ofNode.get(side) ?? ofNode.set(side, { length: 0, placed: [], deeds: [] }).get(side);
+}
+
+/** Loops without a label at the same side are drawn as close to the node as the others. */
+function closeOthers(draft, { sides, others }, node, side, depth) {
+  const here = others.filter(({ edge, source, target }) => {
+    const ends = [source, target].map((end, at) => sideOfEnd(sides, end, edge, ENDS[at]));
+    return source.node === node && !(source.port && source.port === target.port) && ends.every((it) => it === side);
+  });
+  const bare = here.filter(({ edge }) => !Array.isArray(edge.labels) || edge.labels.length === 0);
+  draft.after(() => bare.forEach(({ edge }) => close(edge, node, side, depth)));
+}
+
+function placeLoop(draft, strips, all, { edge, level, source, target }, labels, isShared) {
+  const { sides, columns } = all;
+  const [side, other] = [source, target].map((it, at) => sideOfEnd(sides, it, edge, ENDS[at]));
   const { gap, out: beside } = draft.besideEdge(level);
   const { node } = source;
   const ports = [source.port, target.port].filter(Boolean);
@@ -44,17 +67,36 @@ function placeLoop(draft, strips, sides, { edge, level, source, target }, labels
   const depth = greatest(reaches) + draft.number(level, 'spacing.edgeNode', 10);
   const foreign = docks.filter((dock) => !own.includes(dock));
   const { before, behind } = overhangs(draft, node, side, { docks, length, beside, isAlone: foreign.length === 0 });
+  const column = columnOf(columns, node, side);
+  if (column.deeds.length === 0) {
+    closeOthers(draft, all, node, side, depth);
+    draft.after(() => column.deeds.forEach((deed) => deed()));
+  }
   strips.reserve(node, side, depth + beside + outward(side, size));
   strips.reserve(node, BORDERS[side][0], before);
-  strips.reserve(node, BORDERS[side][1], behind);
-  draft.after(() => {
+  strips.reserve(node, BORDERS[side][1], behind + column.length);
+  column.length += length + beside;
+  column.deeds.push(() => {
     const ends = close(edge, node, side, depth);
-    const from = fromOf(ends, linesAt(node, side, foreign), { length, beside });
+    const from = clearOf(column.placed, fromOf(ends, linesAt(node, side, foreign), { length, beside }), length, beside);
     const place = placeAt(side, size, { from, away: depth + beside, node });
     const align = isUpright(side) ? (side === 'EAST' ? 'left' : 'right') : 'center';
     const [x, y] = [place.x + numberOr0(node.x), place.y + numberOr0(node.y)];
     placeStack(labels, { x, y, width: size.width, gap, align });
   });
+}
+
+/** Where a label begins that stands clear of others along the side, behind those that it would meet. */
+function clearOf(placed, wanted, length, beside) {
+  placed.sort((one, other) => one.from - other.from);
+  let from = wanted;
+  for (const other of placed) {
+    if (from < other.to + beside && other.from < from + length + beside) {
+      from = other.to + beside;
+    }
+  }
+  placed.push({ from, to: from + length });
+  return from;
 }
 
 /** How far a label of a loop may reach beyond the two ends of a side: in its middle, or beyond its last line. */

@@ -124,7 +124,8 @@ test('a graph is taken when the call is made', async (t) => {
   const call = elk.layout(graph);
   graph.id = 'second';
   graph.children.pop();
-  assert.deepEqual(await call, { id: 'first', children: [{ id: 'a' }] });
+  const none = { width: 0, height: 0 };
+  assert.deepEqual(await call, { id: 'first', ...none, children: [{ id: 'a', ...none }] });
 });
 
 drawn('a graph is placed as the program places it, and the answer is judged right', async (made) => {

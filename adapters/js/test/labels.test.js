@@ -100,6 +100,22 @@ test('a node grows for what stands in it, from its given size on', WITH_PROGRAM,
   elk.terminateWorker();
 });
 
+test('labels of several loops of a node stand apart, and all its loops are close to it', WITH_PROGRAM, async () => {
+  const elk = new ELK({ program: PROGRAM });
+  const loop = (id, text) => ({ id, source: 'a', target: 'a', ...(text && { labels: [{ text }] }) });
+  for (const direction of ['RIGHT', 'DOWN']) {
+    const edges = [loop(1, 'first'), loop(2, 'the second'), loop(3), { id: 4, source: 'a', target: 'b' }];
+    const children = [{ id: 'a', width: 60, height: 60 }, { id: 'b', width: 20, height: 20 }];
+    const placed = await elk.layout({ id: 'r', layoutOptions: { direction }, children, edges });
+    assert.deepEqual(labelFaults(placed), [], direction);
+    const [axis, size] = direction === 'RIGHT' ? ['x', 'width'] : ['y', 'height'];
+    const [a] = placed.children;
+    const reaches = placed.edges.slice(0, 3).map(({ sections: [{ bendPoints }] }) => bendPoints[0][axis] - a[axis] - a[size]);
+    assert.deepEqual(reaches, [10, 10, 10], direction);
+  }
+  elk.terminateWorker();
+});
+
 test('a label on a long line stands in its middle', WITH_PROGRAM, async () => {
   const elk = new ELK({ program: PROGRAM });
   const ids = ['a', 'b', 'c', 'd', 'e'];

@@ -80,6 +80,27 @@ test('a value that the adapter does not know is told', () => {
   ]);
 });
 
+test('what is done in place of an option of ELK is told with it', () => {
+  const document = { id: 'r', layoutOptions: { 'elk.aspectRatio': 1.6, 'elk.debugMode': true } };
+  assert.deepEqual(messages(document), [
+    'layoutOptions["elk.aspectRatio"] has no effect, since this engine does not have this option of ELK: ' +
+      'the drawing has the shape that its layers give it',
+    'layoutOptions["elk.debugMode"] has no effect, since this engine does not have this option of ELK',
+  ]);
+});
+
+test('a label within a node that is too narrow for it is told', () => {
+  const labels = [{ text: 'far too long for it', width: 90, height: 12 }, { text: 'a', width: 8, height: 12 }];
+  const layoutOptions = { 'elk.nodeLabels.placement': 'INSIDE V_CENTER H_CENTER' };
+  const node = { id: 'a', width: 40, height: 30, labels, layoutOptions };
+  const grows = { ...layoutOptions, 'elk.nodeSize.constraints': 'NODE_LABELS' };
+  const others = [{ ...node, id: 'b', layoutOptions: grows }, { ...node, id: 'c', layoutOptions: {} }, { ...node, id: 'd', width: 90 }];
+  assert.deepEqual(messages({ id: 'r', children: [node, ...others] }), [
+    'children[0].labels[0] is 90 wide, and its node is 40: the label stands out; ' +
+      'let nodeSize.constraints of the node have NODE_LABELS',
+  ]);
+});
+
 test('the program finds options by their whole names alone', () => {
   const document = { layoutOptions: { nodeNodeBetweenLayers: 5, 'elk.direction': 'UP' }, properties: { nonsense: 1 } };
   assert.deepEqual(messages(document, { isCall: false }), [

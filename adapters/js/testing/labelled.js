@@ -11,7 +11,6 @@ const ROOM = 34;
 class Maker {
   #draw;
   #count = 0;
-  #looped = new Set();
 
   constructor(seed) {
     this.#draw = chance(seed);
@@ -137,8 +136,7 @@ class Maker {
     const source = this.#end(children);
     const targets = Array.from({ length: is(0.1) ? from(2, 3) : 1 }, () => this.#end(children));
     const looped = targets.map(nodeOf).find((node) => node === nodeOf(source));
-    // Several labelled loops would meet on one node.
-    const isFree = !looped || (targets.length === 1 && !this.#looped.has(looped));
+    const isFree = !looped || targets.length === 1;
     const labels = Array.from({ length: is(0.6) && isFree ? from(1, 2) : 0 }, () =>
       this.#label({
         layoutOptions: {
@@ -147,9 +145,6 @@ class Maker {
         },
       }),
     );
-    if (looped) {
-      this.#looped.add(looped);
-    }
     return {
       id: this.#id('e'),
       sources: [source],
