@@ -2,12 +2,27 @@
 // The playground: a text on one side, its drawing on the other.
 
 const packed = require('../page/packed');
+const { Desk, Stopped } = require('./desk');
+const script = require('./script');
+
+let url;
+
+function workerOfPage() {
+  // One for all workers of the page.
+  url ??= URL.createObjectURL(new Blob(script(packed), { type: 'text/javascript' }));
+  return new Worker(url);
+}
+
+const desk = new Desk(workerOfPage);
+
+// The worker gets ready while the rest of the page is loaded.
+desk.prepare();
+
 const { watch } = require('./bar');
 const { hearBorder } = require('./border');
 const { withOption } = require('./choices');
 const { completionAt, helpAt } = require('./completion');
 const { Controls } = require('./controls');
-const { Desk, Stopped } = require('./desk');
 const { hearDrops } = require('./drops');
 const { Editor } = require('./editor');
 const EXAMPLES = require('./texts');
@@ -18,7 +33,6 @@ const { largeText } = require('./large');
 const { hashOf } = require('./link');
 const { elementAt } = require('./places');
 const { copied, pngOf, save } = require('./save');
-const script = require('./script');
 const { Search } = require('./search');
 const { Themes } = require('./themes');
 const { Told, linesOf, many, summaryOf } = require('./told');
@@ -36,16 +50,6 @@ const LARGE = { id: 'large', title: 'A graph of 2,000 nodes', nodes: 2000 };
 const find = (id) => document.getElementById(id);
 
 const [status, verdict, hint] = ['status', 'verdict', 'hint'].map(find);
-
-let url;
-
-function workerOfPage() {
-  // One for all workers of the page.
-  url ??= URL.createObjectURL(new Blob(script(packed), { type: 'text/javascript' }));
-  return new Worker(url);
-}
-
-const desk = new Desk(workerOfPage);
 
 const ways = new Ways();
 
@@ -448,7 +452,6 @@ async function begin() {
 }
 
 async function start() {
-  desk.prepare();
   hearControls();
   hearDrops(find('editor'), { onFile: openFile, onText: (text) => open({ text }) });
   hearBorder(find('border'), find('panes'));
