@@ -298,11 +298,15 @@ async function redraw() {
   }
 }
 
-/** Puts another document in the place of the text, which may be one of the examples. */
-function open({ text, isPlaced: isToBeJudged = false }) {
+/** Puts another document in the place of the text, from which undoing leads back unless the page begins with it. */
+function open({ text, isPlaced: isToBeJudged = false }, { isFirst = false } = {}) {
   view.clear();
   shown = undefined;
-  editor.replace(text);
+  if (isFirst) {
+    editor.begin(text);
+  } else {
+    editor.replace(text);
+  }
   choose(isToBeJudged ? 'placed' : 'layout');
   forgetTold();
   draw();
@@ -417,6 +421,7 @@ function hearControls() {
   find('way').addEventListener('change', ({ target }) => {
     choose(target.value);
     isCurrent = false;
+    enable();
     forgetTold();
     draw();
   });
@@ -441,8 +446,12 @@ async function begin() {
   const kept = keptText();
   try {
     const given = location.hash === '' ? undefined : await documentOfLink();
-    editor.begin(kept?.text ?? '');
-    open(given ?? kept ?? EXAMPLES[0]);
+    if (given) {
+      editor.begin(kept?.text ?? '');
+      open(given);
+    } else {
+      open(kept ?? EXAMPLES[0], { isFirst: true });
+    }
   } catch ({ message }) {
     editor.begin('');
     tell([{ kind: 'fault', message: brokenLink(message) }]);
