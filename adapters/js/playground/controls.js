@@ -7,10 +7,11 @@ const WORDS = { RIGHT: 'right', LEFT: 'left', DOWN: 'down', UP: 'up' };
 
 const wordsOf = (value) => WORDS[value] ?? value.toLowerCase().replace(/_/g, ' ').replace('brandes koepf', 'Brandes and Köpf');
 
+/** All values, of which the default is none: it is chosen by taking the option away. */
 function listOf({ values, default: byDefault }) {
   const list = document.createElement('select');
-  const offered = values.filter((value) => value !== 'UNDEFINED');
-  list.append(new Option(`${wordsOf(byDefault)} (default)`, ''), ...offered.map((value) => new Option(wordsOf(value), value)));
+  const others = values.filter((value) => value !== 'UNDEFINED' && value !== byDefault);
+  list.append(new Option(wordsOf(byDefault), ''), ...others.map((value) => new Option(wordsOf(value), value)));
   return list;
 }
 

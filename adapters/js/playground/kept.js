@@ -25,11 +25,11 @@ function keepText({ text, isPlaced }) {
   }
 }
 
-/** The last text of this window, or else of any; undefined where there is none. */
+/** The last text of this window, or else of any; undefined where there is none but blanks. */
 function keptText() {
   const [value] = stores().map((store) => tried(() => store.getItem(TEXT))).filter(Boolean);
   const { text, isPlaced } = tried(() => JSON.parse(value)) ?? {};
-  return typeof text === 'string' ? { text, isPlaced: isPlaced === true } : undefined;
+  return typeof text === 'string' && text.trim() !== '' ? { text, isPlaced: isPlaced === true } : undefined;
 }
 
 const keepTheme = (theme) => tried(() => localStorage.setItem(THEME, theme));

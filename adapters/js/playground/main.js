@@ -2,12 +2,27 @@
 // The playground: a text on one side, its drawing on the other.
 
 const packed = require('../page/packed');
+const { Desk, Stopped } = require('./desk');
+const script = require('./script');
+
+let url;
+
+function workerOfPage() {
+  // One for all workers of the page.
+  url ??= URL.createObjectURL(new Blob(script(packed), { type: 'text/javascript' }));
+  return new Worker(url);
+}
+
+const desk = new Desk(workerOfPage);
+
+// The worker gets ready while the rest of the page is loaded.
+desk.prepare();
+
 const { watch } = require('./bar');
 const { hearBorder } = require('./border');
 const { withOption } = require('./choices');
 const { completionAt, helpAt } = require('./completion');
 const { Controls } = require('./controls');
-const { Desk, Stopped } = require('./desk');
 const { hearDrops } = require('./drops');
 const { Editor } = require('./editor');
 const EXAMPLES = require('./texts');
@@ -18,7 +33,6 @@ const { largeText } = require('./large');
 const { hashOf } = require('./link');
 const { elementAt } = require('./places');
 const { copied, pngOf, save } = require('./save');
-const script = require('./script');
 const { Search } = require('./search');
 const { Themes } = require('./themes');
 const { Told, linesOf, many, summaryOf } = require('./told');
@@ -36,16 +50,6 @@ const LARGE = { id: 'large', title: 'A graph of 2,000 nodes', nodes: 2000 };
 const find = (id) => document.getElementById(id);
 
 const [status, verdict, hint] = ['status', 'verdict', 'hint'].map(find);
-
-let url;
-
-function workerOfPage() {
-  // One for all workers of the page.
-  url ??= URL.createObjectURL(new Blob(script(packed), { type: 'text/javascript' }));
-  return new Worker(url);
-}
-
-const desk = new Desk(workerOfPage);
 
 const ways = new Ways();
 
@@ -294,11 +298,15 @@ async function redraw() {
   }
 }
 
-/** Puts another document in the place of the text, which may be one of the examples. */
-function open({ text, isPlaced: isToBeJudged = false }) {
+/** Puts another document in the place of the text, from which undoing leads back unless the page begins with it. */
+function open({ text, isPlaced: isToBeJudged = false }, { isFirst = false } = {}) {
   view.clear();
   shown = undefined;
-  editor.replace(text);
+  if (isFirst) {
+    editor.begin(text);
+  } else {
+    editor.replace(text);
+  }
   choose(isToBeJudged ? 'placed' : 'layout');
   forgetTold();
   draw();
@@ -413,6 +421,7 @@ function hearControls() {
   find('way').addEventListener('change', ({ target }) => {
     choose(target.value);
     isCurrent = false;
+    enable();
     forgetTold();
     draw();
   });
@@ -437,8 +446,12 @@ async function begin() {
   const kept = keptText();
   try {
     const given = location.hash === '' ? undefined : await documentOfLink();
-    editor.begin(kept?.text ?? '');
-    open(given ?? kept ?? EXAMPLES[0]);
+    if (given) {
+      editor.begin(kept?.text ?? '');
+      open(given);
+    } else {
+      open(kept ?? EXAMPLES[0], { isFirst: true });
+    }
   } catch ({ message }) {
     editor.begin('');
     tell([{ kind: 'fault', message: brokenLink(message) }]);
@@ -448,7 +461,6 @@ async function begin() {
 }
 
 async function start() {
-  desk.prepare();
   hearControls();
   hearDrops(find('editor'), { onFile: openFile, onText: (text) => open({ text }) });
   hearBorder(find('border'), find('panes'));

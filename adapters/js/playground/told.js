@@ -1,8 +1,6 @@
 'use strict';
 // What is said of a text: the list of faults, warnings and notes, the verdict, and the line at the foot of the page.
 
-const NAMES = { fault: 'fault', warning: 'warning' };
-
 const LEADS = { warning: 'Warning, ', note: 'Note: ' };
 
 const many = (count, thing) => `${count.toLocaleString('en')} ${thing}${count === 1 ? '' : 's'}`;
@@ -10,7 +8,7 @@ const many = (count, thing) => `${count.toLocaleString('en')} ${thing}${count ==
 const placeWords = ({ line, column }) => (line === undefined ? '' : `line ${line}, column ${column}: `);
 
 const restOf = (list, all, kind) =>
-  all > list.length ? [{ message: `and ${many(all - list.length, NAMES[kind])} more`, kind: 'rest' }] : [];
+  all > list.length ? [{ message: `and ${many(all - list.length, kind)} more`, kind: 'rest' }] : [];
 
 /** The lines of the list. */
 const linesOf = ({ faults, warnings, notes = [], counts }) => [

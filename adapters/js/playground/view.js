@@ -58,7 +58,11 @@ class View {
   #stage;
   #root;
   #dark = document.createElement('style');
+  // The size of the stage: asking for it would lay a new picture out before all is known of it.
+  #size = { clientWidth: 0, clientHeight: 0 };
   #picture;
+  // The text from which the picture was made.
+  #svg;
   // In the order of the drawing, without its outermost level.
   #nodes = [];
   #edges = [];
@@ -68,6 +72,8 @@ class View {
   #part;
   #drawnPart;
   #isFitted = true;
+  // Whether all of it is shown whatever part the reader chose.
+  #isWhole = false;
   #isDue = false;
   #rest;
   #pointers = new Map();
@@ -94,7 +100,13 @@ class View {
     this.#root.append(style, this.#dark);
     this.#hearPointers();
     stage.addEventListener('keydown', (event) => this.#hearKey(event));
+    this.#measure();
     new ResizeObserver(() => this.#resized()).observe(stage);
+  }
+
+  #measure() {
+    const { clientWidth, clientHeight } = this.#stage;
+    this.#size = { clientWidth, clientHeight };
   }
 
   /** Shows a light picture on a dark page, or as it is. On paper it stays light. */
@@ -108,31 +120,50 @@ class View {
 
   /** Shows a picture; it is fitted unless the last one was moved. */
   show(svg) {
-    const made = document.createElement('template');
-    made.innerHTML = svg;
-    const picture = made.content.firstElementChild;
+    // Many changes of a text, such as blanks, change nothing that is drawn.
+    if (svg !== this.#svg) {
+      this.#svg = svg;
+      this.#put(pictureIn(svg));
+    }
+  }
+
+  #put(picture) {
     const [x, y, width, height] = picture.getAttribute('viewBox').split(' ').map(Number);
-    ['width', 'height'].forEach((name) => picture.removeAttribute(name));
-    picture.setAttribute('role', 'img');
-    picture.setAttribute('aria-label', 'the drawing');
     this.#whole = { x, y, width, height };
     this.#take(picture);
     const [lit, marked] = [this.#lit, this.#marked].map((it) => it && this.#sameAs(it));
     this.#light(undefined);
-    if (this.#picture) {
-      this.#picture.replaceWith(picture);
+    const former = this.#picture;
+    this.#picture = picture;
+    if (this.#isFitted || !this.#part) {
+      this.#part = this.#fittedPart();
+      this.#isFitted = true;
+    }
+    this.#drawPart();
+    this.#light(lit);
+    this.#mark(marked);
+    if (this.#isLarge) {
+      this.#addInTurn(picture);
+    }
+    if (former) {
+      former.replaceWith(picture);
     } else {
       this.#root.append(picture);
     }
-    this.#picture = picture;
-    this.#drawnPart = undefined;
-    this.#light(lit);
-    this.#mark(marked);
-    if (this.#isFitted || !this.#part) {
-      this.fit();
-    } else {
-      this.#draw();
-    }
+  }
+
+  /** Takes all but the nodes out of a large picture, and adds part after part, so that the page is never long at work. */
+  #addInTurn(picture) {
+    const [, ...later] = picture.querySelectorAll(':scope > g');
+    later.forEach((part) => part.remove());
+    const addNext = () => {
+      const part = later.shift();
+      if (part && this.#picture === picture) {
+        picture.append(part);
+        afterFrame(addNext);
+      }
+    };
+    afterFrame(addNext);
   }
 
   #take(picture) {
@@ -152,7 +183,7 @@ class View {
   clear() {
     this.#light(undefined);
     this.#picture?.remove();
-    this.#picture = undefined;
+    [this.#picture, this.#svg] = [undefined, undefined];
     [this.#edges, this.#nodes, this.#marked] = [[], [], undefined];
     this.#byId = new Map();
     this.#isFitted = true;
@@ -176,7 +207,7 @@ class View {
       return;
     }
     const { x, y, width, height } = element.getBBox();
-    const { clientWidth, clientHeight } = this.#stage;
+    const { clientWidth, clientHeight } = this.#size;
     const scale = Math.min((clientWidth * FOUND) / width, (clientHeight * FOUND) / height, MOST_FIT);
     const [wide, high] = [clientWidth / scale, clientHeight / scale];
     this.#part = { x: x + (width - wide) / 2, y: y + (height - high) / 2, width: wide, height: high };
@@ -187,24 +218,28 @@ class View {
   }
 
   fit() {
-    if (this.isEmpty) {
-      return;
+    if (!this.isEmpty) {
+      this.#part = this.#fittedPart();
+      this.#isFitted = true;
+      this.#draw();
     }
-    const { clientWidth, clientHeight } = this.#stage;
+  }
+
+  /** The part with all of the picture in its middle. */
+  #fittedPart() {
+    const { clientWidth, clientHeight } = this.#size;
     const { x, y, width: wide, height: high } = this.#whole;
     const scale = Math.min(clientWidth / wide, clientHeight / high, MOST_FIT) || 1;
     const [width, height] = [clientWidth / scale, clientHeight / scale];
-    this.#part = { x: x + (wide - width) / 2, y: y + (high - height) / 2, width, height };
-    this.#isFitted = true;
-    this.#draw();
+    return { x: x + (wide - width) / 2, y: y + (high - height) / 2, width, height };
   }
 
   /** Zooms so that a point of the stage stays where it is. */
-  zoom(by, at = { x: this.#stage.clientWidth / 2, y: this.#stage.clientHeight / 2 }) {
+  zoom(by, at = { x: this.#size.clientWidth / 2, y: this.#size.clientHeight / 2 }) {
     if (this.isEmpty) {
       return;
     }
-    const scale = this.#part.width / this.#stage.clientWidth;
+    const scale = this.#part.width / this.#size.clientWidth;
     const next = Math.min(Math.max(scale / by, 1 / CLOSEST), 1 / FARTHEST) / scale;
     this.#part = {
       x: this.#part.x + at.x * scale * (1 - next),
@@ -221,7 +256,7 @@ class View {
     if (this.isEmpty) {
       return;
     }
-    const scale = this.#part.width / this.#stage.clientWidth;
+    const scale = this.#part.width / this.#size.clientWidth;
     this.#part = { ...this.#part, x: this.#part.x - x * scale, y: this.#part.y - y * scale };
     this.#isFitted = false;
     this.#draw();
@@ -250,9 +285,9 @@ class View {
 
   /** Shows all of the picture, as for paper, or the part that was shown before. */
   showWhole(isWhole) {
+    this.#isWhole = isWhole;
     if (!this.isEmpty) {
-      const { x, y, width, height } = isWhole ? this.#whole : this.#part;
-      this.#picture.setAttribute('viewBox', `${x} ${y} ${width} ${height}`);
+      this.#drawPart();
     }
   }
 
@@ -281,11 +316,11 @@ class View {
 
   #drawPart() {
     clearTimeout(this.#rest);
-    const { x, y, width, height } = this.#part;
+    const { x, y, width, height } = this.#isWhole ? this.#whole : this.#part;
     this.#picture?.setAttribute('viewBox', `${x} ${y} ${width} ${height}`);
     this.#picture?.removeAttribute('data-moving');
     this.#picture?.style.removeProperty('transform');
-    const isFar = (TEXT.largest * this.#stage.clientWidth) / width < READABLE;
+    const isFar = (TEXT.largest * this.#size.clientWidth) / width < READABLE;
     this.#picture?.toggleAttribute('data-far', isFar);
     this.#drawnPart = this.#part;
   }
@@ -293,7 +328,7 @@ class View {
   /** Shows the part by moving what was drawn, which is blurred and may lack something at first. */
   #shift() {
     const [from, to] = [this.#drawnPart, this.#part];
-    const scale = this.#stage.clientWidth / to.width;
+    const scale = this.#size.clientWidth / to.width;
     const [left, top] = [(from.x - to.x) * scale, (from.y - to.y) * scale];
     this.#picture.setAttribute('data-moving', '');
     this.#picture.style.transform = `translate(${left}px, ${top}px) scale(${from.width / to.width})`;
@@ -302,6 +337,11 @@ class View {
   }
 
   #resized() {
+    // Paper has its own size.
+    if (this.#isWhole) {
+      return;
+    }
+    this.#measure();
     if (this.isEmpty) {
       return;
     }
@@ -309,7 +349,7 @@ class View {
       this.fit();
     } else {
       const scale = this.#part.height / this.#part.width;
-      const { clientWidth, clientHeight } = this.#stage;
+      const { clientWidth, clientHeight } = this.#size;
       const { width } = this.#part;
       this.#part = { ...this.#part, height: (width * clientHeight) / clientWidth || width * scale };
       this.#drawnPart = undefined;
@@ -379,7 +419,7 @@ class View {
   }
 
   #hearKey(event) {
-    const { clientWidth, clientHeight } = this.#stage;
+    const { clientWidth, clientHeight } = this.#size;
     const keys = {
       ArrowLeft: () => this.move(clientWidth * STEP, 0),
       ArrowRight: () => this.move(-clientWidth * STEP, 0),
@@ -401,6 +441,20 @@ class View {
       keys[event.key]();
     }
   }
+}
+
+/** Does something when the next frame has been drawn. */
+const afterFrame = (act) => requestAnimationFrame(() => setTimeout(act));
+
+/** The picture of a text, as large as its room, with a name. */
+function pictureIn(svg) {
+  const made = document.createElement('template');
+  made.innerHTML = svg;
+  const picture = made.content.firstElementChild;
+  ['width', 'height'].forEach((name) => picture.removeAttribute(name));
+  picture.setAttribute('role', 'img');
+  picture.setAttribute('aria-label', 'the drawing');
+  return picture;
 }
 
 /** Makes an edge's lines wide enough to be met by a pointer. */

@@ -271,8 +271,13 @@ test('a link carries any document, compressed or not', async () => {
   await assert.rejects(documentIn('#z=AAAA'));
 });
 
-/** A link that is short and unpacks to a hundred megabytes. */
-const bomb = () => `#z=${deflateRawSync(Buffer.alloc(100 * 2 ** 20, ' ')).toString('base64url')}`;
+let packed;
+
+/** A link that is short and unpacks to 32 MiB. */
+function bomb() {
+  packed ??= deflateRawSync(Buffer.alloc(2 ** 25, ' ')).toString('base64url');
+  return `#z=${packed}`;
+}
 
 test('what a link unpacks to is bounded', async () => {
   await assert.rejects(documentIn(bomb()), /longer than 1 MiB/);
