@@ -15,7 +15,7 @@ function parsed(text) {
   try {
     return JSON.parse(text);
   } catch ({ message }) {
-    throw new SyntaxError(`the attribute graph of ${NAME} is no JSON: ${message}`);
+    throw new SyntaxError(`the attribute graph of ${NAME} is not JSON: ${message}`);
   }
 }
 

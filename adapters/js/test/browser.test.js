@@ -238,7 +238,7 @@ test('an element says why it draws nothing, and hostile texts stay texts', WITH_
   const page = await pageOfDiagram();
   const said = await page.evaluate(`(async () => {
     const it = added('<elk-diagram graph="{"></elk-diagram>');
-    const seen = [(await told(it, 'elk-error')).name, it.querySelector('[role=alert]').textContent.slice(0, 46)];
+    const seen = [(await told(it, 'elk-error')).name, it.querySelector('[role=alert]').textContent.slice(0, 47)];
     it.graph = { id: 'r', children: [{ id: '<img src=x onerror=alert(1)>', width: -1 }] };
     seen.push((await told(it, 'elk-error')).rule, it.querySelectorAll('img').length);
     const id = '"><script>window.hit = 1</script><img src=x onerror="window.hit = 1">';
@@ -246,7 +246,7 @@ test('an element says why it draws nothing, and hostile texts stay texts', WITH_
     await told(it, 'elk-placed');
     return [...seen, words(it)[0] === id, it.querySelectorAll('img, script').length, window.hit === undefined];
   })()`);
-  assert.deepEqual(said, ['SyntaxError', 'the attribute graph of elk-diagram is no JSON:', 4, 0, true, 0, true]);
+  assert.deepEqual(said, ['SyntaxError', 'the attribute graph of elk-diagram is not JSON:', 4, 0, true, 0, true]);
 });
 
 test('a picture follows the setting of the reader, and the style of a page goes before it', WITH_BOTH, async () => {

@@ -55,7 +55,7 @@ test('a call refuses nodes in any number that stand in one another', async () =>
       const refusal = await refusalOf(nested(count), { numbers });
       assert.ok(refusal instanceof ELK.Refusal, refusal.stack);
       assert.deepEqual(told(refusal), DEEP, `${count} ${numbers}`);
-      assert.match(refusal.message, /^nodes are nested more than 50 levels deep: children.*… ?.*stands within 51 nodes \(rule 6, TooDeep\)$/);
+      assert.match(refusal.message, /^nodes are nested more than 50 levels deep: children.*… ?.*is inside 51 nodes \(rule 6, TooDeep\)$/);
     }
   }
 });

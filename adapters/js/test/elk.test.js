@@ -244,7 +244,7 @@ const port = (place) => ({
 });
 
 const REFUSED = [
-  [1, 'NotJson', undefined, /is no JSON: id: a text has half/, { id: '\ud800' }],
+  [1, 'NotJson', undefined, /is not JSON: id: a string has half/, { id: '\ud800' }],
   [6, 'TooDeep', undefined, /more than 50 levels/, nested(70)],
   [2, 'NotWhole', undefined, /: children\[1\]\.id is 1\.5 \(rule/, { children: [{ id: 1 }, { id: 1.5 }] }],
   [2, 'NotWhole', undefined, /layoutOptions\["elk\.spacing\.nodeNode"\] is 2\.5/, pair({}, { 'elk.spacing.nodeNode': 2.5 })],
@@ -253,12 +253,12 @@ const REFUSED = [
   [4, 'OutOfRange', 'a', /^a size of "a" is not from 0 to 2\^20/, { children: [{ id: 'a', width: -1 }] }],
   [5, 'TooMany', undefined, /more than 2,048 nodes/, { children: many(2048, (id) => ({ id })) }],
   [6, 'TooDeep', undefined, /more than 50 levels/, nested(52)],
-  [7, 'DoubleId', 1, /^the id 1 stands twice/, { children: [{ id: 1 }, { id: '1' }, { id: 1 }] }],
-  [8, 'UnknownEnd', 'e', /^the edge "e" has an end that is no node/, pair({ targets: ['nobody'] })],
+  [7, 'DoubleId', 1, /^the id 1 is used twice/, { children: [{ id: 1 }, { id: '1' }, { id: 1 }] }],
+  [8, 'UnknownEnd', 'e', /^the edge "e" has an end that is not a node/, pair({ targets: ['nobody'] })],
   [9, 'Hyperedge', 'e', /several sources and several targets/, pair({ sources: ['a', 'b'], targets: ['a', 'b'] })],
-  [9, 'Hyperedge', 'e', /not exactly one source and one target/, pair({ targets: [] })],
+  [9, 'Hyperedge', 'e', /not have exactly one source and one target/, pair({ targets: [] })],
   [10, 'CrossLevel', 'e', /^the edge "e" joins nodes of two levels: its target is the whole document/, pair({ targets: ['r'] }, { hierarchyHandling: 'SEPARATE_CHILDREN' })],
-  [11, 'OptionValue', 'r', /^an option of "r" has a value/, pair({}, { algorithm: 'stress' })],
+  [11, 'OptionValue', 'r', /^an option of "r" has an invalid value/, pair({}, { algorithm: 'stress' })],
   [11, 'OptionValue', undefined, /^an option of an element without an id/, { layoutOptions: { direction: 'ASIDE' } }],
   [12, 'PortInside', 'p', /^the port "p" touches no side of its node/, port({ x: 20, y: 20, width: 5, height: 5 })],
   [3, 'BadShape', undefined, /wrong kind/, { children: [{ id: 'é "quoted" \n😀', ports: [{ id: 'x', x: null }] }] }],

@@ -64,10 +64,10 @@ test('each member that a drawing lacks is told', () => {
   };
   const { faults } = lint(JSON.stringify(document).replace('0.5', '9'), { isPlaced: true });
   assert.deepEqual(faults.map(({ rule, detail }) => [rule, detail]), [
-    'x is 1, and may be 0, since the root stands there',
+    'x is 1, and may be 0, since the root is there',
     'height is missing, and may be whole, 0 to 2^53',
     'layering.layers is [0,-1], and may be an array of 2 whole numbers, one for each child',
-    'layering.reversed is ["f","e"], and may be an array of ids of edges of the level that are no loops, in document order',
+    'layering.reversed is ["f","e"], and may be an array of ids of edges of the level that are not self-loops, in document order',
     'edges[0].sections[0].id is "e_s1", and may be "e_s0"',
     'edges[0].sections[0].endPoint is 5, and may be a point with x and y',
     'edges[0].sections[0].bendPoints[0].y is missing, and may be whole, -2^53 to 2^53',

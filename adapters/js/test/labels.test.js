@@ -143,7 +143,7 @@ test('labels in mid-edge count towards the limits, and a refusal says so', WITH_
   await assert.rejects(elk.layout(chain(1200, labels)), {
     name: 'TooMany',
     found: 2400,
-    message: /2,400 nodes are sent, with those that stand for labels/,
+    message: /2,400 nodes are sent, including those for labels/,
   });
   const placed = await elk.layout(chain(900, labels));
   assert.ok(placed.edges.every((edge) => Number.isFinite(edge.labels[0].x) && edge.sections.length === 1));

@@ -18,39 +18,39 @@ const command = (words, input = '') => spawnSync(LINT, words, { input, encoding:
 
 // Each text that is no JSON, with the place and the reason.
 const NO_JSON = [
-  ['', '1:1 there is no text'],
-  ['  \n ', '2:2 there is no text'],
-  ['{"a": [1, 2,]}', '1:12 no comma stands before ]'],
-  ['{"a": 1,\n}', '1:8 no comma stands before }'],
-  ['{"a": 1\n "b": 2}', '2:2 a comma or } is due'],
-  ['[1 2]', '1:4 a comma or ] is due'],
-  ['{a: 1}', '1:2 the name a stands between double quotes'],
-  ["{'a': 1}", '1:2 texts stand between double quotes'],
-  ["['a']", '1:2 texts stand between double quotes'],
-  ['{"a" 1}', '1:6 a colon is due after "a"'],
-  ['{,}', '1:2 a name is due, between double quotes'],
+  ['', '1:1 the text is empty'],
+  ['  \n ', '2:2 the text is empty'],
+  ['{"a": [1, 2,]}', '1:12 a comma before ] is not allowed'],
+  ['{"a": 1,\n}', '1:8 a comma before } is not allowed'],
+  ['{"a": 1\n "b": 2}', '2:2 a comma or } is expected'],
+  ['[1 2]', '1:4 a comma or ] is expected'],
+  ['{a: 1}', '1:2 the name a needs double quotes'],
+  ["{'a': 1}", '1:2 strings need double quotes'],
+  ["['a']", '1:2 strings need double quotes'],
+  ['{"a" 1}', '1:6 a colon is expected after "a"'],
+  ['{,}', '1:2 a name in double quotes is expected'],
   ['[', '1:2 the text ends before a value'],
   ['{"a": [1', '1:9 the text ends before ]'],
   ['{"a":', '1:6 the text ends before a value'],
   ['{"a"', '1:5 the text ends before }'],
-  ['["abc', '1:2 the text that begins here has no end'],
-  ['[NaN]', '1:2 NaN is no value of JSON'],
-  ['[undefined]', '1:2 undefined is no value of JSON'],
-  ['[True]', '1:2 True is no value of JSON'],
-  ['[;]', '1:2 a value is due'],
-  ['[01]', '1:2 01 is no number of JSON'],
-  ['[.5]', '1:2 .5 is no number of JSON'],
-  ['[5px]', '1:2 5px is no number of JSON'],
-  ['[-]', '1:2 - is no number of JSON'],
+  ['["abc', '1:2 the string that begins here has no end'],
+  ['[NaN]', '1:2 NaN is not a JSON value'],
+  ['[undefined]', '1:2 undefined is not a JSON value'],
+  ['[True]', '1:2 True is not a JSON value'],
+  ['[;]', '1:2 a value is expected'],
+  ['[01]', '1:2 01 is not a JSON number'],
+  ['[.5]', '1:2 .5 is not a JSON number'],
+  ['[5px]', '1:2 5px is not a JSON number'],
+  ['[-]', '1:2 - is not a JSON number'],
   ['[1e999]', '1:2 1e999 is too large for a number'],
   ['{} // end', '1:4 there are no comments in JSON'],
   ['/* */ {}', '1:1 there are no comments in JSON'],
-  ['{} {}', '1:4 something stands behind the end of the document'],
-  ['["a\nb"]', '1:4 within a text this letter is written \\n'],
-  ['["\\x"]', '1:3 \\x stands for no letter'],
-  ['["\\u12"]', '1:3 \\u12"] stands for no letter'],
-  ['["\\ud800"]', '1:2 a text has half of a pair of surrogates'],
-  ['\ufeff{}', '1:1 the text begins with the mark of a byte order, which is left out'],
+  ['{} {}', '1:4 there is something after the end of the document'],
+  ['["a\nb"]', '1:4 in a string this character is written \\n'],
+  ['["\\x"]', '1:3 \\x is not an escape sequence'],
+  ['["\\u12"]', '1:3 \\u12"] is not an escape sequence'],
+  ['["\\ud800"]', '1:2 a string has half of a surrogate pair'],
+  ['\ufeff{}', '1:1 the text begins with a byte order mark; leave it out'],
   ['['.repeat(128), '1:128 arrays and objects are nested more than 127 deep'],
 ];
 
@@ -90,7 +90,7 @@ test('of a long line a piece is shown', () => {
 
 test('a member that stands twice is told, and the last one counts', () => {
   const { faults, warnings } = lint('{"id":"r","width":0.5,"width":1}');
-  assert.deepEqual([faults, warnings.map(({ message }) => message)], [[], ['width stands twice, and the last one counts']]);
+  assert.deepEqual([faults, warnings.map(({ message }) => message)], [[], ['width is there twice, and the last one counts']]);
 });
 
 test('numbers that JavaScript can\'t hold are read as the program reads them', () => {
@@ -117,7 +117,7 @@ test('the command tells faults and warnings of files, and ends with its status',
     [[good], 0, /^$/, /^$/],
     [[good, bad], 2, /^\S+bad\.json:1:52: a number is not whole: .*\n.*\n +\^\n\S+bad\.json:1:33: warning: children\[0\]\.widht is/, /^$/],
     [['--call', bad], 0, /^\S+bad\.json:1:33: warning: children\[0\]\.widht is not read; did you mean "width"\?\n/, /^$/],
-    [[binary], 2, /^\S+binary\.json: the document is no JSON: the bytes are no text in UTF-8 \(rule 1, NotJson\)\n$/, /^$/],
+    [[binary], 2, /^\S+binary\.json: the document is not JSON: the bytes are not UTF-8 \(rule 1, NotJson\)\n$/, /^$/],
     [[path.join(folder, 'none.json'), bad], 3, /a number is not whole/, /^elk-lint: \S+none\.json can't be read: /],
     [['--help'], 5, /^$/, /^usage: elk-lint/],
   ]) {

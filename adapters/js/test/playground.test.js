@@ -396,7 +396,7 @@ const CASES = {
   'a fault is told with its place, and leads there': async (page) => {
     await typeAll(page, pair({ 'elk.direction': 'ASIDE' }));
     const words = await until(page, `document.querySelector('#told button')?.textContent`);
-    assert.match(words, /^line 1, column 47: an option of "pair" has a value that is not taken/);
+    assert.match(words, /^line 1, column 47: an option of "pair" has an invalid value/);
     assert.deepEqual(await page.evaluate(`[...document.querySelectorAll('.CodeMirror-line .of-fault')].map((it) => it.innerText)`), ['"ASIDE"']);
     assert.equal(await page.evaluate(`${mirror}.getInputField().getAttribute('aria-invalid')`), 'true');
     await page.evaluate(`document.querySelector('#told button').click()`);

@@ -261,7 +261,7 @@ test('elk-svg draws a placed document and tells what it does not take', () => {
     [['--help'], '', 5, /^usage: elk-svg/],
     [['--light', '--dark'], '{}', 5, /^usage: elk-svg/],
     [[], '', 2, /no document/],
-    [[], '{', 2, /no JSON/],
+    [[], '{', 2, /not JSON/],
     [[], '{"id":1}', 2, /not placed/],
     [[], 'null', 2, /not placed/],
   ]) {

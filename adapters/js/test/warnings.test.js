@@ -15,18 +15,18 @@ test('an option without effect is told, with the name that was meant', () => {
     ['elk.direction', undefined],
     ['org.eclipse.elk.direction', undefined],
     ['nodeNodeBetweenLayers', undefined],
-    ['elk.directon', 'layoutOptions["elk.directon"] is no option of ELK; did you mean "elk.direction"?'],
-    ['direciton', 'layoutOptions.direciton is no option of ELK; did you mean "direction"?'],
-    ['elk.spacing.nodenode', 'layoutOptions["elk.spacing.nodenode"] is no option of ELK; did you mean "elk.spacing.nodeNode"?'],
-    ['elk.spacing.nodeNodeBetweenLayers', /no option of ELK; did you mean "elk\.layered\.spacing\.nodeNodeBetweenLayers"\?$/],
-    ['elk.layered.nodeNode', /no option of ELK; did you mean "elk\.spacing\.nodeNode"\?$/],
-    ['nodePlacment.strategy', /no option of ELK; did you mean "layered\.nodePlacement\.strategy"\?$/],
-    ['colour', 'layoutOptions.colour is no option of ELK'],
+    ['elk.directon', 'layoutOptions["elk.directon"] is not an option of ELK; did you mean "elk.direction"?'],
+    ['direciton', 'layoutOptions.direciton is not an option of ELK; did you mean "direction"?'],
+    ['elk.spacing.nodenode', 'layoutOptions["elk.spacing.nodenode"] is not an option of ELK; did you mean "elk.spacing.nodeNode"?'],
+    ['elk.spacing.nodeNodeBetweenLayers', /not an option of ELK; did you mean "elk\.layered\.spacing\.nodeNodeBetweenLayers"\?$/],
+    ['elk.layered.nodeNode', /not an option of ELK; did you mean "elk\.spacing\.nodeNode"\?$/],
+    ['nodePlacment.strategy', /not an option of ELK; did you mean "layered\.nodePlacement\.strategy"\?$/],
+    ['colour', 'layoutOptions.colour is not an option of ELK'],
     ['strategy', /^layoutOptions\.strategy may be elk\.layered\.nodePlacement\.strategy, .*, others; write one of them$/],
     ['elk.stress.epsilon', /^layoutOptions\["elk\.stress\.epsilon"\] has no effect, since this engine does not have/],
-    ['elk.port.side', 'layoutOptions["elk.port.side"] has no effect, since it is an option of ports and stands at a node'],
-    ['constructor', 'layoutOptions.constructor is no option of ELK'],
-    ['__proto__', 'layoutOptions.__proto__ is no option of ELK'],
+    ['elk.port.side', 'layoutOptions["elk.port.side"] has no effect, since it is an option of ports and is at a node'],
+    ['constructor', 'layoutOptions.constructor is not an option of ELK'],
+    ['__proto__', 'layoutOptions.__proto__ is not an option of ELK'],
   ]) {
     const [found] = messages(withOption(key));
     if (message instanceof RegExp) {
@@ -44,8 +44,8 @@ test('very many unknown options are told in little time, each with what was mean
   const found = messages({ id: 'r', layoutOptions: Object.fromEntries(names.map((name) => [name, '1'])) });
   const { user } = process.cpuUsage(begun);
   assert.equal(found.length, names.length);
-  assert.match(found[1], /directon1"\] is no option of ELK; did you mean "elk\.direction"\?$/);
-  assert.match(found[0], /xxxx0"\] is no option of ELK$/);
+  assert.match(found[1], /directon1"\] is not an option of ELK; did you mean "elk\.direction"\?$/);
+  assert.match(found[0], /xxxx0"\] is not an option of ELK$/);
   assert.ok(user < 10e6, `${user / 1e6} s`);
 });
 
@@ -54,10 +54,10 @@ test('options of every element are looked at, and those of a call', () => {
   const edge = { id: 'e', source: 'a', target: 'a', layoutOptions: { 'elk.direction': 'UP' } };
   const document = { id: 'r', children: [{ id: 'a', ports: [port], properties: { 'elk.foo': 1, directoin: 'UP' } }], edges: [edge] };
   assert.deepEqual(messages(document, { general: { 'elk.aspectRatios': 1, 'elk.port.side': 'EAST' } }), [
-    'layoutOptions["elk.aspectRatios"] of the call is no option of ELK; did you mean "elk.aspectRatio"?',
-    'edges[0].layoutOptions["elk.direction"] has no effect, since it is an option of nodes with children and stands at an edge',
-    'children[0].properties.directoin is no option of ELK; did you mean "direction"?',
-    'children[0].ports[0].layoutOptions.portConstraints has no effect, since it is an option of nodes and stands at a port',
+    'layoutOptions["elk.aspectRatios"] of the call is not an option of ELK; did you mean "elk.aspectRatio"?',
+    'edges[0].layoutOptions["elk.direction"] has no effect, since it is an option of nodes with children and is at an edge',
+    'children[0].properties.directoin is not an option of ELK; did you mean "direction"?',
+    'children[0].ports[0].layoutOptions.portConstraints has no effect, since it is an option of nodes and is at a port',
   ]);
 });
 
@@ -96,8 +96,7 @@ test('a label within a node that is too narrow for it is told', () => {
   const grows = { ...layoutOptions, 'elk.nodeSize.constraints': 'NODE_LABELS' };
   const others = [{ ...node, id: 'b', layoutOptions: grows }, { ...node, id: 'c', layoutOptions: {} }, { ...node, id: 'd', width: 90 }];
   assert.deepEqual(messages({ id: 'r', children: [node, ...others] }), [
-    'children[0].labels[0] is 90 wide, and its node is 40: the label stands out; ' +
-      'let nodeSize.constraints of the node have NODE_LABELS',
+    'children[0].labels[0] is 90 wide, and its node only 40; add NODE_LABELS to nodeSize.constraints of the node',
   ]);
 });
 
@@ -144,5 +143,5 @@ test('without a callback the console tells each name once', WITH_PROGRAM, async 
   await elk.layout(graph);
   await elk.layout(graph);
   elk.terminateWorker();
-  assert.deepEqual(lines, ['elk: layoutOptions["elk.paddding"] is no option of ELK; did you mean "elk.padding"?']);
+  assert.deepEqual(lines, ['elk: layoutOptions["elk.paddding"] is not an option of ELK; did you mean "elk.padding"?']);
 });

@@ -227,7 +227,7 @@ def _parents_of(graph: _Graph, reading: Reading) -> Dict[Hashable, Any]:
         way, at = set(), key
         while at is not None and at not in known:
             if at not in parents:
-                raise ValueError(f"the parent of a node is {at!r}, which is no node of the graph")
+                raise ValueError(f"the parent of a node is {at!r}, which is not a node of the graph")
             if at in way:
                 raise ValueError(f"the node {at!r} stands in itself, by its parents")
             way.add(at)

@@ -56,7 +56,7 @@ class Refused(unittest.TestCase):
             for numbers in ("ceil", "exact"):
                 with self.subTest((count, numbers)):
                     refusal = self.refuses(document, 6, f"^{PATH}$".replace("[", r"\["), numbers=numbers)
-                    self.assertIn("stands within 51 nodes (rule 6, TooDeep)", str(refusal))
+                    self.assertIn("is inside 51 nodes (rule 6, TooDeep)", str(refusal))
             emptied(document)
         layout(nested(50), program=PROGRAM)
 

@@ -75,7 +75,7 @@ class Told(unittest.TestCase):
                 {},
                 "children[0].height",
                 math.nan,
-                "children[0].height is null, and may be a number; a size that is not measured yet is left out",
+                "children[0].height is null, and may be a number; leave out a size that is not measured yet",
             ),
             (
                 {"layoutOptions": {"nodePlacement.strategy": "SIMPEL"}},
@@ -98,7 +98,7 @@ class Told(unittest.TestCase):
                 {},
                 "edges[0].targets[0]",
                 "A",
-                'the edge "e" has an end that is no node or port of the document: edges[0].targets[0] is "A"; '
+                'the edge "e" has an end that is not a node or port of the document: edges[0].targets[0] is "A"; '
                 'did you mean "a"? (rule 8, UnknownEnd)',
             ),
             ({"children": [{**box, "width": 2**70}]}, {}, "children[0].width", 2**70, "children[0].width is 1180591620717411303424"),

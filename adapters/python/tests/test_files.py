@@ -66,7 +66,7 @@ class Command(unittest.TestCase):
             self.assertEqual(ended.returncode, 2)
             said = ended.stderr.splitlines()
             self.assertEqual([it.split(": ")[0] for it in said], files[1:])
-            self.assertIn('double.json: the id "é" stands twice', said[0])
+            self.assertIn('double.json: the id "é" is used twice', said[0])
             self.assertEqual(said[4], "missing.json: No such file or directory")
             self.assertEqual(
                 ended.stdout.splitlines(),
@@ -80,9 +80,9 @@ class Command(unittest.TestCase):
             self.assertEqual([it["file"] for it in report], files[1:])
             self.assertEqual([it.get("rule") for it in report], [7, 2, 1, 7, None])
             self.assertEqual([it.get("id") for it in report], ["é", None, None, 5, None])
-            self.assertIn('the id "é" stands twice', report[0]["reason"])
+            self.assertIn('the id "é" is used twice', report[0]["reason"])
             self.assertIn("layoutOptions", report[1]["reason"])
-            self.assertIn("the document is no JSON: line 2, column 5", report[2]["reason"])
+            self.assertIn("the document is not JSON: line 2, column 5", report[2]["reason"])
             self.assertEqual(report[0]["path"], "children[0].id")
         self.assertEqual(sorted(it.name for it in (self.folder / "out").iterdir()), ["good.json", "refused.jsonl"])
 
@@ -106,7 +106,7 @@ class Command(unittest.TestCase):
         self.assertEqual(ended.stdout, to_svg(json.loads(own)))
         ended = self.run_command("layout", "-", given='{"id":1,"children":[{"id":1}]}')
         self.assertEqual((ended.returncode, ended.stdout), (2, ""))
-        self.assertEqual(ended.stderr, "-: the id 1 stands twice: children[0].id is 1, as id is (rule 7, DoubleId)\n")
+        self.assertEqual(ended.stderr, "-: the id 1 is used twice: children[0].id is 1, as id is (rule 7, DoubleId)\n")
 
     @with_program
     def test_placed_documents_are_checked(self):

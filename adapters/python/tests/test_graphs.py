@@ -109,7 +109,7 @@ class Documents(unittest.TestCase):
         self.assertEqual((box["layoutOptions"]["elk.direction"], box["layoutOptions"]["elk.spacing.nodeNode"]), ("UP", 5))
         self.assertIn("top=28", box["layoutOptions"]["elk.padding"])
         for parents, words in (
-            ({"a": "nowhere"}, "the parent of a node is 'nowhere', which is no node of the graph"),
+            ({"a": "nowhere"}, "the parent of a node is 'nowhere', which is not a node of the graph"),
             ({"a": "a"}, "the node 'a' stands in itself, by its parents"),
             ({"a": "b", "b": "c", "c": "a"}, "the node 'a' stands in itself, by its parents"),
         ):

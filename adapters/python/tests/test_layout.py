@@ -220,12 +220,12 @@ class Laid(unittest.TestCase):
         node = {"id": "a", "width": 30, "height": 30}
         for document, rule, name, id, words in (
             ({"id": "r", "x": "x" * 2**24}, 0, "TooLong", None, "the document is longer than 2^24 bytes: it has"),
-            ({"id": "\ud800"}, 1, "NotJson", None, "the document is no JSON: id: a text has half of a pair"),
+            ({"id": "\ud800"}, 1, "NotJson", None, "the document is not JSON: id: a string has half of a surrogate pair"),
             ({"id": "r", "children": [{**node, "width": 1.5}]}, 2, "NotWhole", None, "not whole: children[0].width is 1.5 (rule 2"),
             ({"id": "r", "children": [{**node, "width": None}]}, 3, "BadShape", None, "wrong kind of value"),
             ({"id": "r", "children": [{**node, "width": 2**21}]}, 4, "OutOfRange", "a", 'a size of "a" is not from 0 to 2^20'),
             ({"id": "r", "children": [{"id": at} for at in range(2048)]}, 5, "TooMany", None, "more than 2,048 nodes"),
-            ({"id": "r", "children": [node, node]}, 7, "DoubleId", "a", 'the id "a" stands twice: children[1].id is "a", as'),
+            ({"id": "r", "children": [node, node]}, 7, "DoubleId", "a", 'the id "a" is used twice: children[1].id is "a", as'),
             ({"id": "r", "edges": [{"id": 1, "source": "x", "target": "r"}]}, 8, "UnknownEnd", 1, "the edge 1 has an end"),
             ({"id": "{it} é", "layoutOptions": {"elk.direction": "SIDE"}}, 11, "OptionValue", "{it} é", 'an option of "{it} é" has'),
         ):

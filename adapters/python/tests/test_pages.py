@@ -39,7 +39,7 @@ class Pages(unittest.TestCase):
         with tempfile.TemporaryDirectory() as folder:
             documents = [chain(3), {"id": "r", "children": [{"id": "r"}]}, chain(2)]
             (Path(folder) / "documents.jsonl").write_text("".join(f"{json.dumps(it)}\n" for it in documents))
-            said = '1 the id "r" stands twice: children[0].id is "r", as id is (rule 7, DoubleId)\n'
+            said = '1 the id "r" is used twice: children[0].id is "r", as id is (rule 7, DoubleId)\n'
             self.assertEqual(self.run_script(script, folder), said)
 
 
