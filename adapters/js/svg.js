@@ -4,7 +4,7 @@
 const LOOK = require('./data/look.json');
 const { junctionPoints, pointsOf } = require('./junctions');
 const { elementsOf, endIds, Levels, numberOr0 } = require('./levels');
-const { inkOn, paintsOf, styleOf, wishesOf } = require('./picture/looks');
+const { inkOn, isOpaque, paintsOf, styleOf, wishesOf } = require('./picture/looks');
 const { escaped, group, idOf, num, rectangle, sizeOf, titleOf, wordsOf } = require('./picture/marks');
 const { curveOf, dotAt, isCurve, keyOf, lineOf, passes } = require('./picture/routes');
 const { metAt, roomIn, shapeOf } = require('./picture/shapes');
@@ -64,9 +64,23 @@ class Picture {
     return this.levels.places.get(this.homes.get(declared));
   }
 
-  /** The fill of the level at which an edge is drawn, where the document asks for one. */
+  /** The fill on which the content of a node is drawn, where the document asks for one: its own, or one around it. */
+  groundOf(node) {
+    let at = node;
+    while (at && !isOpaque(wishesOf(at).fill)) {
+      at = this.levels.places.get(at).parent;
+    }
+    return at && wishesOf(at).fill;
+  }
+
+  /** The fill on which an edge is drawn, where the document asks for one. */
   groundAt(declared) {
-    return wishesOf(this.homes.get(declared)).fill;
+    return this.groundOf(this.homes.get(declared));
+  }
+
+  /** The colour of texts within a node; none where the paper shows through. */
+  inkWithin(node) {
+    return inkOn(isCompound(node) ? this.groundOf(node) : wishesOf(node).fill);
   }
 
   /** The junction points of all edges in the whole drawing: those that the document tells, or else its own. */
@@ -133,16 +147,16 @@ function groupTexts(labels, box, { shape, room, ink }) {
 }
 
 /** The labels of a node; without any, its id where there is room for it. */
-function nodeTexts([node, place], { paints }, rooms) {
-  const { shape, fill, color } = wishesOf(node);
+function nodeTexts([node, place], picture, rooms) {
+  const { shape, color } = wishesOf(node);
   const labels = labelsOf(node);
   const room = isCompound(node) ? rooms.get(node) : Infinity;
   const showsId = labels.length === 0 && idOf(node) !== '' && place.parent && room >= TITLE.least;
   const free = showsId ? [{ text: idOf(node) }] : labels.filter((label) => !isPlacedLabel(label));
-  const ink = color ?? inkOn(fill);
+  const ink = color ?? picture.inkWithin(node);
   const box = boxOf(node, place);
   const texts = isCompound(node)
-    ? groupTexts(free, box, { shape, room, ink: ink ?? paints.paleInk })
+    ? groupTexts(free, box, { shape, room, ink: ink ?? picture.paints.titleInk })
     : leafTexts(free, box, { shape, ink });
   const placed = labels.filter(isPlacedLabel);
   // A label beside its node stands on paper, whatever the node's fill is.
@@ -154,8 +168,10 @@ function nodeShape([node, place], { paints }) {
   const wishes = wishesOf(node);
   const isRoot = place.parent === undefined;
   const isLevel = isRoot || isCompound(node);
-  // Each level is a shade darker than the one around it, since its tint lies above those of all levels around.
-  const tint = `${paints.tint}" fill-opacity="${paints.tintOpacity}`;
+  // Each level is a shade darker than the one around it, since its tint lies above those of all levels around; the
+  // innermost have no tint of their own, so that texts on them can be read.
+  const tint =
+    place.depth < LOOK.tints ? `${paints.tint}" fill-opacity="${paints.tintOpacity}` : 'none" pointer-events="all';
   const fill = wishes.fill ?? (isLevel ? tint : paints.paper);
   const stroke = wishes.stroke ?? (isRoot ? 'none' : isLevel ? paints.paleInk : paints.ink);
   const look = `${classOf('node', wishes)} data-id="${escaped(idOf(node))}" fill="${fill}" stroke="${stroke}"`;
@@ -173,7 +189,7 @@ function sideOf(port, node) {
 }
 
 /** The labels of a port where the document places them; else the first stands within the node, beside the port. */
-function portTexts(port, [node, place], { paints }) {
+function portTexts(port, [node, place], picture) {
   const labels = labelsOf(port);
   if (labels.some(isPlacedLabel)) {
     const corner = boxAt(port, place);
@@ -194,7 +210,7 @@ function portTexts(port, [node, place], { paints }) {
   // Ports that face one another share the width of their node.
   const width = Math.max(room.width / (side === 'left' || side === 'right' ? 2 : 1) - 4, 1);
   const fit = fitted(label.text, { width, largest: TEXT.smallest + 1 });
-  return textAt(fit, { ...places[side], ink: inkOn(wishesOf(node).fill) ?? paints.paleInk });
+  return textAt(fit, { ...places[side], ink: picture.inkWithin(node) ?? picture.paints.titleInk });
 }
 
 /** From a port to the outline of its node, where that lies within the node's box. */

@@ -5,7 +5,7 @@ const LOOK = require('../data/look.json');
 const { isObject } = require('../levels');
 
 // What each colour paints.
-const PAINTED = { paper: ['fill', 'stroke'], ink: ['fill', 'stroke'], paleInk: ['fill', 'stroke'], tint: ['fill'] };
+const PAINTED = { paper: ['fill', 'stroke'], ink: ['fill', 'stroke'], paleInk: ['fill', 'stroke'], titleInk: ['fill'], tint: ['fill'] };
 
 const THEMES = ['auto', 'light', 'dark'];
 
@@ -67,14 +67,32 @@ function channelsOf(colour) {
   return [0, 2, 4].map((from) => Number.parseInt(digits.slice(from, from + 2), 16));
 }
 
-/** The colour of texts on a fill of the document; none where the paper shows through. A fill not known is held light. */
-function inkOn(fill) {
-  if (fill === undefined || ['none', 'transparent'].includes(fill.toLowerCase())) {
-    return undefined;
-  }
-  const [red, green, blue] = channelsOf(fill) ?? [255, 255, 255];
-  const isLight = red * 299 + green * 587 + blue * 114 >= 140_000;
-  return kept((isLight ? LOOK.light : LOOK.dark).ink);
+/** Whether a fill of the document hides what lies behind it. */
+const isOpaque = (fill) => fill !== undefined && !['none', 'transparent'].includes(fill.toLowerCase());
+
+// The light that each of the 256 steps of a channel gives, from 0 to 10,000.
+const LIGHTS = Array.from({ length: 256 }, (_, step) => {
+  const share = step / 255;
+  return Math.round(10_000 * (share <= 0.04045 ? share / 12.92 : ((share + 0.055) / 1.055) ** 2.4));
+});
+
+/** The luminance of a colour, as WCAG defines it, from 0 to 1000. A colour not known is held light. */
+function luminanceOf(colour) {
+  const [red, green, blue] = (channelsOf(colour) ?? [255, 255, 255]).map((step) => LIGHTS[step]);
+  return (red * 2126 + green * 7152 + blue * 722) / 100_000;
 }
 
-module.exports = { darkRules, inkOn, paintsOf, styleOf, wishesOf };
+/** The colour of texts on a fill of the document; none where the paper shows through. */
+function inkOn(fill) {
+  if (!isOpaque(fill)) {
+    return undefined;
+  }
+  const { light, middle, dark } = LOOK.onFill;
+  const luminance = luminanceOf(fill);
+  if (luminance > dark && luminance < light) {
+    return luminance > middle ? '#000' : '#FFF';
+  }
+  return kept((luminance >= light ? LOOK.light : LOOK.dark).ink);
+}
+
+module.exports = { darkRules, inkOn, isOpaque, paintsOf, styleOf, wishesOf };

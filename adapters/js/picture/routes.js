@@ -14,15 +14,18 @@ function towards(from, to, distance) {
 
 const keyOf = ({ x, y }) => `${x} ${y}`;
 
-/** A route with rounded bends, as the steps of a path; those at `joints` stay sharp. */
-function pathOf(points, joints) {
+// A line ends this far within its head, so that neither its end nor a bend shows at the tip.
+const COVERED = 1;
+
+/** A route with rounded bends, as the steps of a path; those at `joints` stay sharp. No bend reaches into the head. */
+function pathOf(points, joints, covered) {
   const last = points.length - 1;
   // Two bends share what lies between them.
-  const share = (k) => lengthOf(points[k - 1], points[k]) / (k === 1 || k === last ? 1 : 2);
+  const share = (k) => lengthOf(points[k - 1], points[k]) / (k === 1 || k === last ? 1 : 2) - (k === last ? covered : 0);
   const steps = [`M${at(points[0])}`];
   for (let k = 1; k < last; k += 1) {
     const [before, bend, after] = points.slice(k - 1, k + 2);
-    const radius = joints.has(keyOf(bend)) ? 0 : Math.min(BEND, share(k), share(k + 1));
+    const radius = joints.has(keyOf(bend)) ? 0 : Math.max(0, Math.min(BEND, share(k), share(k + 1)));
     steps.push(
       radius === 0
         ? `L${at(bend)}`
@@ -47,15 +50,14 @@ function headOf(from, tip, length, ink) {
 /** The line of a route, with a head at its end where it has one. */
 function lineOf(points, { joints, hasHead, ink }) {
   if (!hasHead || points.length < 2) {
-    return `<path d="${pathOf(points, joints)}"/>`;
+    return `<path d="${pathOf(points, joints, 0)}"/>`;
   }
   const [from, tip] = points.slice(-2);
   const piece = lengthOf(from, tip);
   // A head is no longer than the piece that it ends, as far as it can still be seen.
   const length = Math.min(ARROW.length, Math.max(piece, ARROW.shortest));
-  // The line ends within its head, so that neither its end nor a bend shows at the tip.
-  const end = towards(tip, from, Math.min(length - 1, piece));
-  return `<path d="${pathOf([...points.slice(0, -1), end], joints)}"/>${headOf(from, tip, length, ink)}`;
+  const end = towards(tip, from, Math.min(length - COVERED, piece));
+  return `<path d="${pathOf([...points.slice(0, -1), end], joints, COVERED)}"/>${headOf(from, tip, length, ink)}`;
 }
 
 /** Whether a route passes through a box, and not only along its border. */

@@ -238,6 +238,70 @@ test('a document asks for colours and classes, and for nothing else', () => {
   }
 });
 
+// The inks of groups, which a picture of two boxes without a group does not use.
+const OTHER_INKS = ['#7b8ea3', '#8b9bad', '#4a5d72', '#bcc8d4'];
+
+/** The red, green and blue of a colour of six digits, from 0 to 1. */
+const channelsOf = (colour) => [1, 3, 5].map((from) => Number.parseInt(colour.slice(from, from + 2), 16) / 255);
+
+/** The contrast of two colours, given by their channels, as WCAG 2 defines it. */
+function contrast(...colours) {
+  const light = (step) => (step <= 0.04045 ? step / 12.92 : ((step + 0.055) / 1.055) ** 2.4);
+  const [high, low] = colours
+    .map((channels) => channels.map(light))
+    .map(([red, green, blue]) => 0.2126 * red + 0.7152 * green + 0.0722 * blue)
+    .sort((one, other) => other - one);
+  return (high + 0.05) / (low + 0.05);
+}
+
+const mixed = (below, above, share) => below.map((step, k) => step * (1 - share) + above[k] * share);
+
+test('the title of a group can be read at every depth, on light and on dark pages', () => {
+  const group = (depth) => ({
+    id: `g${depth}`, y: 20, width: 200, height: 200, children: [depth < 12 ? group(depth + 1) : { id: 'leaf', y: 20 }],
+  });
+  for (const theme of ['light', 'dark']) {
+    const elements = elementsOfXml(toSvg({ width: 300, height: 300, children: [group(1)] }, { theme }));
+    const valueOf = ({ attributes }, name) => new RegExp(`${name}="([^"]+)"`).exec(attributes)?.[1];
+    const [paper] = elements.filter(({ name }) => name === 'rect');
+    const titles = elements.filter(({ name, content }) => name === 'text' && /^g\d+$/.test(content));
+    assert.equal(titles.length, 12);
+    let below = channelsOf(valueOf(paper, 'fill'));
+    for (const [depth, level] of elements.filter((it) => /class="node"/.test(it.attributes)).entries()) {
+      const opacity = Number(valueOf(level, 'fill-opacity') ?? 0);
+      below = opacity === 0 ? below : mixed(below, channelsOf(valueOf(level, 'fill')), opacity);
+      const title = titles.find(({ content }) => content === `g${depth}`);
+      if (title) {
+        assert.ok(contrast(below, channelsOf(valueOf(title, 'fill'))) >= 4.5, `${theme} ${depth}`);
+      }
+    }
+  }
+});
+
+test('texts can be read on every fill, and in groups within a group that is filled', () => {
+  const inkOf = (svg, text) => new RegExp(`fill="(#\\w+)">${text}<`).exec(svg)[1].replace(/^#(\w)(\w)(\w)$/, '#$1$1$2$2$3$3');
+  for (const fill of ['#ff0000', '#008000', '#0000ff', '#ffa500', '#4682b4', '#808080', '#777777', '#767676', '#888888', '#1e3a5f', '#fafafa']) {
+    const inner = { id: 'inner', y: 20, width: 90, height: 60, children: [{ id: 'leaf', y: 20, width: 80, height: 30, style: { fill } }] };
+    const svg = toSvg({ children: [{ id: 'outer', width: 100, height: 100, style: { fill }, children: [inner] }] });
+    assert.ok(contrast(channelsOf(fill), channelsOf(inkOf(svg, 'outer'))) >= 4.5, fill);
+    assert.equal(inkOf(svg, 'inner'), inkOf(svg, 'outer'), fill);
+    assert.equal(inkOf(svg, 'leaf'), inkOf(svg, 'outer'), fill);
+  }
+});
+
+test('a bend does not reach into the head behind it', () => {
+  for (const [last, drawn] of [
+    [30, 'M0 0L14 0Q20 0 20 6L20 23'],
+    [12, 'M0 0L16 0Q20 0 20 4L20 5'],
+    [9, 'M0 0L19 0Q20 0 20 1L20 2'],
+    [8, 'M0 0L20 0L20 1'],
+    [3, 'M0 0L20 0L20 0'],
+  ]) {
+    const section = { startPoint: { x: 0, y: 0 }, bendPoints: [{ x: 20, y: 0 }], endPoint: { x: 20, y: last } };
+    assert.ok(joined({ edge: { sections: [section] } }).includes(`<path d="${drawn}"/>`), `${last}`);
+  }
+});
+
 test('colours are those of light or dark pages, or follow the setting of the reader', () => {
   const [auto, light, dark] = ['auto', 'light', 'dark'].map((theme) => joined({ look: { theme } }));
   assert.equal(auto.replace(/<style>.*<\/style>\n/, ''), light);
@@ -245,7 +309,7 @@ test('colours are those of light or dark pages, or follow the setting of the rea
   assert.match(auto, /<style>@media \(prefers-color-scheme:dark\)\{:where\(.elk-picture /);
   const colours = (svg) => new Set(svg.match(/#[0-9a-f]{6}/g));
   assert.ok([...colours(light)].every((it) => !colours(dark).has(it)));
-  assert.deepEqual(colours(auto), new Set([...colours(light), ...colours(dark), '#7b8ea3', '#8b9bad']));
+  assert.deepEqual(colours(auto), new Set([...colours(light), ...colours(dark), ...OTHER_INKS]));
   assert.throws(() => joined({ look: { theme: 'blue' } }), /the theme of a picture is "blue", and may be auto, light or dark/);
 });
 

@@ -7,7 +7,7 @@ from typing import Any, Dict, Iterable, Iterator, List, Optional, Tuple
 
 from .junctions import Point, junctions_of, point_of, points_of
 from .levels import Declared, Element, Levels, Place, elements_of, end_ids, number_or_0
-from .picture.looks import LOOK, Theme, class_of, ink_on, paints_of, style_of, wishes_of
+from .picture.looks import LOOK, Theme, class_of, ink_on, is_opaque, paints_of, style_of, wishes_of
 from .picture.marks import Box, box_at, escaped, group, id_of, num, rectangle, size_of, title_of, words_of
 from .picture.routes import dot_at, line_of, passes
 from .picture.shapes import met_at, room_in, shape_of
@@ -128,6 +128,19 @@ def _group_texts(texts: List[str], box: Box, room: Any, left: float, ink: str) -
         yield text_at(fit, (box.left + left, y - fit.height / 2), ink, "start")
 
 
+def _ground_of(place: Place) -> Optional[str]:
+    """The fill on which the content of a node is drawn, where the document asks for one: its own, or one around it."""
+    at: Optional[Place] = place
+    while at and not is_opaque(wishes_of(at.node).fill):
+        at = at.parent
+    return wishes_of(at.node).fill if at else None
+
+
+def _ink_within(place: Place) -> Optional[str]:
+    """The colour of texts within a node; none where the paper shows through."""
+    return ink_on(_ground_of(place) if _is_compound(place.node) else wishes_of(place.node).fill)
+
+
 def _node_texts(place: Place, picture: Picture, rooms: Dict[int, Any]) -> str:
     """The labels of a node; without any, its id where there is room for it."""
     node, box = place.node, _box_of(place)
@@ -136,7 +149,7 @@ def _node_texts(place: Place, picture: Picture, rooms: Dict[int, Any]) -> str:
     room = rooms[id(place)] if _is_compound(node) else math.inf
     shows_id = not labels and id_of(node) and place.parent and room >= TITLE["least"]
     free = [id_of(node)] if shows_id else [it["text"] for it in labels if not _is_placed_label(it)]
-    ink = wishes.color or ink_on(wishes.fill)
+    ink = wishes.color or _ink_within(place)
     texts = []
     for label in filter(_is_placed_label, labels):
         # A label beside its node stands on paper, whatever the node's fill is.
@@ -144,10 +157,19 @@ def _node_texts(place: Place, picture: Picture, rooms: Dict[int, Any]) -> str:
         texts.append(_placed_label(label, place.left, place.top, ink if is_within else wishes.color))
     if free and _is_compound(node):
         left = ROUND if wishes.shape == "round" else TITLE["left"]
-        texts += _group_texts(free, box, room, left, ink or picture.paints["paleInk"])
+        texts += _group_texts(free, box, room, left, ink or picture.paints["titleInk"])
     elif free:
         texts += _leaf_texts(free, box, wishes.shape, ink)
     return "".join(texts)
+
+
+def _is_tinted(place: Place) -> bool:
+    """Whether a level is one of the outermost, each of which is a shade darker than the one around it."""
+    at: Optional[Place] = place
+    for _ in range(LOOK["tints"]):
+        if at is not None:
+            at = at.parent
+    return at is None
 
 
 def _node_shape(place: Place, picture: Picture) -> str:
@@ -155,8 +177,9 @@ def _node_shape(place: Place, picture: Picture) -> str:
     wishes = wishes_of(node)
     is_root = place.parent is None
     is_level = is_root or _is_compound(node)
-    # Each level is a shade darker than the one around it, since its tint lies above those of all levels around.
-    tint = f'{paints["tint"]}" fill-opacity="{paints["tintOpacity"]}'
+    # Each level is a shade darker than the one around it, since its tint lies above those of all levels around; the
+    # innermost have no tint of their own, so that texts on them can be read.
+    tint = f'{paints["tint"]}" fill-opacity="{paints["tintOpacity"]}' if _is_tinted(place) else 'none" pointer-events="all'
     fill = wishes.fill or (tint if is_level else paints["paper"])
     stroke = wishes.stroke or ("none" if is_root else paints["paleInk"] if is_level else paints["ink"])
     look = f'{class_of("node", wishes)} data-id="{escaped(id_of(node))}" fill="{fill}" stroke="{stroke}"'
@@ -190,7 +213,7 @@ def _port_texts(port: Element, place: Place, picture: Picture) -> str:
     width = max(room.width / (2 if side in ("left", "right") else 1) - 4, 1)
     fit = fitted(labels[0]["text"], width, math.inf, TEXT["smallest"] + 1)
     at = places[side]
-    return text_at(fit, at[:2], ink_on(wishes_of(place.node).fill) or picture.paints["paleInk"], at[2])
+    return text_at(fit, at[:2], _ink_within(place) or picture.paints["titleInk"], at[2])
 
 
 def _stem_of(port: Element, place: Place, picture: Picture) -> str:
@@ -255,11 +278,6 @@ def _lines_of(at: int, picture: Picture, ink: str) -> Iterator[str]:
         points = _route_of(section, declared, picture.homes[at], picture.levels, len(sections) == 1)
         if points:
             yield line_of(points, picture.sharp, has_arrows and not _has_more(section), ink)
-
-
-def _ground_of(home: Place) -> Optional[str]:
-    """The fill of the level at which an edge is drawn, where the document asks for one."""
-    return wishes_of(home.node).fill
 
 
 def _edge_of(at: int, picture: Picture) -> str:

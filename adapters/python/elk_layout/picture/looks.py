@@ -11,7 +11,13 @@ from ..tables import table
 LOOK = table("look")
 
 # What each colour paints.
-PAINTED = {"paper": ("fill", "stroke"), "ink": ("fill", "stroke"), "paleInk": ("fill", "stroke"), "tint": ("fill",)}
+PAINTED = {
+    "paper": ("fill", "stroke"),
+    "ink": ("fill", "stroke"),
+    "paleInk": ("fill", "stroke"),
+    "titleInk": ("fill",),
+    "tint": ("fill",),
+}
 
 #: The colours of a picture: those of light pages, of dark ones, or as the reader's setting says.
 Theme = Literal["auto", "light", "dark"]
@@ -94,12 +100,34 @@ def _channels_of(colour: str) -> Tuple[int, ...]:
     return tuple(int(digits[start : start + 2], 16) for start in (0, 2, 4))
 
 
+def is_opaque(fill: Optional[str]) -> bool:
+    """Whether a fill of the document hides what lies behind it."""
+    return fill is not None and fill.lower() not in ("none", "transparent")
+
+
+def _light_of(step: int) -> int:
+    share = step / 255
+    return round(10_000 * (share / 12.92 if share <= 0.04045 else ((share + 0.055) / 1.055) ** 2.4))
+
+
+# The light that each of the 256 steps of a channel gives, from 0 to 10,000.
+LIGHTS = [_light_of(step) for step in range(256)]
+
+
+def _luminance_of(colour: str) -> float:
+    """The luminance of a colour, as WCAG defines it, from 0 to 1000."""
+    red, green, blue = (LIGHTS[step] for step in _channels_of(colour))
+    return (red * 2126 + green * 7152 + blue * 722) / 100_000
+
+
 def ink_on(fill: Optional[str]) -> Optional[str]:
     """The colour of texts on a fill of the document; none where the paper shows through."""
-    if fill is None or fill.lower() in ("none", "transparent"):
+    if fill is None or not is_opaque(fill):
         return None
-    red, green, blue = _channels_of(fill)
-    return _kept(LOOK["light" if red * 299 + green * 587 + blue * 114 >= 140_000 else "dark"]["ink"])
+    limits, luminance = LOOK["onFill"], _luminance_of(fill)
+    if limits["dark"] < luminance < limits["light"]:
+        return "#000" if luminance > limits["middle"] else "#FFF"
+    return _kept(LOOK["light" if luminance >= limits["light"] else "dark"]["ink"])
 
 
 def class_of(name: str, wishes: Wishes) -> str:

@@ -25,18 +25,22 @@ def _towards(start: Point, end: Point, distance: float) -> Point:
     )
 
 
-def _path_of(points: List[Point], joints: Set[Point]) -> str:
-    """A route with rounded bends, as the steps of a path; those at `joints` stay sharp."""
+# A line ends this far within its head, so that neither its end nor a bend shows at the tip.
+COVERED = 1
+
+
+def _path_of(points: List[Point], joints: Set[Point], covered: int) -> str:
+    """A route with rounded bends, as the steps of a path; those at `joints` stay sharp. No bend reaches into the head."""
     last = len(points) - 1
 
     def share(k: int) -> float:
         # Two bends share what lies between them.
-        return _length_of(points[k - 1], points[k]) / (1 if k in (1, last) else 2)
+        return _length_of(points[k - 1], points[k]) / (1 if k in (1, last) else 2) - (covered if k == last else 0)
 
     steps = [f"M{at(points[0])}"]
     for k in range(1, last):
         before, bend, after = points[k - 1 : k + 2]
-        radius = 0 if bend in joints else min(BEND, share(k), share(k + 1))
+        radius = 0 if bend in joints else max(0, min(BEND, share(k), share(k + 1)))
         if radius == 0:
             steps.append(f"L{at(bend)}")
         else:
@@ -54,16 +58,16 @@ def head_at(points: List[Point]) -> Tuple[Point, List[Point]]:
     half = ARROW["width"] / ARROW["length"] / 2
     x, y = (tip[1] - back[1]) * half, (back[0] - tip[0]) * half
     corners = [tip, (back[0] + x, back[1] + y), (back[0] - x, back[1] - y)]
-    return _towards(tip, start, min(length - 1, piece)), corners
+    return _towards(tip, start, min(length - COVERED, piece)), corners
 
 
 def line_of(points: List[Point], joints: Set[Point], has_head: bool, ink: str) -> str:
     """The line of a route, with a head at its end if it has one."""
     if not has_head or len(points) < 2:
-        return f'<path d="{_path_of(points, joints)}"/>'
+        return f'<path d="{_path_of(points, joints, 0)}"/>'
     end, corners = head_at(points)
     head = f'<path d="M{"L".join(map(at, corners))}Z" fill="{ink}" stroke="none"/>'
-    return f'<path d="{_path_of([*points[:-1], end], joints)}"/>{head}'
+    return f'<path d="{_path_of([*points[:-1], end], joints, COVERED)}"/>{head}'
 
 
 def passes(points: List[Point], box: Box) -> bool:
