@@ -2,7 +2,7 @@
 
 const assert = require('node:assert/strict');
 const { spawnSync } = require('node:child_process');
-const { readFileSync } = require('node:fs');
+const { existsSync, readdirSync, readFileSync } = require('node:fs');
 const path = require('node:path');
 const test = require('node:test');
 const { toSvg } = require('../svg');
@@ -332,6 +332,17 @@ test('elk-svg draws a placed document and tells what it does not take', () => {
     const refused = command(words, input);
     assert.deepEqual([refused.status, refused.stdout], [status, '']);
     assert.match(refused.stderr, note);
+  }
+});
+
+test('the drawings of tests/draw are what elk-svg makes', () => {
+  const cases = path.join(TOP, 'tests', 'draw');
+  for (const name of readdirSync(cases)) {
+    const file = (part) => path.join(cases, name, part);
+    const words = existsSync(file('args')) ? readFileSync(file('args'), 'utf8').split(/\s+/).filter(Boolean) : [];
+    const drawn = command(words, readFileSync(file('placed.json'))).stdout;
+    elementsOfXml(drawn);
+    assert.equal(drawn, readFileSync(file('picture.svg'), 'utf8'), name);
   }
 });
 

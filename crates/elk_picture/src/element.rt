@@ -1,0 +1,97 @@
+//! The members of elements: of nodes, ports, edges and labels.
+
+use crate::geometry::{Point, Rect};
+use crate::words::words_of;
+use serde_json::Value;
+use std::alloc::{AllocError, Global};
+
+// A label with a text, and whether it has a place.
+#[derive(Drop)]
+pub(crate) struct Label<'a> {
+    pub(crate) value: &'a Value,
+    pub(crate) text: String,
+    pub(crate) placed: bool,
+}
+
+fn finite_at(value: &Value, key: &str) -> Option<f64> {
+    match value.get(key).and_then(Value::as_f64) {
+        Some(number) if number.is_finite() => Some(number),
+        _ => None,
+    }
+}
+
+// A number, or 0 if there is none.
+pub(crate) fn number_at(value: &Value, key: &str) -> f64 {
+    finite_at(value, key).unwrap_or(0.0)
+}
+
+pub(crate) fn place_of(value: &Value) -> Point {
+    Point {
+        x: number_at(value, "x"),
+        y: number_at(value, "y"),
+    }
+}
+
+// The box of an element that stands relative to an origin.
+pub(crate) fn box_at(value: &Value, origin: Point) -> Rect {
+    box_of(value, place_of(value).moved(origin))
+}
+
+// The box of an element whose place in the whole drawing is known.
+pub(crate) fn box_of(value: &Value, origin: Point) -> Rect {
+    Rect {
+        left: origin.x,
+        top: origin.y,
+        width: number_at(value, "width"),
+        height: number_at(value, "height"),
+    }
+}
+
+// The objects in a list. There are none if the element has no such list.
+pub(crate) fn elements_of<'a>(
+    alloc: Global,
+    value: &'a Value,
+    key: &str,
+) -> Result<Vec<&'a Value>, AllocError> {
+    let mut elements = Vec::new(alloc);
+    if let Some(items) = value.get(key).and_then(Value::as_array) {
+        for item in items {
+            if item.is_object() {
+                elements.push(item)?;
+            }
+        }
+    }
+    Ok(elements)
+}
+
+pub(crate) fn has_items(value: &Value, key: &str) -> bool {
+    match value.get(key) {
+        Some(Value::Array(items)) => !items.is_empty(),
+        Some(Value::String(text)) => !text.is_empty(),
+        _ => false,
+    }
+}
+
+// The labels of an element that have a text.
+pub(crate) fn labels_of<'a>(
+    alloc: Global,
+    element: &'a Value,
+) -> Result<Vec<Label<'a>>, AllocError> {
+    let mut labels = Vec::new(alloc);
+    for value in elements_of(alloc, element, "labels")? {
+        let text = words_of(alloc, value.get("text"))?;
+        if !text.is_empty() {
+            let placed = finite_at(value, "x").is_some() && finite_at(value, "y").is_some();
+            labels.push(Label {
+                value,
+                text,
+                placed,
+            })?;
+        }
+    }
+    Ok(labels)
+}
+
+pub(crate) fn id_of(alloc: Global, element: &Value) -> Result<String, AllocError> {
+    words_of(alloc, element.get("id"))
+}

@@ -1,0 +1,61 @@
+//! How far below the top of each level its content begins.
+
+use crate::element::{elements_of, labels_of, number_at};
+use crate::levels::Levels;
+use crate::routes::points_of;
+use std::alloc::{AllocError, Global};
+
+fn narrow(rooms: &mut [f64], level: usize, top: f64) {
+    if let Some(room) = rooms.get_mut(level) {
+        *room = room.min(top);
+    }
+}
+
+fn narrow_by_nodes(
+    alloc: Global,
+    levels: &Levels<'_>,
+    rooms: &mut [f64],
+) -> Result<(), AllocError> {
+    for node in levels.nodes.iter() {
+        if let Some(parent) = node.parent {
+            let top = number_at(node.value, "y");
+            narrow(rooms, parent, top);
+            for label in labels_of(alloc, node.value)? {
+                if label.placed {
+                    narrow(rooms, parent, top + number_at(label.value, "y"));
+                }
+            }
+            for port in elements_of(alloc, node.value, "ports")? {
+                narrow(rooms, parent, top + number_at(port, "y"));
+            }
+        }
+    }
+    Ok(())
+}
+
+fn narrow_by_edges(
+    alloc: Global,
+    levels: &Levels<'_>,
+    rooms: &mut [f64],
+) -> Result<(), AllocError> {
+    for edge in levels.edges.iter() {
+        for section in elements_of(alloc, edge.value, "sections")? {
+            for point in points_of(alloc, section)? {
+                narrow(rooms, edge.home, point.y);
+            }
+        }
+        for label in labels_of(alloc, edge.value)? {
+            if label.placed {
+                narrow(rooms, edge.home, number_at(label.value, "y"));
+            }
+        }
+    }
+    Ok(())
+}
+
+pub(crate) fn headrooms(alloc: Global, levels: &Levels<'_>) -> Result<Vec<f64>, AllocError> {
+    let mut rooms = vec![in alloc; f64::INFINITY; levels.nodes.len()]?;
+    narrow_by_nodes(alloc, levels, rooms.as_mut_slice())?;
+    narrow_by_edges(alloc, levels, rooms.as_mut_slice())?;
+    Ok(rooms)
+}

@@ -1,0 +1,31 @@
+//! The picture of a graph with places, as SVG that needs no style sheet. No contract says how a picture looks. What is proved
+//! is that every JSON value has one, unless memory runs out.
+#![tactic(auto)]
+
+mod colour;
+mod decimal;
+mod drawing;
+mod edges;
+mod element;
+mod frame;
+mod geometry;
+mod headroom;
+mod ids;
+mod ink;
+mod junctions;
+mod letters;
+mod levels;
+mod look;
+mod nodes;
+mod path;
+mod ports;
+mod routes;
+mod shapes;
+mod style;
+mod texts;
+mod theme;
+mod ways;
+mod words;
+
+pub use drawing::picture;
+pub use theme::Theme;
