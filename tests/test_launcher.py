@@ -10,7 +10,7 @@ import unittest
 
 TOP = pathlib.Path(__file__).resolve().parent.parent
 PROGRAM = TOP / "crates/elk/out/elk"
-COMMANDS = "sh cat chmod cp cut dirname env find gzip id mkdir mktemp mv readlink rm sed sha256sum sort touch uname".split()
+COMMANDS = "sh awk cat chmod cp cut dirname env find grep gzip id mkdir mktemp mv readlink rm sed sha256sum sort touch uname".split()
 NO_PROGRAM = 70
 TOO_OLD = b"#!/bin/sh\necho \"version 'GLIBC_2.34' not found\" >&2\nexit 1\n"
 ANSWER = b"nodes 3 edges 3 weight 4 span 4\n"
