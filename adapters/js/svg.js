@@ -42,6 +42,17 @@ const isWithin = ({ x, y }, { left, top, width, height }) =>
 /** The classes of an element of the picture, with those for which the document asks. */
 const classOf = (name, { classes }) => `class="${[name, ...classes].join(' ')}"`;
 
+/** For each node the fill on which its content is drawn, if the document asks for one: its own, or one around it. */
+function groundsOf({ places }) {
+  const grounds = new Map();
+  // Each node comes after the one around it.
+  for (const [node, { parent }] of places) {
+    const { fill } = wishesOf(node);
+    grounds.set(node, isOpaque(fill) ? fill : grounds.get(parent));
+  }
+  return grounds;
+}
+
 /** One picture: a document's levels, and how it is drawn. */
 class Picture {
   constructor(placed, { arrows, theme }) {
@@ -49,6 +60,7 @@ class Picture {
     this.levels = levels;
     /** For each edge the node to whose content its points are relative. */
     this.homes = new Map(levels.declared.map((declared) => [declared, levels.levelOf(declared)]));
+    this.grounds = groundsOf(levels);
     this.arrows = arrows;
     this.paints = paintsOf(theme);
     this.joints = this.#jointsOf(placed);
@@ -64,23 +76,14 @@ class Picture {
     return this.levels.places.get(this.homes.get(declared));
   }
 
-  /** The fill on which the content of a node is drawn, where the document asks for one: its own, or one around it. */
-  groundOf(node) {
-    let at = node;
-    while (at && !isOpaque(wishesOf(at).fill)) {
-      at = this.levels.places.get(at).parent;
-    }
-    return at && wishesOf(at).fill;
-  }
-
-  /** The fill on which an edge is drawn, where the document asks for one. */
+  /** The fill on which an edge is drawn, if the document asks for one. */
   groundAt(declared) {
-    return this.groundOf(this.homes.get(declared));
+    return this.grounds.get(this.homes.get(declared));
   }
 
   /** The colour of texts within a node; none where the paper shows through. */
   inkWithin(node) {
-    return inkOn(isCompound(node) ? this.groundOf(node) : wishesOf(node).fill);
+    return inkOn(isCompound(node) ? this.grounds.get(node) : wishesOf(node).fill);
   }
 
   /** The junction points of all edges in the whole drawing: those that the document tells, or else its own. */

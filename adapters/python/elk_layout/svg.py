@@ -51,6 +51,16 @@ def _points_in(edge: Element) -> List[Point]:
     return [point for section in elements_of(edge.get("sections")) for point in points_of(section)]
 
 
+def _grounds_of(places: List[Place]) -> Dict[int, Optional[str]]:
+    """By the id of a place, the fill on which the content of its node is drawn: the node's own, or one around it."""
+    grounds: Dict[int, Optional[str]] = {}
+    # Each place comes after the one around it.
+    for place in places:
+        fill = wishes_of(place.node).fill
+        grounds[id(place)] = fill if is_opaque(fill) else grounds[id(place.parent)] if place.parent else None
+    return grounds
+
+
 class Picture:
     """One picture: a document's levels, and how it is drawn."""
 
@@ -58,6 +68,8 @@ class Picture:
         self.levels = Levels(placed)
         #: For each edge the node to whose content its points are relative.
         self.homes = [self.levels.level_of(declared) for declared in self.levels.declared]
+        #: By the id of its place, the fill on which the content of a node is drawn, if the document asks for one.
+        self.grounds = _grounds_of(self.levels.places)
         self.arrows = arrows
         self.paints = paints_of(theme)
         self.joints = self._joints_of()
@@ -128,17 +140,9 @@ def _group_texts(texts: List[str], box: Box, room: Any, left: float, ink: str) -
         yield text_at(fit, (box.left + left, y - fit.height / 2), ink, "start")
 
 
-def _ground_of(place: Place) -> Optional[str]:
-    """The fill on which the content of a node is drawn, where the document asks for one: its own, or one around it."""
-    at: Optional[Place] = place
-    while at and not is_opaque(wishes_of(at.node).fill):
-        at = at.parent
-    return wishes_of(at.node).fill if at else None
-
-
-def _ink_within(place: Place) -> Optional[str]:
+def _ink_within(place: Place, picture: Picture) -> Optional[str]:
     """The colour of texts within a node; none where the paper shows through."""
-    return ink_on(_ground_of(place) if _is_compound(place.node) else wishes_of(place.node).fill)
+    return ink_on(picture.grounds[id(place)] if _is_compound(place.node) else wishes_of(place.node).fill)
 
 
 def _node_texts(place: Place, picture: Picture, rooms: Dict[int, Any]) -> str:
@@ -149,7 +153,7 @@ def _node_texts(place: Place, picture: Picture, rooms: Dict[int, Any]) -> str:
     room = rooms[id(place)] if _is_compound(node) else math.inf
     shows_id = not labels and id_of(node) and place.parent and room >= TITLE["least"]
     free = [id_of(node)] if shows_id else [it["text"] for it in labels if not _is_placed_label(it)]
-    ink = wishes.color or _ink_within(place)
+    ink = wishes.color or _ink_within(place, picture)
     texts = []
     for label in filter(_is_placed_label, labels):
         # A label beside its node stands on paper, whatever the node's fill is.
@@ -213,7 +217,7 @@ def _port_texts(port: Element, place: Place, picture: Picture) -> str:
     width = max(room.width / (2 if side in ("left", "right") else 1) - 4, 1)
     fit = fitted(labels[0]["text"], width, math.inf, TEXT["smallest"] + 1)
     at = places[side]
-    return text_at(fit, at[:2], _ink_within(place) or picture.paints["titleInk"], at[2])
+    return text_at(fit, at[:2], _ink_within(place, picture) or picture.paints["titleInk"], at[2])
 
 
 def _stem_of(port: Element, place: Place, picture: Picture) -> str:
@@ -283,7 +287,7 @@ def _lines_of(at: int, picture: Picture, ink: str) -> Iterator[str]:
 def _edge_of(at: int, picture: Picture) -> str:
     edge = picture.levels.declared[at].edge
     wishes = wishes_of(edge)
-    ink = wishes.stroke or ink_on(_ground_of(picture.homes[at])) or picture.paints["ink"]
+    ink = wishes.stroke or ink_on(picture.grounds[id(picture.homes[at])]) or picture.paints["ink"]
     lines = "".join(_lines_of(at, picture, ink))
     if not lines:
         return ""
@@ -298,7 +302,7 @@ def _edge_of(at: int, picture: Picture) -> str:
 def _edge_texts(picture: Picture) -> Iterator[str]:
     """The labels of edges that the document places; where a line of its own passes through one, it stands out."""
     for declared, home in zip(picture.levels.declared, picture.homes):
-        ground = _ground_of(home)
+        ground = picture.grounds[id(home)]
         ink = wishes_of(declared.edge).color or ink_on(ground)
         paper = ground or picture.paints["paper"]
         halo = f'stroke="{paper}" stroke-width="5" stroke-linejoin="round" paint-order="stroke"'

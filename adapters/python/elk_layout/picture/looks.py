@@ -107,7 +107,7 @@ def is_opaque(fill: Optional[str]) -> bool:
 
 def _light_of(step: int) -> int:
     share = step / 255
-    return round(10_000 * (share / 12.92 if share <= 0.04045 else ((share + 0.055) / 1.055) ** 2.4))
+    return round(10_000 * float(share / 12.92 if share <= 0.04045 else ((share + 0.055) / 1.055) ** 2.4))
 
 
 # The light that each of the 256 steps of a channel gives, from 0 to 10,000.
