@@ -6,7 +6,8 @@ const test = require('node:test');
 const ELK = require('../elk');
 const { acrossBorders } = require('../testing/across');
 const { judged } = require('../testing/drawing-faults');
-const { PROGRAM, WITH_PROGRAM, run } = require('../testing/program');
+const { quietLayout: layout } = require('../testing/layout');
+const { WITH_PROGRAM, run } = require('../testing/program');
 
 // ELK_SEEDS documents of each kind.
 const SEEDS = Number(process.env.ELK_SEEDS ?? 12);
@@ -15,15 +16,6 @@ const leaf = (id, more) => ({ id, width: 40, height: 30, ...more });
 const group = (id, children, more) => ({ id, children, ...more });
 const edge = (id, source, target, more) => ({ id, sources: [source], targets: [target], ...more });
 const label = (text, placement) => ({ text, width: 30, height: 12, layoutOptions: { 'elk.edgeLabels.placement': placement } });
-
-async function layout(graph, { call, ...given } = {}) {
-  const elk = new ELK({ program: PROGRAM, onWarning: () => {}, ...given });
-  try {
-    return await elk.layout(graph, call);
-  } finally {
-    elk.terminateWorker();
-  }
-}
 
 /** Lays out a graph, which stays as it is, and finds no fault with its drawing. */
 async function drawn(graph, name) {

@@ -3,8 +3,8 @@
 
 const assert = require('node:assert/strict');
 const test = require('node:test');
-const ELK = require('../elk');
-const { PROGRAM, WITH_PROGRAM } = require('../testing/program');
+const { layout } = require('../testing/layout');
+const { WITH_PROGRAM } = require('../testing/program');
 
 const leaf = (id, more) => ({ id, width: 40, height: 30, ...more });
 const label = (text) => ({ text, width: 20, height: 10, layoutOptions: { 'elk.nodeLabels.placement': 'INSIDE V_TOP H_LEFT' } });
@@ -23,15 +23,6 @@ const graph = (layoutOptions = {}, inner = {}) => ({
   ],
   edges: [{ id: 'ba', sources: ['b'], targets: ['a'] }, { id: 'xa', sources: ['x'], targets: ['a'] }],
 });
-
-async function layout(given, call) {
-  const elk = new ELK({ program: PROGRAM });
-  try {
-    return await elk.layout(given, call);
-  } finally {
-    elk.terminateWorker();
-  }
-}
 
 const at = ({ x, y }) => [x, y];
 

@@ -3,13 +3,13 @@
 
 const assert = require('node:assert/strict');
 const test = require('node:test');
-const ELK = require('../elk');
 const { toSvg } = require('../svg');
 const { acrossBorders } = require('../testing/across');
 const { chance } = require('../testing/chance');
 const { curvesJudged } = require('../testing/curve-faults');
 const { labelFaults, labelled } = require('../testing/labelled');
-const { PROGRAM, WITH_PROGRAM } = require('../testing/program');
+const { quietLayout } = require('../testing/layout');
+const { WITH_PROGRAM } = require('../testing/program');
 
 // ELK_SEEDS documents of each kind.
 const SEEDS = Number(process.env.ELK_SEEDS ?? 12);
@@ -19,14 +19,7 @@ const ROUTINGS = ['POLYLINE', 'SPLINES'];
 const leaf = (id, more) => ({ id, width: 40, height: 30, ...more });
 const edge = (id, source, target, more) => ({ id, sources: [source], targets: [target], ...more });
 
-async function layout(graph, layoutOptions) {
-  const elk = new ELK({ program: PROGRAM, onWarning: () => {} });
-  try {
-    return await elk.layout(graph, { layoutOptions });
-  } finally {
-    elk.terminateWorker();
-  }
-}
+const layout = (graph, layoutOptions) => quietLayout(graph, { call: { layoutOptions } });
 
 const routed = (graph, routing) => layout(graph, { 'elk.edgeRouting': routing });
 

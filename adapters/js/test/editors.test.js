@@ -3,17 +3,8 @@
 
 const assert = require('node:assert/strict');
 const test = require('node:test');
-const ELK = require('../elk');
-const { PROGRAM, WITH_PROGRAM } = require('../testing/program');
-
-async function layout(graph, given) {
-  const elk = new ELK({ program: PROGRAM });
-  try {
-    return await elk.layout(graph, given);
-  } finally {
-    elk.terminateWorker();
-  }
-}
+const { layout } = require('../testing/layout');
+const { WITH_PROGRAM } = require('../testing/program');
 
 const byId = (list) => Object.fromEntries(list.map((it) => [it.id, it]));
 

@@ -6,6 +6,7 @@ const { readFileSync } = require('node:fs');
 const path = require('node:path');
 const test = require('node:test');
 const ELK = require('../elk');
+const { quietLayout: layout } = require('../testing/layout');
 const { PROGRAM, TOP, WITH_PROGRAM } = require('../testing/program');
 
 const box = (id, more) => ({ id, width: 30, height: 20, ...more });
@@ -18,15 +19,6 @@ const pair = (more) => ({
 });
 
 const engine = (given) => new ELK({ program: PROGRAM, onWarning: () => {}, ...given });
-
-async function layout(graph, { call, ...given } = {}) {
-  const elk = engine(given);
-  try {
-    return await elk.layout(graph, call);
-  } finally {
-    elk.terminateWorker();
-  }
-}
 
 const withOptions = (layoutOptions) => layout(pair({ layoutOptions }));
 
