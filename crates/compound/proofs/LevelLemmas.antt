@@ -87,7 +87,7 @@ level_ports_are d way box =
 
 child_is : (d : Document) (p : Placed) (c : Certificate) (way : Direction) → level_child (lowered d) (lowered_drawing p c) way 1 ≡ level_child d p way 0
 child_is d p c way =
-    let with_ports : List ChildPort → Child = λ qs. record { size = turned_size way (box_size p 0); compound = is_some (node_at d 0).level; rule = (node_at d 0).rule; direction = way; ports = qs } in
+    let with_ports : List ChildPort → Child = λ qs. record { size = turned_size way (box_size p 0); compound = is_some (node_at d 0).level; rule = (node_at d 0).rule; direction = way; position = (node_at d 0).position; ports = qs } in
     ap with_ports (level_ports_are d way (box_size p 0))
 
 pub level_is : (d : Document) (p : Placed) (c : Certificate) (o : LevelOptions) → level_of (lowered d) (lowered_drawing p c) 0 o ≡ root_level d p o

@@ -19,14 +19,14 @@ use Rattle.drawing_types.proofs.SmallNumbers.{below3}
 
 -- its nodes
 abbrev pub top_node : Document → Node
-top_node d = record { id = None; parent = None; size = no_size; rule = Free; level = (node_at d 0).level }
+top_node d = record { id = None; parent = None; size = no_size; rule = Free; position = None; level = (node_at d 0).level }
 
 abbrev pub root_node : Document → Node
 root_node d =
-    record { id = None; parent = Some 0; size = (node_at d 0).size; rule = (node_at d 0).rule; level = (node_at d 0).level }
+    record { id = None; parent = Some 0; size = (node_at d 0).size; rule = (node_at d 0).rule; position = (node_at d 0).position; level = (node_at d 0).level }
 
 abbrev pub bottom_node : Node
-bottom_node = record { id = None; parent = Some 1; size = no_size; rule = Free; level = None }
+bottom_node = record { id = None; parent = Some 1; size = no_size; rule = Free; position = None; level = None }
 
 -- its ports, by those of the other document
 abbrev pub lowered_port : Port → Port

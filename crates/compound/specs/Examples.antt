@@ -18,7 +18,7 @@ port_with id side =
 abbrev pub rooted : Direction → PortRule → Option Side → Document
 rooted way rule side =
     record {
-      nodes = record { id = None; parent = None; size = no_size; rule = rule; level = Some (options way) } ∷ [];
+      nodes = record { id = None; parent = None; size = no_size; rule = rule; position = None; level = Some (options way) } ∷ [];
       ports = port_with (Whole (pos 1)) side ∷ port_with (Whole (pos 2)) None ∷ [];
       edges = [];
     }

@@ -9,7 +9,7 @@ use Rattle.elk_doc.specs.declared.document.LevelOptions.{LevelOptions}
 
 -- what a level chooses that asks for nothing
 abbrev pub default_choices : Choices
-default_choices = record { slots = Fewest; effort = 7; order = Swept }
+default_choices = record { slots = Fewest; effort = 7; order = Swept; straightness = 1 }
 
 -- the options of a level that asks for nothing but this direction
 abbrev pub default_options : Direction → LevelOptions

@@ -16,7 +16,7 @@ use Rattle.elk_doc.specs.Level.{level_of_edge, source_node, target_node}
 
 -- the root, which has no id
 abbrev pub demo_root : Node
-demo_root = record { id = None; parent = None; size = no_size; rule = Free; level = Some (default_options Right) }
+demo_root = record { id = None; parent = None; size = no_size; rule = Free; position = None; level = Some (default_options Right) }
 
 -- the leaf i, with its number as its id: 30 wide, and 20, 30, 40 or 50 high in turn
 abbrev pub demo_leaf : ℕ → Node
@@ -26,6 +26,7 @@ demo_leaf i =
       parent = Some 0;
       size = record { width = pos 30; height = pos (20 + 10 * (i % 4)) };
       rule = Free;
+      position = None;
       level = None;
     }
 

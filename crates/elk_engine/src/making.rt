@@ -40,6 +40,7 @@ fn root_node() -> Node
             height: 0,
         },
         rule: PortRule::Free,
+        position: None,
         level: Some(default_options(Direction::Right)),
     }
 }
@@ -57,6 +58,7 @@ fn leaf_node(number: u32) -> Node
             height: height as i64,
         },
         rule: PortRule::Free,
+        position: None,
         level: None,
     }
 }

@@ -43,6 +43,7 @@ node_of es e = record {
   parent = owner_number es e;
   size = node_size e;
   rule = (options_at e).rule;
+  position = (options_at e).position;
   level = (options_at e).level;
 }
 

@@ -110,6 +110,7 @@ fn node_of(alloc: Global, list: &Listed<'_, '_>, element: &Element<'_>) -> Resul
         parent: owner_number(list, element),
         size: node_size(element),
         rule: options.rule,
+        position: options.position,
         level: options.level,
     })
 }

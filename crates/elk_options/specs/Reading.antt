@@ -28,7 +28,7 @@ use Rattle.serde_json.specs.View.{view}
 use Rattle.serde_json.specs.declared.value.Value.{Value}
 use Rattle.elk_options.specs.Names.{asked, or_empty}
 use Rattle.elk_options.specs.Table.{to_boxes, to_direction, to_rule, to_side, to_index, to_routing, to_padding, to_distance, to_sweep}
-use Rattle.elk_options.specs.Table.{to_shortness, to_truth, to_placing, to_slots, to_effort, to_order}
+use Rattle.elk_options.specs.Table.{to_shortness, to_truth, to_placing, to_slots, to_effort, to_order, to_straightness, to_position}
 
 unfoldable pub front_names : List OptionName
 front_names = name.Algorithm ∷ name.Direction ∷ name.PortConstraints ∷ name.EdgeRouting ∷ name.Padding ∷ []
@@ -39,13 +39,14 @@ spacing_names = name.NodeNode ∷ name.EdgeNode ∷ name.EdgeEdge ∷ name.NodeL
 unfoldable pub back_names : List OptionName
 back_names = name.FixedAlignment ∷ name.SeparateParts ∷ name.ComponentComponent ∷ name.NodePlacement ∷ []
 
+-- what a level chooses, and the position of its node
 unfoldable pub choice_names : List OptionName
-choice_names = name.Slots ∷ name.Effort ∷ name.Order ∷ []
+choice_names = name.Slots ∷ name.Effort ∷ name.Order ∷ name.Straightness ∷ name.Position ∷ []
 
 -- the options that are read in a role, in order
 abbrev pub names_of : Role → List OptionName
 names_of Level = front_names ++ (spacing_names ++ (back_names ++ choice_names))
-names_of Leaf = name.PortConstraints ∷ []
+names_of Leaf = name.PortConstraints ∷ name.Position ∷ []
 names_of Port = name.PortSide ∷ name.PortIndex ∷ []
 names_of Edge = name.Shortness ∷ []
 
@@ -72,6 +73,8 @@ is_valued name.NodePlacement d = is_some (to_placing d)
 is_valued name.Slots d = is_some (to_slots d)
 is_valued name.Effort d = is_some (to_effort d)
 is_valued name.Order d = is_some (to_order d)
+is_valued name.Straightness d = is_some (to_straightness d)
+is_valued name.Position d = is_some (to_position d)
 
 -- the option is there, with a value outside its table
 unfoldable pub is_bad : Data → OptionName → Bool
@@ -115,11 +118,20 @@ usual_padding = record { top = pos 12; left = pos 12; bottom = pos 12; right = p
 unfoldable pub effort_of : Data → ℕ
 effort_of d = nat_abs (value_or to_effort (pos 7) name.Effort d)
 
+-- the straightness is at least 1
+unfoldable pub straightness_of : Data → ℕ
+straightness_of d = nat_abs (value_or to_straightness (pos 1) name.Straightness d)
+
+-- the position of a node, which it has where one is given
+unfoldable pub position_of : Data → Option ℤ
+position_of d = value_or to_position None name.Position d
+
 unfoldable pub choices_of : Data → Choices
 choices_of d = record {
   slots = value_or to_slots slotting.Fewest name.Slots d;
   effort = effort_of d;
   order = value_or to_order order.Swept name.Order d;
+  straightness = straightness_of d;
 }
 
 -- a level of boxes is never split
@@ -145,23 +157,24 @@ unfoldable pub weight_of : Data → ℕ
 weight_of d = nat_abs (int_max (value_or to_shortness (pos 0) name.Shortness d) (pos 1))
 
 unfoldable pub options_of : Role → Data → Options
-options_of Level d = record { level = Some (level_of d); rule = rule_of d; side = None; index = pos 0; weight = 1 }
-options_of Leaf d = record { level = None; rule = rule_of d; side = None; index = pos 0; weight = 1 }
+options_of Level d = record { level = Some (level_of d); rule = rule_of d; position = position_of d; side = None; index = pos 0; weight = 1 }
+options_of Leaf d = record { level = None; rule = rule_of d; position = position_of d; side = None; index = pos 0; weight = 1 }
 options_of Port d =
     record {
       level = None;
       rule = rule.Free;
+      position = None;
       side = value_or to_side None name.PortSide d;
       index = value_or to_index (pos 0) name.PortIndex d;
       weight = 1;
     }
-options_of Edge d = record { level = None; rule = rule.Free; side = None; index = pos 0; weight = weight_of d }
+options_of Edge d = record { level = None; rule = rule.Free; position = None; side = None; index = pos 0; weight = weight_of d }
 
 -- ---- for private clauses
 
 -- a level's options from what was read
-abbrev pub joined_options : Bool → Direction → PortRule → Padding → Spacing → Option Sweep → Bool → ℤ → Placing → Choices → Options
-joined_options boxes direction rule padding spacing sweep split component placing choices = record {
+abbrev pub joined_options : Bool → Direction → PortRule → Padding → Spacing → Option Sweep → Bool → ℤ → Placing → Choices → Option ℤ → Options
+joined_options boxes direction rule padding spacing sweep split component placing choices position = record {
   level = Some (record {
     direction = direction;
     spacing = spacing;
@@ -174,6 +187,7 @@ joined_options boxes direction rule padding spacing sweep split component placin
     choices = choices;
   });
   rule = rule;
+  position = position;
   side = None;
   index = pos 0;
   weight = 1;
@@ -193,3 +207,7 @@ given o = or_empty (option_map (λ v. view v.now) o)
 -- a factor on the work of the search for orders
 abbrev pub IsFactor : ℤ → Type 0
 IsFactor n = (pos 1 ≤ℤ n) × (n ≤ℤ pos 1000)
+
+-- a weight of links that alignment keeps straight
+abbrev pub IsStraightness : ℤ → Type 0
+IsStraightness n = (pos 1 ≤ℤ n) × (n ≤ℤ pos 64)

@@ -1,6 +1,6 @@
 -- The values of each option, and its default.
 use Rattle.std.specs.Prelude.{ℕ, ◌-◌, ◌^◌, List, Bool, true, false, ◌||◌, bytes_eq, codes, if◌then◌else◌, Option, Some, None}
-use Rattle.std.specs.Prelude.{option_and_then, ℤ, pos, neg_ℤ}
+use Rattle.std.specs.Prelude.{option_and_then, option_map, ℤ, pos, neg_ℤ}
 use Rattle.std.specs.Option.{option_or}
 use Rattle.serde_json.specs.Data.{Data}
 use Rattle.serde_json.specs.Find.{as_bool, as_str}
@@ -84,7 +84,9 @@ slots_text s =
     if says (codes "FEWEST") s then Some slotting.Fewest else (if says (codes "UNCROSSED") s then Some slotting.Uncrossed else None)
 
 abbrev pub order_text : List ℕ → Option RowOrder
-order_text s = if says (codes "SWEPT") s then Some order.Swept else (if says (codes "DOCUMENT") s then Some order.Document else None)
+order_text s =
+    if says (codes "SWEPT") s then Some order.Swept
+    else (if says (codes "DOCUMENT") s then Some order.Document else (if says (codes "KEPT") s then Some order.Kept else None))
 
 -- ---- values
 
@@ -130,6 +132,13 @@ to_slots d = option_and_then slots_text (as_str d)
 
 abbrev pub to_effort : Data → Option ℤ
 to_effort d = whole_within (pos 1) (pos 1000) d
+
+abbrev pub to_straightness : Data → Option ℤ
+to_straightness d = whole_within (pos 1) (pos 64) d
+
+-- a position is there where it is given
+abbrev pub to_position : Data → Option (Option ℤ)
+to_position d = option_map Some (whole_within (neg_ℤ (pos (2 ^ 31))) (pos (2 ^ 31 - 1)) d)
 
 abbrev pub to_order : Data → Option RowOrder
 to_order d = option_and_then order_text (as_str d)

@@ -4,7 +4,7 @@ ghost use Rattle.elk_doc.specs.declared.document.Direction.TheVariants as direct
 ghost use Rattle.elk_doc.specs.declared.document.Placing.TheVariants as placing;
 ghost use Rattle.elk_options.specs.declared.names.OptionName.TheVariants as name;
 ghost use Rattle.elk_options.specs.Table.{to_boxes, to_direction, to_padding, to_sweep, to_truth, to_placing};
-ghost use Rattle.elk_options.specs.Reading.{given, is_bad, front_names, spacing_names, back_names, choice_names, choices_of, value_or, distance_or, usual_padding, AreDistances, rule_of, first_bad, options_of, joined_options};
+ghost use Rattle.elk_options.specs.Reading.{given, is_bad, front_names, spacing_names, back_names, choice_names, choices_of, position_of, value_or, distance_or, usual_padding, AreDistances, rule_of, first_bad, options_of, joined_options};
 
 use crate::names::OptionName;
 use crate::readers;
@@ -22,12 +22,13 @@ pub enum Role {
     Edge,
 }
 
-/// The options of an element: a level's at a compound node, the rule for ports at a node, the asked side and the index at a
-/// port, the weight at an edge, and the defaults elsewhere.
+/// The options of an element: a level's at a compound node, the rule for ports and the position at a node, the asked side and
+/// the index at a port, the weight at an edge, and the defaults elsewhere.
 #[derive(Clone, Copy, Drop, PartialEq, Eq)]
 pub struct Options {
     pub level: Option<LevelOptions>,
     pub rule: PortRule,
+    pub position: Option<i64>,
     pub side: Option<Side>,
     pub index: i64,
     pub weight: u32,
@@ -122,24 +123,38 @@ fn back(options: Option<&Value>) -> Result<BackValues, BadValue>
     })
 }
 
+#[derive(Clone, Copy, Drop)]
+struct ChoiceValues {
+    choices: Choices,
+    position: Option<i64>,
+}
+
 #[tactic(auto, unfolding(crate::specs::Reading::choice_names, crate::specs::Reading::choices_of))]
-fn choices(options: Option<&Value>) -> Result<Choices, BadValue>
+fn choices(options: Option<&Value>) -> Result<ChoiceValues, BadValue>
     ensures { MatchResult result
-        (λ v. (find (is_bad (given options.entry)) choice_names ≡ None) × (v ≡ choices_of (given options.entry)))
+        (λ v. (find (is_bad (given options.entry)) choice_names ≡ None)
+        × (v.choices ≡ choices_of (given options.entry))
+        × (v.position ≡ position_of (given options.entry)))
         (λ e. find (is_bad (given options.entry)) choice_names ≡ Some e.option) }
 {
     let slots = readers::slots(options)?;
     let effort = readers::effort(options)?;
     let order = readers::order(options)?;
-    Ok(Choices {
-        slots,
-        effort,
-        order,
+    let straightness = readers::straightness(options)?;
+    let position = readers::position(options)?;
+    Ok(ChoiceValues {
+        choices: Choices {
+            slots,
+            effort,
+            order,
+            straightness,
+        },
+        position,
     })
 }
 
-fn joined(front: FrontValues, spacing: Spacing, back: BackValues, choices: Choices) -> Options
-    ensures { result ≡ joined_options front.boxes front.direction front.rule front.padding spacing back.sweep back.split back.component back.placing choices }
+fn joined(front: FrontValues, spacing: Spacing, back: BackValues, last: ChoiceValues) -> Options
+    ensures { result ≡ joined_options front.boxes front.direction front.rule front.padding spacing back.sweep back.split back.component back.placing last.choices last.position }
 {
     Options {
         level: Some(LevelOptions {
@@ -151,9 +166,10 @@ fn joined(front: FrontValues, spacing: Spacing, back: BackValues, choices: Choic
             component: back.component,
             placing: back.placing,
             boxes: front.boxes,
-            choices,
+            choices: last.choices,
         }),
         rule: front.rule,
+        position: last.position,
         side: None,
         index: 0,
         weight: 1,
@@ -179,9 +195,11 @@ fn leaf_options(options: Option<&Value>) -> Result<Options, BadValue>
         (λ e. first_bad Role.Leaf (given options.entry) ≡ Some e.option) }
 {
     let rule = readers::rule(options)?;
+    let position = readers::position(options)?;
     Ok(Options {
         level: None,
         rule,
+        position,
         side: None,
         index: 0,
         weight: 1,
@@ -199,6 +217,7 @@ fn port_options(options: Option<&Value>) -> Result<Options, BadValue>
     Ok(Options {
         level: None,
         rule: PortRule::Free,
+        position: None,
         side,
         index,
         weight: 1,
@@ -215,6 +234,7 @@ fn edge_options(options: Option<&Value>) -> Result<Options, BadValue>
     Ok(Options {
         level: None,
         rule: PortRule::Free,
+        position: None,
         side: None,
         index: 0,
         weight: readers::weight_from(shortness),

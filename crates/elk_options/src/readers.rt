@@ -8,8 +8,8 @@ ghost use Rattle.elk_doc.specs.declared.document.Placing.TheVariants as placing;
 ghost use Rattle.elk_doc.specs.declared.document.Slotting.TheVariants as slotting;
 ghost use Rattle.elk_doc.specs.declared.document.RowOrder.TheVariants as order;
 ghost use Rattle.elk_options.specs.declared.names.OptionName.TheVariants as name;
-ghost use Rattle.elk_options.specs.Table.{to_boxes, to_direction, to_side, to_index, to_routing, to_padding, to_distance, to_sweep, to_shortness, to_truth, to_placing, to_slots, to_effort, to_order};
-ghost use Rattle.elk_options.specs.Reading.{given, rule_of, value_or, distance_or, effort_of, usual_padding, IsFactor, Reads};
+ghost use Rattle.elk_options.specs.Table.{to_boxes, to_direction, to_side, to_index, to_routing, to_padding, to_distance, to_sweep, to_shortness, to_truth, to_placing, to_slots, to_effort, to_order, to_straightness, to_position};
+ghost use Rattle.elk_options.specs.Reading.{given, rule_of, value_or, distance_or, effort_of, straightness_of, position_of, usual_padding, IsFactor, IsStraightness, Reads};
 
 use crate::names::{OptionName, asked_of};
 use crate::options::BadValue;
@@ -334,4 +334,43 @@ pub(crate) fn effort(options: Option<&Value>) -> Result<u32, BadValue>
 {
     let factor = factor(options)?;
     Ok(factor as u32)
+}
+
+fn straightness_from(value: &Value) -> Option<i64>
+    ensures { result ≡ to_straightness (view value.now) }
+{
+    whole_in(value, 1, 64)
+}
+
+#[tactic(auto, unfolding(crate::specs::Reading::is_bad))]
+fn straightness_asked(options: Option<&Value>) -> Result<i64, BadValue>
+    ensures reads { Reads name.Straightness (given options.entry) (value_or to_straightness (pos 1) name.Straightness (given options.entry)) result }
+    ensures within { IfOk result (λ n. IsStraightness n) }
+{
+    let asked = asked_of(options, OptionName::Straightness);
+    let value = asked.and_then(straightness_from);
+    settled(asked.is_some(), value, 1, OptionName::Straightness)
+}
+
+#[tactic(auto, unfolding(crate::specs::Reading::straightness_of))]
+pub(crate) fn straightness(options: Option<&Value>) -> Result<u32, BadValue>
+    ensures { Reads name.Straightness (given options.entry) (straightness_of (given options.entry)) result }
+{
+    let straightness = straightness_asked(options)?;
+    Ok(straightness as u32)
+}
+
+fn position_from(value: &Value) -> Option<Option<i64>>
+    ensures { result ≡ to_position (view value.now) }
+{
+    whole_in(value, -2147483648, 2147483647).map(Some)
+}
+
+#[tactic(auto, unfolding(crate::specs::Reading::is_bad, crate::specs::Reading::position_of))]
+pub(crate) fn position(options: Option<&Value>) -> Result<Option<i64>, BadValue>
+    ensures { Reads name.Position (given options.entry) (position_of (given options.entry)) result }
+{
+    let asked = asked_of(options, OptionName::Position);
+    let value = asked.and_then(position_from);
+    settled(asked.is_some(), value, None, OptionName::Position)
 }

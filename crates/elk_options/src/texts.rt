@@ -156,6 +156,8 @@ pub(crate) fn order_of(text: &str) -> Option<RowOrder>
         Some(RowOrder::Swept)
     } else if is_word(text, "DOCUMENT") {
         Some(RowOrder::Document)
+    } else if is_word(text, "KEPT") {
+        Some(RowOrder::Kept)
     } else {
         None
     }

@@ -197,14 +197,16 @@ target_gets es fs h d w g =
     end_if es fs h (is_some (get (codes "sources") w) || is_some (get (codes "targets") w)) (get (codes "targets") w) (get (codes "target") w) (get (codes "targetPort") w)
     ∙ same_end_from es _ _ _ _ _ _ _ _ _ _ (g (codes "sources") refl) (g (codes "targets") refl) (g (codes "targets") refl) (g (codes "target") refl) (g (codes "targetPort") refl)
 
-same_node : (i j : Option Id) (p q : Option ℕ) (s t : Size) (r u : PortRule) (l m : Option LevelOptions) → i ≡ j → p ≡ q → s ≡ t → r ≡ u → l ≡ m
-    → (let x : DocNode = record { id = i; parent = p; size = s; rule = r; level = l } in x) ≡ (let x : DocNode = record { id = j; parent = q; size = t; rule = u; level = m } in x)
-same_node i j p q s t r u l m a b c d e =
-    ap (λ z. let x : DocNode = record { id = z; parent = p; size = s; rule = r; level = l } in x) a
-    ∙ ap (λ z. let x : DocNode = record { id = j; parent = z; size = s; rule = r; level = l } in x) b
-    ∙ ap (λ z. let x : DocNode = record { id = j; parent = q; size = z; rule = r; level = l } in x) c
-    ∙ ap (λ z. let x : DocNode = record { id = j; parent = q; size = t; rule = z; level = l } in x) d
-    ∙ ap (λ z. let x : DocNode = record { id = j; parent = q; size = t; rule = u; level = z } in x) e
+same_node : (i j : Option Id) (p q : Option ℕ) (s t : Size) (r u : PortRule) (v w : Option ℤ) (l m : Option LevelOptions)
+    → i ≡ j → p ≡ q → s ≡ t → r ≡ u → v ≡ w → l ≡ m
+    → (let x : DocNode = record { id = i; parent = p; size = s; rule = r; position = v; level = l } in x) ≡ (let x : DocNode = record { id = j; parent = q; size = t; rule = u; position = w; level = m } in x)
+same_node i j p q s t r u v w l m a b c d e f =
+    ap (λ z. let x : DocNode = record { id = z; parent = p; size = s; rule = r; position = v; level = l } in x) a
+    ∙ ap (λ z. let x : DocNode = record { id = j; parent = z; size = s; rule = r; position = v; level = l } in x) b
+    ∙ ap (λ z. let x : DocNode = record { id = j; parent = q; size = z; rule = r; position = v; level = l } in x) c
+    ∙ ap (λ z. let x : DocNode = record { id = j; parent = q; size = t; rule = z; position = v; level = l } in x) d
+    ∙ ap (λ z. let x : DocNode = record { id = j; parent = q; size = t; rule = u; position = z; level = l } in x) e
+    ∙ ap (λ z. let x : DocNode = record { id = j; parent = q; size = t; rule = u; position = w; level = z } in x) f
 
 same_port : (i j : Id) (n k : ℕ) (s t : Size) (r u : Option Side) (l m : ℤ) → i ≡ j → n ≡ k → s ≡ t → r ≡ u → l ≡ m
     → (let x : DocPort = record { id = i; node = n; size = s; place = origin; side = r; index = l } in x) ≡ (let x : DocPort = record { id = j; node = k; size = t; place = origin; side = u; index = m } in x)
@@ -253,8 +255,8 @@ module _ (es fs : List Element) (h : AllAlike es fs) (e f : Element) (a : Alike 
 
   node_by : kind_is_node e.kind ≡ true → node_of fs f ≡ node_of es e
   node_by t =
-      same_node _ _ _ _ _ _ _ _ _ _ (same_id e f a) owner_by (same_node_size e f a)
-      (ap (λ o. o.rule) (same_options e f a)) (ap (λ o. o.level) (same_options e f a))
+      same_node _ _ _ _ _ _ _ _ _ _ _ _ (same_id e f a) owner_by (same_node_size e f a)
+      (ap (λ o. o.rule) (same_options e f a)) (ap (λ o. o.position) (same_options e f a)) (ap (λ o. o.level) (same_options e f a))
 
   port_one_by : kind_is_port e.kind ≡ true → without_place (port_of fs f) ≡ without_place (port_of es e)
   port_one_by t =

@@ -63,7 +63,7 @@ abbrev high : Measure
 high s = s.height
 
 abbrev nobody : Child
-nobody = record { size = record { width = pos 0; height = pos 0 }; compound = false; rule = Free; direction = Right; ports = [] }
+nobody = record { size = record { width = pos 0; height = pos 0 }; compound = false; rule = Free; direction = Right; position = None; ports = [] }
 
 child_is : (d : Document) (p : Placed) (n i : ℕ) (way : Direction) → i < length (map (level_child d p way) (children d n))
     → (get_or (map (level_child d p way) (children d n)) i nobody ≡ level_child d p way (child_number d n i)) × IsChild d n (child_number d n i)

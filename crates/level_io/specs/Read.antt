@@ -22,6 +22,7 @@ child_with d way s c =
       compound = is_some (node_at d c).level;
       rule = (node_at d c).rule;
       direction = way;
+      position = (node_at d c).position;
       ports = map (level_port d way s) (ports_of d c);
     }
 

@@ -89,6 +89,7 @@ pub fn read_child(
         compound: node.level.is_some(),
         rule: node.rule,
         direction: way,
+        position: node.position,
         ports: Items::from_vec(ports),
     })
 }

@@ -40,7 +40,7 @@ spacing =
 
 abbrev pub square : List ChildPort → PortRule → Child
 square ports rule =
-    record { size = record { width = pos 30; height = pos 30 }; compound = false; rule = rule; direction = Right; ports = ports }
+    record { size = record { width = pos 30; height = pos 30 }; compound = false; rule = rule; direction = Right; position = None; ports = ports }
 
 abbrev pub edge : ℕ → Option ℕ → ℕ → LevelEdge
 edge a port b = record { source = record { child = a; port = port }; target = record { child = b; port = None }; weight = 1 }

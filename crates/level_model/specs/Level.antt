@@ -41,7 +41,7 @@ abbrev pub Orders : Type 0
 Orders = ℕ → Side → List ℕ
 
 abbrev pub child_at : PlainLevel → ℕ → Child
-child_at l c = slice_index_or l.children c (record { size = no_size; compound = false; rule = Free; direction = Right; ports = [] })
+child_at l c = slice_index_or l.children c (record { size = no_size; compound = false; rule = Free; direction = Right; position = None; ports = [] })
 
 abbrev pub edge_at : PlainLevel → ℕ → LevelEdge
 edge_at l e = slice_index_or l.edges e (record {

@@ -344,7 +344,7 @@ module _ (s : Parts) (rows : List (List ℕ)) (o : Orders) (layers : List ℕ) (
       let few = level.few_children in
       let wide = level.widths in
       let most = sums_le (kept_of (λ c. nat_lt (layer c) g) W) W all (λ c has. kept_le (nat_lt (layer c) g) (W c) (width_least c (in_all c has))) in
-      let total = total_le s.level.children W 0 (record { size = no_size; compound = false; rule = Free; direction = Right; ports = [] }) (λ i h. wide_one i h) in
+      let total = total_le s.level.children W 0 (record { size = no_size; compound = false; rule = Free; direction = Right; position = None; ports = [] }) (λ i h. wide_one i h) in
       (found.0, bound (columns_of s g) _ _ (total_width s.level.children) (length s.level.children) found.1 most total few wide)
     where
       wide_one : (i : ℕ) → i < length s.level.children → W (0 + i) ≤ℤ (pos (2 ^ 22) +ℤ sum_of_ints (map (λ (q : Size). q.width) (sizes_of (child_at s.level i))) +ℤ sum_of_ints (map (λ (q : Size). q.width) (sizes_of (child_at s.level i))))

@@ -19,6 +19,7 @@ fn copy_of(alloc: Global, child: &Child) -> Result<Child, AllocError>
         compound: child.compound,
         rule: child.rule,
         direction: child.direction,
+        position: child.position,
         ports: Items::from_vec(ports),
     })
 }

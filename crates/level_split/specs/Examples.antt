@@ -9,7 +9,7 @@ use Rattle.level_model.specs.Level.{PlainLevel}
 
 abbrev pub box_of : Direction → ℕ → ℕ → Child
 box_of way width height =
-    record { size = record { width = pos width; height = pos height }; compound = false; rule = Free; direction = way; ports = [] }
+    record { size = record { width = pos width; height = pos height }; compound = false; rule = Free; direction = way; position = None; ports = [] }
 
 abbrev pub four_boxes : Direction → PlainLevel
 four_boxes way =

@@ -40,7 +40,7 @@ pub record IsPorted (c : Child) (ports : List Point) : Type 0 where
 
 abbrev pub child_in : List Child → ℕ → Child
 child_in children i =
-    slice_index_or children i (record { size = no_size; compound = false; rule = Free; direction = Right; ports = [] })
+    slice_index_or children i (record { size = no_size; compound = false; rule = Free; direction = Right; position = None; ports = [] })
 
 abbrev pub ports_in : List (List Point) → ℕ → List Point
 ports_in ports i = slice_index_or ports i []

@@ -28,11 +28,11 @@ padded way =
     }
 
 abbrev pub root : Direction → Node
-root way = record { id = None; parent = None; size = no_size; rule = Free; level = Some (padded way) }
+root way = record { id = None; parent = None; size = no_size; rule = Free; position = None; level = Some (padded way) }
 
 -- a leaf of 30 by 50
 abbrev pub leaf : Node
-leaf = record { id = Some (Whole (pos 1)); parent = Some 0; size = size 30 50; rule = Free; level = None }
+leaf = record { id = Some (Whole (pos 1)); parent = Some 0; size = size 30 50; rule = Free; position = None; level = None }
 
 -- its port, of 10 by 7
 abbrev pub port : Port

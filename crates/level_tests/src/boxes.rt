@@ -24,6 +24,7 @@ fn a_box(alloc: Global, way: Direction, width: u8, height: u8) -> Child
         compound: false,
         rule: PortRule::Free,
         direction: way,
+        position: None,
         ports: Items::from_vec(Vec::new(alloc)),
     }
 }

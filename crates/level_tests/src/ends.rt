@@ -36,6 +36,7 @@ fn west_level(alloc: Global) -> Result<LevelIn, AllocError>
         compound: false,
         rule: PortRule::FixedSide,
         direction: Direction::Right,
+        position: None,
         ports: Items::from_vec(vec![in alloc; port]?),
     };
     let edge = LevelEdge {

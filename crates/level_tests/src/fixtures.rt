@@ -34,6 +34,7 @@ pub(crate) fn square(alloc: Global) -> Child
         compound: false,
         rule: PortRule::Free,
         direction: Direction::Right,
+        position: None,
         ports: Items::from_vec(Vec::new(alloc)),
     }
 }

@@ -42,6 +42,7 @@ fn make_document(
             height: 0,
         },
         rule,
+        position: None,
         level: Some(default_options(way)),
     };
     let mut nodes = Vec::new(alloc);

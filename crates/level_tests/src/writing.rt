@@ -33,6 +33,7 @@ fn make_root(way: Direction) -> Node
             height: 0,
         },
         rule: PortRule::Free,
+        position: None,
         level: Some(LevelOptions {
             padding,
             ..default_options(way)
@@ -52,6 +53,7 @@ fn make_leaf() -> Node
             height: 50,
         },
         rule: PortRule::Free,
+        position: None,
         level: None,
     }
 }

@@ -64,6 +64,7 @@ fn leaf(
         compound: false,
         rule,
         direction,
+        position: None,
         ports: Items::from_vec(ports),
     })
 }
@@ -294,6 +295,7 @@ fn pinned(alloc: Global, direction: Direction) -> Result<Child, AllocError>
         compound: false,
         rule: PortRule::FixedPos,
         direction,
+        position: None,
         ports: Items::from_vec(ports),
     })
 }

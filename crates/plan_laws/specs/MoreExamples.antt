@@ -100,6 +100,7 @@ looped_child =
       compound = false;
       rule = FixedSide;
       direction = Right;
+      position = None;
       ports = five_on North (five_on East (five_on South (five_on West [])));
     }
 

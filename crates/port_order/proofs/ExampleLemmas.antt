@@ -94,7 +94,7 @@ zero_once = record { place = 0; inside = omega arith; there = refl; alone = alon
     alone (suc (suc (suc j))) h e = absurd (omega (arith, h))
 
 abbrev corner_leaf : Direction → List ChildPort → Child
-corner_leaf d ps = record { size = record { width = pos 30; height = pos 60 }; compound = false; rule = FixedPos; direction = d; ports = ps }
+corner_leaf d ps = record { size = record { width = pos 30; height = pos 60 }; compound = false; rule = FixedPos; direction = d; position = None; ports = ps }
 
 abbrev corner : ChildPort
 corner = record { size = record { width = pos 10; height = pos 10 }; place = record { x = negsuc 2; y = negsuc 3 }; half = pos 5; side = None; index = pos 0 }

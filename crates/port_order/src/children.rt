@@ -21,13 +21,14 @@ pub struct ChildPort {
 }
 
 /// A child of a level, in the working frame. `direction` is that of the level: by it, orders and roundings that are
-/// stated in the document's frame are turned.
+/// stated in the document's frame are turned. `position` is the place that it keeps among the children of its layer.
 #[derive(Drop)]
 pub struct Child {
     pub size: Size,
     pub compound: bool,
     pub rule: PortRule,
     pub direction: Direction,
+    pub position: Option<i64>,
     pub ports: Items<ChildPort>,
 }
 

@@ -31,6 +31,7 @@ sized d way c s =
       compound = is_some (node_at d c).level;
       rule = (node_at d c).rule;
       direction = way;
+      position = (node_at d c).position;
       ports = map (level_port d way s) (ports_of d c);
     }
 

@@ -40,8 +40,8 @@ abbrev pub level_with : Direction → Size → Size → ChildPort → PlainLevel
 level_with way first second port =
     record {
       children =
-          record { size = first; compound = false; rule = FixedSide; direction = way; ports = port ∷ [] }
-          ∷ record { size = second; compound = false; rule = Free; direction = way; ports = [] }
+          record { size = first; compound = false; rule = FixedSide; direction = way; position = None; ports = port ∷ [] }
+          ∷ record { size = second; compound = false; rule = Free; direction = way; position = None; ports = [] }
           ∷ [];
       edges = record { source = record { child = 0; port = Some 0 }; target = record { child = 1; port = None }; weight = 3 } ∷ [];
       spacing = (options way).spacing;

@@ -89,6 +89,7 @@ level_child d p way c =
       compound = is_some (node_at d c).level;
       rule = (node_at d c).rule;
       direction = way;
+      position = (node_at d c).position;
       ports = map (level_port d way (box_size p c)) (ports_of d c);
     }
 
