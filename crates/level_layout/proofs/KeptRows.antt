@@ -1,19 +1,23 @@
 -- Crossings and sweeps read only the layers of units, and the ends and ranks of links: orders that reduce crossings do so for
 -- all units and links that have these.
-use Rattle.std.proofs.Common.{◌≡◌, ℕ, zero, suc, ◌+◌, ◌-◌, ◌<◌, ◌≤◌, ◌*◌, ◌==◌, cond, Bool, true, false, not, ◌&&◌, ◌||◌, List, [], ◌∷◌, length, get_or, reverse, refl, sym, subst, ap, ap₂, ◌∙◌, ⊎_elim, inl, inr, arith}
+use Rattle.std.proofs.Common.{◌≡◌, ℕ, zero, suc, ◌+◌, ◌-◌, ◌<◌, ◌≤◌, ◌*◌, ◌==◌, cond, Bool, true, false, not, ◌&&◌, ◌||◌, List, [], ◌∷◌, length, get_or, reverse, refl, sym, subst, ap, ap₂, ◌∙◌, ⊎_elim, inl, inr, arith, map, ℤ, Option}
 use Rattle.std.proofs.lemmas.Bool.{cases_Bool}
 use Rattle.std.proofs.lemmas.List.Elements.{All-weaker}
 use Rattle.std.proofs.lemmas.List.Sums.{sum_by-cons}
-use Rattle.std.specs.Prelude.{nat_lt, if◌then◌else◌}
+use Rattle.std.specs.Prelude.{nat_lt, if◌then◌else◌, option_and_then}
 use Rattle.std.specs.List.{All, count_by, filter, sum_by}
 use Rattle.elk_layers.specs.declared.units.Link.{Link}
-use Rattle.elk_layers.specs.Layered.{Plain, gap_of, head_key, layer_of, link_at, place_in, place_of, row_at, tail_key}
+use Rattle.elk_layers.specs.declared.units.Unit.{Unit as LayerUnit}
+use Rattle.elk_layers.specs.Layered.{Plain, gap_of, head_key, layer_of, link_at, place_in, place_of, row_at, tail_key, unit_at}
 use Rattle.elk_layers.specs.Crossings.{cross, crossings, crossings_among, exchanged, NoBetterSwap}
 use Rattle.elk_layers.specs.Sweeps.{Ends, backward_sweep, far_count, far_sum, forward_sweep, has_links, insert_by, mean_le, ordered, refilled, sorted_by, sweep_orders, swept, swept_after, to_left, to_right}
-use Rattle.cross_reduce.specs.Reduced.{after_pair, after_pairs, after_row, after_rows, again, at_rest, AtMostOf, FewerThan, IsExchangedFromFewest, IsFirstOfFewest, SettlesTo}
+use Rattle.cross_reduce.specs.Reduced.{after_pair, after_pairs, after_row, after_rows, again, at_rest, AtMostOf, FewerThan, IsExchangedFromFewest, IsFirstOfFewest, IsReduced, SettlesTo}
+use Rattle.cross_reduce.specs.Held.{NoBetterFreeSwap}
 use Rattle.layer_units.specs.Fitted.{AreKept}
 use Rattle.elk_doc.specs.declared.document.RowOrder.{RowOrder}
-use Rattle.level_layout.specs.Chosen.{AreChosenRows, IsReduced}
+use Rattle.elk_doc.specs.declared.document.RowOrder.TheVariants.{Document, Kept}
+use Rattle.level_model.specs.Level.{PlainLevel}
+use Rattle.level_layout.specs.Chosen.{AreChosenRows, IsHeldOrder, held_keys, key_for}
 
 -- two links with the same ends and ranks
 pub record SameEnds (x y : Link) : Type 0 where
@@ -27,6 +31,17 @@ AreSame xs ys = (length ys ≡ length xs) × ((k : ℕ) → SameEnds (link_at xs
 
 rest_same : (x y : Link) (xs ys : List Link) → AreSame (x ∷ xs) (y ∷ ys) → AreSame xs ys
 rest_same x y xs ys h = let many = h.0 in (omega (arith, many), λ k. h.1 (suc k))
+
+-- ---- units of the same children
+
+-- have the same keys
+keys_same : (f : Option ℕ → Option ℤ) (xs ys : List LayerUnit) → length ys ≡ length xs → ((u : ℕ) → (unit_at ys u).child ≡ (unit_at xs u).child)
+    → map (λ (x : LayerUnit). f x.child) xs ≡ map (λ (x : LayerUnit). f x.child) ys
+keys_same f [] [] many same = refl
+keys_same f [] (y ∷ ys) many same = absurd (omega (arith, many))
+keys_same f (x ∷ xs) [] many same = absurd (omega (arith, many))
+keys_same f (x ∷ xs) (y ∷ ys) many same =
+    ap₂ (λ k ks. k ∷ ks) (ap f (sym (same 0))) (keys_same f xs ys (omega (arith, many)) (λ u. same (suc u)))
 
 -- ---- lists by tests that agree
 
@@ -264,5 +279,24 @@ module _ (a b : Plain) (kept : AreKept a b) where
       at_most : {m n p q : ℕ} → m ≡ n → p ≡ q → m ≤ p → n ≤ q
       at_most e f h = omega (arith, e, f, h)
 
-  pub chosen_for : (order : RowOrder) (start rows : List (List ℕ)) → AreChosenRows a order start rows → AreChosenRows b order start rows
-  chosen_for order start rows r = record { swept = λ e. reduced_for start rows (r.swept e); kept = r.kept }
+  free_same : (held : List (Option ℤ)) (rows : List (List ℕ)) → NoBetterFreeSwap a held rows → NoBetterFreeSwap b held rows
+  free_same held rows settled n i h k free =
+      let here = same_crossings a b kept rows in
+      let after = same_crossings a b kept (exchanged rows n i) in
+      let less = settled n i h k free in
+      omega (arith, here, after, less)
+
+  held_for : (order : RowOrder) (level : PlainLevel) (start rows : List (List ℕ)) → IsHeldOrder a (held_keys order level a) start rows
+      → IsHeldOrder b (held_keys order level b) start rows
+  held_for order level start rows h =
+      subst (λ (held : List (Option ℤ)). IsHeldOrder b held start rows)
+      (keys_same (option_and_then (key_for order level)) a.units b.units kept.alike.as_many_units kept.alike.child_is)
+      (record { same_rows = h.same_rows; ascends = h.ascends; settled = free_same (held_keys order level a) rows h.settled })
+
+  pub chosen_for : (level : PlainLevel) (start rows : List (List ℕ)) → AreChosenRows level a start rows → AreChosenRows level b start rows
+  chosen_for level start rows r =
+      record {
+        swept = λ e. reduced_for start rows (r.swept e);
+        document = λ e. held_for Document level start rows (r.document e);
+        kept = λ e. held_for Kept level start rows (r.kept e);
+      }

@@ -31,7 +31,7 @@ use Rattle.level_layout.specs.Bounds.{AreFew}
 use Rattle.level_layout.proofs.LayerLemmas.{layers_from}
 use Rattle.level_layout.proofs.LinkLemmas.{links_few}
 use Rattle.level_layout.proofs.PinLemmas.{pins_low}
-use Rattle.level_layout.specs.Chosen.{AreChosenLines, AreChosenRows}
+use Rattle.level_layout.specs.Chosen.{AreChosenLines, AreChosenRows, straightness_for}
 use Rattle.level_layout.specs.Phases.{AreNumberedAs, AreRankedUnits, IsStart}
 use Rattle.level_layout.specs.Layout.{IsLaidOut, IsLayout}
 use Rattle.level_layout.proofs.KeptRows.{chosen_for, filter_equal}
@@ -69,9 +69,9 @@ pub record ArePinned (l : PlainLevel) (u v : Layered) (order : Order) (rs : List
   pub rows : AreRows (plain v) (rows_of order)
   pub kept : AreKept (plain u) (plain v)
 
-pub drawable : (l : PlainLevel) (c : Certificate) (u v : Layered) (order : Order) (lines : Lines) (placing : Placing) (fixed : Option Sweep) → MakeUnits → IsLevel l → IsCertificateOf l c → AreRankedUnits l c u
-    → ArePinned l u v order c.reversed → AreChosenLines (plain v) (rows_of order) placing fixed lines.top.items → IsDrawable l (plan_from c v order lines) c.layers
-drawable l c u v order lines placing fixed made level is ranked pinned placed =
+pub drawable : (l : PlainLevel) (c : Certificate) (u v : Layered) (order : Order) (lines : Lines) (placing : Placing) (fixed : Option Sweep) (straightness : ℕ) → MakeUnits → IsLevel l → IsCertificateOf l c → AreRankedUnits l c u
+    → ArePinned l u v order c.reversed → AreChosenLines (plain v) (rows_of order) placing fixed straightness lines.top.items → IsDrawable l (plan_from c v order lines) c.layers
+drawable l c u v order lines placing fixed straightness made level is ranked pinned placed =
     record {
       orders = pinned.fitted.0;
       layering = layers_from l c level is;
@@ -132,17 +132,17 @@ as_answered level c v start order lines w from is =
     (subst (λ x. IsLayout level c v start order x w) (sym from.lines_are) is))))
 
 pub laid_out : (level : LevelIn) (c : Certificate) (u v : Layered) (start order : Order) (lines : Lines) (w : LevelOut) → MakeUnits → IsLevel (plain_level level) → IsCertificateOf (plain_level level) c
-    → AreRankedUnits (plain_level level) c u → IsStart (plain u) (rows_of start) → AreChosenRows (plain u) level.choices.order (rows_of start) (rows_of order) → ArePinned (plain_level level) u v order c.reversed
-    → AreChosenLines (plain v) (rows_of order) level.placing level.fixed lines.top.items → IsMadeFrom c v start order lines w → IsDrawn (plain_level level) (plan_from c v order lines) c.layers w → IsLaidOut level w
+    → AreRankedUnits (plain_level level) c u → IsStart (plain u) (rows_of start) → AreChosenRows (plain_level level) (plain u) (rows_of start) (rows_of order) → ArePinned (plain_level level) u v order c.reversed
+    → AreChosenLines (plain v) (rows_of order) level.placing level.fixed (straightness_for level) lines.top.items → IsMadeFrom c v start order lines w → IsDrawn (plain_level level) (plan_from c v order lines) c.layers w → IsLaidOut level w
 laid_out level c u v start order lines w made sound is ranked started ordered pinned placed from drawn =
-    let can = drawable (plain_level level) c u v order lines level.placing level.fixed made sound is ranked pinned placed in
+    let can = drawable (plain_level level) c u v order lines level.placing level.fixed (straightness_for level) made sound is ranked pinned placed in
     as_answered level c v start order lines w from
     (record {
       certificate = is;
       numbered = numbered_through (plain_level level) c u v ranked pinned.kept;
       layers = can.layer_count;
       started = start_alike (plain u) (plain v) (rows_of start) pinned.kept.alike started;
-      ordered = chosen_for (plain u) (plain v) pinned.kept level.choices.order (rows_of start) (rows_of order) ordered;
+      ordered = chosen_for (plain u) (plain v) pinned.kept (plain_level level) (rows_of start) (rows_of order) ordered;
       placed = placed;
       orders = can.orders;
       ready = can.ready;

@@ -17,12 +17,12 @@ lines_apart l rows (Some s) tops h = h.are_lines.apart
 one_placing : (placing : Placing) → placing ≡ BrandesKoepf → placing ≡ NetworkSimplex → ⊥
 one_placing placing a b = let same : BrandesKoepf ≡ NetworkSimplex = sym a ∙ b in absurd cc
 
-pub by_alignment : (l : Plain) (rows : List (List ℕ)) (placing : Placing) (fixed : Option Sweep) (tops : List ℤ) → placing ≡ BrandesKoepf → AreLinesOf l rows fixed tops → EndsWithinStack l tops
-    → AreChosenLines l rows placing fixed tops
-by_alignment l rows placing fixed tops is lines ends =
+pub by_alignment : (l : Plain) (rows : List (List ℕ)) (placing : Placing) (fixed : Option Sweep) (straightness : ℕ) (tops : List ℤ) → placing ≡ BrandesKoepf → AreLinesOf l rows fixed tops → EndsWithinStack l tops
+    → AreChosenLines l rows placing fixed straightness tops
+by_alignment l rows placing fixed straightness tops is lines ends =
     record { apart = lines_apart l rows fixed tops lines; within = ends; aligned = λ _. lines; least_high = λ other. absurd (one_placing placing is other) }
 
-pub by_height : (l : Plain) (rows : List (List ℕ)) (placing : Placing) (fixed : Option Sweep) (tops : List ℤ) → placing ≡ NetworkSimplex → AreLeastHigh l rows tops → EndsWithinStack l tops
-    → AreChosenLines l rows placing fixed tops
-by_height l rows placing fixed tops is lines ends =
-    record { apart = lines.is.apart; within = ends; aligned = λ other. absurd (one_placing placing other is); least_high = λ _. lines }
+pub by_height : (l : Plain) (rows : List (List ℕ)) (placing : Placing) (fixed : Option Sweep) (straightness : ℕ) (tops : List ℤ) → placing ≡ NetworkSimplex → AreLeastHigh l rows straightness tops → EndsWithinStack l tops
+    → AreChosenLines l rows placing fixed straightness tops
+by_height l rows placing fixed straightness tops is lines ends =
+    record { apart = lines.is.placing.apart; within = ends; aligned = λ other. absurd (one_placing placing other is); least_high = λ _. lines }

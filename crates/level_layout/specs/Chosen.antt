@@ -1,50 +1,66 @@
 -- The rows of a level's plan, and its lines.
-use Rattle.std.specs.Prelude.{◌≡◌, ◌≤◌, ℕ, List, ℤ, Option}
-use Rattle.std.specs.List.{All}
+use Rattle.std.specs.Prelude.{◌≡◌, ℕ, List, ℤ, pos, map, min, Option, None, Some, option_and_then}
 use Rattle.elk_doc.specs.declared.document.Placing.{Placing}
 use Rattle.elk_doc.specs.declared.document.Placing.TheVariants.{BrandesKoepf, NetworkSimplex}
 use Rattle.elk_doc.specs.declared.document.RowOrder.{RowOrder}
-use Rattle.elk_doc.specs.declared.document.RowOrder.TheVariants.{Document, Swept}
+use Rattle.elk_doc.specs.declared.document.RowOrder.TheVariants.{Document, Kept, Swept}
 use Rattle.drawing_types.specs.declared.sweep.Sweep.{Sweep}
+use Rattle.elk_layers.specs.declared.units.Unit.{Unit as LayerUnit}
 use Rattle.elk_layers.specs.Layered.{Plain}
-use Rattle.elk_layers.specs.Crossings.{crossings, HasSameRows, NoBetterSwap}
+use Rattle.elk_layers.specs.Crossings.{HasSameRows}
 use Rattle.elk_layers.specs.Lines.{AreApart}
-use Rattle.elk_layers.specs.Sweeps.{sweep_orders}
-use Rattle.cross_reduce.specs.Reduced.{IsExchangedFromFewest}
+use Rattle.cross_reduce.specs.Held.{AreHeldRows, NoBetterFreeSwap}
+use Rattle.cross_reduce.specs.Reduced.{IsReduced}
 use Rattle.unit_blocks.specs.Constraints.{EndsWithinStack}
 use Rattle.bk_place.specs.Placement.{AreLinesOf}
 use Rattle.ns_place.specs.declared.least.PairFlow.{PairFlow}
-use Rattle.ns_place.specs.Heights.{IsLeastPlacing}
+use Rattle.ns_place.specs.Straight.{IsStraightPlacing}
+use Rattle.ns_place.specs.Weighed.{greatest_weight}
+use Rattle.level_model.specs.declared.level.LevelIn.{LevelIn}
+use Rattle.level_model.specs.Level.{PlainLevel, child_at}
 
--- The rows of a start in an order with no more crossings than the start and each of its four sweep orders, which no exchange
--- of two neighbours makes better, and the start itself where it has no crossings. It is what exchanges that lower the crossings
--- reach, one row after the other from the top, from the first of fewest crossings among these five orders, or has fewer
--- crossings than what they reach.
-pub record IsReduced (l : Plain) (start rows : List (List ℕ)) : Type 0 where
+-- The key by which a child is held among those of its layer: its number where the order of the document is asked for, and its
+-- position, if it has one, where its order is kept.
+abbrev pub key_for : RowOrder → PlainLevel → ℕ → Option ℤ
+key_for Swept level c = None
+key_for Document level c = Some (pos c)
+key_for Kept level c = (child_at level c).position
+
+-- the keys of all units: lanes of long edges have none
+abbrev pub held_keys : RowOrder → PlainLevel → Plain → List (Option ℤ)
+held_keys order level l = map (λ (u : LayerUnit). option_and_then (key_for order level) u.child) l.units
+
+-- The rows of a start in an order in which, in each row, the held children ascend, and which no exchange of two neighbours makes
+-- better, unless both are held.
+pub record IsHeldOrder (l : Plain) (held : List (Option ℤ)) (start rows : List (List ℕ)) : Type 0 where
   pub same_rows : HasSameRows start rows
-  pub no_more : crossings l rows ≤ crossings l start
-  pub sweeps : All (λ swept. crossings l rows ≤ crossings l swept) (sweep_orders l start)
-  pub settled : NoBetterSwap l rows
-  pub from_fewest : IsExchangedFromFewest l start rows
-  pub without_crossings : crossings l start ≡ 0 → rows ≡ start
+  pub ascends : AreHeldRows held rows
+  pub settled : NoBetterFreeSwap l held rows
 
--- The rows of a plan: those of its start where the order of the document is asked for, and else ones that reduce its crossings.
-pub record AreChosenRows (l : Plain) (order : RowOrder) (start rows : List (List ℕ)) : Type 0 where
-  pub swept : order ≡ Swept → IsReduced l start rows
-  pub kept : order ≡ Document → rows ≡ start
+-- The rows of a plan: ones that reduce the crossings of its start, or, where an order of children is asked for, ones that hold it.
+pub record AreChosenRows (level : PlainLevel) (l : Plain) (start rows : List (List ℕ)) : Type 0 where
+  pub swept : level.choices.order ≡ Swept → IsReduced l start rows
+  pub document : level.choices.order ≡ Document → IsHeldOrder l (held_keys Document level l) start rows
+  pub kept : level.choices.order ≡ Kept → IsHeldOrder l (held_keys Kept level l) start rows
 
--- No tops that keep the distances have links that are together less high than at these, and a flow shows it.
-pub record AreLeastHigh (l : Plain) (rows : List (List ℕ)) (tops : List ℤ) : Type 0 where
+-- What a link weighs that alignment keeps straight; what is above the greatest weight counts as this.
+abbrev pub straightness_for : LevelIn → ℕ
+straightness_for level = min level.choices.straightness greatest_weight
+
+-- No tops that keep the distances have links that are together less high than at these, where links that alignment keeps straight
+-- weigh so much and all others 1, and a flow shows it.
+pub record AreLeastHigh (l : Plain) (rows : List (List ℕ)) (straightness : ℕ) (tops : List ℤ) : Type 0 where
   pub height : ℕ
   pub link_flow : List ℤ
   pub pairs : List PairFlow
-  pub is : IsLeastPlacing l rows tops height link_flow pairs
+  pub is : IsStraightPlacing l rows straightness tops height link_flow pairs
 
 -- Lines that keep the distances, and no unit of which ends lower than all units stacked with the greatest of the distances. By
 -- alignment they are those of the fixed sweep, or of the first of the four that needs the least height; by network simplex their
--- links are least high together.
-pub record AreChosenLines (l : Plain) (rows : List (List ℕ)) (placing : Placing) (fixed : Option Sweep) (tops : List ℤ) : Type 0 where
+-- links are least high together by their weights.
+pub record AreChosenLines (l : Plain) (rows : List (List ℕ)) (placing : Placing) (fixed : Option Sweep) (straightness : ℕ)
+    (tops : List ℤ) : Type 0 where
   pub apart : AreApart l rows tops
   pub within : EndsWithinStack l tops
   pub aligned : placing ≡ BrandesKoepf → AreLinesOf l rows fixed tops
-  pub least_high : placing ≡ NetworkSimplex → AreLeastHigh l rows tops
+  pub least_high : placing ≡ NetworkSimplex → AreLeastHigh l rows straightness tops

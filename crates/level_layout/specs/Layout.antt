@@ -12,12 +12,12 @@ use Rattle.level_model.specs.Ready.{IsReady}
 use Rattle.layer_units.specs.Layering.{IsLayerCount}
 use Rattle.level_draw.specs.declared.drawing.LevelOut.{LevelOut}
 use Rattle.level_draw.specs.Drawing.{IsDrawn, plan_from}
-use Rattle.level_layout.specs.Chosen.{AreChosenLines, AreChosenRows}
+use Rattle.level_layout.specs.Chosen.{AreChosenLines, AreChosenRows, straightness_for}
 use Rattle.level_layout.specs.Phases.{AreNumberedAs, IsStart}
 
 -- Units and links come from the level and the layers of its certificate, numbered by child and edge, with one layer more than
--- the greatest of these; each row begins with its units in the order of their numbers; the order of the plan is that start or reduces
--- its crossings, as the level asks, and its lines are placed.
+-- the greatest of these; each row begins with its units in the order of their numbers; the order of the plan reduces
+-- the crossings of that start or holds its children, as the level asks, and its lines are placed.
 -- The drawing comes from all of these, and keeps the rules.
 pub record IsLayout (level : LevelIn) (c : Certificate) (layered : Layered) (start order : Order) (lines : Lines)
     (v : LevelOut) : Type 0 where
@@ -25,8 +25,8 @@ pub record IsLayout (level : LevelIn) (c : Certificate) (layered : Layered) (sta
   pub numbered : AreNumberedAs (plain_level level) c (plain layered)
   pub layers : IsLayerCount c.layers layered.layers
   pub started : IsStart (plain layered) (rows_of start)
-  pub ordered : AreChosenRows (plain layered) level.choices.order (rows_of start) (rows_of order)
-  pub placed : AreChosenLines (plain layered) (rows_of order) level.placing level.fixed lines.top.items
+  pub ordered : AreChosenRows (plain_level level) (plain layered) (rows_of start) (rows_of order)
+  pub placed : AreChosenLines (plain layered) (rows_of order) level.placing level.fixed (straightness_for level) lines.top.items
   pub orders : Orders
   pub ready : IsReady (plain_level level) (plan_from c layered order lines) orders c.layers
   pub drawn : IsDrawn (plain_level level) (plan_from c layered order lines) c.layers v

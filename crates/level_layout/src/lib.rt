@@ -5,6 +5,7 @@
 mod bounds;
 mod certificates;
 mod chaining;
+mod keys;
 mod laws;
 mod layout;
 mod lines;

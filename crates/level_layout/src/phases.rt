@@ -2,13 +2,15 @@
 ghost use Rattle.std.specs.Prelude.{◌≡◌, length, IfOk};
 ghost use Rattle.elk_layers.specs.Layered.{plain, rows_of, AreRows, IsSound};
 ghost use Rattle.level_model.specs.Conditions.{plain_level, IsLevel};
+ghost use Rattle.cross_reduce.specs.Reduced.{IsReduced};
 ghost use Rattle.layer_units.specs.Marks.{listed};
 ghost use Rattle.level_layout.specs.Certificate.{IsCertificateOf};
-ghost use Rattle.level_layout.specs.Chosen.{AreChosenRows, IsReduced};
+ghost use Rattle.level_layout.specs.Chosen.{AreChosenRows, IsHeldOrder, held_keys};
 ghost use Rattle.level_layout.specs.Phases.{AreRankedUnits, IsStart};
 
+use crate::keys::keys_of;
 use crate::units::units_for;
-use cross_reduce::reduce_with_effort;
+use cross_reduce::{reduce_held, reduce_with_effort};
 use elk_doc::document::RowOrder;
 use elk_doc::drawing::Certificate;
 use elk_layers::{Layered, Order, copy_of};
@@ -63,7 +65,26 @@ fn swept_order(
     Ok(order)
 }
 
-/// The order of a start's rows that the level asks for: the start itself, or one with few crossings.
+/// The order of a start's rows in which the children that the level holds ascend.
+fn held_order(
+    alloc: Global,
+    level: &LevelIn,
+    layered: &Layered,
+    start: &Order,
+) -> Result<Order, AllocError>
+    requires sound { IsSound (plain layered.now) }
+    requires rows { AreRows (plain layered.now) (rows_of start.now) }
+    ensures held { IfOk result
+        (λ v. IsHeldOrder (plain layered.now) (held_keys level.now.choices.order (plain_level level.now) (plain layered.now)) (rows_of start.now) (rows_of v)) }
+    ensures rows { IfOk result (λ v. AreRows (plain layered.now) (rows_of v)) }
+{
+    let keys = keys_of(alloc, level, layered)?;
+    let copy = copy_of(alloc, start)?;
+    let order = reduce_held(alloc, layered, copy, keys.as_slice(), level.choices.effort)?;
+    Ok(order)
+}
+
+/// The order of a start's rows that the level asks for: one with few crossings, in which children are held or not.
 pub(crate) fn order_for(
     alloc: Global,
     level: &LevelIn,
@@ -72,11 +93,12 @@ pub(crate) fn order_for(
 ) -> Result<Order, AllocError>
     requires sound { IsSound (plain layered.now) }
     requires rows { AreRows (plain layered.now) (rows_of start.now) }
-    ensures chosen { IfOk result (λ v. AreChosenRows (plain layered.now) level.now.choices.order (rows_of start.now) (rows_of v)) }
+    ensures chosen { IfOk result (λ v. AreChosenRows (plain_level level.now) (plain layered.now) (rows_of start.now) (rows_of v)) }
     ensures rows { IfOk result (λ v. AreRows (plain layered.now) (rows_of v)) }
 {
     match level.choices.order {
         RowOrder::Swept => swept_order(alloc, layered, start, level.choices.effort),
-        RowOrder::Document => copy_of(alloc, start),
+        RowOrder::Document => held_order(alloc, level, layered, start),
+        RowOrder::Kept => held_order(alloc, level, layered, start),
     }
 }

@@ -1,5 +1,5 @@
 -- A level of four boxes without ports.
-use Rattle.std.specs.Prelude.{ℕ, false, [], ◌∷◌, pos}
+use Rattle.std.specs.Prelude.{ℕ, false, [], ◌∷◌, pos, None}
 use Rattle.elk_doc.specs.Defaults.{default_choices}
 use Rattle.elk_doc.specs.declared.document.PortRule.TheVariants.{Free}
 use Rattle.elk_doc.specs.declared.document.Direction.{Direction}

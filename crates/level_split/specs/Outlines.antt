@@ -1,5 +1,5 @@
 -- The outlines of children in the frame, by the places of their ports.
-use Rattle.std.specs.Prelude.{◌≡◌, ℕ, ◌<◌, false, List, [], ◌∷◌, length, slice_index_or}
+use Rattle.std.specs.Prelude.{◌≡◌, ℕ, ◌<◌, false, List, [], ◌∷◌, length, None, slice_index_or}
 use Rattle.std.specs.List.{range_with_len}
 use Rattle.drawing_types.specs.declared.shape.Point.{Point}
 use Rattle.drawing_types.specs.declared.shape.Rect.{Rect}

@@ -6,6 +6,7 @@ use Rattle.level_model.specs.Units.{AreLinked}
 use Rattle.layer_units.specs.Marks.{listed}
 use Rattle.layer_units.specs.Tabled.{IsTableOf}
 use Rattle.level_draw.specs.Drawing.{IsDrawn, IsMadeFrom, plan_from}
+use Rattle.level_layout.specs.Chosen.{straightness_for}
 use Rattle.level_layout.specs.Layout.{IsLaidOut}
 use Rattle.layer_units.proofs.MarkLemmas.{marks_listed}
 use Rattle.layer_units.proofs.UnitLemmas.{make_units}
@@ -35,7 +36,7 @@ draw_by_table-requires-clause-drawable c =
     let pinned = pinned_by (plain_level c.args.level.now) c.in_ok-certificate.certificate c.in_ok-start.start.layered c.in_ok-fitted.fitted.layered c.in_ok-order.order (listed c.as_slice-turned.result.now)
     (sym c.in_ok-certificate.ensures.listed) c.in_ok-fitted.ensures.fitted c.in_ok-fitted.ensures.sound c.in_ok-fitted.ensures.low c.in_ok-fitted.ensures.rows c.in_ok-fitted.ensures.kept
     in
-    drawable (plain_level c.args.level.now) c.in_ok-certificate.certificate c.in_ok-start.start.layered c.in_ok-fitted.fitted.layered c.in_ok-order.order c.in_ok-lines.lines c.args.level.now.placing c.args.level.now.fixed
+    drawable (plain_level c.args.level.now) c.in_ok-certificate.certificate c.in_ok-start.start.layered c.in_ok-fitted.fitted.layered c.in_ok-order.order c.in_ok-lines.lines c.args.level.now.placing c.args.level.now.fixed (straightness_for c.args.level.now)
     make_units c.requires c.in_ok-certificate.ensures.certificate c.in_ok-start.ensures.units pinned c.in_ok-lines.ensures
 
 pub draw_by_table-requires-clause-marked : goal.draw_by_table-requires-clause-marked

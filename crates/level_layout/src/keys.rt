@@ -1,0 +1,58 @@
+//! The keys by which the children of a layer are held.
+ghost use Rattle.std.specs.Prelude.{◌≡◌, option_and_then, IfOk};
+ghost use Rattle.elk_layers.specs.Layered.{plain};
+ghost use Rattle.level_model.specs.Conditions.{plain_level};
+ghost use Rattle.level_model.specs.Level.{child_at};
+ghost use Rattle.level_layout.specs.Chosen.{held_keys, key_for};
+
+use elk_doc::document::RowOrder;
+use elk_layers::{Layered, Unit};
+use level_model::LevelIn;
+use std::alloc::{AllocError, Global};
+
+// The position of a child, if it has one.
+fn position_of(level: &LevelIn, child: u32) -> Option<i64>
+    ensures { result ≡ (child_at (plain_level level.now) child).position }
+{
+    match level.children.as_slice().get(child as usize) {
+        Some(child) => child.position,
+        None => None,
+    }
+}
+
+// The key of a child: its number, its position, or none, as the level asks.
+fn child_key(level: &LevelIn, child: u32) -> Option<i64>
+    ensures { result ≡ key_for level.now.choices.order (plain_level level.now) child }
+{
+    match level.choices.order {
+        RowOrder::Swept => None,
+        RowOrder::Document => Some(child as i64),
+        RowOrder::Kept => position_of(level, child),
+    }
+}
+
+// The key of a unit: that of its child.
+fn unit_key(level: &LevelIn, unit: &Unit) -> Option<i64>
+    ensures { result ≡ option_and_then (key_for level.now.choices.order (plain_level level.now)) unit.now.child }
+{
+    match unit.child {
+        Some(child) => child_key(level, child),
+        None => None,
+    }
+}
+
+/// The keys of all units, by unit: units of children have those of their children, and lanes of long edges none.
+pub(crate) fn keys_of(
+    alloc: Global,
+    level: &LevelIn,
+    layered: &Layered,
+) -> Result<Vec<Option<i64>>, AllocError>
+    ensures { IfOk result (λ v. v.items ≡ held_keys level.now.choices.order (plain_level level.now) (plain layered.now)) }
+{
+    let units = layered.units.as_slice();
+    let mut keys = Vec::with_capacity(alloc, units.len())?;
+    for unit in units {
+        keys.push(unit_key(level, unit))?;
+    }
+    Ok(keys)
+}
