@@ -51,7 +51,7 @@ fn drawing(units: Vec<Unit>, links: Vec<Link>) -> Layered
 }
 
 // Two units beside two, with the heads of the two links.
-fn two_by_two(alloc: Global, first: u32, second: u32) -> Result<Layered, AllocError>
+pub(crate) fn two_by_two(alloc: Global, first: u32, second: u32) -> Result<Layered, AllocError>
     ensures { IfOk result
         (λ l. plain l
         ≡ example.drawing (example.child 0 ∷ example.child 0 ∷ example.child 1 ∷ example.child 1 ∷ [])
@@ -62,7 +62,7 @@ fn two_by_two(alloc: Global, first: u32, second: u32) -> Result<Layered, AllocEr
     Ok(drawing(units, links))
 }
 
-fn two_rows(alloc: Global) -> Result<Order, AllocError>
+pub(crate) fn two_rows(alloc: Global) -> Result<Order, AllocError>
     ensures { IfOk result (λ o. rows_of o ≡ example.two_rows) }
 {
     let rows = vec![in alloc; vec![in alloc; 0, 1]?, vec![in alloc; 2, 3]?]?;

@@ -23,6 +23,8 @@ mod fifty;
 #[cfg(test)]
 mod forks;
 #[cfg(test)]
+mod held;
+#[cfg(test)]
 mod heights;
 #[cfg(test)]
 mod incidence;
