@@ -9,6 +9,7 @@ pub mod WindowLemmas
 pub mod FanLemmas
 pub mod StateLemmas
 pub mod SettledLemmas
+pub mod HeldLemmas
 pub mod MeanLemmas
 pub mod SweepLemmas
 pub mod MeanOrder

@@ -3,11 +3,11 @@ use Rattle.std.proofs.Common.{◌≡◌, ◌+◌, ◌-◌, ◌<◌, ◌≤◌, L
 use Rattle.std.proofs.lemmas.Bool.{cases_Bool}
 use Rattle.std.proofs.lemmas.List.Elements.{All-append, All-cons, All-head, All-tail, All-weaker}
 use Rattle.elk_layers.specs.Layered.{Plain, row_at}
-use Rattle.elk_layers.specs.Crossings.{crossings, exchanged, NoBetterSwap}
+use Rattle.elk_layers.specs.Crossings.{crossings, exchanged, HasSameRows, NoBetterSwap}
 use Rattle.elk_layers.specs.Sweeps.{forward_sweep, backward_sweep, sweep_orders}
 use Rattle.cross_reduce.specs.Candidates.{IsKeptOrFewer}
 use Rattle.cross_reduce.specs.Exchanges.{IsNoBetter, NoneInRow}
-use Rattle.cross_reduce.specs.Reduced.{after_pair, after_pairs, after_row, after_rows, SettlesTo, at_rest, again, AtMostOf, IsFirstOfFewest, IsExchangedFromFewest}
+use Rattle.cross_reduce.specs.Reduced.{after_pair, after_pairs, after_row, after_rows, SettlesTo, at_rest, again, AtMostOf, IsFirstOfFewest, IsExchangedFromFewest, IsReduced}
 
 -- ---- what is reached has no more crossings
 
@@ -123,19 +123,6 @@ first_of_three l start one two rows a b none s =
 pub none_settled : (l : Plain) (rows : List (List ℕ)) → crossings l rows ≡ 0 → NoBetterSwap l rows
 none_settled l rows none = λ r i hr hi. omega (arith, none)
 
--- a start without crossings
-pub reduced_at_once : (l : Plain) (start : List (List ℕ)) → crossings l start ≡ 0 → IsExchangedFromFewest l start start
-reduced_at_once l start none =
-    record {
-      reached = start;
-      from_fewest = record {
-        from = start;
-        first = record { before = []; behind = sweep_orders l start; splits = refl; fewer = search rules; at_most = none_above l start (sweep_orders l start) none };
-        settles = at_rest start (none_settled l start none);
-      };
-      kept_or_fewer = inl refl;
-    }
-
 pub kept_or_fewer_trans : (l : Plain) (a b c : List (List ℕ)) → IsKeptOrFewer l a b → IsKeptOrFewer l b c → IsKeptOrFewer l a c
 kept_or_fewer_trans l a b c (inl e) (inl f) = inl (f ∙ e)
 kept_or_fewer_trans l a b c (inl e) (inr f) = inr (let same = ap (crossings l) e in omega (arith, same, f))
@@ -179,8 +166,36 @@ reduced_at_most l start rows s =
     All-weaker (λ (o : List (List ℕ)). crossings l s.from_fewest.from ≤ crossings l o) (λ (o : List (List ℕ)). crossings l rows ≤ crossings l o) (λ o k. omega (arith, k, low, here)) (start ∷ sweep_orders l start)
     (first_at_most l (start ∷ sweep_orders l start) s.from_fewest.from s.from_fewest.first)
 
-pub reduced_no_more : (l : Plain) (start rows : List (List ℕ)) → IsExchangedFromFewest l start rows → crossings l rows ≤ crossings l start
+reduced_no_more : (l : Plain) (start rows : List (List ℕ)) → IsExchangedFromFewest l start rows → crossings l rows ≤ crossings l start
 reduced_no_more l start rows s = All-head (λ (o : List (List ℕ)). crossings l rows ≤ crossings l o) start (sweep_orders l start) (reduced_at_most l start rows s)
 
-pub reduced_sweeps : (l : Plain) (start rows : List (List ℕ)) → IsExchangedFromFewest l start rows → AtMostOf l rows (sweep_orders l start)
+reduced_sweeps : (l : Plain) (start rows : List (List ℕ)) → IsExchangedFromFewest l start rows → AtMostOf l rows (sweep_orders l start)
 reduced_sweeps l start rows s = All-tail (λ (o : List (List ℕ)). crossings l rows ≤ crossings l o) start (sweep_orders l start) (reduced_at_most l start rows s)
+
+-- all that is said of an order that reduces the crossings
+pub is_reduced : (l : Plain) (start rows : List (List ℕ)) → HasSameRows start rows → NoBetterSwap l rows → IsExchangedFromFewest l start rows → (crossings l start ≡ 0 → rows ≡ start) → IsReduced l start rows
+is_reduced l start rows same settled from without =
+    record {
+      same_rows = same;
+      no_more = reduced_no_more l start rows from;
+      sweeps = reduced_sweeps l start rows from;
+      settled = settled;
+      from_fewest = from;
+      without_crossings = without;
+    }
+
+-- a start without crossings
+exchanged_at_once : (l : Plain) (start : List (List ℕ)) → crossings l start ≡ 0 → IsExchangedFromFewest l start start
+exchanged_at_once l start none =
+    record {
+      reached = start;
+      from_fewest = record {
+        from = start;
+        first = record { before = []; behind = sweep_orders l start; splits = refl; fewer = search rules; at_most = none_above l start (sweep_orders l start) none };
+        settles = at_rest start (none_settled l start none);
+      };
+      kept_or_fewer = inl refl;
+    }
+
+pub reduced_at_once : (l : Plain) (start : List (List ℕ)) → HasSameRows start start → crossings l start ≡ 0 → IsReduced l start start
+reduced_at_once l start same none = is_reduced l start start same (none_settled l start none) (exchanged_at_once l start none) (λ e. refl)

@@ -1,5 +1,5 @@
 -- Where no exchange in a row lowers the crossings, none does as long as that row and those beside it stay.
-use Rattle.std.proofs.Common.{◌≡◌, ◌≢◌, ℕ, ◌+◌, ◌-◌, ◌*◌, ◌<◌, List, [], length, get_or, set, replicate, cond, Bool, true, false, refl, arith, sym, ◌∙◌, ap, subst, inl, inr}
+use Rattle.std.proofs.Common.{◌≡◌, ◌≢◌, ℕ, ◌+◌, ◌-◌, ◌*◌, ◌<◌, List, [], length, get_or, set, replicate, cond, Bool, true, false, refl, arith, sym, ◌∙◌, ap, subst, inl, inr, Option, ℤ, IsFalse}
 use Rattle.std.proofs.lemmas.Bool.{cases_eq, cases_lt, ne_eqb, both_ways}
 use Rattle.std.specs.List.{swap, All}
 use Rattle.std.proofs.lemmas.List.{get_or-set_same, get_or-set_other, get_or-replicate, get_or_past, length-replicate, length-set}
@@ -7,7 +7,8 @@ use Rattle.std.proofs.lemmas.List.Elements.{All-weaker}
 use Rattle.elk_layers.specs.declared.units.Link.{Link}
 use Rattle.elk_layers.specs.Layered.{Plain, IsSound, IsSoundLink, AreRows, row_at, layer_of, place_in, place_of}
 use Rattle.elk_layers.specs.Crossings.{exchanged}
-use Rattle.cross_reduce.specs.Exchanges.{IsTried, NoneInRow, KeepsOthers, AreSettled, unsettled}
+use Rattle.cross_reduce.specs.Exchanges.{IsTried, KeepsOthers, unsettled}
+use Rattle.cross_reduce.specs.Held.{are_both_held, NoneFreeInRow, AreSettled}
 use Rattle.cross_reduce.proofs.Sums.{double, quad}
 use Rattle.cross_reduce.proofs.PairLemmas.{left_pair, right_pair, exchange_changes, upper_layer, lower_layer}
 use Rattle.cross_reduce.proofs.CrossingLemmas.{crossings_are}
@@ -78,8 +79,8 @@ module _ (l : Plain) (rows rows' : List (List ℕ)) (r s : ℕ) (sound : IsSound
       (λ a sa. All-weaker (IsSoundLink l) (λ b. right_pair l rows' u v b a ≡ right_pair l rows u v b a) (λ b sb. right_stays u v eu ev apart b a sb sa) l.links (links_sound l sound))
       l.links (links_sound l sound)))
 
-  pub none_stays : AreRows l rows → AreRows l rows' → s < length rows → s < length rows' → s ≢ r → s + 1 ≢ r → s ≢ r + 1 → NoneInRow l rows s → NoneInRow l rows' s
-  none_stays are are' hs hs' ne below above none i hi' =
+  pub none_stays : (held : List (Option ℤ)) → AreRows l rows → AreRows l rows' → s < length rows → s < length rows' → s ≢ r → s + 1 ≢ r → s ≢ r + 1 → NoneFreeInRow l held rows s → NoneFreeInRow l held rows' s
+  none_stays held are are' hs hs' ne below above none i hi' free' =
       let same : row_at rows' s ≡ row_at rows s = keeps s ne in
       let hi : i + 1 < length (row_at rows s) = subst (λ (row : List ℕ). i + 1 < length row) same hi' in
       let u : ℕ = get_or (row_at rows s) i 0 in
@@ -96,22 +97,22 @@ module _ (l : Plain) (rows rows' : List (List ℕ)) (r s : ℕ) (sound : IsSound
       let left_vu = all_left v u v' u' ev eu above same_v same_u in
       let right_uv = all_right u v u' v' eu ev below same_u same_v in
       let right_vu = all_right v u v' u' ev eu below same_v same_u in
-      let before = none i hi in
+      let before = none i hi (subst (λ (row : List ℕ). IsFalse (are_both_held held row i)) same free') in
       omega (arith, law, law', left_uv, left_vu, right_uv, right_vu, before, crossings_are l rows, crossings_are l rows', crossings_are l (exchanged rows s i), crossings_are l (exchanged rows' s i))
 
-pub settled_start : (l : Plain) (rows : List (List ℕ)) (n : ℕ) → n ≡ length rows → AreSettled l rows (replicate n false)
-settled_start l rows n e =
+pub settled_start : (l : Plain) (held : List (Option ℤ)) (rows : List (List ℕ)) (n : ℕ) → n ≡ length rows → AreSettled l held rows (replicate n false)
+settled_start l held rows n e =
     record {
       as_many = length-replicate n false ∙ e;
       none = λ r h t. absurd (both_ways (get_or (replicate n false) r false) (get_or-replicate n r false false (omega (arith, h, e))) t);
     }
 
-pub settled_more : (l : Plain) (rows : List (List ℕ)) (settled : List Bool) (r : ℕ) → AreSettled l rows settled → NoneInRow l rows r → AreSettled l rows (set settled r true)
-settled_more l rows settled r s here =
+pub settled_more : (l : Plain) (held : List (Option ℤ)) (rows : List (List ℕ)) (settled : List Bool) (r : ℕ) → AreSettled l held rows settled → NoneFreeInRow l held rows r → AreSettled l held rows (set settled r true)
+settled_more l held rows settled r s here =
     record {
       as_many = length-set settled r true ∙ s.as_many;
       none = λ g h t. elim (cases_eq g r) [
-        | inl e ↦ subst (λ (x : ℕ). NoneInRow l rows x) (sym e) here
+        | inl e ↦ subst (λ (x : ℕ). NoneFreeInRow l held rows x) (sym e) here
         | inr n ↦ s.none g h (sym (get_or-set_other settled r g true false n) ∙ t)
       ];
     }
@@ -130,8 +131,8 @@ unset_true xs at g t =
       | inr n ↦ (n, sym (get_or-set_other xs at g false false n) ∙ t)
     ]
 
-pub settled_changed : (l : Plain) (rows rows' : List (List ℕ)) (settled : List Bool) (r : ℕ) → IsSound l → AreRows l rows → AreRows l rows' → KeepsOthers rows rows' r → AreSettled l rows settled → AreSettled l rows' (unsettled settled r)
-settled_changed l rows rows' settled r sound are are' keeps s =
+pub settled_changed : (l : Plain) (held : List (Option ℤ)) (rows rows' : List (List ℕ)) (settled : List Bool) (r : ℕ) → IsSound l → AreRows l rows → AreRows l rows' → KeepsOthers rows rows' r → AreSettled l held rows settled → AreSettled l held rows' (unsettled settled r)
+settled_changed l held rows rows' settled r sound are are' keeps s =
     let one : List Bool = set settled (r - 1) false in
     let two : List Bool = set one r false in
     let many = are.as_many in
@@ -145,12 +146,12 @@ settled_changed l rows rows' settled r sound are are' keeps s =
           let second = unset_true one r g third.1 in
           let first = unset_true settled (r - 1) g second.1 in
           let hg : g < length rows = omega (arith, h, many, many') in
-          none_stays l rows rows' r g sound keeps are are' hg h second.0 (λ e. first.0 (omega (arith, e))) third.0 (s.none g hg first.1);
+          none_stays l rows rows' r g sound keeps held are are' hg h second.0 (λ e. first.0 (omega (arith, e))) third.0 (s.none g hg first.1);
     }
 
 -- what is said of the rows after one was tried
-pub settled_noted : (l : Plain) (rows rows' : List (List ℕ)) (settled settled' : List Bool) (r : ℕ) (changed : Bool) → IsSound l → AreRows l rows → AreRows l rows' → KeepsOthers rows rows' r → AreSettled l rows settled
-    → IsTried l rows rows' changed (NoneInRow l rows r) → settled' ≡ cond changed (unsettled settled r) (set settled r true) → AreSettled l rows' settled'
-settled_noted l rows rows' settled settled' r true sound are are' keeps s tried e = rw e (settled_changed l rows rows' settled r sound are are' keeps s)
-settled_noted l rows rows' settled settled' r false sound are are' keeps s tried e =
-    rw e (subst (λ (x : List (List ℕ)). AreSettled l x (set settled r true)) (sym tried.0) (settled_more l rows settled r s tried.1))
+pub settled_noted : (l : Plain) (held : List (Option ℤ)) (rows rows' : List (List ℕ)) (settled settled' : List Bool) (r : ℕ) (changed : Bool) → IsSound l → AreRows l rows → AreRows l rows' → KeepsOthers rows rows' r → AreSettled l held rows settled
+    → IsTried l rows rows' changed (NoneFreeInRow l held rows r) → settled' ≡ cond changed (unsettled settled r) (set settled r true) → AreSettled l held rows' settled'
+settled_noted l held rows rows' settled settled' r true sound are are' keeps s tried e = rw e (settled_changed l held rows rows' settled r sound are are' keeps s)
+settled_noted l held rows rows' settled settled' r false sound are are' keeps s tried e =
+    rw e (subst (λ (x : List (List ℕ)). AreSettled l held x (set settled r true)) (sym tried.0) (settled_more l held rows settled r s tried.1))

@@ -53,11 +53,6 @@ NoneInRow layered rows r = (i : ℕ) → i + 1 < length (row_at rows r) → IsNo
 abbrev pub KeepsOthers : List (List ℕ) → List (List ℕ) → ℕ → Type 0
 KeepsOthers rows rows' r = (g : ℕ) → g ≢ r → row_at rows' g ≡ row_at rows g
 
--- of each row of which the list says that it is settled: no exchange in it lowers the crossings
-pub record AreSettled (layered : Plain) (rows : List (List ℕ)) (settled : List Bool) : Type 0 where
-  pub as_many : length settled ≡ length rows
-  pub none : (r : ℕ) → r < length rows → slice_index_or settled r false ≡ true → NoneInRow layered rows r
-
 -- neither a row nor those beside it are settled
 abbrev pub unsettled : List Bool → ℕ → List Bool
 unsettled settled r = slice_set (slice_set (slice_set settled (r - 1) false) r false) (r + 1) false

@@ -7,3 +7,5 @@ pub mod Means
 pub mod SweepRows
 pub mod Reduced
 pub mod Candidates
+pub mod Held
+pub mod HeldRows

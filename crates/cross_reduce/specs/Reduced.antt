@@ -2,7 +2,7 @@
 use Rattle.std.specs.Prelude.{◌≡◌, ℕ, zero, suc, ◌-◌, ◌<◌, ◌≤◌, ◌++◌, ◌⊎◌, List, ◌∷◌, length, nat_lt, if◌then◌else◌}
 use Rattle.std.specs.List.{All}
 use Rattle.elk_layers.specs.Layered.{Plain, row_at}
-use Rattle.elk_layers.specs.Crossings.{crossings, exchanged, NoBetterSwap}
+use Rattle.elk_layers.specs.Crossings.{crossings, exchanged, HasSameRows, NoBetterSwap}
 use Rattle.elk_layers.specs.Sweeps.{sweep_orders}
 
 -- ---- the exchanges, in their order
@@ -58,3 +58,15 @@ pub record IsExchangedFromFewest (layered : Plain) (start rows : List (List ℕ)
   pub reached : List (List ℕ)
   pub from_fewest : IsSettledFromFewest layered start reached
   pub kept_or_fewer : (rows ≡ reached) ⊎ (crossings layered rows < crossings layered reached)
+
+-- The rows of a start in an order with no more crossings than the start and each of its four sweep orders, which no exchange
+-- of two neighbours makes better, and the start itself where it has no crossings. It is what exchanges that lower the crossings
+-- reach, one row after the other from the top, from the first of fewest crossings among these five orders, or has fewer
+-- crossings than what they reach.
+pub record IsReduced (layered : Plain) (start rows : List (List ℕ)) : Type 0 where
+  pub same_rows : HasSameRows start rows
+  pub no_more : crossings layered rows ≤ crossings layered start
+  pub sweeps : All (λ swept. crossings layered rows ≤ crossings layered swept) (sweep_orders layered start)
+  pub settled : NoBetterSwap layered rows
+  pub from_fewest : IsExchangedFromFewest layered start rows
+  pub without_crossings : crossings layered start ≡ 0 → rows ≡ start

@@ -1,5 +1,5 @@
 //! Exchanges of neighbours, as long as one lowers the crossings.
-ghost use Rattle.std.specs.Prelude.{◌≡◌, ℕ, ◌<◌, ◌≤◌, ◌+◌, ◌^◌, ◌||◌, length, IfOk, OnOk, slice_index, nat_lt, count_by, cond};
+ghost use Rattle.std.specs.Prelude.{◌≡◌, ℕ, ◌<◌, ◌≤◌, ◌+◌, ◌^◌, ◌||◌, ◌&&◌, ℤ, Option, length, IfOk, OnOk, slice_index, nat_lt, count_by, cond};
 ghost use Rattle.std.specs.List.{swap};
 ghost use Rattle.elk_layers.specs.Layered.{plain, rows_of, row_at, IsSound, AreRows};
 ghost use Rattle.elk_layers.specs.Crossings.{HasSameRows, NoBetterSwap};
@@ -8,9 +8,12 @@ ghost use Rattle.cross_reduce.specs.Reduced.{after_pair, after_row, after_rows, 
 ghost use Rattle.cross_reduce.specs.Fans.{far_keys, fan_lists, fan_at, AreFans};
 ghost use Rattle.cross_reduce.specs.declared.fans.Towards.TheVariants.{Left, Right};
 ghost use Rattle.cross_reduce.specs.Fans as fan;
-ghost use Rattle.cross_reduce.specs.Exchanges.{FitsKey, FitKeys, IsState, IsTried, IsNoBetter, NoneInRow, KeepsOthers, AreSettled, crossed_above, crossed_between};
+ghost use Rattle.cross_reduce.specs.Exchanges.{FitsKey, FitKeys, IsState, IsTried, KeepsOthers, crossed_above, crossed_between};
+ghost use Rattle.cross_reduce.specs.Held as held_spec;
+ghost use Rattle.cross_reduce.specs.Held.{AreHeldRows, NoBetterFreeSwap, IsNoneHeld, IsNoBetterFree, NoneFreeInRow, AreSettled};
 
 use crate::fans::{Fans, Far, Towards};
+use crate::holding::is_held;
 use crate::settling::note_row;
 use crate::sweeping::fans_for;
 use elk_layers::{Layered, Order, places};
@@ -191,10 +194,18 @@ fn exchange(layered: &Layered, state: &mut State, r: usize, i: usize)
     state.place[lower as usize] = i as u32;
 }
 
-/// Exchanges two neighbours where that lowers the crossings.
+/// Whether two units are both held.
+fn are_both_held(held: &[Option<i64>], upper: u32, lower: u32) -> bool
+    ensures { result ≡ (held_spec.is_held held.now upper && held_spec.is_held held.now lower) }
+{
+    is_held(held, upper) && is_held(held, lower)
+}
+
+/// Exchanges two neighbours where that lowers the crossings, unless both are held.
 fn try_exchange(
     alloc: Global,
     layered: &Layered,
+    held: &[Option<i64>],
     state: &mut State,
     r: usize,
     i: usize,
@@ -206,13 +217,17 @@ fn try_exchange(
         (IsState (plain layered.now) (rows_of state.new.order) state.new.place.items (fan_lists state.new.left)
         (fan_lists state.new.right)) }
     ensures same { OnOk result (HasSameRows (rows_of state.old.order) (rows_of state.new.order)) }
-    ensures after { OnOk result (rows_of state.new.order ≡ after_pair (plain layered.now) (rows_of state.old.order) r i) }
+    ensures after { OnOk result (IsNoneHeld held.now → rows_of state.new.order ≡ after_pair (plain layered.now) (rows_of state.old.order) r i) }
+    ensures ascends { OnOk result (AreHeldRows held.now (rows_of state.old.order) → AreHeldRows held.now (rows_of state.new.order)) }
     ensures tried { IfOk result
         (λ changed. IsTried (plain layered.now) (rows_of state.old.order) (rows_of state.new.order) changed
-        (IsNoBetter (plain layered.now) (rows_of state.old.order) r i)) }
+        (IsNoBetterFree (plain layered.now) held.now (rows_of state.old.order) r i)) }
     ensures others { OnOk result (KeepsOthers (rows_of state.old.order) (rows_of state.new.order) r) }
 {
     let (upper, lower) = neighbours(&state.order, r, i);
+    if are_both_held(held, upper, lower) {
+        return Ok(false);
+    }
     let place = state.place.as_slice();
     let better = is_better(alloc, place, &state.left, &state.right, upper, lower)?;
     if better {
@@ -225,6 +240,7 @@ fn try_exchange(
 fn try_row(
     alloc: Global,
     layered: &Layered,
+    held: &[Option<i64>],
     state: &mut State,
     r: usize,
 ) -> Result<bool, AllocError>
@@ -234,16 +250,17 @@ fn try_row(
         (IsState (plain layered.now) (rows_of state.new.order) state.new.place.items (fan_lists state.new.left)
         (fan_lists state.new.right)) }
     ensures same { OnOk result (HasSameRows (rows_of state.old.order) (rows_of state.new.order)) }
-    ensures after { OnOk result (rows_of state.new.order ≡ after_row (plain layered.now) (rows_of state.old.order) r) }
+    ensures after { OnOk result (IsNoneHeld held.now → rows_of state.new.order ≡ after_row (plain layered.now) (rows_of state.old.order) r) }
+    ensures ascends { OnOk result (AreHeldRows held.now (rows_of state.old.order) → AreHeldRows held.now (rows_of state.new.order)) }
     ensures tried { IfOk result
         (λ changed. IsTried (plain layered.now) (rows_of state.old.order) (rows_of state.new.order) changed
-        (NoneInRow (plain layered.now) (rows_of state.old.order) r)) }
+        (NoneFreeInRow (plain layered.now) held.now (rows_of state.old.order) r)) }
     ensures others { OnOk result (KeepsOthers (rows_of state.old.order) (rows_of state.new.order) r) }
 {
     let mut changed = false;
     let len = row_len(&state.order, r);
     for i in 1..len {
-        let now = try_exchange(alloc, layered, state, r, i - 1)?;
+        let now = try_exchange(alloc, layered, held, state, r, i - 1)?;
         changed = either(changed, now);
     }
     Ok(changed)
@@ -268,27 +285,29 @@ fn row_len(order: &Order, r: usize) -> usize
 fn try_unsettled(
     alloc: Global,
     layered: &Layered,
+    held: &[Option<i64>],
     state: &mut State,
     settled: &mut Vec<bool>,
     r: usize,
 ) -> Result<bool, AllocError>
     requires state { IsState (plain layered.now) (rows_of state.old.order) state.old.place.items (fan_lists state.old.left) (fan_lists state.old.right) }
-    requires settled { AreSettled (plain layered.now) (rows_of state.old.order) settled.old.items }
+    requires settled { AreSettled (plain layered.now) held.now (rows_of state.old.order) settled.old.items }
     requires row { r < length (rows_of state.old.order) }
     ensures state { OnOk result
         (IsState (plain layered.now) (rows_of state.new.order) state.new.place.items (fan_lists state.new.left)
         (fan_lists state.new.right)) }
-    ensures settled { OnOk result (AreSettled (plain layered.now) (rows_of state.new.order) settled.new.items) }
+    ensures settled { OnOk result (AreSettled (plain layered.now) held.now (rows_of state.new.order) settled.new.items) }
     ensures same { OnOk result (HasSameRows (rows_of state.old.order) (rows_of state.new.order)) }
-    ensures after { OnOk result (rows_of state.new.order ≡ after_row (plain layered.now) (rows_of state.old.order) r) }
+    ensures after { OnOk result (IsNoneHeld held.now → rows_of state.new.order ≡ after_row (plain layered.now) (rows_of state.old.order) r) }
+    ensures ascends { OnOk result (AreHeldRows held.now (rows_of state.old.order) → AreHeldRows held.now (rows_of state.new.order)) }
     ensures tried { IfOk result
         (λ changed. IsTried (plain layered.now) (rows_of state.old.order) (rows_of state.new.order) changed
-        (NoneInRow (plain layered.now) (rows_of state.old.order) r)) }
+        (NoneFreeInRow (plain layered.now) held.now (rows_of state.old.order) r)) }
 {
     if settled[r] {
         return Ok(false);
     }
-    let changed = try_row(alloc, layered, state, r)?;
+    let changed = try_row(alloc, layered, held, state, r)?;
     note_row(settled, r, changed);
     Ok(changed)
 }
@@ -297,24 +316,26 @@ fn try_unsettled(
 fn try_rows(
     alloc: Global,
     layered: &Layered,
+    held: &[Option<i64>],
     state: &mut State,
     settled: &mut Vec<bool>,
 ) -> Result<bool, AllocError>
     requires state { IsState (plain layered.now) (rows_of state.old.order) state.old.place.items (fan_lists state.old.left) (fan_lists state.old.right) }
-    requires settled { AreSettled (plain layered.now) (rows_of state.old.order) settled.old.items }
+    requires settled { AreSettled (plain layered.now) held.now (rows_of state.old.order) settled.old.items }
     ensures state { OnOk result
         (IsState (plain layered.now) (rows_of state.new.order) state.new.place.items (fan_lists state.new.left)
         (fan_lists state.new.right)) }
-    ensures settled { OnOk result (AreSettled (plain layered.now) (rows_of state.new.order) settled.new.items) }
+    ensures settled { OnOk result (AreSettled (plain layered.now) held.now (rows_of state.new.order) settled.new.items) }
     ensures same { OnOk result (HasSameRows (rows_of state.old.order) (rows_of state.new.order)) }
-    ensures after { OnOk result (rows_of state.new.order ≡ after_rows (plain layered.now) (rows_of state.old.order) (length (rows_of state.old.order))) }
+    ensures after { OnOk result (IsNoneHeld held.now → rows_of state.new.order ≡ after_rows (plain layered.now) (rows_of state.old.order) (length (rows_of state.old.order))) }
+    ensures ascends { OnOk result (AreHeldRows held.now (rows_of state.old.order) → AreHeldRows held.now (rows_of state.new.order)) }
     ensures tried { IfOk result
         (λ changed. IsTried (plain layered.now) (rows_of state.old.order) (rows_of state.new.order) changed
-        (NoBetterSwap (plain layered.now) (rows_of state.old.order))) }
+        (NoBetterFreeSwap (plain layered.now) held.now (rows_of state.old.order))) }
 {
     let mut changed = false;
     for r in 0..layered.layers as usize {
-        let now = try_unsettled(alloc, layered, state, settled, r)?;
+        let now = try_unsettled(alloc, layered, held, state, settled, r)?;
         changed = either(changed, now);
     }
     Ok(changed)
@@ -344,9 +365,56 @@ fn state_with(
     })
 }
 
-/// Exchanges neighbours until no exchange lowers the crossings, by the far ends of the links to both sides.
+/// Exchanges neighbours of which not both are held until no exchange lowers the crossings, by the far ends of the links to both
+/// sides.
 ///
 /// A row in which no exchange did is tried again only once it or a row beside it has changed.
+fn exchanged_free_by(
+    alloc: Global,
+    layered: &Layered,
+    held: &[Option<i64>],
+    order: Order,
+    left: Fans,
+    right: Fans,
+) -> Result<Order, AllocError>
+    requires sound { IsSound (plain layered.now) }
+    requires rows { AreRows (plain layered.now) (rows_of order) }
+    requires left { AreFans Left (plain layered.now).links (length (plain layered.now).units) (fan_lists left) }
+    requires right { AreFans Right (plain layered.now).links (length (plain layered.now).units) (fan_lists right) }
+    ensures same { IfOk result (λ o. HasSameRows (rows_of order) (rows_of o)) }
+    ensures ascends { IfOk result (λ o. AreHeldRows held.now (rows_of order) → AreHeldRows held.now (rows_of o)) }
+    ensures settled { IfOk result (λ o. NoBetterFreeSwap (plain layered.now) held.now (rows_of o)) }
+    ensures settles { IfOk result (λ o. IsNoneHeld held.now → SettlesTo (plain layered.now) (rows_of order) (rows_of o)) }
+{
+    let mut state = state_with(alloc, layered, order, left, right)?;
+    let mut settled: Vec<bool> = vec![in alloc; false; layered.layers as usize]?;
+    let mut changed = true;
+    while changed {
+        changed = try_rows(alloc, layered, held, &mut state, &mut settled)?;
+    }
+    Ok(state.order)
+}
+
+/// Exchanges neighbours of which not both are held until no exchange lowers the crossings.
+pub(crate) fn exchanged_free(
+    alloc: Global,
+    layered: &Layered,
+    held: &[Option<i64>],
+    order: Order,
+) -> Result<Order, AllocError>
+    requires sound { IsSound (plain layered.now) }
+    requires rows { AreRows (plain layered.now) (rows_of order) }
+    requires ascends { AreHeldRows held.now (rows_of order) }
+    ensures same { IfOk result (λ o. HasSameRows (rows_of order) (rows_of o)) }
+    ensures ascends { IfOk result (λ o. AreHeldRows held.now (rows_of o)) }
+    ensures settled { IfOk result (λ o. NoBetterFreeSwap (plain layered.now) held.now (rows_of o)) }
+{
+    let left = fans_for(alloc, layered, Towards::Left)?;
+    let right = fans_for(alloc, layered, Towards::Right)?;
+    exchanged_free_by(alloc, layered, held, order, left, right)
+}
+
+/// Exchanges neighbours until no exchange lowers the crossings, by the far ends of the links to both sides.
 pub(crate) fn exchanged_by(
     alloc: Global,
     layered: &Layered,
@@ -362,13 +430,8 @@ pub(crate) fn exchanged_by(
     ensures settled { IfOk result (λ o. NoBetterSwap (plain layered.now) (rows_of o)) }
     ensures settles { IfOk result (λ o. SettlesTo (plain layered.now) (rows_of order) (rows_of o)) }
 {
-    let mut state = state_with(alloc, layered, order, left, right)?;
-    let mut settled: Vec<bool> = vec![in alloc; false; layered.layers as usize]?;
-    let mut changed = true;
-    while changed {
-        changed = try_rows(alloc, layered, &mut state, &mut settled)?;
-    }
-    Ok(state.order)
+    let none: Vec<Option<i64>> = Vec::new(alloc);
+    exchanged_free_by(alloc, layered, none.as_slice(), order, left, right)
 }
 
 /// Exchanges neighbours until no exchange lowers the crossings.

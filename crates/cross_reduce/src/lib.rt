@@ -6,6 +6,9 @@
 //! with a vector kernel over the head keys; an exchange is judged by the links of the two neighbours alone.
 //! The search works on a list of its own and keeps what it counted of pairs of units. Of what it finds the
 //! rows are ordered anew and the crossings counted anew, so it can't do worse than leave them as they were.
+//!
+//! Units can also be held: in each row the held units stand in the order of their keys, and the free ones go where few links
+//! cross.
 #![tactic(auto)]
 
 mod annealing;
@@ -16,6 +19,9 @@ mod effort;
 mod exchanging;
 mod fans;
 mod flat;
+mod held;
+mod held_search;
+mod holding;
 mod lots;
 mod middles;
 mod neighbours;
@@ -30,4 +36,5 @@ mod starts;
 mod sweeping;
 
 pub use counting::crossings;
+pub use held::reduce_held;
 pub use reducing::{reduce, reduce_with_effort};

@@ -6,7 +6,7 @@ ghost use Rattle.elk_layers.specs.Crossings.{HasSameRows, NoBetterSwap};
 ghost use Rattle.elk_layers.specs.Crossings as spec;
 ghost use Rattle.cross_reduce.specs.declared.fans.Towards.TheVariants.{Left, Right};
 ghost use Rattle.cross_reduce.specs.Fans.{fan_lists, AreFans};
-ghost use Rattle.cross_reduce.specs.Reduced.{IsFirstOfFewest, IsExchangedFromFewest, SettlesTo};
+ghost use Rattle.cross_reduce.specs.Reduced.{IsFirstOfFewest, IsReduced, SettlesTo};
 ghost use Rattle.cross_reduce.specs.Candidates.{IsKeptOrFewer};
 ghost use Rattle.elk_layers.specs.Sweeps.{sweep_orders, forward_sweep, backward_sweep};
 
@@ -27,7 +27,11 @@ pub(crate) struct Counted {
 }
 
 /// An order with its crossings.
-fn with_count(alloc: Global, layered: &Layered, order: Order) -> Result<Counted, AllocError>
+pub(crate) fn with_count(
+    alloc: Global,
+    layered: &Layered,
+    order: Order,
+) -> Result<Counted, AllocError>
     requires sound { IsSound (plain layered.now) }
     requires rows { AreRows (plain layered.now) (rows_of order) }
     ensures order { IfOk result (λ k. k.order ≡ order) }
@@ -220,14 +224,7 @@ fn searched_on(
 pub fn reduce(alloc: Global, layered: &Layered, start: Order) -> Result<Order, AllocError>
     requires sound { IsSound (plain layered.now) }
     requires rows { AreRows (plain layered.now) (rows_of start) }
-    ensures same_rows { IfOk result (λ o. HasSameRows (rows_of start) (rows_of o)) }
-    ensures no_more { IfOk result (λ o. spec.crossings (plain layered.now) (rows_of o) ≤ spec.crossings (plain layered.now) (rows_of start)) }
-    ensures sweeps { IfOk result
-        (λ o. All (λ swept. spec.crossings (plain layered.now) (rows_of o) ≤ spec.crossings (plain layered.now) swept)
-        (sweep_orders (plain layered.now) (rows_of start))) }
-    ensures settled { IfOk result (λ o. NoBetterSwap (plain layered.now) (rows_of o)) }
-    ensures from_fewest { IfOk result (λ o. IsExchangedFromFewest (plain layered.now) (rows_of start) (rows_of o)) }
-    ensures without_crossings { IfOk result (λ o. spec.crossings (plain layered.now) (rows_of start) ≡ 0 → rows_of o ≡ rows_of start) }
+    ensures { IfOk result (λ o. IsReduced (plain layered.now) (rows_of start) (rows_of o)) }
 {
     reduce_with_effort(alloc, layered, start, USUAL)
 }
@@ -246,14 +243,7 @@ pub fn reduce_with_effort(
 ) -> Result<Order, AllocError>
     requires sound { IsSound (plain layered.now) }
     requires rows { AreRows (plain layered.now) (rows_of start) }
-    ensures same_rows { IfOk result (λ o. HasSameRows (rows_of start) (rows_of o)) }
-    ensures no_more { IfOk result (λ o. spec.crossings (plain layered.now) (rows_of o) ≤ spec.crossings (plain layered.now) (rows_of start)) }
-    ensures sweeps { IfOk result
-        (λ o. All (λ swept. spec.crossings (plain layered.now) (rows_of o) ≤ spec.crossings (plain layered.now) swept)
-        (sweep_orders (plain layered.now) (rows_of start))) }
-    ensures settled { IfOk result (λ o. NoBetterSwap (plain layered.now) (rows_of o)) }
-    ensures from_fewest { IfOk result (λ o. IsExchangedFromFewest (plain layered.now) (rows_of start) (rows_of o)) }
-    ensures without_crossings { IfOk result (λ o. spec.crossings (plain layered.now) (rows_of start) ≡ 0 → rows_of o ≡ rows_of start) }
+    ensures { IfOk result (λ o. IsReduced (plain layered.now) (rows_of start) (rows_of o)) }
 {
     let start = with_count(alloc, layered, start)?;
     if start.crossings == 0 {
@@ -268,5 +258,6 @@ pub fn reduce_with_effort(
         return Ok(settled);
     }
     let found = searched(alloc, layered, settled, effort)?;
-    searched_on(alloc, layered, found, effort)
+    let best = searched_on(alloc, layered, found, effort)?;
+    Ok(best)
 }

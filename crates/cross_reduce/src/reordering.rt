@@ -10,7 +10,7 @@ use elk_layers::{Layered, Order, copy_of};
 use std::alloc::{AllocError, Global};
 
 /// Puts a row into the place of another.
-fn set_row(order: &mut Order, r: usize, row: Vec<u32>)
+pub(crate) fn set_row(order: &mut Order, r: usize, row: Vec<u32>)
     requires { r < length (rows_of order.old) }
     ensures { rows_of order.new ≡ slice_set (rows_of order.old) r row.items }
 {

@@ -2,7 +2,7 @@ use Rattle.std.proofs.Common.{◌+◌, ◌-◌, ◌<◌, ℕ, arith, inl, inr, r
 use Rattle.std.proofs.lemmas.Bool.{cases_eq}
 use Rattle.std.proofs.lemmas.List.Sorted.{length_permutation}
 use Rattle.elk_layers.specs.Layered.{plain, rows_of, row_at}
-use Rattle.cross_reduce.specs.Exchanges.{IsNoBetter}
+use Rattle.cross_reduce.specs.Held.{IsNoBetterFree}
 use Rattle.cross_reduce.proofs.LoweringLemmas.{pairs_more, pairs_done}
 use Rattle.cross_reduce.proofs.StateLemmas.{same_refl, same_trans, tried_more}
 use Rattle.cross_reduce.proofs.exchanging.try_row.Goals as goal
@@ -17,14 +17,15 @@ loop-i-preserved c =
     record {
       state = c.in_ok-now.ensures.state;
       same = same_trans (rows_of c.args.state.now.order) (rows_of c.loop-i.state.order) (rows_of c.try_exchange.new.state.order) c.loop-i.invariant.same c.in_ok-now.ensures.same;
-      after = c.in_ok-now.ensures.after ∙ pairs_more (plain c.args.layered.now) (rows_of c.args.state.now.order) (rows_of c.loop-i.state.order) c.args.r c.loop-i.i c.loop-i.auto.i c.loop-i.invariant.after;
+      after = λ none. c.in_ok-now.ensures.after none ∙ pairs_more (plain c.args.layered.now) (rows_of c.args.state.now.order) (rows_of c.loop-i.state.order) c.args.r c.loop-i.i c.loop-i.auto.i (c.loop-i.invariant.after none);
+      ascends = λ before. c.in_ok-now.ensures.ascends (c.loop-i.invariant.ascends before);
       tried = rw c.either-changed.ensures
           (tried_more (plain c.args.layered.now) (rows_of c.args.state.now.order) (rows_of c.loop-i.state.order) (rows_of c.try_exchange.new.state.order) c.loop-i.changed c.in_ok-now.now
-          ((k : ℕ) → k + 1 < c.loop-i.i → IsNoBetter (plain c.args.layered.now) (rows_of c.args.state.now.order) c.args.r k)
-          ((k : ℕ) → k + 1 < c.loop-i.i + 1 → IsNoBetter (plain c.args.layered.now) (rows_of c.args.state.now.order) c.args.r k)
-          (λ rows. IsNoBetter (plain c.args.layered.now) rows c.args.r (c.loop-i.i - 1)) c.loop-i.invariant.tried c.in_ok-now.ensures.tried
+          ((k : ℕ) → k + 1 < c.loop-i.i → IsNoBetterFree (plain c.args.layered.now) c.args.held.now (rows_of c.args.state.now.order) c.args.r k)
+          ((k : ℕ) → k + 1 < c.loop-i.i + 1 → IsNoBetterFree (plain c.args.layered.now) c.args.held.now (rows_of c.args.state.now.order) c.args.r k)
+          (λ rows. IsNoBetterFree (plain c.args.layered.now) c.args.held.now rows c.args.r (c.loop-i.i - 1)) c.loop-i.invariant.tried c.in_ok-now.ensures.tried
           (λ before here k h. elim (cases_eq k (c.loop-i.i - 1)) [
-            | inl e ↦ subst (λ (x : ℕ). IsNoBetter (plain c.args.layered.now) (rows_of c.args.state.now.order) c.args.r x) (sym e) here
+            | inl e ↦ subst (λ (x : ℕ). IsNoBetterFree (plain c.args.layered.now) c.args.held.now (rows_of c.args.state.now.order) c.args.r x) (sym e) here
             | inr n ↦ before k (omega (arith, h, n))
           ]));
       end = inr (omega (arith, c.loop-i-test.true, c.row_len-len.ensures));
@@ -33,10 +34,10 @@ loop-i-preserved c =
 
 pub loop-i-init : goal.loop-i-init
 loop-i-init c =
-    record { state = c.requires.state; same = same_refl (rows_of c.args.state.now.order); after = refl; end = inl refl; tried = (refl, λ k h. absurd (omega (arith, h))); others = λ g n. refl }
+    record { state = c.requires.state; same = same_refl (rows_of c.args.state.now.order); after = λ none. refl; ascends = λ before. before; end = inl refl; tried = (refl, λ k h. absurd (omega (arith, h))); others = λ g n. refl }
 
 pub returns-clause-after : goal.returns-clause-after
-returns-clause-after c =
+returns-clause-after c = λ none.
     pairs_done (plain c.args.layered.now) (rows_of c.args.state.now.order) (rows_of c.loop-i.state.order) c.args.r c.loop-i.i
     (elim c.loop-i.invariant.end [ inl one ↦ omega (arith, one, c.loop-i-test.false, c.row_len-len.ensures) | inr most ↦ omega (arith, most, c.loop-i-test.false, c.row_len-len.ensures) ])
-    c.loop-i.invariant.after
+    (c.loop-i.invariant.after none)
