@@ -1,7 +1,8 @@
--- The cost of a layering of a placing's network is at least the heights of the links and their pins, and no more
--- where the links' own nodes stand as low as they may.
-use Rattle.std.proofs.Common.{◌≡◌, ℕ, zero, suc, ◌+◌, ◌<◌, int_lt, ℤ, pos, negsuc, ◌+ℤ◌, ◌-ℤ◌, ◌≤ℤ◌, ◌<ℤ◌, ◌⊎◌, List, [], ◌∷◌, ◌++◌, length, map, false, arith, refl, sym, ◌∙◌, ap, subst, inl, inr}
+-- The cost of a layering of a placing's network is at least the weighed heights of the links and their pins, and no
+-- more where the links' own nodes stand as low as they may.
+use Rattle.std.proofs.Common.{◌≡◌, ℕ, zero, suc, ◌+◌, ◌*◌, ◌<◌, ◌≤◌, int_lt, ℤ, pos, negsuc, ◌+ℤ◌, ◌-ℤ◌, ◌≤ℤ◌, ◌<ℤ◌, ◌⊎◌, List, [], ◌∷◌, ◌++◌, length, map, false, arith, refl, sym, ◌∙◌, ap, subst, inl, inr}
 use Rattle.std.proofs.lemmas.Int.{ints, clamps}
+use Rattle.std.proofs.Math.Nat.{mul-le-mul_left}
 use Rattle.std.specs.Int.{int_min}
 use Rattle.std.proofs.lemmas.Bool.{cases_Bool}
 use Rattle.std.specs.List.{All}
@@ -14,12 +15,13 @@ use Rattle.network_laws.specs.declared.network.NetEdge.{NetEdge}
 use Rattle.network_laws.specs.Layering.{layer_of, IsLayering, natural, rise, weighed, weights, cost}
 use Rattle.ns_place.specs.declared.least.PairFlow.{PairFlow}
 use Rattle.ns_place.specs.Pairs.{distance, IsPair}
-use Rattle.ns_place.specs.Heights.{size, link_height, heights_together, pins_together}
+use Rattle.ns_place.specs.Heights.{size, link_height}
+use Rattle.ns_place.specs.Weighed.{weighed_heights}
 use Rattle.ns_place.specs.Network.{edge_of, joining, edge_for, alone_of, edges_of, HasPins}
 use Rattle.ns_place.specs.Start.{joint_layer, lowest, completed}
 use Rattle.ns_place.proofs.PairLemmas.{All-left, All-right, IsApart}
 use Rattle.ns_place.proofs.NetworkLemmas.{joining_all, edges_all, all_both}
-use Rattle.ns_place.proofs.FlowLemmas.{weighed_weights, pairs_cost_nothing, below_from_test}
+use Rattle.ns_place.proofs.FlowLemmas.{weighed_weights, pairs_cost_nothing, below_from_test, weighed_pins}
 use Rattle.network_laws.proofs.Duality.{natural_is}
 
 pub size_is : (z : ℤ) → (z ≡ pos (size z)) ⊎ (z +ℤ pos (size z) ≡ pos 0)
@@ -39,22 +41,25 @@ joint_least t h z a b r r' e e' k k' = elim (size_is ((h +ℤ b) -ℤ (t +ℤ a)
   | inr s ↦ omega (arith, ints, e, e', k, k', s)
 ]
 
-links_cost_least : (joint : ℕ) (ls : List Link) (layers : List ℤ) → All HasPins ls → All (Rises layers) (joining joint ls)
-    → (pos (heights_together layers ls) +ℤ pins_together ls) ≤ℤ pos (weighed (rise layers) (joining joint ls) (weights (joining joint ls)))
-links_cost_least joint [] layers pins h = omega (arith, ints)
-links_cost_least joint (l ∷ ls) layers pins h =
-    let first : NetEdge = edge_of joint l.tail l.head_at in
-    let second : NetEdge = edge_of joint l.head l.tail_at in
-    let more = All-tail (Rises layers) (edge_of joint l.tail l.head_at) (edge_of joint l.head l.tail_at ∷ joining (joint + 1) ls) h in
-    let r = All-head (Rises layers) (edge_of joint l.tail l.head_at) (edge_of joint l.head l.tail_at ∷ joining (joint + 1) ls) h in
-    let r' = All-head (Rises layers) (edge_of joint l.head l.tail_at) (joining (joint + 1) ls) more in
-    let rest = links_cost_least (joint + 1) ls layers (All-tail HasPins l ls pins) (All-tail (Rises layers) (edge_of joint l.head l.tail_at) (joining (joint + 1) ls) more) in
+links_cost_least : (joint : ℕ) (ls : List Link) (ws : List ℕ) (layers : List ℤ) → All HasPins ls → All (Rises layers) (joining joint ls ws)
+    → weighed_heights layers ls ws + weighed_pins ls ws ≤ weighed (rise layers) (joining joint ls ws) (weights (joining joint ls ws))
+links_cost_least joint [] ws layers pins h = omega arith
+links_cost_least joint (l ∷ ls) [] layers pins h = omega arith
+links_cost_least joint (l ∷ ls) (w ∷ ws) layers pins h =
+    let first : NetEdge = edge_of joint l.tail l.head_at w in
+    let second : NetEdge = edge_of joint l.head l.tail_at w in
+    let more = All-tail (Rises layers) (edge_of joint l.tail l.head_at w) (edge_of joint l.head l.tail_at w ∷ joining (joint + 1) ls ws) h in
+    let r = All-head (Rises layers) (edge_of joint l.tail l.head_at w) (edge_of joint l.head l.tail_at w ∷ joining (joint + 1) ls ws) h in
+    let r' = All-head (Rises layers) (edge_of joint l.head l.tail_at w) (joining (joint + 1) ls ws) more in
+    let rest = links_cost_least (joint + 1) ls ws layers (All-tail HasPins l ls pins) (All-tail (Rises layers) (edge_of joint l.head l.tail_at w) (joining (joint + 1) ls ws) more) in
     let p = All-head HasPins l ls pins in
     let m = natural_is l.tail_at p.0 in
     let n = natural_is l.head_at p.1 in
     let one = joint_least (layer_of layers l.tail) (layer_of layers l.head) (layer_of layers joint) l.tail_at l.head_at (rise layers first) (rise layers second)
     (rise_of layers first r) (rise_of layers second r') (omega (arith, ints, r, n)) (omega (arith, ints, r', m)) in
-    omega (arith, ints, rest, one)
+    let here : link_height layers l + (natural l.head_at + natural l.tail_at) ≤ rise layers first + rise layers second = omega (arith, ints, one, m, n) in
+    let times = mul-le-mul_left w here in
+    omega (arith, rest, times)
 
 joint_rises : (t h a b z : ℤ) → z ≡ int_min (t +ℤ a) (h +ℤ b) -ℤ (a +ℤ b) → ((z +ℤ b) ≤ℤ t) × ((z +ℤ a) ≤ℤ h)
 joint_rises t h a b z e = (omega (arith, ints, clamps, e), omega (arith, ints, clamps, e))
@@ -69,9 +74,9 @@ joint_most t h a b z r r' e k k' = elim (size_is ((h +ℤ b) -ℤ (t +ℤ a))) [
 abbrev StandAtJoints : ℕ → List Link → List ℤ → Type 0
 StandAtJoints joint ls layers = (k : ℕ) → k < length ls → layer_of layers (joint + k) ≡ joint_layer layers (link_at ls k)
 
-links_rise : (joint : ℕ) (ls : List Link) (layers : List ℤ) → All HasPins ls → StandAtJoints joint ls layers → All (Rises layers) (joining joint ls)
-links_rise joint ls layers pins at =
-    joining_all (Rises layers) joint ls (λ k h.
+links_rise : (joint : ℕ) (ls : List Link) (ws : List ℕ) (layers : List ℤ) → All HasPins ls → StandAtJoints joint ls layers → All (Rises layers) (joining joint ls ws)
+links_rise joint ls ws layers pins at =
+    joining_all (Rises layers) joint ls ws (λ k h.
     let p = pins k (record { edge = 0; tail = 0; head = 0; tail_rank = 0; head_rank = 0; tail_at = pos 0; head_at = pos 0 }) h in
     let m = natural_is (link_at ls k).tail_at p.0 in
     let n = natural_is (link_at ls k).head_at p.1 in
@@ -80,15 +85,16 @@ links_rise joint ls layers pins at =
     let b = j.1 in
     (omega (arith, ints, a, n), omega (arith, ints, b, m)))
 
-links_cost_most : (joint : ℕ) (ls : List Link) (layers : List ℤ) → All HasPins ls → StandAtJoints joint ls layers
-    → pos (weighed (rise layers) (joining joint ls) (weights (joining joint ls))) ≤ℤ (pos (heights_together layers ls) +ℤ pins_together ls)
-links_cost_most joint [] layers pins at = omega (arith, ints)
-links_cost_most joint (l ∷ ls) layers pins at =
-    let first : NetEdge = edge_of joint l.tail l.head_at in
-    let second : NetEdge = edge_of joint l.head l.tail_at in
+links_cost_most : (joint : ℕ) (ls : List Link) (ws : List ℕ) (layers : List ℤ) → All HasPins ls → StandAtJoints joint ls layers
+    → weighed (rise layers) (joining joint ls ws) (weights (joining joint ls ws)) ≤ weighed_heights layers ls ws + weighed_pins ls ws
+links_cost_most joint [] ws layers pins at = omega arith
+links_cost_most joint (l ∷ ls) [] layers pins at = omega arith
+links_cost_most joint (l ∷ ls) (w ∷ ws) layers pins at =
+    let first : NetEdge = edge_of joint l.tail l.head_at w in
+    let second : NetEdge = edge_of joint l.head l.tail_at w in
     let same : joint + 0 ≡ joint = omega arith in
     let here : layer_of layers joint ≡ joint_layer layers l = rw same at (at 0 (omega arith)) in
-    let rest = links_cost_most (joint + 1) ls layers (All-tail HasPins l ls pins) (λ k h. let on : joint + suc k ≡ joint + 1 + k = omega arith in rw on at (at (suc k) (omega (arith, h)))) in
+    let rest = links_cost_most (joint + 1) ls ws layers (All-tail HasPins l ls pins) (λ k h. let on : joint + suc k ≡ joint + 1 + k = omega arith in rw on at (at (suc k) (omega (arith, h)))) in
     let p = All-head HasPins l ls pins in
     let m = natural_is l.tail_at p.0 in
     let n = natural_is l.head_at p.1 in
@@ -97,7 +103,9 @@ links_cost_most joint (l ∷ ls) layers pins at =
     let b = j.1 in
     let one = joint_most (top_of layers l.tail) (top_of layers l.head) l.tail_at l.head_at (layer_of layers joint) (rise layers first) (rise layers second) here
     (rise_of layers first (omega (arith, ints, a, n))) (rise_of layers second (omega (arith, ints, b, m))) in
-    omega (arith, ints, rest, one)
+    let both : rise layers first + rise layers second ≤ link_height layers l + (natural l.head_at + natural l.tail_at) = omega (arith, ints, one, m, n) in
+    let times = mul-le-mul_left w both in
+    omega (arith, rest, times)
 
 -- tops, completed to a layering of the network
 
@@ -135,33 +143,34 @@ height_same layers tops l e f =
 abbrev pub HasEndsBelow : ℕ → Link → Type 0
 HasEndsBelow n l = (l.tail < n) × (l.head < n)
 
-heights_same : (layers tops : List ℤ) (ls : List Link) → ((u : ℕ) → u < length tops → top_of layers u ≡ top_of tops u) → All (HasEndsBelow (length tops)) ls → heights_together layers ls ≡ heights_together tops ls
-heights_same layers tops [] same h = refl
-heights_same layers tops (l ∷ ls) same h =
-    let rest = heights_same layers tops ls same (All-tail (HasEndsBelow (length tops)) l ls h) in
+heights_same : (layers tops : List ℤ) (ls : List Link) (ws : List ℕ) → ((u : ℕ) → u < length tops → top_of layers u ≡ top_of tops u) → All (HasEndsBelow (length tops)) ls → weighed_heights layers ls ws ≡ weighed_heights tops ls ws
+heights_same layers tops [] ws same h = refl
+heights_same layers tops (l ∷ ls) [] same h = refl
+heights_same layers tops (l ∷ ls) (w ∷ ws) same h =
+    let rest = heights_same layers tops ls ws same (All-tail (HasEndsBelow (length tops)) l ls h) in
     let e = All-head (HasEndsBelow (length tops)) l ls h in
-    let here = height_same layers tops l (same l.tail e.0) (same l.head e.1) in
+    let here = ap (λ n. w * n) (height_same layers tops l (same l.tail e.0) (same l.head e.1)) in
     omega (arith, rest, here)
 
-pub cost_split : (l : Plain) (pairs : List PairFlow) (layers : List ℤ) → cost (edges_of l pairs) layers ≡ weighed (rise layers) (joining (length l.units) l.links) (weights (joining (length l.units) l.links))
-cost_split l pairs layers =
-    let a = weighed_weights (rise layers) (joining (length l.units) l.links) (map (edge_for l (alone_of l)) pairs) in
+pub cost_split : (l : Plain) (ws : List ℕ) (pairs : List PairFlow) (layers : List ℤ) → cost (edges_of l ws pairs) layers ≡ weighed (rise layers) (joining (length l.units) l.links ws) (weights (joining (length l.units) l.links ws))
+cost_split l ws pairs layers =
+    let a = weighed_weights (rise layers) (joining (length l.units) l.links ws) (map (edge_for l (alone_of l)) pairs) in
     let b = pairs_cost_nothing l (alone_of l) (rise layers) pairs in
     omega (arith, a, b)
 
-pub cost_least : (l : Plain) (pairs : List PairFlow) (layers : List ℤ) → All HasPins l.links → IsLayering (edges_of l pairs) layers
-    → (pos (heights_together layers l.links) +ℤ pins_together l.links) ≤ℤ pos (cost (edges_of l pairs) layers)
-cost_least l pairs layers pins up =
-    let all = All-from_get_or (Rises layers) (edges_of l pairs) (record { tail = 0; head = 0; least = 0; weight = 0 }) up in
-    let a = links_cost_least (length l.units) l.links layers pins (All-left (Rises layers) (joining (length l.units) l.links) (map (edge_for l (alone_of l)) pairs) all) in
-    let b = cost_split l pairs layers in
-    omega (arith, ints, a, b)
+pub cost_least : (l : Plain) (ws : List ℕ) (pairs : List PairFlow) (layers : List ℤ) → All HasPins l.links → IsLayering (edges_of l ws pairs) layers
+    → weighed_heights layers l.links ws + weighed_pins l.links ws ≤ cost (edges_of l ws pairs) layers
+cost_least l ws pairs layers pins up =
+    let all = All-from_get_or (Rises layers) (edges_of l ws pairs) (record { tail = 0; head = 0; least = 0; weight = 0 }) up in
+    let a = links_cost_least (length l.units) l.links ws layers pins (All-left (Rises layers) (joining (length l.units) l.links ws) (map (edge_for l (alone_of l)) pairs) all) in
+    let b = cost_split l ws pairs layers in
+    omega (arith, a, b)
 
 -- the pairs whose distance is not below nothing are apart in each layering
-pub layers_apart : (l : Plain) (pairs : List PairFlow) (layers : List ℤ) → IsLayering (edges_of l pairs) layers → All (λ (p : PairFlow). pos 0 ≤ℤ distance l p → IsApart l layers p) pairs
-layers_apart l pairs layers up =
-    let all = All-from_get_or (Rises layers) (edges_of l pairs) (record { tail = 0; head = 0; least = 0; weight = 0 }) up in
-    from_edges pairs (All-right (Rises layers) (joining (length l.units) l.links) (map (edge_for l (alone_of l)) pairs) all)
+pub layers_apart : (l : Plain) (ws : List ℕ) (pairs : List PairFlow) (layers : List ℤ) → IsLayering (edges_of l ws pairs) layers → All (λ (p : PairFlow). pos 0 ≤ℤ distance l p → IsApart l layers p) pairs
+layers_apart l ws pairs layers up =
+    let all = All-from_get_or (Rises layers) (edges_of l ws pairs) (record { tail = 0; head = 0; least = 0; weight = 0 }) up in
+    from_edges pairs (All-right (Rises layers) (joining (length l.units) l.links ws) (map (edge_for l (alone_of l)) pairs) all)
   where
     from_edges : (ps : List PairFlow) → All (Rises layers) (map (edge_for l (alone_of l)) ps) → All (λ (p : PairFlow). pos 0 ≤ℤ distance l p → IsApart l layers p) ps
     from_edges [] h = All-nil (λ (p : PairFlow). pos 0 ≤ℤ distance l p → IsApart l layers p)
@@ -212,17 +221,17 @@ module _ (l : Plain) (pairs : List PairFlow) (tops : List ℤ) (long : length to
       not_below d f = omega (arith, ints, f)
 
   -- tops that keep their distances give a layering
-  pub is_layering : IsLayering (edges_of l pairs) (completed tops l.links)
-  is_layering k h =
-      All-append (Rises (completed tops l.links)) (joining (length l.units) l.links) (map (edge_for l (alone_of l)) pairs)
-      (links_rise (length l.units) l.links (completed tops l.links) pins stand)
+  pub is_layering : (ws : List ℕ) → IsLayering (edges_of l ws pairs) (completed tops l.links)
+  is_layering ws k h =
+      All-append (Rises (completed tops l.links)) (joining (length l.units) l.links ws) (map (edge_for l (alone_of l)) pairs)
+      (links_rise (length l.units) l.links ws (completed tops l.links) pins stand)
       (edges_all l (alone_of l) (Rises (completed tops l.links)) (λ p. IsPair l p × IsApart l tops p) pair_rises pairs (all_both (IsPair l) (IsApart l tops) pairs are apart))
       k (record { tail = 0; head = 0; least = 0; weight = 0 }) h
 
   -- which costs no more than the heights of the links and their pins
-  pub cost_most : pos (cost (edges_of l pairs) (completed tops l.links)) ≤ℤ (pos (heights_together tops l.links) +ℤ pins_together l.links)
-  cost_most =
-      let a = links_cost_most (length l.units) l.links (completed tops l.links) pins stand in
-      let b = cost_split l pairs (completed tops l.links) in
-      let c = heights_same (completed tops l.links) tops l.links (at_unit tops l.links) (subst (λ n. All (HasEndsBelow n) l.links) (sym long) ends) in
-      omega (arith, ints, a, b, c)
+  pub cost_most : (ws : List ℕ) → cost (edges_of l ws pairs) (completed tops l.links) ≤ weighed_heights tops l.links ws + weighed_pins l.links ws
+  cost_most ws =
+      let a = links_cost_most (length l.units) l.links ws (completed tops l.links) pins stand in
+      let b = cost_split l ws pairs (completed tops l.links) in
+      let c = heights_same (completed tops l.links) tops l.links ws (at_unit tops l.links) (subst (λ n. All (HasEndsBelow n) l.links) (sym long) ends) in
+      omega (arith, a, b, c)

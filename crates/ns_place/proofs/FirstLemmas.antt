@@ -108,6 +108,30 @@ module _ (l : Plain) (rows : List (List ℕ)) (tops : List ℤ) (sound : IsSound
         head_at = (e.head_at.0, omega (arith, ints, q, bu));
       })
 
+  -- the ends of links are near also where the tops aren't lowered
+  pub tops_near : All (IsNearLink tops) l.links
+  tops_near =
+      All-from_get_or (IsNearLink tops) l.links (record { edge = 0; tail = 0; head = 0; tail_rank = 0; head_rank = 0; tail_at = pos 0; head_at = pos 0 })
+      (λ k h.
+      let e = sound.links_are k h in
+      let n = apart.as_many in
+      let t = e.tail in
+      let u = e.head in
+      let at = top_small (link_at l.links k).tail t in
+      let au = top_small (link_at l.links k).head u in
+      let bt = height_below l sound (link_at l.links k).tail t in
+      let bu = height_below l sound (link_at l.links k).head u in
+      let p = e.tail_at.1 in
+      let q = e.head_at.1 in
+      record {
+        tail = omega (arith, n, t);
+        head = omega (arith, n, u);
+        tail_top = (at.0, omega (arith, ints, at.1));
+        head_top = (au.0, omega (arith, ints, au.1));
+        tail_at = (e.tail_at.0, omega (arith, ints, p, bt));
+        head_at = (e.head_at.0, omega (arith, ints, q, bu));
+      })
+
   unit_in_range : (v : ℕ) → v < length l.units → (pos 0 ≤ℤ layer_of (completed (map lowered tops) l.links) v) × (layer_of (completed (map lowered tops) l.links) v <ℤ pos (2 ^ 62))
   unit_in_range v h =
       let n = long in

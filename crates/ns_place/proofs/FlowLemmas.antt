@@ -10,11 +10,11 @@ use Rattle.network_laws.specs.declared.network.NetEdge.{NetEdge}
 use Rattle.network_laws.specs.Layering.{natural, weighed, weights, at_node, Balances, flow_value}
 use Rattle.ns_place.specs.declared.least.PairFlow.{PairFlow}
 use Rattle.ns_place.specs.Pairs.{distance, IsPair}
-use Rattle.ns_place.specs.Heights.{of_links, of_pairs, links_value, pairs_value, pins_together}
+use Rattle.ns_place.specs.Heights.{of_links, of_pairs, links_value, pairs_value}
 use Rattle.ns_place.specs.Flows.{flow_at}
+use Rattle.ns_place.specs.Weighed.{weight_at, AreWeights}
 use Rattle.ns_place.specs.Network.{joining, edge_for, alone_of, edges_of, HasPins}
 use Rattle.ns_place.proofs.NetworkLemmas.{joining_all, edges_all}
-use Rattle.drawing_types.proofs.SegmentBounds.{scale_one}
 use Rattle.network_laws.proofs.Duality.{natural_is}
 
 abbrev pub head_of : NetEdge → ℕ
@@ -132,13 +132,14 @@ pairs_worth l alone (p ∷ pairs) h =
 
 -- the flows of links
 
--- of each link's two edges the flows are 2 together, and its number is 1 less than the first
-abbrev pub AreLinkFlows : List Link → List ℕ → List ℤ → Type 0
-AreLinkFlows [] flow fs = Unit {0}
-AreLinkFlows (l ∷ ls) [] fs = ⊥
-AreLinkFlows (l ∷ ls) (a ∷ []) fs = ⊥
-AreLinkFlows (l ∷ ls) (a ∷ b ∷ flow) [] = ⊥
-AreLinkFlows (l ∷ ls) (a ∷ b ∷ flow) (f ∷ fs) = ((f +ℤ pos 1 ≡ pos a) × (a + b ≡ 2)) × AreLinkFlows ls flow fs
+-- of each link's two edges the flows are twice its weight together, and its number is less than the first by its weight
+abbrev pub AreLinkFlows : List Link → List ℕ → List ℕ → List ℤ → Type 0
+AreLinkFlows [] ws flow fs = Unit {0}
+AreLinkFlows (l ∷ ls) [] flow fs = ⊥
+AreLinkFlows (l ∷ ls) (w ∷ ws) [] fs = ⊥
+AreLinkFlows (l ∷ ls) (w ∷ ws) (a ∷ []) fs = ⊥
+AreLinkFlows (l ∷ ls) (w ∷ ws) (a ∷ b ∷ flow) [] = ⊥
+AreLinkFlows (l ∷ ls) (w ∷ ws) (a ∷ b ∷ flow) (f ∷ fs) = ((f +ℤ pos w ≡ pos a) × (a + b ≡ 2 * w)) × AreLinkFlows ls ws flow fs
 
 twice : (k : ℕ) → 2 * suc k ≡ suc (suc (2 * k))
 twice k = omega arith
@@ -146,121 +147,130 @@ twice k = omega arith
 twice_more : (k : ℕ) → suc (suc (2 * k)) + 1 ≡ suc (suc (2 * k + 1))
 twice_more k = omega arith
 
-pub link_flows_are : (ls : List Link) (flow : List ℕ) (fs : List ℤ) → 2 * length ls ≤ length flow → length fs ≡ length ls
-    → ((k : ℕ) → k < length ls → flow_at fs k +ℤ pos 1 ≡ pos (get_or flow (2 * k) 0)) → ((k : ℕ) → k < length ls → get_or flow (2 * k) 0 + get_or flow (2 * k + 1) 0 ≡ 2)
-    → AreLinkFlows ls flow fs
-link_flows_are [] flow fs long same told sum = tt
-link_flows_are (l ∷ ls) [] fs long same told sum = absurd (omega (arith, long))
-link_flows_are (l ∷ ls) (a ∷ []) fs long same told sum = absurd (omega (arith, long))
-link_flows_are (l ∷ ls) (a ∷ b ∷ flow) [] long same told sum = absurd (omega (arith, same))
-link_flows_are (l ∷ ls) (a ∷ b ∷ flow) (f ∷ fs) long same told sum = (
+pub link_flows_are : (ls : List Link) (ws flow : List ℕ) (fs : List ℤ) → length ws ≡ length ls → 2 * length ls ≤ length flow → length fs ≡ length ls
+    → ((k : ℕ) → k < length ls → flow_at fs k +ℤ pos (weight_at ws k) ≡ pos (get_or flow (2 * k) 0)) → ((k : ℕ) → k < length ls → get_or flow (2 * k) 0 + get_or flow (2 * k + 1) 0 ≡ 2 * weight_at ws k)
+    → AreLinkFlows ls ws flow fs
+link_flows_are [] ws flow fs each long same told sum = tt
+link_flows_are (l ∷ ls) [] flow fs each long same told sum = absurd (omega (arith, each))
+link_flows_are (l ∷ ls) (w ∷ ws) [] fs each long same told sum = absurd (omega (arith, long))
+link_flows_are (l ∷ ls) (w ∷ ws) (a ∷ []) fs each long same told sum = absurd (omega (arith, long))
+link_flows_are (l ∷ ls) (w ∷ ws) (a ∷ b ∷ flow) [] each long same told sum = absurd (omega (arith, same))
+link_flows_are (l ∷ ls) (w ∷ ws) (a ∷ b ∷ flow) (f ∷ fs) each long same told sum = (
   (told 0 (omega arith), sum 0 (omega arith)),
-  link_flows_are ls flow fs (omega (arith, long)) (omega (arith, same))
+  link_flows_are ls ws flow fs (omega (arith, each)) (omega (arith, long)) (omega (arith, same))
       (λ k h. rw (twice k) at (told (suc k) (omega (arith, h))))
       (λ k h. rw (twice k, twice_more k) at (sum (suc k) (omega (arith, h)))),
 )
 
-pull_one : (x y : Bool) (a b w w' : ℕ) (f g g' : ℤ) → f +ℤ pos 1 ≡ pos a → a + b ≡ 2 → pos w +ℤ g ≡ pos w' +ℤ g'
-    → pos (cond x a 0 + (cond y b 0 + w)) +ℤ (cond y f (pos 0) +ℤ g) ≡ pos (cond x 1 0 + (cond y 1 0 + w')) +ℤ (cond x f (pos 0) +ℤ g')
-pull_one true true a b w w' f g g' e s h = omega (arith, ints, e, s, h)
-pull_one true false a b w w' f g g' e s h = omega (arith, ints, e, s, h)
-pull_one false true a b w w' f g g' e s h = omega (arith, ints, e, s, h)
-pull_one false false a b w w' f g g' e s h = omega (arith, ints, e, s, h)
+pull_one : (x y : Bool) (a b w m m' : ℕ) (f g g' : ℤ) → f +ℤ pos w ≡ pos a → a + b ≡ 2 * w → pos m +ℤ g ≡ pos m' +ℤ g'
+    → pos (cond x a 0 + (cond y b 0 + m)) +ℤ (cond y f (pos 0) +ℤ g) ≡ pos (cond x w 0 + (cond y w 0 + m')) +ℤ (cond x f (pos 0) +ℤ g')
+pull_one true true a b w m m' f g g' e s h = omega (arith, ints, e, s, h)
+pull_one true false a b w m m' f g g' e s h = omega (arith, ints, e, s, h)
+pull_one false true a b w m m' f g g' e s h = omega (arith, ints, e, s, h)
+pull_one false false a b w m m' f g g' e s h = omega (arith, ints, e, s, h)
 
-links_pull : (joint : ℕ) (ls : List Link) (flow : List ℕ) (fs : List ℤ) (u : ℕ) → AreLinkFlows ls flow fs
-    → pos (at_node head_of (joining joint ls) flow u) +ℤ of_links (λ k. k.head) ls fs u ≡ pos (at_node head_of (joining joint ls) (weights (joining joint ls)) u) +ℤ of_links (λ k. k.tail) ls fs u
-links_pull joint [] flow fs u h = refl
-links_pull joint (l ∷ ls) [] fs u h = absurd h
-links_pull joint (l ∷ ls) (a ∷ []) fs u h = absurd h
-links_pull joint (l ∷ ls) (a ∷ b ∷ flow) [] u h = absurd h
-links_pull joint (l ∷ ls) (a ∷ b ∷ flow) (f ∷ fs) u h =
-    pull_one (l.tail == u) (l.head == u) a b _ _ f _ _ h.0.0 h.0.1 (links_pull (joint + 1) ls flow fs u h.1)
+links_pull : (joint : ℕ) (ls : List Link) (ws flow : List ℕ) (fs : List ℤ) (u : ℕ) → AreLinkFlows ls ws flow fs
+    → pos (at_node head_of (joining joint ls ws) flow u) +ℤ of_links (λ k. k.head) ls fs u ≡ pos (at_node head_of (joining joint ls ws) (weights (joining joint ls ws)) u) +ℤ of_links (λ k. k.tail) ls fs u
+links_pull joint [] ws flow fs u h = refl
+links_pull joint (l ∷ ls) [] flow fs u h = absurd h
+links_pull joint (l ∷ ls) (w ∷ ws) [] fs u h = absurd h
+links_pull joint (l ∷ ls) (w ∷ ws) (a ∷ []) fs u h = absurd h
+links_pull joint (l ∷ ls) (w ∷ ws) (a ∷ b ∷ flow) [] u h = absurd h
+links_pull joint (l ∷ ls) (w ∷ ws) (a ∷ b ∷ flow) (f ∷ fs) u h =
+    pull_one (l.tail == u) (l.head == u) a b w _ _ f _ _ h.0.0 h.0.1 (links_pull (joint + 1) ls ws flow fs u h.1)
 
-no_times : (z : ℤ) → pos 0 *ℤ z ≡ pos 0
-no_times (pos n) = omega (arith, ints)
-no_times (negsuc n) = omega (arith, ints)
+-- two flows times two lengths, by the flows' half difference and sum
+worth_link : (a b w x y : ℕ) (f z : ℤ) → f +ℤ pos w ≡ pos a → a + b ≡ 2 * w → z ≡ pos x -ℤ pos y → pos (a * x + b * y) ≡ (f *ℤ z) +ℤ pos (w * (x + y))
+worth_link a b w x y (pos n) (pos d) e s h =
+    let weight : w ≡ n + b = omega (arith, ints, e, s) in
+    let more : a ≡ n + n + b = omega (arith, ints, e, s) in
+    let long : x ≡ y + d = omega (arith, ints, h) in
+    rw (weight, more, long) (omega (arith, ints))
+worth_link a b w x y (pos n) (negsuc d) e s h =
+    let weight : w ≡ n + b = omega (arith, ints, e, s) in
+    let more : a ≡ n + n + b = omega (arith, ints, e, s) in
+    let long : y ≡ x + suc d = omega (arith, ints, h) in
+    rw (weight, more, long) (omega (arith, ints))
+worth_link a b w x y (negsuc n) (pos d) e s h =
+    let weight : w ≡ a + suc n = omega (arith, ints, e, s) in
+    let more : b ≡ a + suc n + suc n = omega (arith, ints, e, s) in
+    let long : x ≡ y + d = omega (arith, ints, h) in
+    rw (weight, more, long) (omega (arith, ints))
+worth_link a b w x y (negsuc n) (negsuc d) e s h =
+    let weight : w ≡ a + suc n = omega (arith, ints, e, s) in
+    let more : b ≡ a + suc n + suc n = omega (arith, ints, e, s) in
+    let long : y ≡ x + suc d = omega (arith, ints, h) in
+    rw (weight, more, long) (omega (arith, ints))
 
-less_one_times : (z : ℤ) → (negsuc 0 *ℤ z) +ℤ z ≡ pos 0
-less_one_times (pos n) = omega (arith, ints)
-less_one_times (negsuc n) = omega (arith, ints)
+-- how far the pins of these links lie below the tops of their units, each link's times its weight
+abbrev pub weighed_pins : List Link → List ℕ → ℕ
+weighed_pins [] ws = 0
+weighed_pins (l ∷ ls) [] = 0
+weighed_pins (l ∷ ls) (w ∷ ws) = w * (natural l.head_at + natural l.tail_at) + weighed_pins ls ws
 
-worth_link : (a b x y : ℕ) (f : ℤ) → f +ℤ pos 1 ≡ pos a → a + b ≡ 2 → pos (a * x + b * y) ≡ f *ℤ (pos x -ℤ pos y) +ℤ pos (x + y)
-worth_link zero b x y f e s =
-    let is : f ≡ negsuc 0 = omega (arith, ints, e) in
-    let two : b ≡ 2 = omega (arith, s) in
-    let m = less_one_times (pos x -ℤ pos y) in
-    rw (is, two) (omega (arith, ints, m))
-worth_link (suc zero) b x y f e s =
-    let is : f ≡ pos 0 = omega (arith, ints, e) in
-    let one : b ≡ 1 = omega (arith, s) in
-    let m = no_times (pos x -ℤ pos y) in
-    rw (is, one) (omega (arith, ints, m))
-worth_link (suc (suc zero)) b x y f e s =
-    let is : f ≡ pos 1 = omega (arith, ints, e) in
-    let none : b ≡ 0 = omega (arith, s) in
-    let m = scale_one (pos x -ℤ pos y) in
-    rw (is, none) (omega (arith, ints, m))
-worth_link (suc (suc (suc a))) b x y f e s = absurd (omega (arith, s))
-
-links_worth : (joint : ℕ) (ls : List Link) (flow : List ℕ) (fs : List ℤ) → AreLinkFlows ls flow fs → All HasPins ls
-    → pos (weighed (λ (e : NetEdge). e.least) (joining joint ls) flow) ≡ links_value ls fs +ℤ pins_together ls
-links_worth joint [] flow fs h pins = refl
-links_worth joint (l ∷ ls) [] fs h pins = absurd h
-links_worth joint (l ∷ ls) (a ∷ []) fs h pins = absurd h
-links_worth joint (l ∷ ls) (a ∷ b ∷ flow) [] h pins = absurd h
-links_worth joint (l ∷ ls) (a ∷ b ∷ flow) (f ∷ fs) h pins =
-    let rest = links_worth (joint + 1) ls flow fs h.1 (All-tail HasPins l ls pins) in
+links_worth : (joint : ℕ) (ls : List Link) (ws flow : List ℕ) (fs : List ℤ) → AreLinkFlows ls ws flow fs → All HasPins ls
+    → pos (weighed (λ (e : NetEdge). e.least) (joining joint ls ws) flow) ≡ links_value ls fs +ℤ pos (weighed_pins ls ws)
+links_worth joint [] ws flow fs h pins = refl
+links_worth joint (l ∷ ls) [] flow fs h pins = absurd h
+links_worth joint (l ∷ ls) (w ∷ ws) [] fs h pins = absurd h
+links_worth joint (l ∷ ls) (w ∷ ws) (a ∷ []) fs h pins = absurd h
+links_worth joint (l ∷ ls) (w ∷ ws) (a ∷ b ∷ flow) [] h pins = absurd h
+links_worth joint (l ∷ ls) (w ∷ ws) (a ∷ b ∷ flow) (f ∷ fs) h pins =
+    let rest = links_worth (joint + 1) ls ws flow fs h.1 (All-tail HasPins l ls pins) in
     let p = All-head HasPins l ls pins in
     let m = natural_is l.tail_at p.0 in
     let n = natural_is l.head_at p.1 in
-    let one = worth_link a b (natural l.head_at) (natural l.tail_at) f h.0.0 h.0.1 in
-    let turn : f *ℤ (pos (natural l.head_at) -ℤ pos (natural l.tail_at)) ≡ f *ℤ (l.head_at -ℤ l.tail_at) = ap (λ z. f *ℤ z) (ap (λ z. z -ℤ pos (natural l.tail_at)) n ∙ ap (λ z. l.head_at -ℤ z) m) in
-    omega (arith, ints, rest, m, n, one, turn)
+    let one = worth_link a b w (natural l.head_at) (natural l.tail_at) f (l.head_at -ℤ l.tail_at) h.0.0 h.0.1 (omega (arith, ints, m, n)) in
+    omega (arith, ints, rest, one)
 
 -- what leaves a link's own node
 
-joint_out : (joint : ℕ) (ls : List Link) (flow : List ℕ) (k : ℕ) → 2 * length ls ≤ length flow → k < length ls → at_node tail_of (joining joint ls) flow (joint + k) ≡ get_or flow (2 * k) 0 + get_or flow (2 * k + 1) 0
-joint_out joint [] flow k long h = absurd (omega (arith, h))
-joint_out joint (l ∷ ls) [] k long h = absurd (omega (arith, long))
-joint_out joint (l ∷ ls) (a ∷ []) k long h = absurd (omega (arith, long))
-joint_out joint (l ∷ ls) (a ∷ b ∷ flow) zero long h =
-    let rest = at_none tail_of (joining (joint + 1) ls) flow (joint + 0) (joining_all (λ (e : NetEdge). e.tail ≢ joint + 0) (joint + 1) ls (λ i l. (omega arith, omega arith))) in
+joint_out : (joint : ℕ) (ls : List Link) (ws flow : List ℕ) (k : ℕ) → length ws ≡ length ls → 2 * length ls ≤ length flow → k < length ls
+    → at_node tail_of (joining joint ls ws) flow (joint + k) ≡ get_or flow (2 * k) 0 + get_or flow (2 * k + 1) 0
+joint_out joint [] ws flow k each long h = absurd (omega (arith, h))
+joint_out joint (l ∷ ls) [] flow k each long h = absurd (omega (arith, each))
+joint_out joint (l ∷ ls) (w ∷ ws) [] k each long h = absurd (omega (arith, long))
+joint_out joint (l ∷ ls) (w ∷ ws) (a ∷ []) k each long h = absurd (omega (arith, long))
+joint_out joint (l ∷ ls) (w ∷ ws) (a ∷ b ∷ flow) zero each long h =
+    let rest = at_none tail_of (joining (joint + 1) ls ws) flow (joint + 0) (joining_all (λ (e : NetEdge). e.tail ≢ joint + 0) (joint + 1) ls ws (λ i l. (omega arith, omega arith))) in
     rw (eq-eqb joint (joint + 0) (omega arith)) (omega (arith, rest))
-joint_out joint (l ∷ ls) (a ∷ b ∷ flow) (suc k) long h =
+joint_out joint (l ∷ ls) (w ∷ ws) (a ∷ b ∷ flow) (suc k) each long h =
     let on : joint + suc k ≡ joint + 1 + k = omega arith in
-    let rest = joint_out (joint + 1) ls flow k (omega (arith, long)) (omega (arith, h)) in
+    let rest = joint_out (joint + 1) ls ws flow k (omega (arith, each)) (omega (arith, long)) (omega (arith, h)) in
     rw (on, ne_eqb joint (joint + 1 + k) (omega arith), twice k, twice_more k) (omega (arith, rest))
 
-joint_two : (joint : ℕ) (ls : List Link) (k : ℕ) → k < length ls → at_node tail_of (joining joint ls) (weights (joining joint ls)) (joint + k) ≡ 2
-joint_two joint [] k h = absurd (omega (arith, h))
-joint_two joint (l ∷ ls) zero h =
-    let rest = at_none tail_of (joining (joint + 1) ls) (weights (joining (joint + 1) ls)) (joint + 0) (joining_all (λ (e : NetEdge). e.tail ≢ joint + 0) (joint + 1) ls (λ i l. (omega arith, omega arith))) in
+joint_both : (joint : ℕ) (ls : List Link) (ws : List ℕ) (k : ℕ) → length ws ≡ length ls → k < length ls
+    → at_node tail_of (joining joint ls ws) (weights (joining joint ls ws)) (joint + k) ≡ 2 * weight_at ws k
+joint_both joint [] ws k each h = absurd (omega (arith, h))
+joint_both joint (l ∷ ls) [] k each h = absurd (omega (arith, each))
+joint_both joint (l ∷ ls) (w ∷ ws) zero each h =
+    let rest = at_none tail_of (joining (joint + 1) ls ws) (weights (joining (joint + 1) ls ws)) (joint + 0) (joining_all (λ (e : NetEdge). e.tail ≢ joint + 0) (joint + 1) ls ws (λ i l. (omega arith, omega arith))) in
     rw (eq-eqb joint (joint + 0) (omega arith)) (omega (arith, rest))
-joint_two joint (l ∷ ls) (suc k) h =
+joint_both joint (l ∷ ls) (w ∷ ws) (suc k) each h =
     let on : joint + suc k ≡ joint + 1 + k = omega arith in
-    let rest = joint_two (joint + 1) ls k (omega (arith, h)) in
+    let rest = joint_both (joint + 1) ls ws k (omega (arith, each)) (omega (arith, h)) in
     rw (on, ne_eqb joint (joint + 1 + k) (omega arith)) (omega (arith, rest))
 
 -- a flow that balances, by links and pairs
 
-module _ (l : Plain) (pairs : List PairFlow) (ends : (k : ℕ) → k < length l.links → ((link_at l.links k).tail < length l.units) × ((link_at l.links k).head < length l.units))
-    (are : All (IsPair l) pairs) (flow : List ℕ) (balances : Balances (alone_of l + 1) (edges_of l pairs) flow) (long : length flow ≡ 2 * length l.links + length pairs) where
+module _ (l : Plain) (ws : List ℕ) (weigh : AreWeights l ws) (pairs : List PairFlow) (ends : (k : ℕ) → k < length l.links → ((link_at l.links k).tail < length l.units) × ((link_at l.links k).head < length l.units))
+    (are : All (IsPair l) pairs) (flow : List ℕ) (balances : Balances (alone_of l + 1) (edges_of l ws pairs) flow) (long : length flow ≡ 2 * length l.links + length pairs) where
   abbrev count : ℕ
   count = length l.units
 
   abbrev links : List NetEdge
-  links = joining (length l.units) l.links
+  links = joining (length l.units) l.links ws
 
   abbrev between : List NetEdge
   between = map (edge_for l (alone_of l)) pairs
 
   rest : List ℕ
-  rest = drop (length (joining (length l.units) l.links)) flow
+  rest = drop (length (joining (length l.units) l.links ws)) flow
 
-  no_heads : (v : ℕ) → length l.units ≤ v → All (λ (e : NetEdge). e.head ≢ v) (edges_of l pairs)
+  no_heads : (v : ℕ) → length l.units ≤ v → All (λ (e : NetEdge). e.head ≢ v) (edges_of l ws pairs)
   no_heads v h =
-      All-append (λ (e : NetEdge). e.head ≢ v) (joining (length l.units) l.links) (map (edge_for l (alone_of l)) pairs)
-      (joining_all (λ (e : NetEdge). e.head ≢ v) (length l.units) l.links (λ k less. let e = ends k less in let a = e.0 in let b = e.1 in (omega (arith, a, h), omega (arith, b, h))))
+      All-append (λ (e : NetEdge). e.head ≢ v) (joining (length l.units) l.links ws) (map (edge_for l (alone_of l)) pairs)
+      (joining_all (λ (e : NetEdge). e.head ≢ v) (length l.units) l.links ws (λ k less. let e = ends k less in let a = e.0 in let b = e.1 in (omega (arith, a, h), omega (arith, b, h))))
       (edges_all l (alone_of l) (λ (e : NetEdge). e.head ≢ v) (IsPair l) (λ p q. let a = q.lower_is in omega (arith, a, h)) pairs are)
 
   no_pair_tails : (v : ℕ) → length l.units ≤ v → v < alone_of l → All (λ (e : NetEdge). e.tail ≢ v) (map (edge_for l (alone_of l)) pairs)
@@ -270,24 +280,24 @@ module _ (l : Plain) (pairs : List PairFlow) (ends : (k : ℕ) → k < length l.
         | inr f ↦ rw f (omega (arith, a, h))
       ]) pairs are
 
-  -- the flows of a link's two edges are 2 together
-  pub two_each : (k : ℕ) → k < length l.links → get_or flow (2 * k) 0 + get_or flow (2 * k + 1) 0 ≡ 2
-  two_each k h =
+  -- the flows of a link's two edges are twice its weight together
+  pub both_each : (k : ℕ) → k < length l.links → get_or flow (2 * k) 0 + get_or flow (2 * k + 1) 0 ≡ 2 * weight_at ws k
+  both_each k h =
       let b = balances (length l.units + k) (omega (arith, h)) in
       let none = no_heads (length l.units + k) (omega arith) in
-      let i = at_none head_of (edges_of l pairs) flow (length l.units + k) none in
-      let i' = at_none head_of (edges_of l pairs) (weights (edges_of l pairs)) (length l.units + k) none in
-      let o = at_append tail_of (joining (length l.units) l.links) (map (edge_for l (alone_of l)) pairs) flow (length l.units + k) in
-      let o' = at_weights tail_of (joining (length l.units) l.links) (map (edge_for l (alone_of l)) pairs) (length l.units + k) in
-      let p = at_none tail_of (map (edge_for l (alone_of l)) pairs) (drop (length (joining (length l.units) l.links)) flow) (length l.units + k) (no_pair_tails (length l.units + k) (omega arith) (omega (arith, h))) in
+      let i = at_none head_of (edges_of l ws pairs) flow (length l.units + k) none in
+      let i' = at_none head_of (edges_of l ws pairs) (weights (edges_of l ws pairs)) (length l.units + k) none in
+      let o = at_append tail_of (joining (length l.units) l.links ws) (map (edge_for l (alone_of l)) pairs) flow (length l.units + k) in
+      let o' = at_weights tail_of (joining (length l.units) l.links ws) (map (edge_for l (alone_of l)) pairs) (length l.units + k) in
+      let p = at_none tail_of (map (edge_for l (alone_of l)) pairs) (drop (length (joining (length l.units) l.links ws)) flow) (length l.units + k) (no_pair_tails (length l.units + k) (omega arith) (omega (arith, h))) in
       let p' = pairs_no_weight l (alone_of l) tail_of pairs (length l.units + k) in
-      let q = joint_out (length l.units) l.links flow k (omega (arith, long)) h in
-      let q' = joint_two (length l.units) l.links k h in
+      let q = joint_out (length l.units) l.links ws flow k weigh.one_each (omega (arith, long)) h in
+      let q' = joint_both (length l.units) l.links ws k weigh.one_each h in
       omega (arith, b, i, i', o, o', p, p', q, q')
 
-  module _ (written : drop (length (joining (length l.units) l.links)) flow ≡ flows_of pairs) where
-    no_joint_tails : (v : ℕ) → (v < length l.units) → All (λ (e : NetEdge). e.tail ≢ v) (joining (length l.units) l.links)
-    no_joint_tails v h = joining_all (λ (e : NetEdge). e.tail ≢ v) (length l.units) l.links (λ k less. (omega (arith, h), omega (arith, h)))
+  module _ (written : drop (length (joining (length l.units) l.links ws)) flow ≡ flows_of pairs) where
+    no_joint_tails : (v : ℕ) → (v < length l.units) → All (λ (e : NetEdge). e.tail ≢ v) (joining (length l.units) l.links ws)
+    no_joint_tails v h = joining_all (λ (e : NetEdge). e.tail ≢ v) (length l.units) l.links ws (λ k less. (omega (arith, h), omega (arith, h)))
 
     -- pairs that their rooms hold apart carry no flow
     pub none_below : All (NoneBelow l) pairs
@@ -295,41 +305,41 @@ module _ (l : Plain) (pairs : List PairFlow) (ends : (k : ℕ) → k < length l.
         let v : ℕ = alone_of l in
         let b = balances (alone_of l) (omega arith) in
         let none = no_heads (alone_of l) (omega arith) in
-        let i = at_none head_of (edges_of l pairs) flow (alone_of l) none in
-        let i' = at_none head_of (edges_of l pairs) (weights (edges_of l pairs)) (alone_of l) none in
-        let o = at_append tail_of (joining (length l.units) l.links) (map (edge_for l (alone_of l)) pairs) flow (alone_of l) in
-        let o' = at_weights tail_of (joining (length l.units) l.links) (map (edge_for l (alone_of l)) pairs) (alone_of l) in
-        let tails = joining_all (λ (e : NetEdge). e.tail ≢ alone_of l) (length l.units) l.links (λ k less. (omega (arith, less), omega (arith, less))) in
-        let q' = at_none tail_of (joining (length l.units) l.links) (weights (joining (length l.units) l.links)) (alone_of l) tails in
+        let i = at_none head_of (edges_of l ws pairs) flow (alone_of l) none in
+        let i' = at_none head_of (edges_of l ws pairs) (weights (edges_of l ws pairs)) (alone_of l) none in
+        let o = at_append tail_of (joining (length l.units) l.links ws) (map (edge_for l (alone_of l)) pairs) flow (alone_of l) in
+        let o' = at_weights tail_of (joining (length l.units) l.links ws) (map (edge_for l (alone_of l)) pairs) (alone_of l) in
+        let tails = joining_all (λ (e : NetEdge). e.tail ≢ alone_of l) (length l.units) l.links ws (λ k less. (omega (arith, less), omega (arith, less))) in
+        let q' = at_none tail_of (joining (length l.units) l.links ws) (weights (joining (length l.units) l.links ws)) (alone_of l) tails in
         let p' = pairs_no_weight l (alone_of l) tail_of pairs (alone_of l) in
         let e = ap (λ (xs : List ℕ). at_node tail_of (map (edge_for l (alone_of l)) pairs) xs (alone_of l)) written in
         none_from l (alone_of l) pairs (omega (arith, b, i, i', o, o', q', p', e))
 
     -- at each unit the links bring what the pairs do
-    pub unit_balance : (fs : List ℤ) → AreLinkFlows l.links flow fs → (u : ℕ) → u < length l.units
+    pub unit_balance : (fs : List ℤ) → AreLinkFlows l.links ws flow fs → (u : ℕ) → u < length l.units
         → of_links (λ k. k.head) l.links fs u -ℤ of_links (λ k. k.tail) l.links fs u ≡ pos (of_pairs (λ p. p.lower) pairs u) -ℤ pos (of_pairs (λ p. p.upper) pairs u)
     unit_balance fs told u h =
         let b = balances u (omega (arith, h)) in
-        let i = at_append head_of (joining (length l.units) l.links) (map (edge_for l (alone_of l)) pairs) flow u in
-        let i' = at_weights head_of (joining (length l.units) l.links) (map (edge_for l (alone_of l)) pairs) u in
-        let o = at_append tail_of (joining (length l.units) l.links) (map (edge_for l (alone_of l)) pairs) flow u in
-        let o' = at_weights tail_of (joining (length l.units) l.links) (map (edge_for l (alone_of l)) pairs) u in
+        let i = at_append head_of (joining (length l.units) l.links ws) (map (edge_for l (alone_of l)) pairs) flow u in
+        let i' = at_weights head_of (joining (length l.units) l.links ws) (map (edge_for l (alone_of l)) pairs) u in
+        let o = at_append tail_of (joining (length l.units) l.links ws) (map (edge_for l (alone_of l)) pairs) flow u in
+        let o' = at_weights tail_of (joining (length l.units) l.links ws) (map (edge_for l (alone_of l)) pairs) u in
         let tails = no_joint_tails u h in
-        let q = at_none tail_of (joining (length l.units) l.links) flow u tails in
-        let q' = at_none tail_of (joining (length l.units) l.links) (weights (joining (length l.units) l.links)) u tails in
+        let q = at_none tail_of (joining (length l.units) l.links ws) flow u tails in
+        let q' = at_none tail_of (joining (length l.units) l.links ws) (weights (joining (length l.units) l.links ws)) u tails in
         let n = pairs_no_weight l (alone_of l) head_of pairs u in
         let n' = pairs_no_weight l (alone_of l) tail_of pairs u in
         let e = ap (λ (xs : List ℕ). at_node head_of (map (edge_for l (alone_of l)) pairs) xs u) written ∙ pairs_in l (alone_of l) pairs u in
         let e' = ap (λ (xs : List ℕ). at_node tail_of (map (edge_for l (alone_of l)) pairs) xs u) written ∙ pairs_out l (alone_of l) pairs u (omega (arith, h)) none_below in
-        let pull = links_pull (length l.units) l.links flow fs u told in
+        let pull = links_pull (length l.units) l.links ws flow fs u told in
         omega (arith, ints, b, i, i', o, o', q, q', n, n', e, e', pull)
 
     -- the value of the flow is that of links and pairs, and the pins
-    pub value_split : (fs : List ℤ) → AreLinkFlows l.links flow fs → All HasPins l.links
-        → pos (flow_value (edges_of l pairs) flow) ≡ pairs_value l pairs +ℤ links_value l.links fs +ℤ pins_together l.links
+    pub value_split : (fs : List ℤ) → AreLinkFlows l.links ws flow fs → All HasPins l.links
+        → pos (flow_value (edges_of l ws pairs) flow) ≡ pairs_value l pairs +ℤ links_value l.links fs +ℤ pos (weighed_pins l.links ws)
     value_split fs told pins =
-        let s = weighed_append (λ (e : NetEdge). e.least) (joining (length l.units) l.links) (map (edge_for l (alone_of l)) pairs) flow in
-        let a = links_worth (length l.units) l.links flow fs told pins in
+        let s = weighed_append (λ (e : NetEdge). e.least) (joining (length l.units) l.links ws) (map (edge_for l (alone_of l)) pairs) flow in
+        let a = links_worth (length l.units) l.links ws flow fs told pins in
         let b = pairs_worth l (alone_of l) pairs none_below in
         let e = ap (λ (xs : List ℕ). weighed (λ (x : NetEdge). x.least) (map (edge_for l (alone_of l)) pairs) xs) written in
         omega (arith, ints, s, a, b, e)

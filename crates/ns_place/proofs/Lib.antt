@@ -8,3 +8,4 @@ pub mod TopLemmas
 pub mod PlacingLemmas
 pub mod WritingLemmas
 pub mod FirstLemmas
+pub mod StraightLemmas

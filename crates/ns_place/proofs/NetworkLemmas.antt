@@ -14,6 +14,7 @@ use Rattle.network_laws.specs.Layering.{natural}
 use Rattle.ns_place.specs.declared.least.PairFlow.{PairFlow}
 use Rattle.ns_place.specs.Pairs.{all_pairs, distance, IsPair}
 use Rattle.ns_place.specs.Heights.{pins_together}
+use Rattle.ns_place.specs.Weighed.{greatest_weight, weight_at, AreWeights}
 use Rattle.ns_place.specs.Network.{edge_of, joining, edge_for, alone_of, edges_of, HasPins}
 use Rattle.ns_place.proofs.PairLemmas.{are_pairs, pairs_ascend}
 use Rattle.ns_place.proofs.SumLemmas.{natural_le, distance_within, most_room, most_rooms, pairs_within, count_units, count_pairs}
@@ -21,31 +22,32 @@ use Rattle.network_laws.proofs.Duality.{natural_is}
 
 -- edges added one after the other
 
-pub joints_step : (first : ℕ) (ls : List Link) (k : ℕ) (now : List NetEdge) (a b : NetEdge) → k < length ls
-    → a ≡ edge_of (first + k) (link_at ls k).tail (link_at ls k).head_at → b ≡ edge_of (first + k) (link_at ls k).head (link_at ls k).tail_at
-    → ((now ++ a ∷ []) ++ b ∷ []) ++ joining (first + (k + 1)) (drop (k + 1) ls) ≡ now ++ joining (first + k) (drop k ls)
-joints_step first ls k now a b h ea eb =
+pub joints_step : (first : ℕ) (ls : List Link) (ws : List ℕ) (k : ℕ) (now : List NetEdge) (a b : NetEdge) → k < length ls → k < length ws
+    → a ≡ edge_of (first + k) (link_at ls k).tail (link_at ls k).head_at (weight_at ws k) → b ≡ edge_of (first + k) (link_at ls k).head (link_at ls k).tail_at (weight_at ws k)
+    → ((now ++ a ∷ []) ++ b ∷ []) ++ joining (first + (k + 1)) (drop (k + 1) ls) (drop (k + 1) ws) ≡ now ++ joining (first + k) (drop k ls) (drop k ws)
+joints_step first ls ws k now a b h hw ea eb =
     let on : first + (k + 1) ≡ first + k + 1 = omega arith in
-    rw (on, drop_more ls k (record { edge = 0; tail = 0; head = 0; tail_rank = 0; head_rank = 0; tail_at = pos 0; head_at = pos 0 }) h, ea, eb)
-    (append_assoc (now ++ edge_of (first + k) (link_at ls k).tail (link_at ls k).head_at ∷ []) (edge_of (first + k) (link_at ls k).head (link_at ls k).tail_at ∷ []) (joining (first + k + 1) (drop (k + 1) ls))
-    ∙ append_assoc now (edge_of (first + k) (link_at ls k).tail (link_at ls k).head_at ∷ []) (edge_of (first + k) (link_at ls k).head (link_at ls k).tail_at ∷ joining (first + k + 1) (drop (k + 1) ls)))
+    rw (on, drop_more ls k (record { edge = 0; tail = 0; head = 0; tail_rank = 0; head_rank = 0; tail_at = pos 0; head_at = pos 0 }) h, drop_more ws k 0 hw, ea, eb)
+    (append_assoc (now ++ edge_of (first + k) (link_at ls k).tail (link_at ls k).head_at (weight_at ws k) ∷ []) (edge_of (first + k) (link_at ls k).head (link_at ls k).tail_at (weight_at ws k) ∷ []) (joining (first + k + 1) (drop (k + 1) ls) (drop (k + 1) ws))
+    ∙ append_assoc now (edge_of (first + k) (link_at ls k).tail (link_at ls k).head_at (weight_at ws k) ∷ []) (edge_of (first + k) (link_at ls k).head (link_at ls k).tail_at (weight_at ws k) ∷ joining (first + k + 1) (drop (k + 1) ls) (drop (k + 1) ws)))
 
 -- a fact of all edges of links
-pub joining_all : (P : NetEdge → Type 0) (joint : ℕ) (ls : List Link)
-    → ((k : ℕ) → k < length ls → P (edge_of (joint + k) (link_at ls k).tail (link_at ls k).head_at) × P (edge_of (joint + k) (link_at ls k).head (link_at ls k).tail_at))
-    → All P (joining joint ls)
-joining_all P joint [] h = All-nil P
-joining_all P joint (l ∷ ls) h =
+pub joining_all : (P : NetEdge → Type 0) (joint : ℕ) (ls : List Link) (ws : List ℕ)
+    → ((k : ℕ) → k < length ls → P (edge_of (joint + k) (link_at ls k).tail (link_at ls k).head_at (weight_at ws k)) × P (edge_of (joint + k) (link_at ls k).head (link_at ls k).tail_at (weight_at ws k)))
+    → All P (joining joint ls ws)
+joining_all P joint [] ws h = All-nil P
+joining_all P joint (l ∷ ls) [] h = All-nil P
+joining_all P joint (l ∷ ls) (w ∷ ws) h =
     let here = h 0 (omega arith) in
     let same : joint + 0 ≡ joint = omega arith in
-    let rest = joining_all P (joint + 1) ls (λ k less.
+    let rest = joining_all P (joint + 1) ls ws (λ k less.
     let there = h (suc k) (omega (arith, less)) in
     let on : joint + suc k ≡ joint + 1 + k = omega arith in (
-      subst (λ n. P (edge_of n (link_at ls k).tail (link_at ls k).head_at)) on there.0,
-      subst (λ n. P (edge_of n (link_at ls k).head (link_at ls k).tail_at)) on there.1,
+      subst (λ n. P (edge_of n (link_at ls k).tail (link_at ls k).head_at (weight_at ws k))) on there.0,
+      subst (λ n. P (edge_of n (link_at ls k).head (link_at ls k).tail_at (weight_at ws k))) on there.1,
     )) in
-    All-cons P (edge_of joint l.tail l.head_at) (edge_of joint l.head l.tail_at ∷ joining (joint + 1) ls) (subst (λ n. P (edge_of n l.tail l.head_at)) same here.0)
-    (All-cons P (edge_of joint l.head l.tail_at) (joining (joint + 1) ls) (subst (λ n. P (edge_of n l.head l.tail_at)) same here.1) rest)
+    All-cons P (edge_of joint l.tail l.head_at w) (edge_of joint l.head l.tail_at w ∷ joining (joint + 1) ls ws) (subst (λ n. P (edge_of n l.tail l.head_at w)) same here.0)
+    (All-cons P (edge_of joint l.head l.tail_at w) (joining (joint + 1) ls ws) (subst (λ n. P (edge_of n l.head l.tail_at w)) same here.1) rest)
 
 -- a fact of all edges of pairs
 pub edges_all : (l : Plain) (alone : ℕ) (P : NetEdge → Type 0) (Q : PairFlow → Type 0) → ((p : PairFlow) → Q p → P (edge_for l alone p)) → (pairs : List PairFlow) → All Q pairs → All P (map (edge_for l alone) pairs)
@@ -56,28 +58,32 @@ edges_all l alone P Q step (p ∷ pairs) h =
 pub all_both : {X : Type 0} (P Q : X → Type 0) (xs : List X) → All P xs → All Q xs → All (λ x. P x × Q x) xs
 all_both P Q xs h k = λ i d l. (h i d l, k i d l)
 
-pub joining_long : (joint : ℕ) (ls : List Link) → length (joining joint ls) ≡ 2 * length ls
-joining_long joint [] = refl
-joining_long joint (l ∷ ls) = let h = joining_long (joint + 1) ls in omega (arith, h)
+pub joining_long : (joint : ℕ) (ls : List Link) (ws : List ℕ) → length ws ≡ length ls → length (joining joint ls ws) ≡ 2 * length ls
+joining_long joint [] ws same = refl
+joining_long joint (l ∷ ls) [] same = absurd (omega (arith, same))
+joining_long joint (l ∷ ls) (w ∷ ws) same = let h = joining_long (joint + 1) ls ws (omega (arith, same)) in omega (arith, h)
 
-joining_least : (joint : ℕ) (ls : List Link) → All HasPins ls → pos (sum_by (λ (e : NetEdge). e.least) (joining joint ls)) ≡ pins_together ls
-joining_least joint [] h = refl
-joining_least joint (l ∷ ls) h =
-    let rest = joining_least (joint + 1) ls (All-tail HasPins l ls h) in
+joining_least : (joint : ℕ) (ls : List Link) (ws : List ℕ) → length ws ≡ length ls → All HasPins ls → pos (sum_by (λ (e : NetEdge). e.least) (joining joint ls ws)) ≡ pins_together ls
+joining_least joint [] ws same h = refl
+joining_least joint (l ∷ ls) [] same h = absurd (omega (arith, same))
+joining_least joint (l ∷ ls) (w ∷ ws) same h =
+    let rest = joining_least (joint + 1) ls ws (omega (arith, same)) (All-tail HasPins l ls h) in
     let here = All-head HasPins l ls h in
-    let a = sum_by-cons (λ (e : NetEdge). e.least) (edge_of joint l.tail l.head_at) (edge_of joint l.head l.tail_at ∷ joining (joint + 1) ls) in
-    let b = sum_by-cons (λ (e : NetEdge). e.least) (edge_of joint l.head l.tail_at) (joining (joint + 1) ls) in
+    let a = sum_by-cons (λ (e : NetEdge). e.least) (edge_of joint l.tail l.head_at w) (edge_of joint l.head l.tail_at w ∷ joining (joint + 1) ls ws) in
+    let b = sum_by-cons (λ (e : NetEdge). e.least) (edge_of joint l.head l.tail_at w) (joining (joint + 1) ls ws) in
     let m = natural_is l.tail_at here.0 in
     let n = natural_is l.head_at here.1 in
     omega (arith, ints, rest, a, b, m, n)
 
-joining_weight : (joint : ℕ) (ls : List Link) → sum_by (λ (e : NetEdge). e.weight) (joining joint ls) ≡ 2 * length ls
-joining_weight joint [] = refl
-joining_weight joint (l ∷ ls) =
-    let rest = joining_weight (joint + 1) ls in
-    let a = sum_by-cons (λ (e : NetEdge). e.weight) (edge_of joint l.tail l.head_at) (edge_of joint l.head l.tail_at ∷ joining (joint + 1) ls) in
-    let b = sum_by-cons (λ (e : NetEdge). e.weight) (edge_of joint l.head l.tail_at) (joining (joint + 1) ls) in
-    omega (arith, rest, a, b)
+joining_weight : (joint : ℕ) (ls : List Link) (ws : List ℕ) → All (λ w. w ≤ greatest_weight) ws → sum_by (λ (e : NetEdge). e.weight) (joining joint ls ws) ≤ 2 * greatest_weight * length ls
+joining_weight joint [] ws small = omega arith
+joining_weight joint (l ∷ ls) [] small = omega arith
+joining_weight joint (l ∷ ls) (w ∷ ws) small =
+    let rest = joining_weight (joint + 1) ls ws (All-tail (λ v. v ≤ greatest_weight) w ws small) in
+    let here = All-head (λ v. v ≤ greatest_weight) w ws small in
+    let a = sum_by-cons (λ (e : NetEdge). e.weight) (edge_of joint l.tail l.head_at w) (edge_of joint l.head l.tail_at w ∷ joining (joint + 1) ls ws) in
+    let b = sum_by-cons (λ (e : NetEdge). e.weight) (edge_of joint l.head l.tail_at w) (joining (joint + 1) ls ws) in
+    omega (arith, rest, here, a, b)
 
 pairs_weight : (l : Plain) (alone : ℕ) (pairs : List PairFlow) → sum_by (λ (e : NetEdge). e.weight) (map (edge_for l alone) pairs) ≡ 0
 pairs_weight l alone [] = refl
@@ -142,8 +148,8 @@ module _ (l : Plain) (rows : List (List ℕ)) (sound : IsSound l) (are : AreRows
   abbrev Up : NetEdge → Type 0
   Up e = (rank e.tail < rank e.head) × ((e.tail < alone + 1) × (e.head < alone + 1))
 
-  links_up : All Up (joining count l.links)
-  links_up = joining_all Up (length l.units) l.links (λ k h. let e = link_ends k h in let a = e.0 in let b = e.1 in (
+  links_up : (ws : List ℕ) → All Up (joining count l.links ws)
+  links_up ws = joining_all Up (length l.units) l.links ws (λ k h. let e = link_ends k h in let a = e.0 in let b = e.1 in (
     (joint_up k (link_at l.links k).tail e.0, (omega (arith, h), omega (arith, a))),
     (joint_up k (link_at l.links k).head e.1, (omega (arith, h), omega (arith, b))),
   ))
@@ -159,9 +165,9 @@ module _ (l : Plain) (rows : List (List ℕ)) (sound : IsSound l) (are : AreRows
         | inr f ↦ let a = rank_unit p.upper u in rw f (omega (arith, a, b, w), (omega (arith, u), omega (arith, v)))
       ]
 
-  edges_up : All Up (edges_of l (all_pairs l rows))
-  edges_up =
-      All-append Up (joining (length l.units) l.links) (map (edge_for l (alone_of l)) (all_pairs l rows)) links_up
+  edges_up : (ws : List ℕ) → All Up (edges_of l ws (all_pairs l rows))
+  edges_up ws =
+      All-append Up (joining (length l.units) l.links ws) (map (edge_for l (alone_of l)) (all_pairs l rows)) (links_up ws)
       (edges_all l (alone_of l) Up (λ p. IsPair l p × (place_of l rows p.upper < place_of l rows p.lower)) pair_up (all_pairs l rows)
       (all_both (IsPair l) (λ p. place_of l rows p.upper < place_of l rows p.lower) (all_pairs l rows) (are_pairs l rows are) (pairs_ascend l rows are)))
 
@@ -172,32 +178,32 @@ module _ (l : Plain) (rows : List (List ℕ)) (sound : IsSound l) (are : AreRows
       let c = count_units l.units in
       omega (arith, a, b, c)
 
-  pub edges_long : (pairs : List PairFlow) → length (edges_of l pairs) ≡ 2 * length l.links + length pairs
-  edges_long pairs =
-      let a = length-append (joining (length l.units) l.links) (map (edge_for l (alone_of l)) pairs) in
-      let b = joining_long (length l.units) l.links in
-      let c = length-map pairs (edge_for l (alone_of l)) in
-      omega (arith, a, b, c)
+  module _ (ws : List ℕ) (weigh : AreWeights l ws) where
+    pub edges_long : (pairs : List PairFlow) → length (edges_of l ws pairs) ≡ 2 * length l.links + length pairs
+    edges_long pairs =
+        let a = length-append (joining (length l.units) l.links ws) (map (edge_for l (alone_of l)) pairs) in
+        let b = joining_long (length l.units) l.links ws weigh.one_each in
+        let c = length-map pairs (edge_for l (alone_of l)) in
+        omega (arith, a, b, c)
 
-  pub is_network : length l.units ≤ 2 ^ 21 → length l.links ≤ 2 ^ 21 → (total_height l.units +ℤ pins_together l.links) <ℤ pos (2 ^ 60) → IsNetwork (alone_of l + 1) (edges_of l (all_pairs l rows))
-  is_network few_units few_links small =
-      let pairs : List PairFlow = all_pairs l rows in
-      let up : (k : ℕ) → k < length (edges_of l (all_pairs l rows)) → Up (edge_at (edges_of l (all_pairs l rows)) k) = λ k h. edges_up k (record { tail = 0; head = 0; least = 0; weight = 0 }) h in
-      let long = edges_long (all_pairs l rows) in
-      let few = few_pairs in
-      let a = joining_least (length l.units) l.links have_pins in
-      let b = pairs_least l (alone_of l) (all_pairs l rows) sound (are_pairs l rows are) in
-      let c = pairs_within l rows most_room are in
-      let d = most_rooms l.units sound.heights in
-      let e = sum_by-append (λ (x : NetEdge). x.least) (joining (length l.units) l.links) (map (edge_for l (alone_of l)) (all_pairs l rows)) in
-      let f = joining_weight (length l.units) l.links in
-      let g = pairs_weight l (alone_of l) (all_pairs l rows) in
-      let k = sum_by-append (λ (x : NetEdge). x.weight) (joining (length l.units) l.links) (map (edge_for l (alone_of l)) (all_pairs l rows)) in
-      record {
-        few_nodes = omega (arith, few_units, few_links);
-        few_edges = omega (arith, long, few, few_units, few_links);
-        ends = λ i h. (up i h).1;
-        acyclic = λ v n w. let x = climbs rank (edges_of l (all_pairs l rows)) (λ i h. (up i h).0) v v (suc n) w in absurd (omega (arith, x));
-        least_fits = omega (arith, ints, a, b, c, d, e, small, few_units);
-        weight_fits = omega (arith, f, g, k, few_links);
-      }
+    pub is_network : length l.units ≤ 2 ^ 21 → length l.links ≤ 2 ^ 21 → (total_height l.units +ℤ pins_together l.links) <ℤ pos (2 ^ 60) → IsNetwork (alone_of l + 1) (edges_of l ws (all_pairs l rows))
+    is_network few_units few_links small =
+        let up : (k : ℕ) → k < length (edges_of l ws (all_pairs l rows)) → Up (edge_at (edges_of l ws (all_pairs l rows)) k) = λ k h. edges_up ws k (record { tail = 0; head = 0; least = 0; weight = 0 }) h in
+        let long = edges_long (all_pairs l rows) in
+        let few = few_pairs in
+        let a = joining_least (length l.units) l.links ws weigh.one_each have_pins in
+        let b = pairs_least l (alone_of l) (all_pairs l rows) sound (are_pairs l rows are) in
+        let c = pairs_within l rows most_room are in
+        let d = most_rooms l.units sound.heights in
+        let e = sum_by-append (λ (x : NetEdge). x.least) (joining (length l.units) l.links ws) (map (edge_for l (alone_of l)) (all_pairs l rows)) in
+        let f = joining_weight (length l.units) l.links ws weigh.small in
+        let g = pairs_weight l (alone_of l) (all_pairs l rows) in
+        let k = sum_by-append (λ (x : NetEdge). x.weight) (joining (length l.units) l.links ws) (map (edge_for l (alone_of l)) (all_pairs l rows)) in
+        record {
+          few_nodes = omega (arith, few_units, few_links);
+          few_edges = omega (arith, long, few, few_units, few_links);
+          ends = λ i h. (up i h).1;
+          acyclic = λ v n w. let x = climbs rank (edges_of l ws (all_pairs l rows)) (λ i h. (up i h).0) v v (suc n) w in absurd (omega (arith, x));
+          least_fits = omega (arith, ints, a, b, c, d, e, small, few_units);
+          weight_fits = omega (arith, f, g, k, few_links);
+        }

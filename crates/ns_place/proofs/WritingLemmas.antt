@@ -1,20 +1,20 @@
 -- Heights and flows, one after the other.
-use Rattle.std.proofs.Common.{◌≡◌, ℕ, zero, suc, ◌+◌, ◌<◌, ℤ, List, [], ◌∷◌, length, take, get_or, set, false, arith, refl, sym, ◌∙◌, ap, subst, inl, inr}
+use Rattle.std.proofs.Common.{◌≡◌, ℕ, ◌+◌, ◌*◌, ◌<◌, ◌≤◌, ℤ, pos, List, length, drop, get_or, set, false, arith, refl, sym, ◌∙◌, ap, subst, inl, inr}
 use Rattle.std.proofs.lemmas.Bool.{cases_eq}
-use Rattle.std.proofs.lemmas.List.{length-set, get_or-set_same, get_or-set_other}
+use Rattle.std.proofs.lemmas.List.{drop_more, drop_all, length-set, get_or-set_same, get_or-set_other}
 use Rattle.elk_layers.specs.declared.units.Link.{Link}
 use Rattle.elk_layers.specs.Layered.{link_at}
 use Rattle.ns_place.specs.declared.least.PairFlow.{PairFlow}
-use Rattle.ns_place.specs.Heights.{link_height, heights_together}
+use Rattle.ns_place.specs.Heights.{link_height}
+use Rattle.ns_place.specs.Weighed.{weighed_heights, weight_at}
 use Rattle.ns_place.specs.Flows.{pair_at, WritesFlows}
 
-pub heights_more : (tops : List ℤ) (ls : List Link) (i : ℕ) → i < length ls → heights_together tops (take (i + 1) ls) ≡ heights_together tops (take i ls) + link_height tops (link_at ls i)
-heights_more tops [] i h = absurd (omega (arith, h))
-heights_more tops (l ∷ ls) zero h = omega arith
-heights_more tops (l ∷ ls) (suc i) h =
-    let rest = heights_more tops ls i (omega (arith, h)) in
-    let n : suc i + 1 ≡ suc (i + 1) = omega arith in
-    rw n (omega (arith, rest))
+pub heights_step : (tops : List ℤ) (ls : List Link) (ws : List ℕ) (i : ℕ) → i < length ls → i < length ws
+    → weighed_heights tops (drop i ls) (drop i ws) ≡ weight_at ws i * link_height tops (link_at ls i) + weighed_heights tops (drop (i + 1) ls) (drop (i + 1) ws)
+heights_step tops ls ws i h hw = rw (drop_more ls i (record { edge = 0; tail = 0; head = 0; tail_rank = 0; head_rank = 0; tail_at = pos 0; head_at = pos 0 }) h, drop_more ws i 0 hw) refl
+
+pub heights_done : (tops : List ℤ) (ls : List Link) (ws : List ℕ) (i : ℕ) → length ls ≤ i → weighed_heights tops (drop i ls) ws ≡ 0
+heights_done tops ls ws i h = ap (λ (xs : List Link). weighed_heights tops xs ws) (drop_all i ls h)
 
 pub writes_start : (flow : List ℕ) (first : ℕ) (pairs : List PairFlow) → WritesFlows flow first pairs 0 pairs
 writes_start flow first pairs = record { as_many = refl; written = λ i h. absurd (omega (arith, h)); kept = λ i h. refl }

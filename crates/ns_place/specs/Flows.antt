@@ -8,10 +8,10 @@ pair_at pairs i = slice_index_or pairs i (record { upper = 0; lower = 0; body = 
 abbrev pub flow_at : List ℤ → ℕ → ℤ
 flow_at fs k = slice_index_or fs k (pos 0)
 
--- each link's number is 1 less than the flow to its tail
-pub record TellFlows (flow : List ℕ) (links : ℕ) (fs : List ℤ) : Type 0 where
-  pub as_many : length fs ≡ links
-  pub told : (k : ℕ) → k < links → flow_at fs k +ℤ pos 1 ≡ pos (slice_index flow (2 * k))
+-- each link's number is less than the flow to its tail by its weight
+pub record TellFlows (flow weights : List ℕ) (fs : List ℤ) : Type 0 where
+  pub as_many : length fs ≡ length weights
+  pub told : (k : ℕ) → k < length weights → flow_at fs k +ℤ pos (slice_index weights k) ≡ pos (slice_index flow (2 * k))
 
 -- the first pairs have the flows of their edges, and nothing else changed
 pub record WritesFlows (flow : List ℕ) (first : ℕ) (old : List PairFlow) (count : ℕ) (new : List PairFlow) : Type 0 where

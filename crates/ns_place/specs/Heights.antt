@@ -71,17 +71,21 @@ without_flow p = record { upper = p.upper; lower = p.lower; body = p.body; flow 
 abbrev pub IsUnitFlow : ℤ → Type 0
 IsUnitFlow f = (pos 0 ≤ℤ (f +ℤ pos 1)) × (f ≤ℤ pos 1)
 
--- numbers on the links and flows on the pairs that bound the heights of all links from below: what the links
--- bring to a unit, the pairs do, and their values add up to the height
-pub record IsHeightProof (l : Plain) (rows : List (List ℕ)) (height : ℕ) (link_flow : List ℤ) (pairs : List PairFlow) : Type 0 where
+-- numbers on the links and flows on the pairs that add up: what the links bring to a unit, the pairs do, and their
+-- values are the height together
+pub record AddUp (l : Plain) (rows : List (List ℕ)) (height : ℕ) (link_flow : List ℤ) (pairs : List PairFlow) : Type 0 where
   pub one_each : length link_flow ≡ length l.links
-  pub unit_flows : All IsUnitFlow link_flow
   pub pairs_are : map without_flow pairs ≡ all_pairs l rows
   pub none_below : All (λ (p : PairFlow). distance l p <ℤ pos 0 → p.flow ≡ 0) pairs
   pub balanced : (u : ℕ) → u < length l.units
       → of_links (λ k. k.head) l.links link_flow u -ℤ of_links (λ k. k.tail) l.links link_flow u
       ≡ pos (of_pairs (λ p. p.lower) pairs u) -ℤ pos (of_pairs (λ p. p.upper) pairs u)
   pub value : pairs_value l pairs +ℤ links_value l.links link_flow ≡ pos height
+
+-- numbers from -1 to 1 on the links that bound the heights of all links from below
+pub record IsHeightProof (l : Plain) (rows : List (List ℕ)) (height : ℕ) (link_flow : List ℤ) (pairs : List PairFlow) : Type 0 where
+  pub unit_flows : All IsUnitFlow link_flow
+  pub add_up : AddUp l rows height link_flow pairs
 
 -- no tops that keep the distances have links that are less high together
 abbrev pub IsLeastHeight : Plain → List (List ℕ) → ℕ → Type 0

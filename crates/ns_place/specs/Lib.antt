@@ -5,3 +5,5 @@ pub mod Closing
 pub mod Flows
 pub mod Tops
 pub mod Start
+pub mod Weighed
+pub mod Straight

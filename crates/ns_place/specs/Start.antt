@@ -24,9 +24,9 @@ completed tops ls = tops ++ (map (joint_layer tops) ls ++ lowest tops ∷ [])
 abbrev pub lowered : ℤ → ℤ
 lowered top = top +ℤ pos (2 ^ 57)
 
--- layers of the network that keep the distances and the links' pins
+-- layers of the network, whatever its links weigh, that keep the distances and the links' pins
 pub record AreFirst (l : Plain) (rows : List (List ℕ)) (layers : List ℤ) : Type 0 where
   pub as_many : length layers ≡ alone_of l + 1
-  pub layering : IsLayering (edges_of l (all_pairs l rows)) layers
+  pub layering : (weights : List ℕ) → IsLayering (edges_of l weights (all_pairs l rows)) layers
   pub from_zero : (v : ℕ) → v < alone_of l + 1 → pos 0 ≤ℤ layer_of layers v
   pub low : (v : ℕ) → v < alone_of l + 1 → layer_of layers v <ℤ pos (2 ^ 62)

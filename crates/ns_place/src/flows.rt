@@ -6,24 +6,28 @@ ghost use Rattle.ns_place.specs.Flows.{TellFlows, WritesFlows};
 use crate::least::PairFlow;
 use std::alloc::{AllocError, Global};
 
-/// The flow to a link's tail, less 1.
-fn unit_flow(flow: u64) -> i64
-    requires { flow ≤ 2 }
-    ensures { result +ℤ pos 1 ≡ pos flow }
+/// The flow to a link's tail, less the link's weight.
+fn flow_less(flow: u64, weight: u32) -> i64
+    requires { flow ≤ 2 * weight }
+    ensures { result +ℤ pos weight ≡ pos flow }
 {
-    flow as i64 - 1
+    flow as i64 - i64::from(weight)
 }
 
-/// By link, the flow to its tail, less 1.
-pub(crate) fn link_flows(alloc: Global, flow: &[u64], links: usize) -> Result<Vec<i64>, AllocError>
-    requires there { 2 * links ≤ length flow.now }
-    requires few { links ≤ 2 ^ 24 }
-    requires small { (k : ℕ) → k < links → slice_index flow.now (2 * k) ≤ 2 }
-    ensures { IfOk result (λ v. TellFlows flow.now links v.items) }
+/// By link, the flow to its tail, less the link's weight.
+pub(crate) fn link_flows(
+    alloc: Global,
+    flow: &[u64],
+    weights: &[u32],
+) -> Result<Vec<i64>, AllocError>
+    requires there { 2 * length weights.now ≤ length flow.now }
+    requires few { length weights.now ≤ 2 ^ 24 }
+    requires small { (k : ℕ) → k < length weights.now → slice_index flow.now (2 * k) ≤ 2 * slice_index weights.now k }
+    ensures { IfOk result (λ v. TellFlows flow.now weights.now v.items) }
 {
-    let mut flows = Vec::with_capacity(alloc, links)?;
-    for k in 0..links {
-        flows.push(unit_flow(flow[2 * k]))?;
+    let mut flows = Vec::with_capacity(alloc, weights.len())?;
+    for k in 0..weights.len() {
+        flows.push(flow_less(flow[2 * k], weights[k]))?;
     }
     Ok(flows)
 }

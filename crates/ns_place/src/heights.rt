@@ -3,7 +3,8 @@
 ghost use Rattle.std.specs.Prelude.{◌≡◌, ℕ, ◌<◌, ◌≤◌, ◌^◌, ◌*◌, pos, ◌+ℤ◌, ◌-ℤ◌, ◌≤ℤ◌, length};
 ghost use Rattle.std.specs.List.{All};
 ghost use Rattle.elk_layers.specs.Lines.{top_of};
-ghost use Rattle.ns_place.specs.Heights.{link_height, heights_together, size, IsNearLink};
+ghost use Rattle.ns_place.specs.Heights.{link_height, size, IsNearLink};
+ghost use Rattle.ns_place.specs.Weighed.{weighed_heights};
 
 use elk_layers::Link;
 
@@ -21,7 +22,7 @@ fn between(a: i64, b: i64) -> u64
 }
 
 /// How far one end of a link stands above the other.
-fn height_of(top: &[i64], link: Link) -> u64
+pub(crate) fn height_of(top: &[i64], link: Link) -> u64
     requires { IsNearLink top.now link }
     ensures { result ≡ link_height top.now link }
 {
@@ -31,15 +32,24 @@ fn height_of(top: &[i64], link: Link) -> u64
     )
 }
 
-/// The heights of all links together.
-pub(crate) fn total_height(top: &[i64], links: &[Link]) -> u128
+/// A height times a weight.
+fn times(weight: u32, height: u64) -> u128
+    ensures value { result ≡ weight * height }
+    ensures small { result ≤ 2 ^ 96 }
+{
+    u128::from(weight) * u128::from(height)
+}
+
+/// The heights of all links together, each times its weight.
+pub(crate) fn weighed_height(top: &[i64], links: &[Link], weights: &[u32]) -> u128
     requires few { length links.now ≤ 2 ^ 24 }
+    requires one_each { length weights.now ≡ length links.now }
     requires near { All (IsNearLink top.now) links.now }
-    ensures { result ≡ heights_together top.now links.now }
+    ensures { result ≡ weighed_heights top.now links.now weights.now }
 {
     let mut height: u128 = 0;
-    for link in links {
-        height += u128::from(height_of(top, *link));
+    for k in 0..links.len() {
+        height += times(weights[k], height_of(top, links[k]));
     }
     height
 }

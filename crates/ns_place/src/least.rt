@@ -14,13 +14,13 @@ pub struct PairFlow {
     pub flow: u64,
 }
 
-/// Lines whose links are least high together, and the flow that proves it.
+/// Lines whose links are least high together, each times its weight, and the flow that proves it.
 #[derive(Drop)]
 pub struct LeastPlacing {
     pub lines: Lines,
-    /// The heights of all links together.
+    /// The heights of all links together, each times its weight.
     pub height: u128,
-    /// By link, from -1 to 1.
+    /// By link, within its weight.
     pub link_flow: Vec<i64>,
     /// For each row its neighbours and then its consecutive children.
     pub pairs: Vec<PairFlow>,

@@ -5,15 +5,18 @@ ghost use Rattle.elk_layers.specs.Layered.{plain, rows_of, IsSound, AreRows, tot
 ghost use Rattle.network_laws.specs.Layering.{layer_of};
 ghost use Rattle.unit_blocks.specs.Constraints.{greatest_spacing, EndsWithinStack};
 ghost use Rattle.ns_place.specs.Heights.{pins_together, IsLeastPlacing};
+ghost use Rattle.ns_place.specs.Weighed.{greatest_weight, AreWeights, IsWeighedPlacing};
+ghost use Rattle.ns_place.specs.Straight.{IsStraightPlacing};
 ghost use Rattle.ns_place.specs.Tops.{AreClosedTops};
 
 use crate::closing::{as_tops, close_up, standings};
 use crate::flows::{link_flows, with_flows};
-use crate::heights::total_height;
+use crate::heights::weighed_height;
 use crate::least::LeastPlacing;
 use crate::network::network_of;
 use crate::pairs::pairs_of;
 use crate::start::first_layers;
+use crate::straight::{even_weights, straight_weights};
 use elk_layers::{Layered, Lines, Order};
 use flow_dual::solve_from;
 use std::alloc::{AllocError, Global};
@@ -40,6 +43,41 @@ fn tops_of(alloc: Global, layered: &Layered, layers: &[i64]) -> Result<Vec<i64>,
     as_tops(alloc, closed.as_slice())
 }
 
+/// Tops of units that keep all distances of the order and make the links least high together, each times its
+/// weight, with a flow that proves it.
+fn place_weighed(
+    alloc: Global,
+    layered: &Layered,
+    order: &Order,
+    weights: &[u32],
+) -> Result<LeastPlacing, AllocError>
+    requires sound { IsSound (plain layered.now) }
+    requires rows { AreRows (plain layered.now) (rows_of order.now) }
+    requires few_units { length (plain layered.now).units ≤ 2 ^ 21 }
+    requires few_links { length (plain layered.now).links ≤ 2 ^ 21 }
+    requires together { (total_height (plain layered.now).units +ℤ pins_together (plain layered.now).links) <ℤ pos (2 ^ 60) }
+    requires weights { AreWeights (plain layered.now) weights.now }
+    ensures least { IfOk result (λ p. IsWeighedPlacing (plain layered.now) (rows_of order.now) weights.now p.lines.top.items p.height p.link_flow.items p.pairs.items) }
+    ensures within { IfOk result (λ p. EndsWithinStack (plain layered.now) p.lines.top.items) }
+{
+    let pairs = pairs_of(alloc, layered, order)?;
+    let net = network_of(alloc, layered, weights, pairs.as_slice())?;
+    let first = first_layers(alloc, layered, order)?;
+    let solution = solve_from(alloc, &net, first)?;
+    let links = layered.links.as_slice();
+    let flow = solution.flow.as_slice();
+    let top = tops_of(alloc, layered, solution.layer.as_slice())?;
+    let link_flow = link_flows(alloc, flow, weights)?;
+    let pairs = with_flows(flow, 2 * links.len(), pairs);
+    let height = weighed_height(top.as_slice(), links, weights);
+    Ok(LeastPlacing {
+        lines: Lines { top },
+        height,
+        link_flow,
+        pairs,
+    })
+}
+
 /// Tops of units that keep all distances of the order and make the links least high together, with a flow that
 /// proves it and that can be added up by hand. No unit ends further down than all heights and spacings together.
 pub fn place_least(
@@ -55,20 +93,29 @@ pub fn place_least(
     ensures least { IfOk result (λ p. IsLeastPlacing (plain layered.now) (rows_of order.now) p.lines.top.items p.height p.link_flow.items p.pairs.items) }
     ensures within { IfOk result (λ p. EndsWithinStack (plain layered.now) p.lines.top.items) }
 {
-    let pairs = pairs_of(alloc, layered, order)?;
-    let net = network_of(alloc, layered, pairs.as_slice())?;
-    let first = first_layers(alloc, layered, order)?;
-    let solution = solve_from(alloc, &net, first)?;
-    let links = layered.links.as_slice();
-    let flow = solution.flow.as_slice();
-    let top = tops_of(alloc, layered, solution.layer.as_slice())?;
-    let link_flow = link_flows(alloc, flow, links.len())?;
-    let pairs = with_flows(flow, 2 * links.len(), pairs);
-    let height = total_height(top.as_slice(), links);
-    Ok(LeastPlacing {
-        lines: Lines { top },
-        height,
-        link_flow,
-        pairs,
-    })
+    let weights = even_weights(alloc, layered.links.as_slice().len())?;
+    place_weighed(alloc, layered, order, weights.as_slice())
+}
+
+/// Tops of units that keep all distances of the order and make the links least high together, with a flow that
+/// proves it. A link that alignment keeps level counts `straightness` times: it stays straight unless bending it
+/// saves more than that elsewhere. (Alignment is the sweep of least height.) With a straightness of 1 this is
+/// `place_least`; with 0 such links may be as high as they like.
+pub fn place_straight(
+    alloc: Global,
+    layered: &Layered,
+    order: &Order,
+    straightness: u32,
+) -> Result<LeastPlacing, AllocError>
+    requires sound { IsSound (plain layered.now) }
+    requires rows { AreRows (plain layered.now) (rows_of order.now) }
+    requires few_units { length (plain layered.now).units ≤ 2 ^ 21 }
+    requires few_links { length (plain layered.now).links ≤ 2 ^ 21 }
+    requires together { (total_height (plain layered.now).units +ℤ pins_together (plain layered.now).links) <ℤ pos (2 ^ 60) }
+    requires straightness { straightness ≤ greatest_weight }
+    ensures straight { IfOk result (λ p. IsStraightPlacing (plain layered.now) (rows_of order.now) straightness p.lines.top.items p.height p.link_flow.items p.pairs.items) }
+    ensures within { IfOk result (λ p. EndsWithinStack (plain layered.now) p.lines.top.items) }
+{
+    let weights = straight_weights(alloc, layered, order, straightness)?;
+    place_weighed(alloc, layered, order, weights.as_slice())
 }

@@ -4,4 +4,4 @@ use Rattle.ns_place.proofs.network.push_joints.Given as goal
 
 abbrev pub invariant-loop-k : goal.invariant-loop-k
 invariant-loop-k l =
-    l.edges.items ++ joining (l.first + l.k) (drop l.k l.links) ≡ l.initial.edges.items ++ joining l.first l.links
+    l.edges.items ++ joining (l.first + l.k) (drop l.k l.links) (drop l.k l.weights) ≡ l.initial.edges.items ++ joining l.first l.links l.weights
