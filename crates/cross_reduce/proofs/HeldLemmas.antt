@@ -1,5 +1,5 @@
 -- Rows in which some units are held: before and after an exchange, and filled from a list in order.
-use Rattle.std.proofs.Common.{◌≡◌, ◌<◌, ◌≤◌, ◌+◌, ◌⊎◌, ◌&&◌, ◌<ℤ◌, ℕ, zero, suc, ℤ, Option, List, [], ◌∷◌, length, map, get_or, set, Bool, true, false, cond, not, IsTrue, IsFalse, refl, arith, sym, ◌∙◌, ap, subst, inl, inr}
+use Rattle.std.proofs.Common.{◌≡◌, ◌<◌, ◌≤◌, ◌+◌, ◌⊎◌, ◌&&◌, ◌<ℤ◌, ℕ, zero, suc, ℤ, Option, List, [], ◌∷◌, length, map, get_or, set, Bool, true, false, cond, IsTrue, IsFalse, refl, arith, sym, ap, subst, inl, inr}
 use Rattle.std.proofs.lemmas.Bool.{cases_eq, cases_lt, lt-ltb, both_ways}
 use Rattle.std.specs.List.{All, filter, swap}
 use Rattle.std.specs.List.Sorted.{IsPermutation, IsSortedByKey}
@@ -18,7 +18,7 @@ use Rattle.elk_layers.specs.Sweeps.{refilled}
 use Rattle.cross_reduce.specs.declared.holding.HeldUnit.{HeldUnit}
 use Rattle.cross_reduce.specs.Exchanges.{NoneInRow}
 use Rattle.cross_reduce.specs.Held.{is_held, key_of, GoesBefore, IsHeldRow, AreHeldRows, are_both_held, NoBetterFreeSwap, IsNoneHeld, NoneFreeInRow}
-use Rattle.cross_reduce.specs.HeldRows.{held_unit, held_units, numbers_of, refilled_held}
+use Rattle.cross_reduce.specs.HeldRows.{held_unit, held_units, numbers_of}
 use Rattle.cross_reduce.proofs.SweepLemmas.{refilled_none}
 
 -- ---- no unit is held
@@ -56,11 +56,10 @@ swap_next x row i h = ap (λ (ys : List ℕ). x ∷ ys) (swap_is row i (i + 1) x
 held_swapped : (held : List (Option ℤ)) (row : List ℕ) (i : ℕ) → i + 1 < length row → (is_held held (get_or row i 0) && is_held held (get_or row (i + 1) 0)) ≡ false → IsHeldRow held row → IsHeldRow held (swap row i (i + 1))
 held_swapped held [] i h free is = absurd (omega (arith, h))
 held_swapped held (u ∷ []) zero h free is = absurd (omega (arith, h))
-held_swapped held (u ∷ v ∷ row) zero h free is =
-    (
-      (λ hv. All-cons (IsBelow held v) u row (λ hu. absurd (not_two (is_held held u) (is_held held v) free hu hv)) (is.1.0 hv)),
-      ((λ hu. All-tail (IsBelow held u) v row (is.0 hu)), is.1.1),
-    )
+held_swapped held (u ∷ v ∷ row) zero h free is = (
+  (λ hv. All-cons (IsBelow held v) u row (λ hu. absurd (not_two (is_held held u) (is_held held v) free hu hv)) (is.1.0 hv)),
+  ((λ hu. All-tail (IsBelow held u) v row (is.0 hu)), is.1.1),
+)
 held_swapped held (u ∷ row) (suc i) h free is =
     let next : suc i + 1 ≡ suc (i + 1) = omega arith in
     let inside : i + 1 < length row = omega (arith, h) in
@@ -130,11 +129,10 @@ goes_before a b u v f = step (int_cmp b a) (int_ranks b a) f
 -- a list in which each goes before those below it
 held_pairs : (held : List (Option ℤ)) (row : List ℕ) → ((i j : ℕ) → i < j → j < length row → GoesBefore held (get_or row i 0) (get_or row j 0)) → IsHeldRow held row
 held_pairs held [] pairs = tt
-held_pairs held (u ∷ row) pairs =
-    (
-      (λ h. All-from_get_or (IsBelow held u) row 0 (λ j l k. pairs 0 (suc j) (omega arith) (omega (arith, l)))),
-      held_pairs held row (λ i j l h. pairs (suc i) (suc j) (omega (arith, l)) (omega (arith, h))),
-    )
+held_pairs held (u ∷ row) pairs = (
+  (λ h. All-from_get_or (IsBelow held u) row 0 (λ j l k. pairs 0 (suc j) (omega arith) (omega (arith, l)))),
+  held_pairs held row (λ i j l h. pairs (suc i) (suc j) (omega (arith, l)) (omega (arith, h))),
+)
 
 numbers_back : (held : List (Option ℤ)) (row : List ℕ) → numbers_of (map (held_unit held) row) ≡ row
 numbers_back held [] = refl

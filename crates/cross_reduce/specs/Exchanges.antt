@@ -1,5 +1,5 @@
 -- What an exchange of two neighbours changes.
-use Rattle.std.specs.Prelude.{◌≡◌, ◌≢◌, ℕ, ◌+◌, ◌-◌, ◌<◌, ◌≤◌, ◌^◌, List, length, slice_index, slice_index_or, slice_set, Bool, true, false}
+use Rattle.std.specs.Prelude.{◌≡◌, ◌≢◌, ℕ, ◌+◌, ◌-◌, ◌<◌, ◌≤◌, ◌^◌, List, length, slice_index, slice_set, Bool, false}
 use Rattle.std.specs.List.{All}
 use Rattle.std.specs.Bool.{MatchBool}
 use Rattle.elk_layers.specs.Layered.{Plain, IsSound, AreRows, row_at}

@@ -1,9 +1,9 @@
-use Rattle.std.proofs.Common.{◌≡◌, ◌+◌, ◌<◌, ◌&&◌, false, get_or, arith, refl, subst, sym, ◌∙◌}
+use Rattle.std.proofs.Common.{◌+◌, ◌<◌, arith, refl, subst, sym, ◌∙◌}
 use Rattle.std.proofs.lemmas.Bool.{both_ways}
 use Rattle.elk_layers.specs.Layered.{plain, rows_of, row_at}
 use Rattle.elk_layers.specs.Crossings.{crossings}
 use Rattle.cross_reduce.specs.Fans.{fan_lists}
-use Rattle.cross_reduce.specs.Held.{is_held, are_both_held}
+use Rattle.cross_reduce.specs.Held.{are_both_held}
 use Rattle.cross_reduce.proofs.RowLemmas.{row_of}
 use Rattle.cross_reduce.proofs.LoweringLemmas.{pair_lowers, pair_stays}
 use Rattle.cross_reduce.proofs.StateLemmas.{left_fits, right_fits, same_refl, same_exchanged, try_then, try_else}

@@ -1,6 +1,4 @@
-use Rattle.std.proofs.Common.{subst}
 use Rattle.elk_layers.specs.Layered.{plain, rows_of}
-use Rattle.cross_reduce.specs.Held.{AreHeldRows}
 use Rattle.cross_reduce.proofs.RowLemmas.{rows_permuted}
 use Rattle.cross_reduce.proofs.StateLemmas.{same_refl, same_trans}
 use Rattle.cross_reduce.proofs.HeldLemmas.{held_of_either}

@@ -5,7 +5,7 @@ use Rattle.std.proofs.lemmas.Result.{IfOk-weaker}
 use Rattle.std.proofs.lemmas.List.Sorted.{answers_always, length_permutation}
 use Rattle.cross_reduce.specs.declared.holding.HeldUnit.{HeldUnit}
 use Rattle.cross_reduce.specs.Held.{is_held, IsHeldRow}
-use Rattle.cross_reduce.specs.HeldRows.{held_units, numbers_of}
+use Rattle.cross_reduce.specs.HeldRows.{numbers_of}
 use Rattle.cross_reduce.proofs.SweepLemmas.{refilled_is_permuted}
 use Rattle.cross_reduce.proofs.HeldLemmas.{numbers_permuted, refilled_is_held, sorted_is_held, sorted_in_order}
 use Rattle.cross_reduce.proofs.holding.held_row.Goals as goal

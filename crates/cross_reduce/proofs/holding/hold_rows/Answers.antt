@@ -1,4 +1,4 @@
-use Rattle.std.proofs.Common.{◌≡◌, List, ℕ, arith, inl, inr, subst, sym}
+use Rattle.std.proofs.Common.{List, ℕ, arith, inl, inr, subst, sym}
 use Rattle.std.proofs.lemmas.Bool.{cases_eq}
 use Rattle.elk_layers.specs.Layered.{rows_of, row_at}
 use Rattle.cross_reduce.specs.Held.{IsHeldRow}
