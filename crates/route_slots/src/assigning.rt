@@ -1,17 +1,14 @@
 //! Routes for the nets of a gap.
-ghost use Rattle.std.specs.Prelude.{◌≡◌, ◌+◌, ◌≤◌, ◌^◌, length, IfOk};
+ghost use Rattle.std.specs.Prelude.{◌≡◌, ◌+◌, ◌≤◌, length, IfOk};
 ghost use Rattle.std.specs.List.{All};
-ghost use Rattle.net_routes.specs.Limits.{exchange_limit, net_limit};
-ghost use Rattle.net_routes.specs.GapFree.{IsNet, AreHeights, GapFree};
-ghost use Rattle.net_routes.specs.Conflicts.{HasNoConflict, SplitsOnCycles};
+ghost use Rattle.net_routes.specs.Limits.{net_limit};
+ghost use Rattle.net_routes.specs.GapFree.{IsNet, AreHeights};
 ghost use Rattle.net_routes.specs.Density.{IsDensity};
 ghost use Rattle.route_slots.specs.Choosing.{AreGood};
-ghost use Rattle.net_routes.specs.Standing.{AreApart};
 ghost use Rattle.net_routes.specs.Promised.{AreFewest};
-ghost use Rattle.net_routes.specs.Exchanges.{NoBetterExchange};
 ghost use Rattle.route_slots.specs.Middles.{AreMiddles};
 ghost use Rattle.route_slots.specs.Levels.{StandByLevels};
-ghost use Rattle.route_slots.specs.Marks.{AreNetMarks, AreFlat, SplitsByMarks, ArePieces, HaveSlots, piece_a, piece_b, other_end, route_by};
+ghost use Rattle.route_slots.specs.Marks.{AreNetMarks, AreFlat, ArePieces, HaveSlots, piece_a, piece_b, other_end, route_by};
 
 use crate::choosing::choose;
 use crate::depths::depths_of;

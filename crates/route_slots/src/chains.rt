@@ -1,5 +1,5 @@
 //! The links that leave each node, one after the other.
-ghost use Rattle.std.specs.Prelude.{◌≡◌, ◌<◌, ◌≤◌, ◌^◌, ◌+◌, length, IfOk, slice_set, slice_index};
+ghost use Rattle.std.specs.Prelude.{◌<◌, ◌≤◌, length, IfOk};
 ghost use Rattle.route_slots.specs.Links.{link_limit};
 ghost use Rattle.route_slots.specs.Links.{EndsBelow};
 ghost use Rattle.route_slots.specs.Chains.{AreFirsts, AreNexts, Puts};

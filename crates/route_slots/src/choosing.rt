@@ -1,5 +1,5 @@
 //! Slots of few crossings in place of those by low ends.
-ghost use Rattle.std.specs.Prelude.{◌≡◌, ◌<◌, ◌≤◌, ◌+◌, ◌^◌, ℕ, List, true, false, length, IfOk};
+ghost use Rattle.std.specs.Prelude.{◌≡◌, ◌<◌, ◌≤◌, ◌+◌, ℕ, List, true, false, length, IfOk};
 ghost use Rattle.net_routes.specs.Limits.{exchange_limit, net_limit};
 ghost use Rattle.net_routes.specs.Pieces.{net_at};
 ghost use Rattle.net_routes.specs.Crossings.{crossings};

@@ -1,5 +1,5 @@
 //! The whole search.
-ghost use Rattle.std.specs.Prelude.{◌≡◌, ◌<◌, ◌≤◌, ◌^◌, ℕ, [], true, false, length, IfOk, OnOk};
+ghost use Rattle.std.specs.Prelude.{◌≡◌, ◌<◌, ◌≤◌, ◌^◌, ℕ, [], false, length, IfOk, OnOk};
 ghost use Rattle.route_slots.specs.Links.{link_limit};
 ghost use Rattle.route_slots.specs.Links.{EndsBelow, CutsOnCycles, LeadsLessDeep, AreLeast, number_at};
 ghost use Rattle.route_slots.specs.Chains.{AreFirsts, AreNexts};

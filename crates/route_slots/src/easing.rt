@@ -1,13 +1,9 @@
 //! Slots by which fewer lines run side by side too near each other, where that costs no crossing and no slot.
-ghost use Rattle.std.specs.Prelude.{◌≡◌, ◌⊎◌, ◌≤◌, ◌^◌, length, IfOk};
+ghost use Rattle.std.specs.Prelude.{◌≡◌, ◌⊎◌, ◌≤◌, length, IfOk};
 ghost use Rattle.std.specs.List.{All};
 ghost use Rattle.net_routes.specs.Limits.{exchange_limit, net_limit};
-ghost use Rattle.net_routes.specs.GapFree.{IsNet, AreHeights, GapFree};
-ghost use Rattle.net_routes.specs.Conflicts.{HasNoConflict, SplitsOnCycles};
-ghost use Rattle.net_routes.specs.Density.{IsDensity};
+ghost use Rattle.net_routes.specs.GapFree.{IsNet, AreHeights};
 ghost use Rattle.net_routes.specs.Crossings.{crossings};
-ghost use Rattle.net_routes.specs.Standing.{AreApart};
-ghost use Rattle.net_routes.specs.Exchanges.{NoBetterExchange};
 ghost use Rattle.net_routes.specs.Promised.{AreFewest};
 
 use crate::assigning::assign;

@@ -1,5 +1,5 @@
 //! Heights at which the two pieces of a split net meet.
-ghost use Rattle.std.specs.Prelude.{◌≡◌, ◌⊎◌, ◌<◌, ◌≤◌, ◌^◌, ◌≤ℤ◌, pos, ◌+ℤ◌, ℤ, true, false, length, slice_index, IfOk, OnOk};
+ghost use Rattle.std.specs.Prelude.{◌≡◌, ◌<◌, ◌≤◌, ◌≤ℤ◌, ℤ, true, false, length, IfOk, OnOk};
 ghost use Rattle.std.specs.List.{All};
 ghost use Rattle.std.specs.Int.{int_min, int_max};
 ghost use Rattle.net_routes.specs.Limits.{net_limit};

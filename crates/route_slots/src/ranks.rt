@@ -1,5 +1,5 @@
 //! Nets are ranked one after another, each once all that precede it are.
-ghost use Rattle.std.specs.Prelude.{◌≡◌, ◌+◌, ◌<◌, ◌≤◌, ◌^◌, ℕ, true, false, length, IfOk, IfSome, IfNone};
+ghost use Rattle.std.specs.Prelude.{◌≡◌, ◌+◌, ◌<◌, ◌≤◌, ℕ, true, false, length, IfOk, IfSome, IfNone};
 ghost use Rattle.net_routes.specs.Limits.{net_limit};
 ghost use Rattle.route_slots.specs.Levels.{AreLevels, level_of};
 ghost use Rattle.net_routes.specs.Uncrossed.{Precedes, IsOrderable};

@@ -1,15 +1,11 @@
 //! Slots along which each two nets cross no more often than they have to.
-ghost use Rattle.std.specs.Prelude.{◌≡◌, ◌<◌, ◌≤◌, ◌^◌, ℕ, true, length, IfOk, IfSome, IfNone};
+ghost use Rattle.std.specs.Prelude.{◌≡◌, ◌<◌, ◌≤◌, ℕ, true, length, IfOk, IfSome, IfNone};
 ghost use Rattle.std.specs.List.{All};
-ghost use Rattle.net_routes.specs.Limits.{exchange_limit, net_limit};
-ghost use Rattle.net_routes.specs.Pieces.{net_at};
-ghost use Rattle.net_routes.specs.GapFree.{IsNet, AreHeights, GapFree};
-ghost use Rattle.net_routes.specs.Conflicts.{HasNoConflict, HasOneConflict, SplitsOnCycles};
-ghost use Rattle.net_routes.specs.Standing.{AreApart};
-ghost use Rattle.net_routes.specs.Exchanges.{NoBetterExchange};
+ghost use Rattle.net_routes.specs.Limits.{net_limit};
+ghost use Rattle.net_routes.specs.GapFree.{IsNet, AreHeights};
 ghost use Rattle.net_routes.specs.Promised.{AreUncrossed};
 ghost use Rattle.route_slots.specs.Levels.{AreLevels, IsLevelMark, AreLevelMarks, level_of};
-ghost use Rattle.net_routes.specs.Uncrossed.{Precedes, IsOrderable, CrossAsAsked};
+ghost use Rattle.net_routes.specs.Uncrossed.{Precedes, IsOrderable};
 
 use crate::assigning::place;
 use crate::fitting::{fitted_nets, level_at};

@@ -1,5 +1,5 @@
 //! A search in depth through a graph, link by link.
-ghost use Rattle.std.specs.Prelude.{◌≡◌, ◌≢◌, ◌<◌, ◌≤◌, ◌+◌, ◌^◌, ℕ, [], length, vec_len, OnOk, slice_index};
+ghost use Rattle.std.specs.Prelude.{◌≡◌, ◌<◌, ◌≤◌, ◌+◌, ◌^◌, [], length, OnOk};
 ghost use Rattle.route_slots.specs.Links.{link_limit};
 ghost use Rattle.route_slots.specs.Links.{EndsBelow, number_at};
 ghost use Rattle.route_slots.specs.Chains.{AreNexts};
