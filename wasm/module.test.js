@@ -3,7 +3,7 @@
 // documents, all in one instance where no trap may have left it broken.
 
 const assert = require('node:assert');
-const { readFileSync } = require('node:fs');
+const { existsSync, readFileSync } = require('node:fs');
 const path = require('node:path');
 const test = require('node:test');
 const { withMemoryLimit } = require('../adapters/js/module');
@@ -17,6 +17,12 @@ const DOUBLE = '{"id":"r","children":[{"id":"a"},{"id":"a"}]}';
 
 const options = moduleFile() ? {} : { skip: 'there is no module: release/ has none, and ELK_MODULE names none' };
 const bytes = moduleFile() && moduleBytes();
+
+// The module with the function that makes calls for memory fail, which `tools/wasm` writes beside the one that is released.
+const FOR_TESTS = 'elk-for-tests.wasm';
+const besides = moduleFile() && path.join(path.dirname(moduleFile()), FOR_TESTS);
+const isRefusing = Boolean(besides) && existsSync(besides);
+const refusing = isRefusing ? {} : { skip: `there is no ${FOR_TESTS} beside the module: tools/wasm makes it` };
 
 /** One instance of the module, of which each call is a run of the program. */
 class Instance {
@@ -33,8 +39,8 @@ class Instance {
     this.#exports = new WebAssembly.Instance(module, { host }).exports;
   }
 
-  /** Runs the program; with a number, that call for memory is refused. */
-  run(words, given, refused = -1) {
+  /** Runs the program; with a number, that call for memory is refused, which only the module for tests can do. */
+  run(words, given, refused) {
     const rest = { bytes: Buffer.from(given) };
     const written = { 1: [], 2: [] };
     this.#call = {
@@ -46,7 +52,9 @@ class Instance {
       },
       put: (stream, piece) => written[stream].push(Buffer.from(piece)) && piece.length,
     };
-    this.#exports.refuse_call(BigInt(refused));
+    if (refused !== undefined) {
+      this.#exports.refuse_call(BigInt(refused));
+    }
     const status = this.#exports.main(0, 0n);
     return { status, out: Buffer.concat(written[1]).toString(), notes: Buffer.concat(written[2]).toString() };
   }
@@ -92,9 +100,14 @@ const words = [
   { words: ['batch'], given: () => `${SMALL}\n${DOUBLE}\n` },
 ];
 
+test('the module exports its main function and its memory, and nothing for tests', options, () => {
+  const names = WebAssembly.Module.exports(new WebAssembly.Module(bytes)).map(({ name }) => name);
+  assert.deepStrictEqual(names.sort(), ['main', 'memory']);
+});
+
 for (const row of words) {
-  test(`each call for memory refused in turn: ${row.words[0]}`, options, () => {
-    const instance = started();
+  test(`each call for memory refused in turn: ${row.words[0]}`, refusing, () => {
+    const instance = new Instance(new WebAssembly.Module(readFileSync(besides)));
     const given = row.given(instance);
     const whole = instance.run(row.words, given);
     const memory = instance.memory;

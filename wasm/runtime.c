@@ -12,14 +12,6 @@ typedef struct {
 static unsigned char nowhere;      /* a place that isn't null, for a call without an answer */
 static int reason;
 
-/* Since the number of a call that is refused is seldom set, this counts down to it, and past it for good. */
-static uint64_t calls_left = ~(uint64_t)0;
-
-void refuse_call(uint64_t number)
-{
-    calls_left = number;
-}
-
 static Tried tried(void *block)
 {
     Tried answer;
@@ -28,10 +20,25 @@ static Tried tried(void *block)
     return answer;
 }
 
+#ifdef FOR_TESTS
+/* This counts down to the call that is refused, and past it for good. */
+static uint64_t calls_left = ~(uint64_t)0;
+
+void refuse_call(uint64_t number)
+{
+    calls_left = number;
+}
+
 static int is_refused(void)
 {
     return calls_left-- == 0;
 }
+#else
+static int is_refused(void)
+{
+    return 0;
+}
+#endif
 
 /* Owes new memory of so many bytes at a multiple of a divisor of 16, or says that there is none. A value of no bytes has a place of its
  * own too. */

@@ -4,8 +4,10 @@
 
 #include "heap.h"
 
-/* Refuses one call for memory, the one with this number, counted from 0 from now on: a test of what the program says then. */
+#ifdef FOR_TESTS
+/* Refuses one call for memory, the one with this number, counted from 0 from now on. Only modules for tests have it. */
 void refuse_call(uint64_t number);
+#endif
 
 /* Keeps why a call of the system failed. */
 void rattle_set_errno(int new_reason);

@@ -1,6 +1,7 @@
-/* Tries the heap, the whole numbers of 128 bits and the copying of bytes as a program of this machine, whose compiler has such numbers
- * and such copying of its own. A line tells each case that fails; the last line counts. */
+/* Tries the heap, the calls for memory, the whole numbers of 128 bits and the copying of bytes as a program of this machine, whose
+ * compiler has such numbers and such copying of its own. A line tells each case that fails; the last line counts. */
 #include "heap.c"
+#include "runtime.c"
 #include "wide.h"
 
 /* What bytes.c has, by names of its own here. */
@@ -316,6 +317,29 @@ static void bytes(void)
                 bytes_are_right(length, from, to);
 }
 
+static int is_given(void)
+{
+    Tried block = rattle_alloc(8, 8);
+    if (block.is_there)
+        rattle_dealloc(block.where);
+    return block.is_there != 0;
+}
+
+/* A module for tests refuses the call for memory that it was told to refuse, and no other. */
+static void refused_calls(void)
+{
+    Tried block = rattle_alloc(8, 8);
+    memset(block.where, 7, 8);
+    for (uint64_t number = 0; number < 4; number++) {
+        refuse_call(number);
+        for (uint64_t call = 0; call < 8; call++)
+            holds(is_given() == (call != number), "another call for memory is refused than was told");
+    }
+    refuse_call(0);
+    holds(!rattle_realloc(block.where, 8, 64, 8).is_there && ((unsigned char *)block.where)[7] == 7, "a refused call changed its block");
+    rattle_dealloc(block.where);
+}
+
 int main(void)
 {
     numbers();
@@ -323,6 +347,7 @@ int main(void)
     use();
     growth();
     refusals();
-    printf("heap, wide and bytes: %d passed, %d failed\n", passed, failed);
+    refused_calls();
+    printf("heap, runtime, wide and bytes: %d passed, %d failed\n", passed, failed);
     return failed != 0;
 }

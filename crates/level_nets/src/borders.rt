@@ -5,6 +5,7 @@ ghost use Rattle.elk_doc.specs.Sound.{IsDistance, IsSoundSpacing};
 ghost use Rattle.elk_layers.specs.Layered.{IsFromZero};
 ghost use Rattle.std.specs.List.{All};
 ghost use Rattle.net_routes.specs.GapFree.{AreHeights, GapFree, IsNet};
+ghost use Rattle.net_routes.specs.Limits.{net_limit};
 ghost use Rattle.route_lines.specs.Points.{gap_in, plain_gap};
 ghost use Rattle.level_model.specs.Conditions.{plain_level};
 ghost use Rattle.level_model.specs.FromPlan.{AreSlots};
@@ -140,7 +141,7 @@ fn first_slot(level: &LevelIn, gap: u32) -> i64
 // Slots for the nets of a gap, as the level asks for them. Lines that needn't run side by side nearer than edges keep don't,
 // where it costs no crossing and, by the fewest slots, none of these.
 fn slots_for(alloc: Global, level: &LevelIn, nets: &[Net]) -> Result<Slots, AllocError>
-    requires few { length nets.now ≤ 2 ^ 24 }
+    requires few { length nets.now ≤ net_limit }
     requires pins { All IsNet nets.now }
     requires heights { All AreHeights nets.now }
     ensures free { IfOk result (λ v. GapFree nets.now v.count v.routes.items) }

@@ -16,6 +16,7 @@ use Rattle.net_routes.specs.Crossings.{sum_to, cut_at, crossings}
 use Rattle.net_routes.specs.Exchanges.{exchanged, AreExchanged, NoBetterExchange}
 use Rattle.net_routes.specs.Uncrossed.{asked, in_order, Precedes, IsOrderable, CrossAsAsked}
 use Rattle.net_routes.specs.Moved.{moved_pin, moved_net, moved_route}
+use Rattle.net_routes.specs.Limits.{exchange_limit}
 use Rattle.net_routes.specs.Promised.{AreFewest, AreUncrossed}
 use Rattle.net_routes.proofs.Summing.{sum_same}
 use Rattle.net_routes.proofs.Asking.{same_pin}
@@ -283,7 +284,7 @@ fewest_moves y nets count routes f =
       apart = apart_moves y nets routes f.apart;
       splits = splits_move y nets routes f.splits;
       density = λ none. density_moves y nets count (f.density (none_back y nets none));
-      exchanges = λ few. no_better_moves y nets count routes (f.exchanges (few_back y nets 1024 few));
+      exchanges = λ few. no_better_moves y nets count routes (f.exchanges (few_back y nets exchange_limit few));
     }
 
 pub fewest_back : (y : ℤ) (nets : List Net) (count : ℕ) (routes : List NetRoute) → AreFewest (map (moved_net y) nets) count (map (moved_route y) routes) → AreFewest nets count routes
@@ -295,10 +296,10 @@ uncrossed_moves y nets count routes u =
       free = gap_moves y nets count routes u.free;
       apart = apart_moves y nets routes u.apart;
       splits = splits_move y nets routes u.splits;
-      uncrossed = λ few ranked. as_asked_moves y nets routes (u.uncrossed (few_back y nets 8192 few) (orderable_back y nets ranked));
-      no_conflict = λ few none. as_asked_moves y nets routes (u.no_conflict (few_back y nets 8192 few) (none_back y nets none));
-      one_conflict = λ few one. as_asked_moves y nets routes (u.one_conflict (few_back y nets 8192 few) (one_back y nets one));
-      exchanges = λ few. no_better_moves y nets count routes (u.exchanges (few_back y nets 1024 few));
+      uncrossed = λ ranked. as_asked_moves y nets routes (u.uncrossed (orderable_back y nets ranked));
+      no_conflict = λ none. as_asked_moves y nets routes (u.no_conflict (none_back y nets none));
+      one_conflict = λ one. as_asked_moves y nets routes (u.one_conflict (one_back y nets one));
+      exchanges = λ few. no_better_moves y nets count routes (u.exchanges (few_back y nets exchange_limit few));
     }
 
 pub uncrossed_back : (y : ℤ) (nets : List Net) (count : ℕ) (routes : List NetRoute) → AreUncrossed (map (moved_net y) nets) count (map (moved_route y) routes) → AreUncrossed nets count routes

@@ -3,6 +3,7 @@ pub mod Crossings
 pub mod Density
 pub mod Exchanges
 pub mod GapFree
+pub mod Limits
 pub mod Moved
 pub mod Pieces
 pub mod Promised

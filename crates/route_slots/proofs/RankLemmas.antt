@@ -1,5 +1,5 @@
 -- Ranks of nets, one more at a time, and why the nets can't be ranked where some are held back.
-use Rattle.std.proofs.Common.{◌≡◌, ◌≢◌, ◌∙◌, ◌⊎◌, ⊎_elim, inl, inr, ℕ, zero, suc, ◌+◌, ◌<◌, ◌≤◌, ◌^◌, ◌==◌, List, length, replicate, sym, ap, subst, arith, get_or-set_other, get_or-set_same, slice_set}
+use Rattle.std.proofs.Common.{◌≡◌, ◌≢◌, ◌∙◌, ◌⊎◌, ⊎_elim, inl, inr, ℕ, zero, suc, ◌+◌, ◌<◌, ◌≤◌, ◌==◌, List, length, replicate, sym, ap, subst, arith, get_or-set_other, get_or-set_same, slice_set}
 use Rattle.std.proofs.lemmas.Bool.{cases_eq, eq-eqb, ne_eqb}
 use Rattle.std.proofs.Math.ListN.{length-set}
 use Rattle.std.proofs.lemmas.List.{get_or-replicate, length-replicate}
@@ -9,6 +9,7 @@ use Rattle.route_slots.specs.Levels.{AreLevels, level_of}
 use Rattle.net_routes.specs.Uncrossed.{Precedes, IsOrderable}
 use Rattle.route_slots.specs.Ranks.{no_rank, waits, AreRanks, AreHeldBack}
 use Rattle.net_routes.proofs.Summing.{sum_changed, sum_ones}
+use Rattle.net_routes.specs.Limits.{net_limit}
 use Rattle.route_slots.proofs.Ordered.{two_bent}
 
 waits_not : (levels : List ℕ) (k : ℕ) → level_of levels k ≢ no_rank → waits levels k ≡ 0
@@ -29,12 +30,12 @@ none_ranked nets levels e =
       left = let all = sum_ones (waits levels) (length nets) (λ k l. waits_for levels k (each k l)) in omega arith;
     }
 
-module _ (nets : List Net) (levels : List ℕ) (next k : ℕ) (few : length nets ≤ 2 ^ 24) (is : AreRanks nets levels next) (inside : k < length nets) (waiting : level_of levels k ≡ no_rank)
+module _ (nets : List Net) (levels : List ℕ) (next k : ℕ) (few : length nets ≤ net_limit) (is : AreRanks nets levels next) (inside : k < length nets) (waiting : level_of levels k ≡ no_rank)
     (free : (j : ℕ) → j < length nets → level_of levels j ≡ no_rank → Precedes nets j k → ⊥) where
   abbrev new : List ℕ
   new = slice_set levels k next
 
-  low : next ≤ 2 ^ 24
+  low : next ≤ net_limit
   low = let left = is.left in omega arith
 
   at : level_of new k ≡ next

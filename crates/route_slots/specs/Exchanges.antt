@@ -10,6 +10,7 @@ use Rattle.net_routes.specs.GapFree.{GapFree}
 use Rattle.net_routes.specs.Conflicts.{SplitsOnCycles}
 use Rattle.net_routes.specs.Standing.{StandsAt, AreApart}
 use Rattle.net_routes.specs.Crossings.{cut, crossings, sum_to}
+use Rattle.net_routes.specs.Limits.{exchange_limit}
 use Rattle.net_routes.specs.Exchanges.{exchanged, AreExchanged, NoBetterAt, NoBetterExchange}
 
 -- the routes are free, their pieces keep apart, and only nets on cycles are split
@@ -18,10 +19,10 @@ pub record AreLaid (nets : List Net) (count : ℕ) (routes : List NetRoute) : Ty
   pub apart : AreApart nets routes
   pub splits : SplitsOnCycles nets routes
 
--- and in a gap of up to 1,024 nets no exchange of two neighbouring slots lessens the crossings
+-- and in a gap of at most `exchange_limit` nets no exchange of two neighbouring slots lessens the crossings
 pub record AreSettled (nets : List Net) (count : ℕ) (routes : List NetRoute) : Type 0 where
   pub laid : AreLaid nets count routes
-  pub none : length nets ≤ 1024 → NoBetterExchange nets count routes
+  pub none : length nets ≤ exchange_limit → NoBetterExchange nets count routes
 
 -- the net has a piece in slot s or the next
 unfoldable pub is_near : ℕ → ℕ → Bool

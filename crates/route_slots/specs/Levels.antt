@@ -9,7 +9,6 @@ use Rattle.net_routes.specs.Pieces.{net_at, route_at}
 use Rattle.route_slots.specs.Exchanges.{meets}
 use Rattle.route_slots.specs.Marks.{mark_at}
 use Rattle.net_routes.specs.GapFree.{IsLevelNet}
-use Rattle.net_routes.specs.Crossings.{one}
 use Rattle.net_routes.specs.Uncrossed.{asked, in_order, Precedes}
 
 abbrev pub level_of : List ℕ → ℕ → ℕ

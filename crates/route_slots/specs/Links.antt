@@ -1,6 +1,10 @@
 -- A directed graph by its links, and what it means that a link closes a cycle.
-use Rattle.std.specs.Prelude.{◌≡◌, ◌⊎◌, ℕ, ◌+◌, ◌<◌, Bool, true, false, List, [], ◌∷◌, length, slice_index_or}
+use Rattle.std.specs.Prelude.{◌≡◌, ◌⊎◌, ℕ, ◌+◌, ◌<◌, ◌^◌, Bool, true, false, List, [], ◌∷◌, length, slice_index_or}
 use Rattle.route_slots.specs.declared.links.Link.{Link}
+
+-- Cycles are cut in graphs of at most this many links.
+abbrev pub link_limit : ℕ
+link_limit = 2 ^ 24
 
 abbrev pub link_at : List Link → ℕ → Link
 link_at links k = slice_index_or links k (record { tail = 0; head = 0 })

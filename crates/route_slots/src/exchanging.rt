@@ -1,5 +1,6 @@
 //! What the exchange of two neighbouring slots changes.
 ghost use Rattle.std.specs.Prelude.{◌≡◌, ◌≢◌, ◌<◌, ◌≤◌, ◌+◌, ◌^◌, ℕ, List, true, false, length, IfOk, if◌then◌else◌};
+ghost use Rattle.net_routes.specs.Limits.{exchange_limit};
 ghost use Rattle.net_routes.specs.Pieces.{net_at, route_at};
 ghost use Rattle.net_routes.specs.Standing.{AreApart};
 ghost use Rattle.net_routes.specs.Crossings.{crossings};
@@ -142,7 +143,7 @@ fn pair_change(net: Net, route: NetRoute, other: Net, other_route: NetRoute, slo
 // Crossings of level lines with the upright pieces of one net.
 fn row_change(nets: &[Net], routes: &[NetRoute], slot: u32, j: usize) -> Change
     requires len { length routes.now ≡ length nets.now }
-    requires few { length nets.now ≤ 1024 }
+    requires few { length nets.now ≤ exchange_limit }
     requires slot { slot < 2 ^ 31 }
     requires net { j < length nets.now }
     ensures before { result.before ≡ row_before nets.now routes.now slot j (length nets.now) }
@@ -164,7 +165,7 @@ fn row_change(nets: &[Net], routes: &[NetRoute], slot: u32, j: usize) -> Change
 // The same, if the net has a piece in the two slots.
 fn near_change(nets: &[Net], routes: &[NetRoute], slot: u32, j: usize) -> Change
     requires len { length routes.now ≡ length nets.now }
-    requires few { length nets.now ≤ 1024 }
+    requires few { length nets.now ≤ exchange_limit }
     requires slot { slot < 2 ^ 31 }
     requires net { j < length nets.now }
     ensures before { result.before ≡ (if swap.touches slot (route_at routes.now j) then row_before nets.now routes.now slot j (length nets.now) else 0) }
@@ -185,7 +186,7 @@ fn near_change(nets: &[Net], routes: &[NetRoute], slot: u32, j: usize) -> Change
 // Crossings of all nets with pieces in the two slots.
 fn whole_change(nets: &[Net], routes: &[NetRoute], slot: u32) -> Change
     requires len { length routes.now ≡ length nets.now }
-    requires few { length nets.now ≤ 1024 }
+    requires few { length nets.now ≤ exchange_limit }
     requires slot { slot < 2 ^ 31 }
     ensures before { result.before ≡ all_before nets.now routes.now slot (length nets.now) }
     ensures after { result.after ≡ all_after nets.now routes.now slot (length nets.now) }
@@ -317,7 +318,7 @@ fn is_blocked(nets: &[Net], routes: &[NetRoute], slot: u32) -> bool
 /// Whether the exchange of the slot and the next one lessens the crossings, while pieces still keep apart.
 pub fn improves(nets: &[Net], routes: &[NetRoute], slot: u32) -> bool
     requires len { length routes.now ≡ length nets.now }
-    requires few { length nets.now ≤ 1024 }
+    requires few { length nets.now ≤ exchange_limit }
     requires slot { slot < 2 ^ 31 }
     ensures better { result ≡ true → IsBetterAt nets.now routes.now slot }
     ensures none { result ≡ false → NoBetterAt nets.now routes.now slot }

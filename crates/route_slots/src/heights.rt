@@ -2,6 +2,7 @@
 ghost use Rattle.std.specs.Prelude.{◌≡◌, ◌+◌, ◌<◌, ◌≤◌, ◌^◌, ◌⊎◌, ℕ, ℤ, true, length, IfOk, OnOk, Some, IsSome};
 ghost use Rattle.std.specs.Ordering.{int_cmp};
 ghost use Rattle.std.specs.BTreeMap.{get};
+ghost use Rattle.net_routes.specs.Limits.{net_limit};
 ghost use Rattle.net_routes.specs.GapFree.{HasPin, IsLevelNet};
 ghost use Rattle.route_slots.specs.Numbers.{AreNumbers, AreHeightNumbers, HasLeftAt};
 
@@ -60,7 +61,7 @@ fn insert_net(heights: &mut Heights, net: Net) -> Result<(), AllocError>
 
 /// The heights of all pins on the left of nets that are not straight.
 pub fn heights_of(alloc: Global, nets: &[Net]) -> Result<Heights, AllocError>
-    requires { length nets.now ≤ 2 ^ 24 }
+    requires { length nets.now ≤ net_limit }
     ensures { IfOk result (λ heights. AreHeightNumbers nets.now (length nets.now) heights) }
 {
     let mut heights = Heights {

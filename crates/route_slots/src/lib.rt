@@ -37,4 +37,5 @@ pub use assigning::assign;
 pub use cutting::cut_cycles;
 pub use easing::assign_near;
 pub use links::Link;
+pub use net_routes::{Net, NetRoute, Pin, Slots};
 pub use uncrossing::{assign_uncrossed, assign_uncrossed_near};

@@ -1,7 +1,8 @@
 //! Heights at which the two pieces of a split net meet.
-ghost use Rattle.std.specs.Prelude.{◌≡◌, ◌⊎◌, ◌<◌, ◌≤◌, ◌^◌, ◌≤ℤ◌, pos, ◌+ℤ◌, ℤ, true, false, length, slice_index, IfOk, OnOk};
+ghost use Rattle.std.specs.Prelude.{◌≡◌, ◌<◌, ◌≤◌, ◌≤ℤ◌, ℤ, true, false, length, IfOk, OnOk};
 ghost use Rattle.std.specs.List.{All};
 ghost use Rattle.std.specs.Int.{int_min, int_max};
+ghost use Rattle.net_routes.specs.Limits.{net_limit};
 ghost use Rattle.net_routes.specs.GapFree.{IsHeight, AreHeights};
 ghost use Rattle.route_slots.specs.Middles.{IsTop, above_top, holds, HoldPins, IsMiddle, AreMiddles};
 
@@ -40,7 +41,7 @@ fn highest(nets: &[Net]) -> Height
 
 // A height greater than that of all pins, another for each net.
 fn above_pins(top: Height, number: u32) -> Height
-    requires number { number < 2 ^ 24 }
+    requires number { number < net_limit }
     requires range { IsHeight top.value }
     ensures { result.value ≡ above_top top.value number }
 {
@@ -158,7 +159,7 @@ const MANY: usize = 1024;
 /// pins, as it does where the net is not split, and in a gap of more than 1,024 nets.
 pub fn middles_of(alloc: Global, nets: &[Net], marks: &[Mark]) -> Result<Vec<Height>, AllocError>
     requires len { length marks.now ≡ length nets.now }
-    requires few { length nets.now ≤ 2 ^ 24 }
+    requires few { length nets.now ≤ net_limit }
     requires heights { All AreHeights nets.now }
     ensures { IfOk result (λ middles. AreMiddles nets.now middles.items) }
 {

@@ -1,5 +1,6 @@
 //! Nets are ranked one after another, each once all that precede it are.
-ghost use Rattle.std.specs.Prelude.{◌≡◌, ◌+◌, ◌<◌, ◌≤◌, ◌^◌, ℕ, true, false, length, IfOk, IfSome, IfNone};
+ghost use Rattle.std.specs.Prelude.{◌≡◌, ◌+◌, ◌<◌, ◌≤◌, ℕ, true, false, length, IfOk, IfSome, IfNone};
+ghost use Rattle.net_routes.specs.Limits.{net_limit};
 ghost use Rattle.route_slots.specs.Levels.{AreLevels, level_of};
 ghost use Rattle.net_routes.specs.Uncrossed.{Precedes, IsOrderable};
 ghost use Rattle.route_slots.specs.Ranks.{no_rank, AreRanks, IsHeldBack, AreHeldBack};
@@ -30,7 +31,7 @@ fn is_held_back(nets: &[Net], levels: &[u32], number: usize) -> bool
 
 // Ranks the net, if it has no rank and none without one precedes it.
 fn rank(nets: &[Net], levels: &mut [u32], next: u32, number: usize) -> bool
-    requires few { length nets.now ≤ 2 ^ 24 }
+    requires few { length nets.now ≤ net_limit }
     requires net { number < length nets.now }
     requires ranks { AreRanks nets.now levels.old next }
     ensures yes { result ≡ true → AreRanks nets.now levels.new (next + 1) }
@@ -49,7 +50,7 @@ fn rank(nets: &[Net], levels: &mut [u32], next: u32, number: usize) -> bool
 
 // Ranks all nets that can be, in their order, and gives the next rank.
 fn sweep(nets: &[Net], levels: &mut [u32], next: u32) -> u32
-    requires few { length nets.now ≤ 2 ^ 24 }
+    requires few { length nets.now ≤ net_limit }
     requires ranks { AreRanks nets.now levels.old next }
     ensures ranks { AreRanks nets.now levels.new result }
     ensures more { next ≤ result }
@@ -66,7 +67,7 @@ fn sweep(nets: &[Net], levels: &mut [u32], next: u32) -> u32
 
 // Ranks the nets by these numbers, as far as they can be.
 fn follow(nets: &[Net], levels: &mut [u32], order: &[usize]) -> u32
-    requires few { length nets.now ≤ 2 ^ 24 }
+    requires few { length nets.now ≤ net_limit }
     requires ranks { AreRanks nets.now levels.old 0 }
     ensures { AreRanks nets.now levels.new result }
 {
@@ -84,7 +85,7 @@ fn follow(nets: &[Net], levels: &mut [u32], order: &[usize]) -> u32
 
 // Ranks all nets that can be.
 fn rank_all(nets: &[Net], levels: &mut [u32], order: &[usize]) -> u32
-    requires few { length nets.now ≤ 2 ^ 24 }
+    requires few { length nets.now ≤ net_limit }
     requires ranks { AreRanks nets.now levels.old 0 }
     ensures ranks { AreRanks nets.now levels.new result }
     ensures none { AreHeldBack nets.now levels.new (length nets.now) }
@@ -114,7 +115,7 @@ fn all_ranked(levels: &[u32]) -> bool
 
 // Ranks all nets, if that can be.
 fn rank_nets(nets: &[Net], levels: &mut [u32], order: &[usize]) -> bool
-    requires few { length nets.now ≤ 2 ^ 24 }
+    requires few { length nets.now ≤ net_limit }
     requires ranks { AreRanks nets.now levels.old 0 }
     ensures yes { result ≡ true → AreLevels nets.now levels.new }
     ensures no { result ≡ false → IsOrderable nets.now → ⊥ }
@@ -128,7 +129,7 @@ fn rank_nets(nets: &[Net], levels: &mut [u32], order: &[usize]) -> bool
 /// Tries the nets in the order given, and then again and again in theirs, until none more can be ranked. An order in which each net
 /// comes after those that precede it saves the further tries.
 pub fn ranked(alloc: Global, nets: &[Net], order: &[usize]) -> Result<Option<Vec<u32>>, AllocError>
-    requires few { length nets.now ≤ 2 ^ 24 }
+    requires few { length nets.now ≤ net_limit }
     ensures some { IfOk result (λ found. IfSome found (λ levels. AreLevels nets.now levels.items)) }
     ensures none { IfOk result (λ found. IfNone found (IsOrderable nets.now → ⊥)) }
 {

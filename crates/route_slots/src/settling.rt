@@ -1,5 +1,6 @@
 //! Neighbouring slots are exchanged until no exchange lessens the crossings.
 ghost use Rattle.std.specs.Prelude.{◌≡◌, ◌<◌, ◌≤◌, ◌+◌, ◌^◌, ◌⊎◌, true, false, length, IfOk};
+ghost use Rattle.net_routes.specs.Limits.{exchange_limit};
 ghost use Rattle.net_routes.specs.Crossings.{crossings};
 ghost use Rattle.route_slots.specs.Exchanges.{AreLaid, IsStep, AreSteps};
 ghost use Rattle.net_routes.specs.Exchanges.{NoBetterExchange};
@@ -23,7 +24,7 @@ fn step(
     routes: Vec<NetRoute>,
     slot: u32,
 ) -> Result<Swept, AllocError>
-    requires few { length nets.now ≤ 1024 }
+    requires few { length nets.now ≤ exchange_limit }
     requires slot { slot + 1 < count }
     requires slots { count < 2 ^ 31 }
     requires laid { AreLaid nets.now count routes.items }
@@ -57,7 +58,7 @@ fn sweep(
     count: u32,
     routes: Vec<NetRoute>,
 ) -> Result<Swept, AllocError>
-    requires few { length nets.now ≤ 1024 }
+    requires few { length nets.now ≤ exchange_limit }
     requires slots { count < 2 ^ 31 }
     requires laid { AreLaid nets.now count routes.items }
     ensures { IfOk result (λ swept. AreSteps nets.now count count routes.items swept.routes.items swept.changed) }
@@ -80,7 +81,7 @@ pub fn settle(alloc: Global, nets: &[Net], slots: Slots) -> Result<Slots, AllocE
     ensures count { IfOk result (λ settled. settled.count ≡ slots.count) }
     ensures laid { IfOk result (λ settled. AreLaid nets.now settled.count settled.routes.items) }
     ensures most { IfOk result (λ settled. crossings nets.now settled.routes.items ≤ crossings nets.now slots.routes.items) }
-    ensures none { IfOk result (λ settled. length nets.now ≤ 1024 → NoBetterExchange nets.now settled.count settled.routes.items) }
+    ensures none { IfOk result (λ settled. length nets.now ≤ exchange_limit → NoBetterExchange nets.now settled.count settled.routes.items) }
 {
     let count = slots.count;
     if nets.len() > 1024 {

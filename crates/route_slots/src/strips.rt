@@ -1,5 +1,6 @@
 //! Upright pieces with their two ends, by the order of all heights alone, and how two of them cross.
 ghost use Rattle.std.specs.Prelude.{◌≡◌, ◌≤◌, length};
+ghost use Rattle.net_routes.specs.Limits.{exchange_limit};
 
 use crate::marks::Mark;
 use crate::middles::Height;
@@ -105,7 +106,7 @@ pub fn strips_of(
     marks: &[Mark],
     middles: &[Height],
 ) -> Result<Vec<Strip>, AllocError>
-    requires few { length nets.now ≤ 1024 }
+    requires few { length nets.now ≤ exchange_limit }
     requires marks { length marks.now ≡ length nets.now }
     requires middles { length middles.now ≡ length nets.now }
 {
@@ -149,7 +150,7 @@ fn set_level(levels: &mut [u32], strip: Strip) {
 
 /// The levels of the strips by their places, two for each net.
 pub fn levels_of(alloc: Global, strips: &[Strip], nets: usize) -> Result<Vec<u32>, AllocError>
-    requires { nets ≤ 1024 }
+    requires { nets ≤ exchange_limit }
 {
     let mut levels = vec![in alloc; 0; nets + nets]?;
     'strips: for strip in strips {

@@ -1,16 +1,13 @@
 //! Slots along which each two nets cross no more often than they have to.
-ghost use Rattle.std.specs.Prelude.{◌≡◌, ◌<◌, ◌≤◌, ◌^◌, ℕ, true, length, IfOk, IfSome, IfNone};
+ghost use Rattle.std.specs.Prelude.{◌≡◌, ◌<◌, ◌≤◌, ℕ, true, length, IfOk, IfSome, IfNone};
 ghost use Rattle.std.specs.List.{All};
-ghost use Rattle.net_routes.specs.Pieces.{net_at};
-ghost use Rattle.net_routes.specs.GapFree.{IsNet, AreHeights, GapFree};
-ghost use Rattle.net_routes.specs.Conflicts.{HasNoConflict, HasOneConflict, SplitsOnCycles};
-ghost use Rattle.net_routes.specs.Standing.{AreApart};
-ghost use Rattle.net_routes.specs.Exchanges.{NoBetterExchange};
+ghost use Rattle.net_routes.specs.Limits.{net_limit};
+ghost use Rattle.net_routes.specs.GapFree.{IsNet, AreHeights};
 ghost use Rattle.net_routes.specs.Promised.{AreUncrossed};
 ghost use Rattle.route_slots.specs.Levels.{AreLevels, IsLevelMark, AreLevelMarks, level_of};
-ghost use Rattle.net_routes.specs.Uncrossed.{Precedes, IsOrderable, CrossAsAsked};
+ghost use Rattle.net_routes.specs.Uncrossed.{Precedes, IsOrderable};
 
-use crate::assigning::{assign, place};
+use crate::assigning::place;
 use crate::fitting::{fitted_nets, level_at};
 use crate::marks::{Mark, is_level};
 use crate::middles::middles_of;
@@ -53,7 +50,7 @@ fn rise(nets: &[Net], levels: &[u32]) -> bool
 
 // A level for each net, above those of the nets that precede it, if the nets can be ranked so.
 fn levels_of(alloc: Global, nets: &[Net], near: i64) -> Result<Option<Vec<u32>>, AllocError>
-    requires few { length nets.now ≤ 2 ^ 24 }
+    requires few { length nets.now ≤ net_limit }
     ensures some { IfOk result (λ found. IfSome found (λ levels. AreLevels nets.now levels.items)) }
     ensures none { IfOk result (λ found. IfNone found (IsOrderable nets.now → ⊥)) }
 {
@@ -90,7 +87,7 @@ fn level_marks(alloc: Global, nets: &[Net], levels: &[u32]) -> Result<Vec<Mark>,
 
 // Places the nets by their levels, each in one slot.
 fn place_by_levels(alloc: Global, nets: &[Net], levels: &[u32]) -> Result<Slots, AllocError>
-    requires few { length nets.now ≤ 2 ^ 24 }
+    requires few { length nets.now ≤ net_limit }
     requires pins { All IsNet nets.now }
     requires heights { All AreHeights nets.now }
     requires levels { AreLevels nets.now levels.now }
@@ -104,43 +101,33 @@ fn place_by_levels(alloc: Global, nets: &[Net], levels: &[u32]) -> Result<Slots,
 
 // The slots of both calls below.
 fn slots_of(alloc: Global, nets: &[Net], near: i64) -> Result<Slots, AllocError>
-    requires few { length nets.now ≤ 2 ^ 24 }
+    requires few { length nets.now ≤ net_limit }
     requires pins { All IsNet nets.now }
     requires heights { All AreHeights nets.now }
     ensures { IfOk result (λ slots. AreUncrossed nets.now slots.count slots.routes.items) }
 {
-    if nets.len() > 8192 {
-        return assign(alloc, nets);
-    }
     match levels_of(alloc, nets, near)? {
         None => untangle(alloc, nets, near),
         Some(levels) => place_by_levels(alloc, nets, levels.as_slice()),
     }
 }
 
-/// A route for each net as by `assign`, by which each two nets cross no more often than they have to, where that can be.
+/// A route for each net as by `assign`, by which each two nets cross no more often than they have to, if that can be.
 ///
-/// Pins of two nets alternate round the border of the gap, or they don't. Where they do, the nets have to cross, and once is
-/// enough. A net precedes another where the two would overlap, or cross more often than they have to, if the other's slot came
-/// first. In a gap of up to 8,192 nets that can be ranked so that each ranks behind those that precede it, the slots follow
-/// such an order, and each two nets cross once where their pins alternate, and not at all where they don't. So they do in each
-/// gap with no conflict, or with one. In other gaps the lightest of these wishes are dropped, and nets that lie on a cycle of conflicts
-/// are split; they get the routes of `assign` where those cross as little. In a gap of up to 1,024 nets no exchange of two
-/// neighbouring slots that keeps pieces apart gives fewer crossings.
+/// Pins of two nets alternate round the border of the gap, or they don't. If they do, the nets have to cross, and once is enough.
+/// A net precedes another if the two would overlap, or cross more often than they have to, with the other's slot first. If the
+/// nets can be ranked so that each ranks behind those that precede it, the slots follow such an order, and each two nets cross
+/// once if their pins alternate, and otherwise not at all. So they do in each gap with no conflict, or with one. In other gaps
+/// the lightest of these wishes are dropped, and nets that lie on a cycle of conflicts are split; they get the routes of
+/// `assign` if those cross as little. In a gap of up to 1,024 nets no exchange of two neighbouring slots that keeps pieces apart
+/// gives fewer crossings.
 ///
 /// This takes time in proportion to the square of the nets, and a byte of memory for each two pieces: 64 MiB for 8,192 nets.
 pub fn assign_uncrossed(alloc: Global, nets: &[Net]) -> Result<Slots, AllocError>
-    requires few { length nets.now ≤ 2 ^ 24 }
+    requires few { length nets.now ≤ net_limit }
     requires pins { All IsNet nets.now }
     requires heights { All AreHeights nets.now }
-    ensures all { IfOk result (λ slots. AreUncrossed nets.now slots.count slots.routes.items) }
-    ensures free { IfOk result (λ slots. GapFree nets.now slots.count slots.routes.items) }
-    ensures apart { IfOk result (λ slots. AreApart nets.now slots.routes.items) }
-    ensures splits { IfOk result (λ slots. SplitsOnCycles nets.now slots.routes.items) }
-    ensures uncrossed { IfOk result (λ slots. length nets.now ≤ 8192 → IsOrderable nets.now → CrossAsAsked nets.now slots.routes.items) }
-    ensures no_conflict { IfOk result (λ slots. length nets.now ≤ 8192 → HasNoConflict nets.now → CrossAsAsked nets.now slots.routes.items) }
-    ensures one_conflict { IfOk result (λ slots. length nets.now ≤ 8192 → HasOneConflict nets.now → CrossAsAsked nets.now slots.routes.items) }
-    ensures exchanges { IfOk result (λ slots. length nets.now ≤ 1024 → NoBetterExchange nets.now slots.count slots.routes.items) }
+    ensures { IfOk result (λ slots. AreUncrossed nets.now slots.count slots.routes.items) }
 {
     assign_uncrossed_near(alloc, nets, 1)
 }
@@ -150,17 +137,10 @@ pub fn assign_uncrossed(alloc: Global, nets: &[Net]) -> Result<Slots, AllocError
 /// With a net's pin on the left that is nearer to another's pin on the right than `near`, the lines at the two pins run side by
 /// side if the net of the pin on the left stands behind. It stands before the other where that makes no more crossings.
 pub fn assign_uncrossed_near(alloc: Global, nets: &[Net], near: i64) -> Result<Slots, AllocError>
-    requires few { length nets.now ≤ 2 ^ 24 }
+    requires few { length nets.now ≤ net_limit }
     requires pins { All IsNet nets.now }
     requires heights { All AreHeights nets.now }
-    ensures all { IfOk result (λ slots. AreUncrossed nets.now slots.count slots.routes.items) }
-    ensures free { IfOk result (λ slots. GapFree nets.now slots.count slots.routes.items) }
-    ensures apart { IfOk result (λ slots. AreApart nets.now slots.routes.items) }
-    ensures splits { IfOk result (λ slots. SplitsOnCycles nets.now slots.routes.items) }
-    ensures uncrossed { IfOk result (λ slots. length nets.now ≤ 8192 → IsOrderable nets.now → CrossAsAsked nets.now slots.routes.items) }
-    ensures no_conflict { IfOk result (λ slots. length nets.now ≤ 8192 → HasNoConflict nets.now → CrossAsAsked nets.now slots.routes.items) }
-    ensures one_conflict { IfOk result (λ slots. length nets.now ≤ 8192 → HasOneConflict nets.now → CrossAsAsked nets.now slots.routes.items) }
-    ensures exchanges { IfOk result (λ slots. length nets.now ≤ 1024 → NoBetterExchange nets.now slots.count slots.routes.items) }
+    ensures { IfOk result (λ slots. AreUncrossed nets.now slots.count slots.routes.items) }
 {
     slots_of(alloc, nets, near)
 }

@@ -1,6 +1,7 @@
 //! Slots by the demands of nets where not all can be met.
 ghost use Rattle.std.specs.Prelude.{◌≡◌, ◌⊎◌, ◌≤◌, ◌+◌, length, IfOk, IfSome};
 ghost use Rattle.std.specs.List.{All};
+ghost use Rattle.net_routes.specs.Limits.{net_limit};
 ghost use Rattle.net_routes.specs.GapFree.{IsNet, AreHeights};
 ghost use Rattle.net_routes.specs.Crossings.{crossings};
 ghost use Rattle.route_slots.specs.Exchanges.{AreLaid, AreSettled};
@@ -19,7 +20,7 @@ use std::alloc::{AllocError, Global};
 
 // The slots with fewer crossings, the first where they are as many.
 fn lighter(nets: &[Net], slots: Slots, other: Slots) -> Slots
-    requires few { length nets.now ≤ 8192 }
+    requires few { length nets.now ≤ net_limit }
     requires len { length slots.routes.items ≡ length nets.now }
     requires other { length other.routes.items ≡ length nets.now }
     ensures which { (result ≡ slots) ⊎ (result ≡ other) }
@@ -59,7 +60,7 @@ pub fn relaid(
     near: i64,
     from: Option<&Slots>,
 ) -> Result<Option<Slots>, AllocError>
-    requires few { length nets.now ≤ 8192 }
+    requires few { length nets.now ≤ net_limit }
     requires pins { All IsNet nets.now }
     requires heights { All AreHeights nets.now }
     ensures laid { IfOk result (λ found. IfSome found (λ slots. AreLaid nets.now slots.count slots.routes.items)) }
@@ -91,7 +92,7 @@ fn rather(
     slots: Slots,
     other: Option<Slots>,
 ) -> Result<Slots, AllocError>
-    requires few { length nets.now ≤ 8192 }
+    requires few { length nets.now ≤ net_limit }
     requires settled { AreSettled nets.now slots.count slots.routes.items }
     requires laid { IfSome other (λ slots. AreLaid nets.now slots.count slots.routes.items) }
     requires count { IfSome other (λ slots. slots.count ≤ length nets.now + length nets.now) }
@@ -109,7 +110,7 @@ fn rather(
 
 // The slots by demands, or those of `assign` where these cross no more.
 fn settled(alloc: Global, nets: &[Net]) -> Result<Slots, AllocError>
-    requires few { length nets.now ≤ 8192 }
+    requires few { length nets.now ≤ net_limit }
     requires pins { All IsNet nets.now }
     requires heights { All AreHeights nets.now }
     ensures { IfOk result (λ slots. AreSettled nets.now slots.count slots.routes.items) }
@@ -127,7 +128,7 @@ fn settled(alloc: Global, nets: &[Net]) -> Result<Slots, AllocError>
 /// Slots by demands of which the lightest are dropped, or those of `assign` where these cross no more. Of slots by which lines keep
 /// this distance those are taken that cross no more than without.
 pub fn untangle(alloc: Global, nets: &[Net], near: i64) -> Result<Slots, AllocError>
-    requires few { length nets.now ≤ 8192 }
+    requires few { length nets.now ≤ net_limit }
     requires pins { All IsNet nets.now }
     requires heights { All AreHeights nets.now }
     ensures { IfOk result (λ slots. AreSettled nets.now slots.count slots.routes.items) }

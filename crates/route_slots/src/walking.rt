@@ -1,5 +1,6 @@
 //! A search in depth through a graph, link by link.
-ghost use Rattle.std.specs.Prelude.{◌≡◌, ◌≢◌, ◌<◌, ◌≤◌, ◌+◌, ◌^◌, ℕ, [], length, vec_len, OnOk, slice_index};
+ghost use Rattle.std.specs.Prelude.{◌≡◌, ◌<◌, ◌≤◌, ◌+◌, ◌^◌, [], length, OnOk};
+ghost use Rattle.route_slots.specs.Links.{link_limit};
 ghost use Rattle.route_slots.specs.Links.{EndsBelow, number_at};
 ghost use Rattle.route_slots.specs.Chains.{AreNexts};
 ghost use Rattle.route_slots.specs.Walks.{IsWalk, IsTop, Enters, Leaves, CutsLink, Sinks, KeepsDone, to_do, place_in};
@@ -100,7 +101,7 @@ fn look(
 // Looks at the next link of the last node on the way, or leaves it where there is none.
 fn go_on(walk: &mut Walk, links: &[Link], next: &[u32]) -> Result<(), AllocError>
     requires nodes { length walk.old.ahead.items < 2 ^ 32 }
-    requires few { length links.now ≤ 2 ^ 24 }
+    requires few { length links.now ≤ link_limit }
     requires ends { EndsBelow (length walk.old.ahead.items) links.now }
     requires next { AreNexts links.now 0 next.now }
     requires walk { IsWalk links.now walk.old }
@@ -126,7 +127,7 @@ pub fn go_through(
     root: u32,
 ) -> Result<(), AllocError>
     requires nodes { length walk.old.ahead.items < 2 ^ 32 }
-    requires few { length links.now ≤ 2 ^ 24 }
+    requires few { length links.now ≤ link_limit }
     requires ends { EndsBelow (length walk.old.ahead.items) links.now }
     requires next { AreNexts links.now 0 next.now }
     requires walk { IsWalk links.now walk.old }

@@ -3,6 +3,7 @@ use Rattle.net_routes.specs.declared.Net.{Net}
 use Rattle.std.proofs.lemmas.Result.{IfOk-weaker}
 use Rattle.std.specs.declared.alloc.AllocError.{AllocError}
 use Rattle.net_routes.specs.declared.Slots.{Slots}
+use Rattle.net_routes.specs.Limits.{exchange_limit}
 use Rattle.net_routes.specs.Promised.{AreFewest}
 use Rattle.route_slots.specs.Exchanges.{AreLaid}
 use Rattle.net_routes.specs.Exchanges.{NoBetterExchange}
@@ -26,33 +27,22 @@ settle-requires-clause-laid c =
     laid nets depths.splits.items (depth depths) c.in_ok-marks.marks.items slots.count slots.routes.items c.in_ok-marks.ensures.marked c.in_ok-depths.ensures.cycles
     (subst (λ ms. AreGood c.args.nets.now ms slots.count slots.routes.items) c.as_slice-4.ensures.value c.in_ok-chosen.ensures.good)
 
-pub returns-clause-free : goal.returns-clause-free
-returns-clause-free c = IfOk-weaker c.settle.result _ _ (λ settled laid. laid.free) c.settle.ensures.laid
+-- an answer that has all four
+joined : (nets : List Net) (r : Result Slots AllocError) → IfOk r (λ s. AreLaid nets s.count s.routes.items) → IfOk r (λ s. HasNoConflict nets → IsDensity nets s.count)
+    → IfOk r (λ s. length nets ≤ exchange_limit → NoBetterExchange nets s.count s.routes.items) → IfOk r (λ s. AreFewest nets s.count s.routes.items)
+joined nets (Ok s) is density none = record { free = is.free; apart = is.apart; splits = is.splits; density = density; exchanges = none }
+joined nets (Err e) is density none = is
 
-pub returns-clause-splits : goal.returns-clause-splits
-returns-clause-splits c = IfOk-weaker c.settle.result _ _ (λ settled laid. laid.splits) c.settle.ensures.laid
-
-pub returns-clause-apart : goal.returns-clause-apart
-returns-clause-apart c = IfOk-weaker c.settle.result _ _ (λ settled laid. laid.apart) c.settle.ensures.laid
-
-pub returns-clause-density : goal.returns-clause-density
-returns-clause-density c =
+pub returns : goal.returns
+returns c =
     let nets = c.args.nets.now in
     let depths = c.in_ok-depths.depths in
     let ms = c.in_ok-marks.marks.items in
     let e = c.in_ok-depths.ensures in
     let flat = λ (none : HasNoConflict nets). are_flat nets depths.splits.items (depth depths) ms e.depths c.in_ok-marks.ensures.marked e.held e.cycles none in
-    IfOk-weaker c.settle.result _ _
+    let density = IfOk-weaker c.settle.result _ (λ s. HasNoConflict nets → IsDensity nets s.count)
     (λ settled same none.
     subst (IsDensity nets) (sym (same ∙ c.in_ok-chosen.ensures.count (subst (AreFlat nets) (sym c.as_slice-4.ensures.value) (flat none))))
     (c.in_ok-slots.ensures.density (subst (AreFlat nets) (sym c.as_slice-2.ensures.value) (flat none))))
-    c.settle.ensures.count
-
--- an answer that has all four
-joined : (nets : List Net) (r : Result Slots AllocError) → IfOk r (λ s. AreLaid nets s.count s.routes.items) → IfOk r (λ s. HasNoConflict nets → IsDensity nets s.count)
-    → IfOk r (λ s. length nets ≤ 1024 → NoBetterExchange nets s.count s.routes.items) → IfOk r (λ s. AreFewest nets s.count s.routes.items)
-joined nets (Ok s) is density none = record { free = is.free; apart = is.apart; splits = is.splits; density = density; exchanges = none }
-joined nets (Err e) is density none = is
-
-pub returns-clause-all : goal.returns-clause-all
-returns-clause-all c = joined c.args.nets.now c.settle.result c.settle.ensures.laid (returns-clause-density c) c.settle.ensures.none
+    c.settle.ensures.count in
+    joined nets c.settle.result c.settle.ensures.laid density c.settle.ensures.none

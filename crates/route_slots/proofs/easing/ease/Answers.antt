@@ -5,12 +5,13 @@ use Rattle.net_routes.specs.declared.Slots.{Slots}
 use Rattle.net_routes.specs.Density.{IsDensity}
 use Rattle.route_slots.specs.Exchanges.{AreLaid}
 use Rattle.net_routes.specs.Exchanges.{NoBetterExchange}
+use Rattle.net_routes.specs.Limits.{exchange_limit}
 use Rattle.net_routes.specs.Promised.{AreFewest}
 use Rattle.route_slots.proofs.easing.ease.Goals as goal
 
 -- one of two answers, as many slots as the first has
 one_of : (nets : List Net) (slots other : Slots) (r : Result Slots AllocError) → AreFewest nets slots.count slots.routes.items → AreLaid nets other.count other.routes.items
-    → (length nets ≤ 1024 → NoBetterExchange nets other.count other.routes.items) → IfOk r (λ best. (best ≡ slots) ⊎ (best ≡ other)) → IfOk r (λ best. best.count ≡ slots.count)
+    → (length nets ≤ exchange_limit → NoBetterExchange nets other.count other.routes.items) → IfOk r (λ best. (best ≡ slots) ⊎ (best ≡ other)) → IfOk r (λ best. best.count ≡ slots.count)
     → IfOk r (λ best. AreFewest nets best.count best.routes.items)
 one_of nets slots other (Ok best) first laid none which same =
     ⊎_elim

@@ -23,8 +23,8 @@ returns c =
       free = good.free;
       apart = good.apart;
       splits = λ k s h t l e. absurd (whole k s h t l e);
-      uncrossed = λ few ranked. counted;
-      no_conflict = λ few none. counted;
-      one_conflict = λ few one. counted;
+      uncrossed = λ ranked. counted;
+      no_conflict = λ none. counted;
+      one_conflict = λ one. counted;
       exchanges = λ few. no_better nets slots.count slots.routes.items good.free whole counted;
     }

@@ -5,7 +5,7 @@ use Rattle.route_slots.proofs.untangling.settled.Goals as goal
 
 pub returns-in_ok-settled-in-Some : goal.returns-in_ok-settled-in-Some
 returns-in_ok-settled-in-Some c =
-    let all = c.in_ok-fewest.ensures.all in
+    let all = c.in_ok-fewest.ensures in
     let then = c.in_ok-settled-in-Some.ensures in
     ⊎_elim
     (λ (e : c.lighter.result ≡ c.in_ok-fewest.fewest). subst (λ (s : Slots). AreSettled c.args.nets.now s.count s.routes.items) (sym e)
