@@ -23,9 +23,9 @@ mod fifty;
 #[cfg(test)]
 mod forks;
 #[cfg(test)]
-mod held;
-#[cfg(test)]
 mod heights;
+#[cfg(test)]
+mod held;
 #[cfg(test)]
 mod incidence;
 #[cfg(test)]
