@@ -11,32 +11,6 @@ const valueAt = (root, steps) => steps.reduce((value, step) => value?.[step], ro
 
 const isLost = (value) => typeof value === 'number' && !Number.isFinite(value);
 
-/**
- * Turns steps in what was sent into steps in the caller's graph, where fewer children stand before one.
- * @param {unknown} sent
- * @param {Map<unknown, unknown>} owners
- */
-function stepsIn(sent, owners) {
-  const places = new Map();
-  /** For each child the place that it has among the caller's. */
-  const placesIn = (children) => {
-    if (!places.has(children)) {
-      let count = 0;
-      places.set(children, children.map((child) => (owners.has(child?.id) ? count : (count += 1) - 1)));
-    }
-    return places.get(children);
-  };
-  return (steps) => {
-    let value = sent;
-    return steps.map((step, at) => {
-      const isChild = Array.isArray(value) && steps[at - 1] === 'children';
-      const place = isChild ? placesIn(value)[step] : step;
-      value = value?.[step];
-      return place;
-    });
-  };
-}
-
 /** The steps to the reference of an edge of several ends that was sent as the end of a pair. */
 function stepsToEnd(edge, { steps, told }) {
   const isIn = (name) => Array.isArray(edge.value?.[name]) && edge.value[name].includes(told.found);
@@ -81,17 +55,14 @@ function originIn(graph, { owners = new Map(), general = {} }) {
   /** Whether an edge crosses borders between levels that a call lays out together. */
   const isDrawnAcross = (edge) => (across ??= edgesAcross(new Draft(graph, general))).has(edge);
 
-  let inGraph;
+  // What is made stands behind what is given, so that steps in what was sent are steps in the graph.
   return (find, context) => {
-    inGraph ??= stepsIn(context.value, owners);
-    const { key, element } = find;
-    const told = find.told?.other ? { ...find.told, other: inGraph(find.told.other) } : find.told ?? {};
+    const { key, element, told = {} } = find;
     const isMade = element !== undefined && owners.has(element.value?.id);
     const owner = isMade ? ownerOf(element, context) : element;
     const names = find.steps.slice(element?.steps.length ?? 0);
-    const ownSteps = owner && inGraph(owner.steps);
-    const steps = isMade ? [...ownSteps, ...(owner.kind === element.kind ? names : [])] : inGraph(find.steps);
-    const given = owner && { steps: ownSteps, value: valueAt(graph, ownSteps) };
+    const steps = isMade ? [...owner.steps, ...(owner.kind === element.kind ? names : [])] : find.steps;
+    const given = owner && { steps: owner.steps, value: valueAt(graph, owner.steps) };
     const lost = valueAt(graph, steps);
     const turned = {
       ...find,

@@ -139,9 +139,9 @@ function sentOptions(element, general, role) {
     }
   }
   if (role === 'levels') {
-    const asked = (name) => (carried.get(name) ?? general.get(name))?.value;
-    for (const [name, value] of standIns(asked, (it) => READERS.has(it))) {
-      sent[`elk.${name}`] = value;
+    const asked = (name) => carried.get(name) ?? general.get(name);
+    for (const [name, value] of standIns((it) => asked(it)?.value, (it) => READERS.has(it))) {
+      sent[asked(name) ? keyFor(name, asked(name).key) : `elk.${name}`] = value;
     }
   }
   return sent;

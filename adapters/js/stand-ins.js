@@ -1,33 +1,61 @@
 'use strict';
 // Options of the engine that stand for options of ELK, and what is asked for where a level says nothing.
 
-const is = (value, name) => String(value).toUpperCase() === name;
+const nameIn = (value) => String(value).toUpperCase();
+
+/** The value that stands for one of ELK, by the names of these. */
+const by = (names) => (value) => new Map(Object.entries(names)).get(nameIn(value));
 
 // Each option of ELK with the engine's, and the value of the one for that of the other; none where it asks for nothing.
+// Where several ask for one option, the last counts: the order of the document, rather than that of an earlier drawing.
 const STAND_INS = [
   ['layered.thoroughness', 'layered.effort', (value) => (Number(value) > 1000 ? 1000 : value)],
-  ['layered.crossingMinimization.strategy', 'layered.order', (value) => (is(value, 'NONE') ? 'DOCUMENT' : undefined)],
-  ['layered.considerModelOrder.strategy', 'layered.order', (value) => (is(value, 'NONE') ? undefined : 'DOCUMENT')],
+  ['interactive', 'layered.order', by({ TRUE: 'KEPT' })],
+  ['interactiveLayout', 'layered.order', by({ TRUE: 'KEPT' })],
+  ['layered.crossingMinimization.semiInteractive', 'layered.order', by({ TRUE: 'KEPT' })],
+  ['layered.crossingMinimization.strategy', 'layered.order', by({ NONE: 'DOCUMENT', INTERACTIVE: 'KEPT' })],
+  ['layered.crossingMinimization.forceNodeModelOrder', 'layered.order', by({ TRUE: 'DOCUMENT' })],
 ];
 
-const DEFAULTS = [['layered.slots', 'UNCROSSED']];
+const STRATEGY = 'layered.nodePlacement.strategy';
+const ALIGNMENT = 'layered.nodePlacement.bk.fixedAlignment';
+
+const SLOTS = [['layered.slots', 'UNCROSSED']];
+const PLACEMENT = [[STRATEGY, 'NETWORK_SIMPLEX'], ['layered.straightness', 4]];
+
+const DEFAULTS = new Map([...SLOTS, ...PLACEMENT]);
+
+/** The value of an option of data/options.json where a level says nothing. */
+const defaultOf = ({ name, default: byDefault }) => DEFAULTS.get(name) ?? byDefault;
+
+/** What is sent in place of values that the engine doesn't have: an alignment between all four is one for straight lines. */
+function replaced(asked) {
+  const isBalanced = nameIn(asked(ALIGNMENT)) === 'BALANCED';
+  return isBalanced ? [[STRATEGY, 'NETWORK_SIMPLEX'], [ALIGNMENT, 'NONE']] : [];
+}
+
+/** What is asked for where a level says nothing. One that names a placement has the engine's own defaults for it. */
+function defaults(asked) {
+  const isPlaced = asked(STRATEGY) !== undefined || asked(ALIGNMENT) !== undefined;
+  return isPlaced && replaced(asked).length === 0 ? SLOTS : [...DEFAULTS];
+}
 
 /**
- * The options that a level is sent with besides those that it reads itself.
+ * The options that a level is sent with besides those that it reads itself, or in place of these.
  * @param {(name: string) => unknown} asked what the level or the call asks for by an option
  * @param {(name: string) => boolean} isRead whether the running engine reads an option
  * @returns {[string, unknown][]} names and values
  */
 function standIns(asked, isRead) {
-  const found = new Map();
+  const found = new Map(defaults(asked));
   for (const [from, to, valueOf] of STAND_INS) {
     const value = asked(from) === undefined ? undefined : valueOf(asked(from));
     if (value !== undefined) {
       found.set(to, value);
     }
   }
-  const all = [...DEFAULTS, ...found];
-  return all.filter(([name]) => isRead(name) && asked(name) === undefined);
+  const more = [...found].filter(([name]) => asked(name) === undefined);
+  return [...new Map([...more, ...replaced(asked)])].filter(([name]) => isRead(name));
 }
 
-module.exports = { standIns };
+module.exports = { defaultOf, standIns };

@@ -22,7 +22,7 @@ const LAST_INDEX = 2 ** 20;
 const NO_PADDING = 5;
 
 // The options of a node that count for the leaf that stands for it.
-const OF_LEAVES = ['portConstraints', 'nodeLabels.placement', 'portLabels.placement'];
+const OF_LEAVES = ['layered.position', 'portConstraints', 'nodeLabels.placement', 'portLabels.placement'];
 
 /** The names by which a label of a node is placed. */
 const placementOf = (model, label, json) =>

@@ -9,6 +9,7 @@ const { isAcross, shareOptions, wayOf } = require('../hierarchy');
 const { roundUp } = require('../stages');
 const { Draft } = require('../stages/draft');
 const { portLabelsOf } = require('../stages/port-labels');
+const { keepPlaces } = require('../stages/positions');
 const { leadEdges, turnEdges } = require('./chains');
 const { findPortSides } = require('./port-sides');
 
@@ -22,6 +23,7 @@ class Model {
   constructor(root, { numbers, general }) {
     this.draft = new Draft(root, general);
     shareOptions(this.draft);
+    keepPlaces(this.draft);
     if (numbers === 'ceil') {
       roundUp(this.draft);
     }

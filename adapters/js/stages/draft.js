@@ -13,8 +13,6 @@ class Draft {
   #carried = new Map();
   #undo = [];
   #lists = new Map();
-  // For each child of a level what was added behind it last.
-  #lastBehind = new Map();
   #ids = new Set();
   #next = 0;
   #nodesById = new Map();
@@ -189,29 +187,14 @@ class Draft {
     });
   }
 
-  /** Whether a level keeps the order of the document in each of its layers. */
-  keepsOrder(level) {
-    return String(this.sentOption(level, 'layered.order')).toUpperCase() === 'DOCUMENT';
-  }
-
   /** An option that a level is sent with: its own, or one that stands for an option of ELK. */
   sentOption(level, name) {
     const asked = (it) => this.option(level, it);
-    return asked(name) ?? new Map(standIns(asked, () => true)).get(name);
+    return new Map(standIns(asked, () => true)).get(name) ?? asked(name);
   }
 
-  /** Where in a list an element is added: behind a child and what was added there before, or else at the end. */
-  #placeIn(list, element, behind) {
-    if (!behind) {
-      return list.length;
-    }
-    const last = this.#lastBehind.get(behind) ?? behind;
-    this.#lastBehind.set(behind, element);
-    return list.indexOf(last) + 1;
-  }
-
-  /** Adds an element to a list of a node until the answer is there, behind another where one is named. */
-  add(node, list, element, behind) {
+  /** Adds an element to a list of a node until the answer is there. */
+  add(node, list, element) {
     const before = node[list];
     if (!this.#lists.has(before) && (before === undefined || Array.isArray(before))) {
       node[list] = before ? before.slice() : [];
@@ -219,7 +202,7 @@ class Draft {
     }
     // What is no list is for the engine to refuse.
     if (this.#lists.has(node[list])) {
-      node[list].splice(this.#placeIn(node[list], element, behind), 0, element);
+      node[list].push(element);
     }
     if (list === 'ports') {
       this.#portsById.set(element.id, { node, port: element, id: element.id });

@@ -7,6 +7,7 @@ const { numberOr0 } = require('../levels');
 const { columnsOf } = require('./columns');
 const { isTrue, labelsOf, namesIn, placeStack, stackOf } = require('./labels');
 const { placeLoops } = require('./loops');
+const { keepDocumentOrder } = require('./positions');
 const { pointsOf, route } = require('./sections');
 const { slideLabels } = require('./slides');
 const { AHEAD, BEHIND, along, boxAt, isUpright, sideOfEnd, spotsAt } = require('./sides');
@@ -89,9 +90,10 @@ function fits(draft, sides, { edge, end, level, labels, node, port }) {
 }
 
 /** Leads an edge through a leaf for each stop. */
-function passThrough(draft, { edge, at, level, source, direction, slides }, stops) {
+function passThrough(draft, { edge, at, level, direction, slides }, stops) {
   const { layoutOptions, properties } = edge;
-  const leaves = stops.map((stop) => leafOf(draft, { edge, level, source, direction, slides }, stop));
+  keepDocumentOrder(draft, level);
+  const leaves = stops.map((stop) => leafOf(draft, { edge, level, direction, slides }, stop));
   const [target] = edge.targets;
   draft.altered.add(level);
   const pieces = leaves.map(({ leaf }, k) => ({
@@ -115,7 +117,7 @@ function passThrough(draft, { edge, at, level, source, direction, slides }, stop
 }
 
 /** The leaf that holds a stop's labels below the line, or on it, and how they are placed once it is. */
-function leafOf(draft, { edge, level, source, direction, slides }, { labels, end }) {
+function leafOf(draft, { edge, level, direction, slides }, { labels, end }) {
   const inline = (it) => draft.option(it, 'edgeLabels.inline');
   const isInline = labels.every((label) => isTrue(inline(label) ?? inline(edge)));
   const gap = draft.number(level, 'spacing.labelLabel', 0);
@@ -139,8 +141,7 @@ function leafOf(draft, { edge, level, source, direction, slides }, { labels, end
     ports: [port(BEHIND[direction]), port(side)],
     layoutOptions: { [`${FULL}portConstraints`]: 'FIXED_POS' },
   };
-  // Where a level keeps the order of the document, a label stands in it where its edge begins.
-  const leaf = draft.add(level, 'children', made, draft.keepsOrder(level) ? source.node : undefined);
+  const leaf = draft.add(level, 'children', made);
   const place = () => {
     const free = columnsOf(draft, level).get(leaf);
     const shift = { source: free.behind, target: free.ahead }[end] ?? Math.round((free.behind + free.ahead) / 2);

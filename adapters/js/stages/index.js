@@ -15,6 +15,7 @@ const { renamePorts } = require('./names');
 const { nodeLabelsOf, placeInside, placeOutside } = require('./node-labels');
 const { lacksOf, sizeNodes } = require('./node-sizes');
 const { placePortLabels, portLabelsOf } = require('./port-labels');
+const { keepPlaces } = require('./positions');
 const { sidesOf } = require('./sides');
 const { Strips, growPorts } = require('./strips');
 const { turnBack } = require('./turns');
@@ -65,6 +66,7 @@ function draftOf(graph, { numbers, general, lacks, still = new Set() }) {
   const draft = new Draft(graph, general);
   draft.still = still;
   shareOptions(draft);
+  keepPlaces(draft);
   const curves = askForCurves(draft);
   renamePorts(draft);
   splitHyperedges(draft);

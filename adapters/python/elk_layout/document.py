@@ -13,6 +13,7 @@ from .options import carried_by, general_for, sent_options, spellings, stand_ins
 from .copies import copied
 from .json_values import PLAIN, decode, encode, encode_plain, plain
 from .picture.looks import Theme
+from .positions import POSITION, kept_positions
 from .rounding import make_port_whole, make_size_whole
 from .saving import image_of, kind_of, write_picture
 
@@ -181,17 +182,18 @@ class Sender:
         # Names of options have points, so that the two are looked at one by one.
         return f'{own[:-1]}{"," if len(own) > 2 else ""}"layoutOptions":{asked}}}' if options else own
 
-    def _node(self, node: Any, is_root: bool = False) -> Any:
+    def _node(self, node: Any, is_root: bool = False, position: Optional[int] = None) -> Any:
         if not isinstance(node, dict):
             return node
-        sent = self._own(node, "node", _role(node, is_root))
+        sent = self._own(node, "node", _role(node, is_root), position)
         ports, edges, children = node.get("ports"), node.get("edges"), node.get("children")
         if isinstance(ports, (list, tuple)):
             sent["ports"] = [self._port(it, node) for it in ports]
         if isinstance(edges, (list, tuple)):
             sent["edges"] = [self._own(it, "edge", "edges") for it in edges]
         if isinstance(children, (list, tuple)):
-            sent["children"] = [self._node(it) for it in children]
+            positions = kept_positions(node, self._general) if self._is_rounding else {}
+            sent["children"] = [self._node(it, False, positions.get(at)) for at, it in enumerate(children)]
         if self._is_rounding:
             make_size_whole(sent)
         return sent
@@ -202,8 +204,8 @@ class Sender:
             make_port_whole(sent, node)
         return sent
 
-    def _own(self, element: Any, kind: str, role: str) -> Any:
-        """An element with its own members, as far as they are sent."""
+    def _own(self, element: Any, kind: str, role: str, position: Optional[int] = None) -> Any:
+        """An element with its own members, as far as they are sent, and with a position if it is to keep one."""
         if not isinstance(element, dict):
             return element
         sent = dict(element) if self._is_exact else self._readable(element, kind)
@@ -216,8 +218,9 @@ class Sender:
             general = {it.key: it.value for name, it in general_for(self._general, role).items() if name not in carried}
             if general:
                 sent["layoutOptions"] = {**general, **own}
-        elif own or self._general or role == "levels" or "properties" in element:
-            options = sent_options(element, self._general, role)
+        elif own or self._general or role == "levels" or "properties" in element or position is not None:
+            kept = {} if position is None else {f"elk.{POSITION}": position}
+            options = {**sent_options(element, self._general, role), **kept}
             if options or "layoutOptions" in element:
                 sent["layoutOptions"] = plain(options)
         return sent

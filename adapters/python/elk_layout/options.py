@@ -74,10 +74,6 @@ def carried_by(*given: Any) -> Dict[str, Carried]:
     return carried
 
 
-def _order_where(value: Any, is_none: bool) -> Optional[str]:
-    return "DOCUMENT" if (str(value).upper() == "NONE") is is_none else None
-
-
 def _effort(value: Any) -> Any:
     try:
         return 1000 if float(value) > 1000 else value
@@ -85,24 +81,61 @@ def _effort(value: Any) -> Any:
         return value
 
 
+def _name_in(value: Any) -> str:
+    """A value as its name is written; True is the name of a truth value too."""
+    return str(value).upper()
+
+
+def _by(**names: str) -> Callable[[Any], Optional[str]]:
+    """The value that stands for one of ELK, by the names of these."""
+    return lambda value: names.get(_name_in(value))
+
+
 # Options of ELK with those of the engine that stand for them, and the value of the one for that of the other; None where
-# it asks for nothing. Then what is asked for where a level says nothing.
+# it asks for nothing. Where several ask for one option, the last counts: the order of the document, rather than that of an
+# earlier drawing.
 STAND_INS: List[Tuple[str, str, Callable[[Any], Any]]] = [
     ("layered.thoroughness", "layered.effort", _effort),
-    ("layered.crossingMinimization.strategy", "layered.order", lambda value: _order_where(value, True)),
-    ("layered.considerModelOrder.strategy", "layered.order", lambda value: _order_where(value, False)),
+    ("interactive", "layered.order", _by(TRUE="KEPT")),
+    ("interactiveLayout", "layered.order", _by(TRUE="KEPT")),
+    ("layered.crossingMinimization.semiInteractive", "layered.order", _by(TRUE="KEPT")),
+    ("layered.crossingMinimization.strategy", "layered.order", _by(NONE="DOCUMENT", INTERACTIVE="KEPT")),
+    ("layered.crossingMinimization.forceNodeModelOrder", "layered.order", _by(TRUE="DOCUMENT")),
 ]
-DEFAULTS = {"layered.slots": "UNCROSSED"}
+
+STRATEGY = "layered.nodePlacement.strategy"
+ALIGNMENT = "layered.nodePlacement.bk.fixedAlignment"
+
+# What is asked for where a level says nothing.
+SLOTS = {"layered.slots": "UNCROSSED"}
+DEFAULTS: Dict[str, Any] = {**SLOTS, STRATEGY: "NETWORK_SIMPLEX", "layered.straightness": 4}
+
+
+def _replaced(asked: Mapping[str, Carried]) -> Dict[str, Any]:
+    """What is sent in place of values that the engine doesn't have: an alignment between all four is one for straight
+    lines.
+    """
+    is_balanced = ALIGNMENT in asked and _name_in(asked[ALIGNMENT].value) == "BALANCED"
+    return {STRATEGY: "NETWORK_SIMPLEX", ALIGNMENT: "NONE"} if is_balanced else {}
 
 
 def stand_ins(asked: Mapping[str, Carried]) -> Dict[str, Any]:
-    """The options that a level is sent with besides those that it asks for itself, by their names."""
-    found = dict(DEFAULTS)
+    """The options that a level is sent with besides those that it asks for itself, or in place of these, by their names."""
+    replaced = _replaced(asked)
+    # A level that names a placement has the engine's own defaults for it.
+    is_placed = (STRATEGY in asked or ALIGNMENT in asked) and not replaced
+    found: Dict[str, Any] = dict(SLOTS if is_placed else DEFAULTS)
     for name, by, value_of in STAND_INS:
         value = value_of(asked[name].value) if name in asked else None
         if value is not None:
             found[by] = value
-    return {name: value for name, value in found.items() if name in _readers() and name not in asked}
+    more = {name: value for name, value in found.items() if name not in asked}
+    return {name: value for name, value in {**more, **replaced}.items() if name in _readers()}
+
+
+def sent_value(asked: Mapping[str, Carried], name: str) -> Any:
+    """The value of an option that a level is sent with: its own, or one that stands for an option of ELK."""
+    return stand_ins(asked).get(name, asked[name].value if name in asked else None)
 
 
 def general_for(general: Mapping[str, Carried], role: str) -> Dict[str, Carried]:
@@ -118,5 +151,7 @@ def sent_options(element: Mapping[str, Any], general: Mapping[str, Carried], rol
     own = {name: it for name, it in carried.items() if name in _readers()}
     sent = {it.key: it.value for it in {**general_for(general, role), **own}.values()}
     if role == "levels":
-        sent.update((f"elk.{name}", value) for name, value in stand_ins({**general, **carried}).items())
+        asked = {**general, **carried}
+        for name, value in stand_ins(asked).items():
+            sent[asked[name].key if name in asked else f"elk.{name}"] = value
     return sent
