@@ -21,10 +21,14 @@ LinksAreFew =
     (l : PlainLevel) (c : Certificate) (blank v : Plain)
     → IsLevel l → IsCertificateOf l c → AreNumberedUnits (layering l c.reversed c.layers) blank → AreAlike blank v → AreFew v
 
+-- a limit of the heights of all units of a level together
+abbrev pub height_limit : ℕ
+height_limit = 3 * 2 ^ 47
+
 -- Whatever the layers of the level, the heights of all units and the pins of all links are together below 2^60.
 abbrev pub PinsAreLow : Type 0
 PinsAreLow =
     (l : PlainLevel) (reversed layers : List ℕ) (blank v : Plain)
     → IsLevel l → AreNumberedUnits (layering l reversed layers) blank → AreAlike blank v → IsSound v
-    → total_height v.units ≤ℤ pos (3 * 2 ^ 47)
+    → total_height v.units ≤ℤ pos height_limit
     → (total_height v.units +ℤ pins_together v.links) <ℤ pos (2 ^ 60)

@@ -15,7 +15,7 @@ use Rattle.ns_place.specs.declared.least.PairFlow.{PairFlow}
 use Rattle.ns_place.specs.Pairs.{all_pairs}
 use Rattle.ns_place.specs.Heights.{IsNearLink}
 use Rattle.ns_place.specs.Network.{alone_of}
-use Rattle.ns_place.specs.Start.{joint_layer, lowest, completed, lowered, AreFirst}
+use Rattle.ns_place.specs.Start.{joint_layer, lowest, completed, lowered, AreStartTops, AreFirst}
 use Rattle.ns_place.proofs.PairLemmas.{IsApart, are_pairs, kept_distances}
 use Rattle.ns_place.proofs.NetworkLemmas.{link_ends, have_pins}
 use Rattle.ns_place.proofs.CostLemmas.{HasEndsBelow, at_unit, at_joint, at_alone, is_layering}
@@ -46,44 +46,35 @@ none_lowest (t ∷ ts) h =
     let first : pos 0 ≤ℤ t = h 0 (omega arith) in
     omega (arith, ints, clamps, rest, first)
 
-module _ (l : Plain) (rows : List (List ℕ)) (tops : List ℤ) (sound : IsSound l) (are : AreRows l rows) (apart : AreApart l rows tops) (within : EndsWithinStack l tops) where
+pub start_tops : (l : Plain) (rows : List (List ℕ)) (tops : List ℤ) → AreApart l rows tops → EndsWithinStack l tops → AreStartTops l tops
+start_tops l rows tops apart within = record { as_many = apart.as_many; from_zero = apart.from_zero; within = within }
+
+module _ (l : Plain) (tops : List ℤ) (sound : IsSound l) (start : AreStartTops l tops) where
   abbrev low : List ℤ
   low = map lowered tops
 
   pub top_small : (u : ℕ) → u < length l.units → IsFromZero (top_of tops u) (pos (2 ^ 57))
   top_small u h =
-      let a = apart.from_zero u h in
-      let b = within u h in
+      let a = start.from_zero u h in
+      let b = start.within u h in
       let c = stack_small l sound in
       let d = sound.heights u h in
       (a, omega (arith, ints, b, c, d))
 
   pub tops_small : All (λ t. IsFromZero t (pos (2 ^ 57))) tops
-  tops_small = All-from_get_or (λ t. IsFromZero t (pos (2 ^ 57))) tops (pos 0) (λ u h. let n = apart.as_many in top_small u (omega (arith, n, h)))
+  tops_small = All-from_get_or (λ t. IsFromZero t (pos (2 ^ 57))) tops (pos 0) (λ u h. let n = start.as_many in top_small u (omega (arith, n, h)))
 
   long : length (map lowered tops) ≡ length l.units
-  long = length-map tops lowered ∙ apart.as_many
+  long = length-map tops lowered ∙ start.as_many
 
   low_top : (u : ℕ) → u < length l.units → top_of (map lowered tops) u ≡ lowered (top_of tops u)
-  low_top u h = let n = apart.as_many in get_or-map lowered tops u (pos 0) (pos 0) (omega (arith, n, h))
+  low_top u h = let n = start.as_many in get_or-map lowered tops u (pos 0) (pos 0) (omega (arith, n, h))
 
   low_within : (u : ℕ) → u < length l.units → (pos (2 ^ 57) ≤ℤ top_of (map lowered tops) u) × (top_of (map lowered tops) u ≤ℤ pos (2 ^ 58))
   low_within u h =
       let e = low_top u h in
       let s = top_small u h in
       (omega (arith, ints, e, s.0), omega (arith, ints, e, s.1))
-
-  low_apart : All (IsApart l (map lowered tops)) (all_pairs l rows)
-  low_apart = λ k d h.
-      let p : PairFlow = get_or (all_pairs l rows) k d in
-      let is = are_pairs l rows are k d h in
-      let a = kept_distances l rows tops (record { as_many = apart.as_many; rooms = apart.room; body_rooms = apart.body_room }) k d h in
-      let b = low_top p.upper is.upper_is in
-      let c = low_top p.lower is.lower_is in
-      omega (arith, ints, a, b, c)
-
-  ends_below : All (HasEndsBelow (length l.units)) l.links
-  ends_below = All-from_get_or (HasEndsBelow (length l.units)) l.links (record { edge = 0; tail = 0; head = 0; tail_rank = 0; head_rank = 0; tail_at = pos 0; head_at = pos 0 }) (link_ends l rows sound are)
 
   pub low_near : All (IsNearLink (map lowered tops)) l.links
   low_near =
@@ -114,7 +105,7 @@ module _ (l : Plain) (rows : List (List ℕ)) (tops : List ℤ) (sound : IsSound
       All-from_get_or (IsNearLink tops) l.links (record { edge = 0; tail = 0; head = 0; tail_rank = 0; head_rank = 0; tail_at = pos 0; head_at = pos 0 })
       (λ k h.
       let e = sound.links_are k h in
-      let n = apart.as_many in
+      let n = start.as_many in
       let t = e.tail in
       let u = e.head in
       let at = top_small (link_at l.links k).tail t in
@@ -181,19 +172,35 @@ module _ (l : Plain) (rows : List (List ℕ)) (tops : List ℤ) (sound : IsSound
           let is : w ≡ length l.units + k = omega (arith, past) in
           subst (λ n. (pos 0 ≤ℤ layer_of (completed (map lowered tops) l.links) n) × (layer_of (completed (map lowered tops) l.links) n <ℤ pos (2 ^ 62))) (sym is) (joint_in_range k (omega (arith, past, joint)))
 
-  pub first_are : (layers : List ℤ) → layers ≡ (map lowered tops ++ map (joint_layer (map lowered tops)) l.links) ++ pos 0 ∷ [] → AreFirst l rows layers
-  first_are layers is =
-      let same : layers ≡ completed (map lowered tops) l.links =
-      is ∙ append_assoc (map lowered tops) (map (joint_layer (map lowered tops)) l.links) (pos 0 ∷ []) ∙ ap (λ z. map lowered tops ++ (map (joint_layer (map lowered tops)) l.links ++ z ∷ [])) (sym low_lowest)
-      in
-      subst (AreFirst l rows) (sym same) (record {
-        as_many =
-            let a = length-append (map lowered tops) (map (joint_layer (map lowered tops)) l.links ++ lowest (map lowered tops) ∷ []) in
-            let b = length-append (map (joint_layer (map lowered tops)) l.links) (lowest (map lowered tops) ∷ []) in
-            let c = length-map l.links (joint_layer (map lowered tops)) in
-            let d = long in
-            omega (arith, a, b, c, d);
-        layering = is_layering l (all_pairs l rows) (map lowered tops) long ends_below (have_pins l rows sound are) (are_pairs l rows are) low_apart;
-        from_zero = λ v h. (in_range v h).0;
-        low = λ v h. (in_range v h).1;
-      })
+  -- the tops, lowered, with the links' own nodes, and a layer 0 for the node that nothing holds
+  pub completed_are : (map lowered tops ++ map (joint_layer (map lowered tops)) l.links) ++ pos 0 ∷ [] ≡ completed (map lowered tops) l.links
+  completed_are =
+      append_assoc (map lowered tops) (map (joint_layer (map lowered tops)) l.links) (pos 0 ∷ [])
+      ∙ ap (λ z. map lowered tops ++ (map (joint_layer (map lowered tops)) l.links ++ z ∷ [])) (sym low_lowest)
+
+  module _ (rows : List (List ℕ)) (are : AreRows l rows) (apart : AreApart l rows tops) where
+    low_apart : All (IsApart l (map lowered tops)) (all_pairs l rows)
+    low_apart = λ k d h.
+        let p : PairFlow = get_or (all_pairs l rows) k d in
+        let is = are_pairs l rows are k d h in
+        let a = kept_distances l rows tops (record { as_many = apart.as_many; rooms = apart.room; body_rooms = apart.body_room }) k d h in
+        let b = low_top p.upper is.upper_is in
+        let c = low_top p.lower is.lower_is in
+        omega (arith, ints, a, b, c)
+
+    ends_below : All (HasEndsBelow (length l.units)) l.links
+    ends_below = All-from_get_or (HasEndsBelow (length l.units)) l.links (record { edge = 0; tail = 0; head = 0; tail_rank = 0; head_rank = 0; tail_at = pos 0; head_at = pos 0 }) (link_ends l rows sound are)
+
+    pub first_are : AreFirst l rows (completed (map lowered tops) l.links)
+    first_are =
+        record {
+          as_many =
+              let a = length-append (map lowered tops) (map (joint_layer (map lowered tops)) l.links ++ lowest (map lowered tops) ∷ []) in
+              let b = length-append (map (joint_layer (map lowered tops)) l.links) (lowest (map lowered tops) ∷ []) in
+              let c = length-map l.links (joint_layer (map lowered tops)) in
+              let d = long in
+              omega (arith, a, b, c, d);
+          layering = is_layering l (all_pairs l rows) (map lowered tops) long ends_below (have_pins l rows sound are) (are_pairs l rows are) low_apart;
+          from_zero = λ v h. (in_range v h).0;
+          low = λ v h. (in_range v h).1;
+        }

@@ -1,5 +1,5 @@
 -- Links that are level have no height, and weigh by it.
-use Rattle.std.proofs.Common.{◌≡◌, ◌≢◌, ℕ, ◌<◌, ◌≤◌, cond, ℤ, pos, ◌-ℤ◌, List, length, map, Bool, true, false, None, arith, refl, ◌∙◌, inl, inr, eq-eqb, ne_eqb}
+use Rattle.std.proofs.Common.{◌≡◌, ◌≢◌, ℕ, ◌<◌, ◌≤◌, cond, ℤ, pos, ◌-ℤ◌, List, length, map, replicate, Bool, true, false, None, arith, refl, ◌∙◌, inl, inr, eq-eqb, ne_eqb}
 use Rattle.std.proofs.lemmas.Int.{ints}
 use Rattle.std.proofs.lemmas.Bool.{cases_eq}
 use Rattle.std.proofs.lemmas.List.{length-map, get_or-map}
@@ -11,6 +11,7 @@ use Rattle.ns_place.specs.Heights.{size, link_height}
 use Rattle.ns_place.specs.Weighed.{greatest_weight, weight_at, AreWeights}
 use Rattle.ns_place.specs.Straight.{weight_for, WeighByLevel, AreStraightWeights}
 use Rattle.ns_place.proofs.CostLemmas.{size_is}
+use Rattle.ns_place.proofs.PlacingLemmas.{even_one, even_weigh}
 
 flat_ends : (t h : ℤ) → size (h -ℤ t) ≡ 0 → t ≡ h
 flat_ends t h e = elim (size_is (h -ℤ t)) [
@@ -71,3 +72,11 @@ module _ (l : Plain) (straightness : ℕ) (tops : List ℤ) where
         by_one = λ e. absurd (ne e);
         by_more = λ _. record { aligned = tops; are_lines = lines; by_level = weigh_by_level };
       }
+
+pub even_weights_are : (l : Plain) (rows : List (List ℕ)) (straightness : ℕ) → straightness ≡ 1 → AreStraightWeights l rows straightness (replicate (length l.links) 1)
+even_weights_are l rows straightness e =
+    record {
+      one_each = (even_weigh l).one_each;
+      by_one = λ _. even_one l.links;
+      by_more = λ ne. absurd (ne e);
+    }

@@ -5,6 +5,7 @@ use Rattle.elk_layers.specs.declared.units.Link.{Link}
 use Rattle.elk_layers.specs.Layered.{Plain}
 use Rattle.elk_layers.specs.Lines.{top_of}
 use Rattle.network_laws.specs.Layering.{layer_of, IsLayering}
+use Rattle.unit_blocks.specs.Constraints.{EndsWithinStack}
 use Rattle.ns_place.specs.Pairs.{all_pairs}
 use Rattle.ns_place.specs.Network.{alone_of, edges_of}
 
@@ -23,6 +24,12 @@ completed tops ls = tops ++ (map (joint_layer tops) ls ++ lowest tops ∷ [])
 -- a top, with room above it for the links' own nodes
 abbrev pub lowered : ℤ → ℤ
 lowered top = top +ℤ pos (2 ^ 57)
+
+-- a top from 0 for each unit, and no unit that ends below all heights and spacings together
+pub record AreStartTops (l : Plain) (tops : List ℤ) : Type 0 where
+  pub as_many : length tops ≡ length l.units
+  pub from_zero : (u : ℕ) → u < length l.units → pos 0 ≤ℤ top_of tops u
+  pub within : EndsWithinStack l tops
 
 -- layers of the network, whatever its links weigh, that keep the distances and the links' pins
 pub record AreFirst (l : Plain) (rows : List (List ℕ)) (layers : List ℤ) : Type 0 where

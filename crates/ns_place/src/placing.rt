@@ -1,12 +1,13 @@
 //! A placing of least height.
 
-ghost use Rattle.std.specs.Prelude.{◌≡◌, ℕ, ◌<◌, ◌≤◌, ◌^◌, pos, ◌+ℤ◌, ◌≤ℤ◌, ◌<ℤ◌, length, IfOk};
+ghost use Rattle.std.specs.Prelude.{◌≡◌, ℕ, ◌<◌, ◌≤◌, ◌^◌, pos, ◌+ℤ◌, ◌≤ℤ◌, ◌<ℤ◌, length, replicate, IfOk};
 ghost use Rattle.elk_layers.specs.Layered.{plain, rows_of, IsSound, AreRows, total_height};
 ghost use Rattle.network_laws.specs.Layering.{layer_of};
 ghost use Rattle.unit_blocks.specs.Constraints.{greatest_spacing, EndsWithinStack};
 ghost use Rattle.ns_place.specs.Heights.{pins_together, IsLeastPlacing};
 ghost use Rattle.ns_place.specs.Weighed.{greatest_weight, AreWeights, IsWeighedPlacing};
 ghost use Rattle.ns_place.specs.Straight.{IsStraightPlacing};
+ghost use Rattle.ns_place.specs.Start.{AreFirst};
 ghost use Rattle.ns_place.specs.Tops.{AreClosedTops};
 
 use crate::closing::{as_tops, close_up, standings};
@@ -15,8 +16,9 @@ use crate::heights::weighed_height;
 use crate::least::LeastPlacing;
 use crate::network::network_of;
 use crate::pairs::pairs_of;
-use crate::start::first_layers;
-use crate::straight::{even_weights, straight_weights};
+use crate::start::{first_layers, layers_at};
+use crate::straight::{even_weights, weigh_by_level};
+use bk_place::place;
 use elk_layers::{Layered, Lines, Order};
 use flow_dual::solve_from;
 use std::alloc::{AllocError, Global};
@@ -44,12 +46,13 @@ fn tops_of(alloc: Global, layered: &Layered, layers: &[i64]) -> Result<Vec<i64>,
 }
 
 /// Tops of units that keep all distances of the order and make the links least high together, each times its
-/// weight, with a flow that proves it.
+/// weight, with a flow that proves it. The search begins at these layers.
 fn place_weighed(
     alloc: Global,
     layered: &Layered,
     order: &Order,
     weights: &[u32],
+    first: Vec<i64>,
 ) -> Result<LeastPlacing, AllocError>
     requires sound { IsSound (plain layered.now) }
     requires rows { AreRows (plain layered.now) (rows_of order.now) }
@@ -57,12 +60,12 @@ fn place_weighed(
     requires few_links { length (plain layered.now).links ≤ 2 ^ 21 }
     requires together { (total_height (plain layered.now).units +ℤ pins_together (plain layered.now).links) <ℤ pos (2 ^ 60) }
     requires weights { AreWeights (plain layered.now) weights.now }
+    requires first { AreFirst (plain layered.now) (rows_of order.now) first.items }
     ensures least { IfOk result (λ p. IsWeighedPlacing (plain layered.now) (rows_of order.now) weights.now p.lines.top.items p.height p.link_flow.items p.pairs.items) }
     ensures within { IfOk result (λ p. EndsWithinStack (plain layered.now) p.lines.top.items) }
 {
     let pairs = pairs_of(alloc, layered, order)?;
     let net = network_of(alloc, layered, weights, pairs.as_slice())?;
-    let first = first_layers(alloc, layered, order)?;
     let solution = solve_from(alloc, &net, first)?;
     let links = layered.links.as_slice();
     let flow = solution.flow.as_slice();
@@ -76,6 +79,21 @@ fn place_weighed(
         link_flow,
         pairs,
     })
+}
+
+/// The same where each link weighs 1.
+fn place_even(alloc: Global, layered: &Layered, order: &Order) -> Result<LeastPlacing, AllocError>
+    requires sound { IsSound (plain layered.now) }
+    requires rows { AreRows (plain layered.now) (rows_of order.now) }
+    requires few_units { length (plain layered.now).units ≤ 2 ^ 21 }
+    requires few_links { length (plain layered.now).links ≤ 2 ^ 21 }
+    requires together { (total_height (plain layered.now).units +ℤ pins_together (plain layered.now).links) <ℤ pos (2 ^ 60) }
+    ensures least { IfOk result (λ p. IsWeighedPlacing (plain layered.now) (rows_of order.now) (replicate (length (plain layered.now).links) 1) p.lines.top.items p.height p.link_flow.items p.pairs.items) }
+    ensures within { IfOk result (λ p. EndsWithinStack (plain layered.now) p.lines.top.items) }
+{
+    let weights = even_weights(alloc, layered.links.as_slice().len())?;
+    let first = first_layers(alloc, layered, order)?;
+    place_weighed(alloc, layered, order, weights.as_slice(), first)
 }
 
 /// Tops of units that keep all distances of the order and make the links least high together, with a flow that
@@ -93,8 +111,7 @@ pub fn place_least(
     ensures least { IfOk result (λ p. IsLeastPlacing (plain layered.now) (rows_of order.now) p.lines.top.items p.height p.link_flow.items p.pairs.items) }
     ensures within { IfOk result (λ p. EndsWithinStack (plain layered.now) p.lines.top.items) }
 {
-    let weights = even_weights(alloc, layered.links.as_slice().len())?;
-    place_weighed(alloc, layered, order, weights.as_slice())
+    place_even(alloc, layered, order)
 }
 
 /// Tops of units that keep all distances of the order and make the links least high together, with a flow that
@@ -116,6 +133,12 @@ pub fn place_straight(
     ensures straight { IfOk result (λ p. IsStraightPlacing (plain layered.now) (rows_of order.now) straightness p.lines.top.items p.height p.link_flow.items p.pairs.items) }
     ensures within { IfOk result (λ p. EndsWithinStack (plain layered.now) p.lines.top.items) }
 {
-    let weights = straight_weights(alloc, layered, order, straightness)?;
-    place_weighed(alloc, layered, order, weights.as_slice())
+    if straightness == 1 {
+        return place_even(alloc, layered, order);
+    }
+    let lines = place(alloc, layered, order, None)?;
+    let top = lines.top.as_slice();
+    let weights = weigh_by_level(alloc, straightness, top, layered.links.as_slice())?;
+    let first = layers_at(alloc, layered, top)?;
+    place_weighed(alloc, layered, order, weights.as_slice(), first)
 }

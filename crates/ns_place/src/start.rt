@@ -5,7 +5,7 @@ ghost use Rattle.std.specs.Int.{int_min};
 ghost use Rattle.std.specs.List.{All};
 ghost use Rattle.elk_layers.specs.Layered.{plain, rows_of, IsSound, AreRows, IsFromZero};
 ghost use Rattle.ns_place.specs.Heights.{IsNearLink};
-ghost use Rattle.ns_place.specs.Start.{lowered, AreFirst};
+ghost use Rattle.ns_place.specs.Start.{lowered, completed, AreStartTops, AreFirst};
 ghost use Rattle.ns_place.specs.Start as start;
 
 use bk_place::place;
@@ -65,7 +65,24 @@ fn push_joint_layers(top: &[i64], links: &[Link], all: &mut Vec<i64>) -> Result<
     Ok(())
 }
 
-/// The layers of the units, of the links' own nodes and of the node that nothing holds.
+/// The layers of the units at these tops, of the links' own nodes and of the node that nothing holds.
+pub(crate) fn layers_at(
+    alloc: Global,
+    layered: &Layered,
+    top: &[i64],
+) -> Result<Vec<i64>, AllocError>
+    requires sound { IsSound (plain layered.now) }
+    requires tops { AreStartTops (plain layered.now) top.now }
+    ensures { IfOk result (λ v. v.items ≡ completed (map lowered top.now) (plain layered.now).links) }
+{
+    let low = lower_all(alloc, top)?;
+    let mut layers = Vec::from_slice(alloc, low.as_slice())?;
+    push_joint_layers(low.as_slice(), layered.links.as_slice(), &mut layers)?;
+    layers.push(0)?;
+    Ok(layers)
+}
+
+/// The layers at the tops of the first sweep.
 pub(crate) fn first_layers(
     alloc: Global,
     layered: &Layered,
@@ -76,9 +93,5 @@ pub(crate) fn first_layers(
     ensures { IfOk result (λ v. AreFirst (plain layered.now) (rows_of order.now) v.items) }
 {
     let lines = place(alloc, layered, order, Some(Sweep::LeftUp))?;
-    let top = lower_all(alloc, lines.top.as_slice())?;
-    let mut layers = Vec::from_slice(alloc, top.as_slice())?;
-    push_joint_layers(top.as_slice(), layered.links.as_slice(), &mut layers)?;
-    layers.push(0)?;
-    Ok(layers)
+    layers_at(alloc, layered, lines.top.as_slice())
 }

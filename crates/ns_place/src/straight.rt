@@ -1,16 +1,12 @@
-//! The weights of links: more for those that alignment keeps straight.
+//! The weights of links: more for those that are level.
 
-ghost use Rattle.std.specs.Prelude.{◌≡◌, ◌≤◌, ◌+◌, map, length, IfOk, replicate};
+ghost use Rattle.std.specs.Prelude.{◌≡◌, map, IfOk, replicate};
 ghost use Rattle.std.specs.List.{All};
-ghost use Rattle.elk_layers.specs.Layered.{plain, rows_of, IsSound, AreRows};
 ghost use Rattle.ns_place.specs.Heights.{IsNearLink};
-ghost use Rattle.ns_place.specs.Weighed.{greatest_weight, AreWeights};
-ghost use Rattle.ns_place.specs.Straight.{AreStraightWeights};
 ghost use Rattle.ns_place.specs.Straight as straight;
 
 use crate::heights::height_of;
-use bk_place::place;
-use elk_layers::{Layered, Link, Order};
+use elk_layers::Link;
 use std::alloc::{AllocError, Global};
 
 /// For each link the weight 1.
@@ -32,8 +28,8 @@ fn weight_for(straightness: u32, top: &[i64], link: Link) -> u32
     }
 }
 
-/// By link, its weight at these tops.
-fn weigh_by_level(
+/// By link, `straightness` if it is level at these tops, and else 1.
+pub(crate) fn weigh_by_level(
     alloc: Global,
     straightness: u32,
     top: &[i64],
@@ -47,25 +43,4 @@ fn weigh_by_level(
         weights.push(weight_for(straightness, top, *link))?;
     }
     Ok(weights)
-}
-
-/// By link, `straightness` if alignment keeps it level, and else 1. With a straightness of 1 nothing is aligned.
-pub(crate) fn straight_weights(
-    alloc: Global,
-    layered: &Layered,
-    order: &Order,
-    straightness: u32,
-) -> Result<Vec<u32>, AllocError>
-    requires sound { IsSound (plain layered.now) }
-    requires rows { AreRows (plain layered.now) (rows_of order.now) }
-    requires small { straightness ≤ greatest_weight }
-    ensures straight { IfOk result (λ v. AreStraightWeights (plain layered.now) (rows_of order.now) straightness v.items) }
-    ensures weights { IfOk result (λ v. AreWeights (plain layered.now) v.items) }
-{
-    let links = layered.links.as_slice();
-    if straightness == 1 {
-        return even_weights(alloc, links.len());
-    }
-    let lines = place(alloc, layered, order, None)?;
-    weigh_by_level(alloc, straightness, lines.top.as_slice(), links)
 }

@@ -1,1 +1,2 @@
 pub mod ThreeValues
+pub mod DoubledForks

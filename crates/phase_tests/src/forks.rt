@@ -1,7 +1,8 @@
-//! One unit with two links to two units.
+//! One unit with two links to two units, and with a third.
 ghost use Rattle.std.specs.Prelude.{◌≡◌, IfOk};
 ghost use Rattle.elk_layers.specs.Layered.{plain, rows_of};
 ghost use Rattle.elk_layers.specs.PlaceExamples as example;
+ghost use Rattle.phase_tests.specs.DoubledFork as second;
 
 use elk_layers::{Layered, Link, Order, Unit};
 use std::alloc::{AllocError, Global};
@@ -39,6 +40,22 @@ pub fn forked(alloc: Global) -> Result<Layered, AllocError>
 {
     let units = vec![in alloc; child(0), child(1), child(1)]?;
     let links = vec![in alloc; leads(1, 10), leads(2, 20)]?;
+    Ok(Layered {
+        layers: 2,
+        units,
+        links,
+        node_node: 20,
+        edge_node: 10,
+        edge_edge: 10,
+    })
+}
+
+/// The fork with a second link to the lower of the two.
+pub fn doubled(alloc: Global) -> Result<Layered, AllocError>
+    ensures { IfOk result (λ l. plain l ≡ second.doubled) }
+{
+    let units = vec![in alloc; child(0), child(1), child(1)]?;
+    let links = vec![in alloc; leads(1, 10), leads(2, 20), leads(2, 20)]?;
     Ok(Layered {
         layers: 2,
         units,

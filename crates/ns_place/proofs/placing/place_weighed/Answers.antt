@@ -31,7 +31,7 @@ pub solve_from-requires : goal.solve_from-requires
 solve_from-requires c =
     let l = plain c.args.layered.now in
     let rows = rows_of c.args.order.now in
-    let first = c.in_ok-first.ensures in
+    let first = c.requires.first in
     let nodes = c.in_ok-net.ensures.nodes in
     let edges = c.in_ok-net.ensures.edges ∙ ap (edges_of l c.args.weights.now) (c.as_slice.ensures.value ∙ c.in_ok-pairs.ensures) in
     record {
@@ -39,7 +39,7 @@ solve_from-requires c =
           (subst (λ n. IsNetwork n (edges_of l c.args.weights.now (all_pairs l rows))) (sym nodes)
           (is_network l rows c.requires.sound c.requires.rows c.args.weights.now c.requires.weights c.requires.few_units c.requires.few_links c.requires.together));
       as_many = first.as_many ∙ sym nodes;
-      layering = subst (λ es. IsLayering es c.in_ok-first.first.items) (sym edges) (first.layering c.args.weights.now);
+      layering = subst (λ es. IsLayering es c.args.first.items) (sym edges) (first.layering c.args.weights.now);
       from_zero = λ v h. first.from_zero v (subst (λ n. v < n) nodes h);
       low = λ v h. first.low v (subst (λ n. v < n) nodes h);
     }
