@@ -25,8 +25,8 @@ const PLACEMENT = [[STRATEGY, 'NETWORK_SIMPLEX'], ['layered.straightness', 4]];
 
 const DEFAULTS = new Map([...SLOTS, ...PLACEMENT]);
 
-/** The value of an option of data/options.json where a level says nothing. */
-const defaultOf = ({ name, default: byDefault }) => DEFAULTS.get(name) ?? byDefault;
+/** The default of an option of data/options.json in a call, in words. */
+const defaultOf = ({ name, default: byDefault }) => String(DEFAULTS.get(name) ?? byDefault);
 
 /** What is sent in place of values that the engine doesn't have: an alignment between all four is one for straight lines. */
 function replaced(asked) {

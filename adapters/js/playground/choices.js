@@ -5,6 +5,7 @@ const { options } = require('../data/options.json');
 const { readJson } = require('../jsontext');
 const { isObject } = require('../levels');
 const { carriedBy, nameOf } = require('../options');
+const { defaultOf } = require('../stand-ins');
 const { tokensOf } = require('./tokens');
 
 const PREFIX = 'elk.';
@@ -18,7 +19,10 @@ const CHOSEN = [
   ['layered.spacing.nodeNodeBetweenLayers', 'Layer gap'],
   ['layered.nodePlacement.strategy', 'Placement'],
   ['layered.effort', 'Effort'],
-].map(([name, title]) => ({ title, ...options.find((option) => option.name === name) }));
+].map(([name, title]) => {
+  const option = options.find((it) => it.name === name);
+  return { title, ...option, default: defaultOf(option) };
+});
 
 /** The token that begins at a place, and the one behind it. */
 function tokensAt(text, start) {

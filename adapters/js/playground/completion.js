@@ -4,6 +4,7 @@
 const { members: MEMBERS } = require('../data/faults.json');
 const { adapter, options } = require('../data/options.json');
 const { nameOf, valuesOf } = require('../options');
+const { defaultOf } = require('../stand-ins');
 const { tokensOf } = require('./tokens');
 
 const PREFIX = 'elk.';
@@ -60,17 +61,23 @@ function contextAt(text, at) {
   return { frame: open.at(-1), token: undefined };
 }
 
-const helpOf = ({ name, default: byDefault, ...option }) =>
-  `${PREFIX}${name}: ${valuesOf(option)}${byDefault === '' ? '' : `; default ${byDefault}`}`;
+const helpOf = (option) => {
+  const byDefault = defaultOf(option);
+  return `${PREFIX}${option.name}: ${valuesOf(option)}${byDefault === '' ? '' : `; default ${byDefault}`}`;
+};
 
 const optionsOf = (kind) => [...OPTIONS.values()].filter(({ at }) => [at].flat().some((it) => READ[kind].includes(it)));
 
 /** The values of an option, each as text of JSON; of one with a number or a text of its own form, the default. */
-function valuesIn({ type, values, default: byDefault }) {
+function valuesIn(option) {
+  const { type, values } = option;
   if (values) {
     return values.map((value) => (type === 'BOOLEAN' ? value : JSON.stringify(value)));
   }
-  return [/^-?\d+$/.test(byDefault) ? byDefault : JSON.stringify(byDefault)];
+  const byDefault = defaultOf(option);
+  const isNumber = /^-?\d+$/.test(byDefault);
+  // A number may be none by default.
+  return [isNumber ? byDefault : type === 'INT' ? '0' : JSON.stringify(byDefault)];
 }
 
 /** All that may stand at a place. */

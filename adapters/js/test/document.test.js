@@ -10,12 +10,15 @@ const { optionName, OPTIONS } = require('../options');
 
 const FORMAT = readFileSync(path.join(__dirname, '..', '..', '..', 'docs', 'FORMAT.md'), 'utf8');
 
-const SLOTS = 'elk.layered.slots';
+const ASKED = { slots: 'UNCROSSED', 'nodePlacement.strategy': 'NETWORK_SIMPLEX', straightness: 4 };
+
+/** What every level is asked for besides. */
+const DEFAULTS = Object.fromEntries(Object.entries(ASKED).map(([name, value]) => [`elk.layered.${name}`, value]));
 
 /** A document without what every level is asked for besides. */
 function plainly(node) {
-  if (node?.layoutOptions?.[SLOTS] !== undefined) {
-    delete node.layoutOptions[SLOTS];
+  if (node?.layoutOptions) {
+    Object.keys(DEFAULTS).forEach((key) => delete node.layoutOptions[key]);
   }
   if (node?.layoutOptions && Object.keys(node.layoutOptions).length === 0) {
     delete node.layoutOptions;
@@ -199,15 +202,30 @@ test('options are sent under names that the engine finds, from properties too', 
   });
 });
 
-test('every level is asked for lines that cross no more than they must', () => {
+test('every level is asked for straight lines that cross no more than they must', () => {
   const graph = { children: [{ id: 'a', children: [{ id: 'b' }] }] };
   const document = documentOf(graph, { numbers: 'ceil', general: {} });
   assert.deepEqual(
-    [document, document.children[0]].map(({ layoutOptions }) => layoutOptions?.[SLOTS]),
-    ['UNCROSSED', 'UNCROSSED'],
+    [document, document.children[0]].map(({ layoutOptions }) => layoutOptions),
+    [DEFAULTS, DEFAULTS],
   );
   assert.equal(document.children[0].children[0].layoutOptions, undefined);
-  const general = { slots: 'FEWEST' };
+  const general = { slots: 'FEWEST', 'bk.fixedAlignment': 'NONE' };
   const given = documentOf(graph, { numbers: 'ceil', general }).layoutOptions;
-  assert.deepEqual(given, { 'org.eclipse.elk.layered.slots': 'FEWEST' });
+  assert.deepEqual(given, {
+    'org.eclipse.elk.layered.slots': 'FEWEST',
+    'org.eclipse.elk.layered.nodePlacement.bk.fixedAlignment': 'NONE',
+  });
+});
+
+test('a balanced alignment is not sent, wherever it is asked for', () => {
+  const name = 'elk.layered.nodePlacement.bk.fixedAlignment';
+  const strategy = 'elk.layered.nodePlacement.strategy';
+  const asked = { [name]: 'BALANCED', [strategy]: 'BRANDES_KOEPF' };
+  const expected = { ...DEFAULTS, [name]: 'NONE' };
+  for (const numbers of ['ceil', 'exact']) {
+    assert.deepEqual(documentOf({ layoutOptions: asked }, { numbers, general: {} }).layoutOptions, expected);
+    assert.deepEqual(documentOf({ properties: asked }, { numbers, general: {} }).layoutOptions, expected);
+    assert.deepEqual(documentOf({}, { numbers, general: asked }).layoutOptions, expected);
+  }
 });

@@ -197,26 +197,26 @@ const box = (id, more) => ({ id, width: 30, height: 30, ...more });
 
 const step = (id, source, target, text) => ({ id, sources: [source], targets: [target], ...(text && { labels: [{ text }] }) });
 
-test('where a level keeps the order of the document, a label stands in it where its edge begins', WITH_PROGRAM, async () => {
+test('where a level keeps the order of the document, labels stand where their edges cross least', WITH_PROGRAM, async () => {
   const elk = new ELK({ program: PROGRAM });
-  const children = ['a', 'c', 'd', 'b'].map((id) => box(id));
-  const edges = [step('1', 'a', 'b', 'one'), step('2', 'a', 'c'), step('3', 'a', 'd'), step('4', 'a', 'b', 'two'), step('5', 'c', 'b', 'three')];
+  const children = ['t', 's', 'c', 'e', 'b'].map((id) => box(id));
+  const edges = [step('1', 's', 'b', 'one'), step('2', 't', 'c'), step('3', 'c', 'e')];
   for (const layoutOptions of [
     { 'elk.layered.order': 'DOCUMENT' },
-    { 'elk.layered.considerModelOrder.strategy': 'NODES_AND_EDGES' },
+    { 'elk.layered.crossingMinimization.forceNodeModelOrder': true },
     { 'elk.layered.crossingMinimization.strategy': 'NONE' },
   ]) {
     const placed = await elk.layout({ id: 'r', layoutOptions, children, edges });
-    assert.deepEqual(placed.children.map(({ id }) => id), ['a', 'c', 'd', 'b']);
-    const [one, , , two] = placed.edges.map(({ labels: [label] = [] }) => label?.y);
-    const [, c, d] = placed.children.map(({ y }) => y);
-    assert.ok(one < two && two < c && c < d, `${one} ${two} ${c} ${d}`);
+    assert.deepEqual(placed.children.map(({ id }) => id), ['t', 's', 'c', 'e', 'b']);
+    const [t, s, c, e, b] = placed.children.map(({ y }) => y);
+    assert.ok(t < s && e < b, `${t} ${s} ${e} ${b}`);
+    assert.ok(c < placed.edges[0].labels[0].y, 'the label stands below the node, as its edge does');
     assert.deepEqual(labelFaults(placed), []);
   }
   elk.terminateWorker();
 });
 
-test('a fault behind such a label is told where it stands in the graph', WITH_PROGRAM, async () => {
+test('a fault beside such a label is told where it stands in the graph', WITH_PROGRAM, async () => {
   const elk = new ELK({ program: PROGRAM });
   const level = { id: 'in', layoutOptions: { 'elk.layered.order': 'DOCUMENT' }, edges: [step('e', 'a', 'b', 'one')] };
   const inner = (more, edges = []) => ({

@@ -4,23 +4,70 @@ const assert = require('node:assert/strict');
 const test = require('node:test');
 const { standIns } = require('../stand-ins');
 
+const STRATEGY = 'layered.nodePlacement.strategy';
+const ALIGNMENT = 'layered.nodePlacement.bk.fixedAlignment';
+const STRAIGHTNESS = 'layered.straightness';
+
+const SLOTS = { 'layered.slots': 'UNCROSSED' };
+const PLACEMENT = { [STRATEGY]: 'NETWORK_SIMPLEX', [STRAIGHTNESS]: 4 };
+const DEFAULTS = { ...SLOTS, ...PLACEMENT };
+
 const askedBy = (options, isRead = () => true) => Object.fromEntries(standIns((name) => options[name], isRead));
 
 test('options of ELK are sent as those of the engine that stand for them', () => {
-  const slots = { 'layered.slots': 'UNCROSSED' };
+  const effort = 'layered.effort';
   for (const [options, expected] of [
-    [{}, slots],
-    [{ 'layered.slots': 'FEWEST' }, {}],
-    [{ 'layered.thoroughness': 20 }, { ...slots, 'layered.effort': 20 }],
-    [{ 'layered.thoroughness': '5000' }, { ...slots, 'layered.effort': 1000 }],
-    [{ 'layered.thoroughness': 20, 'layered.effort': 3 }, slots],
-    [{ 'layered.crossingMinimization.strategy': 'NONE' }, { ...slots, 'layered.order': 'DOCUMENT' }],
-    [{ 'layered.crossingMinimization.strategy': 'LAYER_SWEEP' }, slots],
-    [{ 'layered.considerModelOrder.strategy': 'NODES_AND_EDGES' }, { ...slots, 'layered.order': 'DOCUMENT' }],
-    [{ 'layered.considerModelOrder.strategy': 'none' }, slots],
-    [{ 'layered.considerModelOrder.strategy': 'PREFER_EDGES', 'layered.order': 'SWEPT' }, slots],
+    [{}, DEFAULTS],
+    [{ 'layered.slots': 'FEWEST' }, PLACEMENT],
+    [{ 'layered.thoroughness': 20 }, { ...DEFAULTS, [effort]: 20 }],
+    [{ 'layered.thoroughness': '5000' }, { ...DEFAULTS, [effort]: 1000 }],
+    [{ 'layered.thoroughness': 20, [effort]: 3 }, DEFAULTS],
   ]) {
     assert.deepEqual(askedBy(options), expected, JSON.stringify(options));
+  }
+});
+
+test('a level that says nothing of placement is placed by network simplex, with straight lines', () => {
+  for (const [options, expected] of [
+    [{ [STRATEGY]: 'BRANDES_KOEPF' }, SLOTS],
+    [{ [STRATEGY]: 'NETWORK_SIMPLEX' }, SLOTS],
+    [{ [ALIGNMENT]: 'NONE' }, SLOTS],
+    [{ [ALIGNMENT]: 'LEFTUP', [STRAIGHTNESS]: 9 }, SLOTS],
+    [{ [STRAIGHTNESS]: 9 }, { ...SLOTS, [STRATEGY]: 'NETWORK_SIMPLEX' }],
+  ]) {
+    assert.deepEqual(askedBy(options), expected, JSON.stringify(options));
+  }
+});
+
+test('a balanced alignment is replaced by network simplex with straight lines', () => {
+  const replaced = { ...DEFAULTS, [ALIGNMENT]: 'NONE' };
+  const { [STRAIGHTNESS]: four, ...withoutStraightness } = replaced;
+  for (const [options, expected] of [
+    [{ [ALIGNMENT]: 'BALANCED' }, replaced],
+    [{ [ALIGNMENT]: 'balanced', [STRATEGY]: 'BRANDES_KOEPF' }, replaced],
+    [{ [ALIGNMENT]: 'BALANCED', [STRAIGHTNESS]: 9 }, withoutStraightness],
+  ]) {
+    assert.deepEqual(askedBy(options), expected, JSON.stringify(options));
+  }
+});
+
+test('options of ELK ask for the order of the document, or for that of an earlier drawing', () => {
+  const crossing = (name) => `layered.crossingMinimization.${name}`;
+  for (const [order, options] of [
+    ['DOCUMENT', { [crossing('strategy')]: 'NONE' }],
+    ['DOCUMENT', { [crossing('forceNodeModelOrder')]: true }],
+    ['DOCUMENT', { [crossing('forceNodeModelOrder')]: 'true', interactive: true }],
+    ['DOCUMENT', { [crossing('strategy')]: 'NONE', interactive: true }],
+    ['KEPT', { interactive: 'TRUE' }],
+    ['KEPT', { interactiveLayout: true }],
+    ['KEPT', { [crossing('semiInteractive')]: true }],
+    ['KEPT', { [crossing('strategy')]: 'interactive' }],
+    [undefined, { [crossing('strategy')]: 'LAYER_SWEEP' }],
+    [undefined, { [crossing('forceNodeModelOrder')]: false, interactive: 'false', interactiveLayout: 0 }],
+    [undefined, { 'layered.considerModelOrder.strategy': 'NODES_AND_EDGES' }],
+    [undefined, { [crossing('strategy')]: 'NONE', 'layered.order': 'SWEPT' }],
+  ]) {
+    assert.equal(askedBy(options)['layered.order'], order, JSON.stringify(options));
   }
 });
 

@@ -25,6 +25,17 @@ ASKED = [
     {"layered.crossingMinimization.strategy": "LAYER_SWEEP"},
     {"layered.considerModelOrder.strategy": "NODES_AND_EDGES"},
     {"layered.considerModelOrder.strategy": "NONE", "layered.crossingMinimization.strategy": "NONE"},
+    {"layered.crossingMinimization.strategy": "Interactive"},
+    {"layered.crossingMinimization.forceNodeModelOrder": True, "interactive": True},
+    {"layered.crossingMinimization.forceNodeModelOrder": False, "interactive": "TRUE"},
+    {"layered.crossingMinimization.semiInteractive": "true", "layered.order": "SWEPT"},
+    {"interactiveLayout": True, "layered.crossingMinimization.strategy": "NONE"},
+    {"layered.nodePlacement.strategy": "BRANDES_KOEPF"},
+    {"layered.nodePlacement.strategy": "NETWORK_SIMPLEX"},
+    {"layered.nodePlacement.bk.fixedAlignment": "NONE"},
+    {"layered.nodePlacement.bk.fixedAlignment": "balanced", "layered.nodePlacement.strategy": "BRANDES_KOEPF"},
+    {"layered.nodePlacement.bk.fixedAlignment": "BALANCED", "layered.straightness": 9},
+    {"layered.straightness": 9},
 ]
 VALUES = [
     *(None, True, False, 0, 1, -1, 20, 0.5, 2**20, 2**20 + 1, -(2**31), 2**31, 2**53, [], {}, "", " ", "0", "-3", "12", "12.0"),
@@ -66,11 +77,17 @@ class Options(unittest.TestCase):
 
         inner = {"id": "in", "layoutOptions": {"slots": "FEWEST"}, "children": [{"id": "a"}, {"id": "b"}]}
         outer = {"id": "r", "layoutOptions": {"thoroughness": 9}, "children": [inner]}
-        self.assertEqual(sent({"id": "r"})["layoutOptions"], {"elk.layered.slots": "UNCROSSED"})
+        placement = {"elk.layered.nodePlacement.strategy": "NETWORK_SIMPLEX", "elk.layered.straightness": 4}
+        defaults = {"elk.layered.slots": "UNCROSSED", **placement}
+        self.assertEqual(sent({"id": "r"})["layoutOptions"], defaults)
         self.assertNotIn("layoutOptions", sent({"id": "r", "children": [{"id": "a"}]})["children"][0])
         found = sent(outer)
-        self.assertEqual(found["layoutOptions"], {"elk.layered.slots": "UNCROSSED", "elk.layered.effort": 9})
-        self.assertEqual(found["children"][0]["layoutOptions"], {"org.eclipse.elk.layered.slots": "FEWEST"})
+        self.assertEqual(found["layoutOptions"], {**defaults, "elk.layered.effort": 9})
+        inner_options = {"org.eclipse.elk.layered.slots": "FEWEST", **placement}
+        self.assertEqual(found["children"][0]["layoutOptions"], inner_options)
+        balanced = {"layoutOptions": {"elk.layered.nodePlacement.bk.fixedAlignment": "BALANCED"}}
+        none = {"elk.layered.nodePlacement.bk.fixedAlignment": "NONE"}
+        self.assertEqual(sent({"id": "r", **balanced})["layoutOptions"], {**none, **defaults})
 
     @with_program
     def test_what_was_asked_for_besides_does_not_show_in_the_result(self):
