@@ -4,7 +4,10 @@
 const nameIn = (value) => String(value).toUpperCase();
 
 /** The value that stands for one of ELK, by the names of these. */
-const by = (names) => (value) => new Map(Object.entries(names)).get(nameIn(value));
+function by(names) {
+  const values = new Map(Object.entries(names));
+  return (value) => values.get(nameIn(value));
+}
 
 // Each option of ELK with the engine's, and the value of the one for that of the other; none where it asks for nothing.
 // Where several ask for one option, the last counts: the order of the document, rather than that of an earlier drawing.
@@ -28,13 +31,13 @@ const DEFAULTS = new Map([...SLOTS, ...PLACEMENT]);
 /** The default of an option of data/options.json in a call, in words. */
 const defaultOf = ({ name, default: byDefault }) => String(DEFAULTS.get(name) ?? byDefault);
 
-/** What is sent in place of values that the engine doesn't have: an alignment between all four is one for straight lines. */
+/** What is sent in place of an alignment that the engine doesn't have, the one that is balanced between all four. */
 function replaced(asked) {
   const isBalanced = nameIn(asked(ALIGNMENT)) === 'BALANCED';
   return isBalanced ? [[STRATEGY, 'NETWORK_SIMPLEX'], [ALIGNMENT, 'NONE']] : [];
 }
 
-/** What is asked for where a level says nothing. One that names a placement has the engine's own defaults for it. */
+/** What is asked for where a level says nothing. If it names a placement, the engine's own defaults hold for that. */
 function defaults(asked) {
   const isPlaced = asked(STRATEGY) !== undefined || asked(ALIGNMENT) !== undefined;
   return isPlaced && replaced(asked).length === 0 ? SLOTS : [...DEFAULTS];

@@ -168,3 +168,11 @@ test('a refusal has what mends it', WITH_PROGRAM, async () => {
     ],
   );
 });
+
+test('a balanced alignment is a fault of a document, and none of a call', () => {
+  const layoutOptions = { 'elk.layered.nodePlacement.bk.fixedAlignment': 'BALANCED' };
+  const text = JSON.stringify({ id: 'r', layoutOptions });
+  const [{ message }] = lint(text).faults;
+  assert.match(message, /is "BALANCED", which ELK has and this engine does not, and may be NONE, LEFTUP, /);
+  assert.deepEqual(lint(text, { call: {} }).faults, []);
+});

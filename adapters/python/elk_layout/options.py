@@ -112,9 +112,7 @@ DEFAULTS: Dict[str, Any] = {**SLOTS, STRATEGY: "NETWORK_SIMPLEX", "layered.strai
 
 
 def _replaced(asked: Mapping[str, Carried]) -> Dict[str, Any]:
-    """What is sent in place of values that the engine doesn't have: an alignment between all four is one for straight
-    lines.
-    """
+    """What is sent in place of an alignment that the engine doesn't have, the one that is balanced between all four."""
     is_balanced = ALIGNMENT in asked and _name_in(asked[ALIGNMENT].value) == "BALANCED"
     return {STRATEGY: "NETWORK_SIMPLEX", ALIGNMENT: "NONE"} if is_balanced else {}
 
@@ -122,7 +120,7 @@ def _replaced(asked: Mapping[str, Carried]) -> Dict[str, Any]:
 def stand_ins(asked: Mapping[str, Carried]) -> Dict[str, Any]:
     """The options that a level is sent with besides those that it asks for itself, or in place of these, by their names."""
     replaced = _replaced(asked)
-    # A level that names a placement has the engine's own defaults for it.
+    # If a level names a placement, the engine's own defaults hold for that.
     is_placed = (STRATEGY in asked or ALIGNMENT in asked) and not replaced
     found: Dict[str, Any] = dict(SLOTS if is_placed else DEFAULTS)
     for name, by, value_of in STAND_INS:
