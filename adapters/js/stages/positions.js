@@ -1,5 +1,5 @@
 'use strict';
-// Positions of children: those of an earlier drawing where a level keeps it, or those of the document. The engine keeps the
+// Positions of children, by an earlier drawing that a level keeps, or by the order of the document. The engine keeps the
 // order of children that have a position, and finds places for all others.
 
 const { elementsOf, isObject, numberOr0 } = require('../levels');
@@ -24,7 +24,7 @@ function middleOf(child, direction) {
 function keepPlacesIn(draft, level) {
   const children = elementsOf(level.children);
   const hasPosition = (child) => draft.option(child, POSITION) !== undefined;
-  // Whoever asks the engine itself for its order tells it all positions, or none.
+  // Whoever asks the engine itself for KEPT gives it either all positions or none.
   if (draft.option(level, ORDER) !== undefined && children.some(hasPosition)) {
     return;
   }
@@ -42,13 +42,14 @@ function keepPlacesIn(draft, level) {
  * @param {import('./draft').Draft} draft of a graph whose nodes still are where they are given
  */
 function keepPlaces(draft) {
-  draft.nodes.filter((node) => draft.isLevel(node) && orderOf(draft, node) === 'KEPT').forEach((level) => keepPlacesIn(draft, level));
+  const levels = draft.nodes.filter((node) => draft.isLevel(node) && orderOf(draft, node) === 'KEPT');
+  levels.forEach((level) => keepPlacesIn(draft, level));
 }
 
 /**
  * In a level that keeps the order of the document, children keep it by their positions, so that nodes that are made
  * stand where their edges cross least.
- * @param {import('./draft').Draft} draft in which no nodes are made in this level yet, or all of them after this call
+ * @param {import('./draft').Draft} draft in whose level no node is made before the first call
  */
 function keepDocumentOrder(draft, level) {
   if (orderOf(draft, level) === 'DOCUMENT' && takesOptions(level)) {

@@ -21,7 +21,7 @@ def kept_positions(level: Mapping[str, Any], general: Mapping[str, Carried]) -> 
         return {}
     children = [(at, it) for at, it in enumerate(level["children"]) if isinstance(it, Mapping)]
     positioned = {at for at, it in children if POSITION in general or POSITION in _carried(it)}
-    # Whoever asks the engine itself for its order tells it all positions, or none.
+    # Whoever asks the engine itself for KEPT gives it either all positions or none.
     if ORDER in asked and positioned:
         return {}
     direction = str(asked["direction"].value).upper() if "direction" in asked else ""
