@@ -183,11 +183,7 @@ impl Ways {
     /// The slot of the stop before, on the best way to a slot of a stop, for which so many slots are noted from a place on.
     pub(crate) fn slot_before(&self, row: usize, slot: usize) -> usize {
         let i = row.saturating_add(slot);
-        if i < self.from.len() {
-            self.from[i] as usize
-        } else {
-            0
-        }
+        if i < self.from.len() { self.from[i] } else { 0 }
     }
 
     /// How many slots are noted.

@@ -188,8 +188,8 @@ fn annealed(
 /// The kept order, or one with fewer crossings that a search finds.
 ///
 /// Two sevenths of the work go to sweeps from up to 32 starts, which are orders of depth-first searches. Each is swept four times,
-/// forward and backward in turn, and after each sweep neighbours are exchanged where that lowers the crossings. With nine fourteenths
-/// the best of these orders is annealed; what is left goes to moves of whole chains. The search ends where nothing crosses.
+/// forward and backward in turn, and after each sweep neighbours are exchanged where that lowers the crossings. With most of the rest
+/// the best of these orders is annealed, that of a small level twice, and whole chains are moved with what is left. The search ends where nothing crosses.
 /// The work is bounded by the units and links alone, and what seems to be chance has fixed seeds, so equal
 /// drawings have equal answers.
 pub(crate) fn search(
