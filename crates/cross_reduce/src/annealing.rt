@@ -6,10 +6,12 @@
 use crate::easing::ease;
 use crate::effort::Effort;
 use crate::flat::{Flat, Span, number_at};
+use crate::held_starts::is_held;
 use crate::lots::Lots;
 use crate::middles::Middles;
 use crate::neighbours::exchange_at;
 use crate::pairs::{LOOK, Pairs, more_by_exchange, turn};
+use crate::reinserting::{chains_for, reinsert};
 use std::alloc::{AllocError, Global};
 
 /// An exchange that adds more crossings than this isn't kept.
@@ -48,6 +50,17 @@ impl Annealing {
         }
     }
 
+    /// Another that is half as hot at first.
+    pub(crate) fn warm(crossings: u64, links: u64, work: u64) -> Annealing {
+        Annealing {
+            hottest: hottest_for(crossings, links) / 2,
+            bounds: [0; 9],
+            crossings,
+            lots: Lots::of_seed(64),
+            effort: Effort::of(work),
+        }
+    }
+
     /// Another by the chances of a seed, where one half is kept at first.
     pub(crate) fn again(crossings: u64, work: u64, seed: u64) -> Annealing {
         Annealing {
@@ -74,10 +87,18 @@ impl Annealing {
         self.effort.left() <= left || self.crossings == 0
     }
 
+    /// The chance that one more crossing is by the work that is left: at first two thirds of the hottest, then slowly more and
+    /// soon less, and in the end none.
+    fn chance(&self) -> u64 {
+        let part = self.effort.part_left(self.hottest);
+        let less = self.effort.part_left(part) / 3 * 2;
+        part.saturating_sub(less).saturating_mul(2)
+    }
+
     /// Lets the chances fall to none with the work that is left.
     fn cool(&mut self) {
         self.spend(1);
-        let chance = self.effort.part_left(self.hottest);
+        let chance = self.chance();
         let mut bound: u64 = 2147483648;
         for at in 0..9_usize {
             self.bounds[at] = bound;
@@ -100,8 +121,8 @@ impl Annealing {
         self.crossings = self.crossings.saturating_add_signed(i64::from(more));
     }
 
-    /// From now on not all crossings count alike, so how many there are isn't known any more.
-    fn forget_crossings(&mut self) {
+    /// From now on it isn't known how many crossings there are, as where not all of them count alike.
+    pub(crate) fn forget_crossings(&mut self) {
         self.crossings = u64::MAX;
     }
 }
@@ -137,42 +158,76 @@ fn anneal_row(flat: &mut Flat, pairs: &mut Pairs, row: Span, annealing: &mut Ann
     }
 }
 
+/// Exchanges neighbours of a row that aren't both held, from the top.
+fn anneal_free(
+    flat: &mut Flat,
+    pairs: &mut Pairs,
+    row: Span,
+    annealing: &mut Annealing,
+    held: &[bool],
+) {
+    let mut upper = number_at(flat.units.as_slice(), row.first);
+    for i in row.first..row.last {
+        let lower = number_at(flat.units.as_slice(), i.wrapping_add(1));
+        if is_held(held, upper) && is_held(held, lower) {
+            upper = lower;
+        } else {
+            upper = consider(flat, pairs, i, upper, annealing);
+        }
+    }
+}
+
 /// Exchanges neighbours of each row.
-fn anneal_rows(flat: &mut Flat, pairs: &mut Pairs, annealing: &mut Annealing) {
+fn anneal_rows(flat: &mut Flat, pairs: &mut Pairs, annealing: &mut Annealing, held: &[bool]) {
     for r in 0..flat.rows.len() {
         let row = flat.row_at(r);
-        anneal_row(flat, pairs, row, annealing);
+        if held.is_empty() {
+            anneal_row(flat, pairs, row, annealing);
+        } else {
+            anneal_free(flat, pairs, row, annealing, held);
+        }
     }
 }
 
 /// Exchanges neighbours of all rows again and again, until so much work is left or nothing crosses.
-fn anneal_until(flat: &mut Flat, pairs: &mut Pairs, annealing: &mut Annealing, left: u64) {
+fn anneal_until(
+    flat: &mut Flat,
+    pairs: &mut Pairs,
+    annealing: &mut Annealing,
+    held: &[bool],
+    left: u64,
+) {
     for _ in 0..annealing.effort.whole() {
         if annealing.is_done(left) {
             return;
         }
         annealing.cool();
-        anneal_rows(flat, pairs, annealing);
+        anneal_rows(flat, pairs, annealing, held);
     }
 }
 
 /// Exchanges neighbours of all rows again and again, until the work is done or nothing crosses.
 ///
-/// In the last sixth of the work a crossing of two links between middles of long edges weighs twice. In the end neighbours that
-/// cross as much either way are put so that their links are short.
+/// In the last sixth of the work a crossing of two links between middles of long edges weighs twice. Before it and after it chains
+/// that cross something are put where they cross less. In the end neighbours that cross as much either way are put so that their
+/// links are short. Of two neighbours that are both held none is exchanged; `held` is empty if no unit is held.
 pub(crate) fn anneal(
     alloc: Global,
     flat: &mut Flat,
     annealing: &mut Annealing,
+    held: &[bool],
 ) -> Result<(), AllocError> {
     let mut pairs = Pairs::of(alloc, flat.place.len())?;
     let last = annealing.effort.whole() / 6;
-    anneal_until(flat, &mut pairs, annealing, last);
+    anneal_until(flat, &mut pairs, annealing, held, last);
     if annealing.crossings == 0 {
         return Ok(());
     }
+    let mut chains = chains_for(alloc, flat, held)?;
+    reinsert(alloc, flat, &mut chains, last / 2)?;
     pairs.weigh(Middles::of(alloc, flat)?);
     annealing.forget_crossings();
-    anneal_until(flat, &mut pairs, annealing, 0);
-    ease(alloc, flat, pairs.middles())
+    anneal_until(flat, &mut pairs, annealing, held, 0);
+    reinsert(alloc, flat, &mut chains, last / 2)?;
+    ease(alloc, flat, pairs.middles(), held)
 }

@@ -5,6 +5,7 @@
 
 use crate::fans::Far;
 use crate::flat::{Flat, Span, number_at, place_of, set_place};
+use crate::held_starts::is_held;
 use crate::middles::Middles;
 use crate::neighbours::{compare, exchange_at};
 use std::alloc::{AllocError, Global};
@@ -73,9 +74,12 @@ fn is_even(flat: &Flat, middles: &Middles, upper: u32, lower: u32) -> bool {
 }
 
 /// Exchanges a unit and the one below it where that shortens links and changes no crossing; tells whether it did.
-fn ease_at(flat: &mut Flat, middles: &Middles, sums: &[usize], i: usize) -> bool {
+fn ease_at(flat: &mut Flat, middles: &Middles, held: &[bool], sums: &[usize], i: usize) -> bool {
     let upper = number_at(flat.units.as_slice(), i);
     let lower = number_at(flat.units.as_slice(), i.wrapping_add(1));
+    if is_held(held, upper) && is_held(held, lower) {
+        return false;
+    }
     if !is_even(flat, middles, upper, lower) || !is_shorter(flat, sums, i, upper, lower) {
         return false;
     }
@@ -84,29 +88,34 @@ fn ease_at(flat: &mut Flat, middles: &Middles, sums: &[usize], i: usize) -> bool
 }
 
 /// The same for all neighbours of a row, from the top.
-fn ease_row(flat: &mut Flat, middles: &Middles, sums: &[usize], row: Span) -> bool {
+fn ease_row(flat: &mut Flat, middles: &Middles, held: &[bool], sums: &[usize], row: Span) -> bool {
     let mut changed = false;
     for i in row.first..row.last {
-        changed = ease_at(flat, middles, sums, i) || changed;
+        changed = ease_at(flat, middles, held, sums, i) || changed;
     }
     changed
 }
 
 /// The same for all rows.
-fn ease_rows(flat: &mut Flat, middles: &Middles, sums: &[usize]) -> bool {
+fn ease_rows(flat: &mut Flat, middles: &Middles, held: &[bool], sums: &[usize]) -> bool {
     let mut changed = false;
     for r in 0..flat.rows.len() {
         let row = flat.row_at(r);
-        changed = ease_row(flat, middles, sums, row) || changed;
+        changed = ease_row(flat, middles, held, sums, row) || changed;
     }
     changed
 }
 
 /// Exchanges neighbours that cross as much either way where that shortens links, up to eight times from the top.
-pub(crate) fn ease(alloc: Global, flat: &mut Flat, middles: &Middles) -> Result<(), AllocError> {
+pub(crate) fn ease(
+    alloc: Global,
+    flat: &mut Flat,
+    middles: &Middles,
+    held: &[bool],
+) -> Result<(), AllocError> {
     let sums = sums_of_rows(alloc, flat)?;
     for _ in 0..8_u64 {
-        if !ease_rows(flat, middles, sums.as_slice()) {
+        if !ease_rows(flat, middles, held, sums.as_slice()) {
             return Ok(());
         }
     }

@@ -1,8 +1,8 @@
 //! Orders of the rows of a layered drawing with few crossings.
 //!
 //! The rows are swept by the barycentre rule of Sugiyama, Tagawa and Toda 1981, forward and backward; a
-//! search goes on from there, by sweeps from other starts and by simulated annealing; and in the end
-//! neighbours are exchanged as long as an exchange lowers the crossings. Crossings are counted by tail key,
+//! search goes on from there, by sweeps from other starts, by simulated annealing and by moves of whole
+//! edges; and in the end neighbours are exchanged as long as an exchange lowers the crossings. Crossings are counted by tail key,
 //! with a vector kernel over the head keys; an exchange is judged by the links of the two neighbours alone.
 //! The search works on a list of its own and keeps what it counted of pairs of units. Of what it finds the
 //! rows are ordered anew and the crossings counted anew, so it can't do worse than leave them as they were.
@@ -12,7 +12,9 @@
 #![tactic(auto)]
 
 mod annealing;
+mod chains;
 mod counting;
+mod crossing_units;
 mod depth_first;
 mod easing;
 mod effort;
@@ -21,19 +23,25 @@ mod fans;
 mod flat;
 mod held;
 mod held_search;
+mod held_starts;
 mod holding;
 mod lots;
 mod middles;
 mod neighbours;
 mod ordering;
 mod pairs;
+mod place_costs;
 mod places;
 mod reducing;
+mod reinserting;
 mod reordering;
 mod searching;
 mod settling;
+mod sifting;
 mod starts;
 mod sweeping;
+mod tallying;
+mod windows;
 
 pub use counting::crossings;
 pub use held::reduce_held;

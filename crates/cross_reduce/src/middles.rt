@@ -55,7 +55,7 @@ impl Middles {
     }
 
     /// Whether a unit is known as a middle.
-    fn has(&self, unit: u32) -> bool {
+    pub(crate) fn has(&self, unit: u32) -> bool {
         let unit = unit as usize;
         unit < self.list.len() && self.list[unit]
     }

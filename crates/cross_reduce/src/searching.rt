@@ -14,6 +14,7 @@ use crate::neighbours::lower_rows;
 use crate::reducing::{Counted, fewer};
 use crate::reordering::order_in;
 use crate::starts::{start_anew, sweep_again};
+use crate::tallying::{crossings_in, has_ranks};
 use elk_layers::{Layered, Order};
 use std::alloc::{AllocError, Global};
 
@@ -74,6 +75,26 @@ fn fewer_of(
     Ok(best)
 }
 
+/// The same, where a list that seems to have no fewer crossings isn't counted exactly, unless pins are ranked.
+fn fewer_after(
+    alloc: Global,
+    layered: &Layered,
+    kept: Counted,
+    flat: &Flat,
+    is_ranked: bool,
+) -> Result<Counted, AllocError>
+    requires sound { IsSound (plain layered.now) }
+    requires best { IsBestFrom (plain layered.now) (rows_of kept.order) kept }
+    ensures best { IfOk result (λ k. IsBestFrom (plain layered.now) (rows_of kept.order) k) }
+    ensures fewer { IfOk result (λ k. IsKeptOrFewer (plain layered.now) (rows_of kept.order) (rows_of k.order)) }
+{
+    let counted = crossings_in(alloc, flat)?;
+    if !is_ranked && kept.crossings <= counted {
+        return Ok(kept);
+    }
+    fewer_of(alloc, layered, kept, flat)
+}
+
 /// The kept order, or one with fewer crossings that sweeps find from up to 32 starts.
 fn best_start(
     alloc: Global,
@@ -88,16 +109,61 @@ fn best_start(
 {
     let mut flat = flat_of(alloc, layered, &kept.order)?;
     let mut effort = Effort::of(work);
+    let is_ranked = has_ranks(layered);
     let mut kept = kept;
     for start in 0..32_u64 {
         if kept.crossings == 0 || effort.is_spent() {
             return Ok(kept);
         }
         started_and_swept(alloc, &mut flat, start, size_of(layered), &mut effort)?;
-        kept = fewer_of(alloc, layered, kept, &flat)?;
+        kept = fewer_after(alloc, layered, kept, &flat, is_ranked)?;
     }
     Ok(kept)
 }
+
+/// The kept order, or one with fewer crossings that this annealing finds.
+fn annealed_by(
+    alloc: Global,
+    layered: &Layered,
+    kept: Counted,
+    annealing: &mut Annealing,
+) -> Result<Counted, AllocError>
+    requires sound { IsSound (plain layered.now) }
+    requires best { IsBestFrom (plain layered.now) (rows_of kept.order) kept }
+    ensures best { IfOk result (λ k. IsBestFrom (plain layered.now) (rows_of kept.order) k) }
+    ensures fewer { IfOk result (λ k. IsKeptOrFewer (plain layered.now) (rows_of kept.order) (rows_of k.order)) }
+{
+    let mut flat = flat_of(alloc, layered, &kept.order)?;
+    anneal(alloc, &mut flat, annealing, &[])?;
+    let best = fewer_of(alloc, layered, kept, &flat)?;
+    Ok(best)
+}
+
+/// The kept order, or one with fewer crossings that exchanges by chance find, once and again half as hot.
+fn annealed_twice(
+    alloc: Global,
+    layered: &Layered,
+    kept: Counted,
+    work: u64,
+) -> Result<Counted, AllocError>
+    requires sound { IsSound (plain layered.now) }
+    requires best { IsBestFrom (plain layered.now) (rows_of kept.order) kept }
+    ensures best { IfOk result (λ k. IsBestFrom (plain layered.now) (rows_of kept.order) k) }
+    ensures fewer { IfOk result (λ k. IsKeptOrFewer (plain layered.now) (rows_of kept.order) (rows_of k.order)) }
+{
+    let links = layered.links.len() as u64;
+    let mut hot = Annealing::of(kept.crossings, links, work / 7 * 3);
+    let once = annealed_by(alloc, layered, kept, &mut hot)?;
+    if once.crossings == 0 {
+        return Ok(once);
+    }
+    let mut warm = Annealing::warm(once.crossings, links, work / 11 * 2);
+    let best = annealed_by(alloc, layered, once, &mut warm)?;
+    Ok(best)
+}
+
+/// A level of up to so many units and links is annealed twice.
+const FEW: u64 = 512;
 
 /// The kept order, or one with fewer crossings that exchanges by chance find.
 fn annealed(
@@ -111,19 +177,19 @@ fn annealed(
     ensures best { IfOk result (λ k. IsBestFrom (plain layered.now) (rows_of kept.order) k) }
     ensures fewer { IfOk result (λ k. IsKeptOrFewer (plain layered.now) (rows_of kept.order) (rows_of k.order)) }
 {
-    let mut flat = flat_of(alloc, layered, &kept.order)?;
+    if size_of(layered) <= FEW {
+        return annealed_twice(alloc, layered, kept, work);
+    }
     let links = layered.links.len() as u64;
-    let mut annealing = Annealing::of(kept.crossings, links, work);
-    anneal(alloc, &mut flat, &mut annealing)?;
-    let best = fewer_of(alloc, layered, kept, &flat)?;
-    Ok(best)
+    let mut annealing = Annealing::of(kept.crossings, links, work / 14 * 9);
+    annealed_by(alloc, layered, kept, &mut annealing)
 }
 
 /// The kept order, or one with fewer crossings that a search finds.
 ///
 /// Two sevenths of the work go to sweeps from up to 32 starts, which are orders of depth-first searches. Each is swept four times,
-/// forward and backward in turn, and after each sweep neighbours are exchanged where that lowers the crossings. With the rest the
-/// best of these orders is annealed. The search ends where nothing crosses.
+/// forward and backward in turn, and after each sweep neighbours are exchanged where that lowers the crossings. With most of the rest
+/// the best of these orders is annealed, that of a small level twice, and whole chains are moved with what is left. The search ends where nothing crosses.
 /// The work is bounded by the units and links alone, and what seems to be chance has fixed seeds, so equal
 /// drawings have equal answers.
 pub(crate) fn search(
@@ -144,7 +210,7 @@ pub(crate) fn search(
     if swept.crossings == 0 {
         return Ok(swept);
     }
-    let best = annealed(alloc, layered, swept, work / 7 * 5)?;
+    let best = annealed(alloc, layered, swept, work)?;
     Ok(best)
 }
 
@@ -163,7 +229,7 @@ fn annealed_and_exchanged(
 {
     let mut flat = flat_of(alloc, layered, &kept.order)?;
     let mut annealing = Annealing::again(kept.crossings, work, seed);
-    anneal(alloc, &mut flat, &mut annealing)?;
+    anneal(alloc, &mut flat, &mut annealing, &[])?;
     let order = order_in(alloc, layered, &kept.order, &flat)?;
     exchanged(alloc, layered, order)
 }

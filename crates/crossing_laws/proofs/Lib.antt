@@ -1,1 +1,2 @@
+pub mod CrossedNets
 pub mod Crossing

@@ -4,4 +4,4 @@
 
 mod laws;
 
-pub use laws::nets_cross_as_drawn;
+pub use laws::{drawn_nets_cross, nets_cross_as_drawn};

@@ -7,8 +7,8 @@ use Rattle.cross_reduce.proofs.searching.best_start.Goals as goal
 pub loop-start-init : goal.loop-start-init
 loop-start-init c = record { best = c.requires.best; fewer = inl refl }
 
-pub fewer_of-requires-clause-best : goal.fewer_of-requires-clause-best
-fewer_of-requires-clause-best c = best_self (plain c.args.layered.now) (rows_of c.args.kept.order) c.loop-start.kept c.loop-start.invariant.best
+pub fewer_after-requires-clause-best : goal.fewer_after-requires-clause-best
+fewer_after-requires-clause-best c = best_self (plain c.args.layered.now) (rows_of c.args.kept.order) c.loop-start.kept c.loop-start.invariant.best
 
 pub loop-start-preserved : goal.loop-start-preserved
 loop-start-preserved c =
