@@ -52,3 +52,9 @@ test('the labels of the page are in its picture', WITH_PROGRAM, () => {
 test('the circuit of the page tells its junctions', WITH_PROGRAM, () => {
   assert.equal(scriptBelow('A circuit').match(/x: \d+, y: \d+/g).length, 4);
 });
+
+test('the second drawing of the page keeps the order of the first', WITH_PROGRAM, () => {
+  const places = Object.fromEntries([...scriptBelow('Drawing again').matchAll(/(\w+) (\d+)/g)].map(([, id, y]) => [id, Number(y)]));
+  assert.deepEqual(Object.keys(places).sort(), ['left', 'new', 'right', 'start']);
+  assert.ok(places.left < places.right);
+});
