@@ -28,7 +28,7 @@ class Pages(unittest.TestCase):
     @needs("networkx", "pandas")
     def test_the_scripts_of_the_package_say_what_their_comments_say(self):
         scripts = scripts_of("adapters/python/README.md")
-        self.assertEqual(len(scripts), 5)
+        self.assertEqual(len(scripts), 6)
         for script in scripts:
             with self.subTest(script):
                 said = "".join(f"{it}\n" for it in re.findall(r"print\(.*  # (.*)", script))
