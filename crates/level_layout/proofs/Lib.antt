@@ -2,6 +2,7 @@ pub mod ChainLemmas
 pub mod CountLemmas
 pub mod CrossingLemmas
 pub mod FlowLemmas
+pub mod FreeLemmas
 pub mod GraphLemmas
 pub mod KeptRows
 pub mod LayerLemmas

@@ -26,9 +26,13 @@ key_for Swept level c = None
 key_for Document level c = Some (pos c)
 key_for Kept level c = (child_at level c).position
 
--- the keys of all units: lanes of long edges have none
-abbrev pub held_keys : RowOrder → PlainLevel → Plain → List (Option ℤ)
-held_keys order level l = map (λ (u : LayerUnit). option_and_then (key_for order level) u.child) l.units
+-- the key of a unit by the order that its level asks for: that of its child; lanes of long edges have none
+abbrev pub unit_key : PlainLevel → LayerUnit → Option ℤ
+unit_key level u = option_and_then (key_for level.choices.order level) u.child
+
+-- the keys of all units
+abbrev pub held_keys : PlainLevel → Plain → List (Option ℤ)
+held_keys level l = map (unit_key level) l.units
 
 -- The rows of a start in an order in which, in each row, the held children ascend, and which no exchange of two neighbours makes
 -- better, unless both are held.
@@ -40,8 +44,8 @@ pub record IsHeldOrder (l : Plain) (held : List (Option ℤ)) (start rows : List
 -- The rows of a plan: ones that reduce the crossings of its start, or, where an order of children is asked for, ones that hold it.
 pub record AreChosenRows (level : PlainLevel) (l : Plain) (start rows : List (List ℕ)) : Type 0 where
   pub swept : level.choices.order ≡ Swept → IsReduced l start rows
-  pub document : level.choices.order ≡ Document → IsHeldOrder l (held_keys Document level l) start rows
-  pub kept : level.choices.order ≡ Kept → IsHeldOrder l (held_keys Kept level l) start rows
+  pub document : level.choices.order ≡ Document → IsHeldOrder l (held_keys level l) start rows
+  pub kept : level.choices.order ≡ Kept → IsHeldOrder l (held_keys level l) start rows
 
 -- What a link weighs that alignment keeps straight; what is above the greatest weight counts as this.
 abbrev pub straightness_for : LevelIn → ℕ

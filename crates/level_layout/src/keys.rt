@@ -1,12 +1,12 @@
 //! The keys by which the children of a layer are held.
-ghost use Rattle.std.specs.Prelude.{◌≡◌, option_and_then, IfOk};
-ghost use Rattle.elk_layers.specs.Layered.{plain};
+ghost use Rattle.std.specs.Prelude.{◌≡◌, ◌↔◌, map, IfOk, IsNone, IsTrue};
+ghost use Rattle.std.specs.List.{All};
 ghost use Rattle.level_model.specs.Conditions.{plain_level};
 ghost use Rattle.level_model.specs.Level.{child_at};
-ghost use Rattle.level_layout.specs.Chosen.{held_keys, key_for};
+ghost use Rattle.level_layout.specs.Chosen.{key_for, unit_key};
 
 use elk_doc::document::RowOrder;
-use elk_layers::{Layered, Unit};
+use elk_layers::Unit;
 use level_model::LevelIn;
 use std::alloc::{AllocError, Global};
 
@@ -33,7 +33,7 @@ fn child_key(level: &LevelIn, child: u32) -> Option<i64>
 
 // The key of a unit: that of its child.
 fn unit_key(level: &LevelIn, unit: &Unit) -> Option<i64>
-    ensures { result ≡ option_and_then (key_for level.now.choices.order (plain_level level.now)) unit.now.child }
+    ensures { result ≡ unit_key (plain_level level.now) unit.now }
 {
     match unit.child {
         Some(child) => child_key(level, child),
@@ -41,18 +41,30 @@ fn unit_key(level: &LevelIn, unit: &Unit) -> Option<i64>
     }
 }
 
-/// The keys of all units, by unit: units of children have those of their children, and lanes of long edges none.
+/// The keys of these units: units of children have those of their children, and lanes of long edges none.
 pub(crate) fn keys_of(
     alloc: Global,
     level: &LevelIn,
-    layered: &Layered,
+    units: &[Unit],
 ) -> Result<Vec<Option<i64>>, AllocError>
-    ensures { IfOk result (λ v. v.items ≡ held_keys level.now.choices.order (plain_level level.now) (plain layered.now)) }
+    ensures { IfOk result (λ v. v.items ≡ map (unit_key (plain_level level.now)) units.now) }
 {
-    let units = layered.units.as_slice();
     let mut keys = Vec::with_capacity(alloc, units.len())?;
     for unit in units {
         keys.push(unit_key(level, unit))?;
     }
     Ok(keys)
+}
+
+fn is_free(key: Option<i64>) -> bool
+    ensures { IsTrue result ↔ IsNone key }
+{
+    key.is_none()
+}
+
+/// Whether none of these is a key.
+pub(crate) fn are_free(keys: &[Option<i64>]) -> bool
+    ensures { IsTrue result ↔ All (λ k. IsNone k) keys.now }
+{
+    keys.iter().all(|key| is_free(*key))
 }

@@ -1,5 +1,5 @@
 //! The lines of a level's units, by the placing that the level asks for.
-ghost use Rattle.std.specs.Prelude.{◌^◌, ◌≤◌, pos, ◌+ℤ◌, ◌<ℤ◌, IfOk};
+ghost use Rattle.std.specs.Prelude.{◌≡◌, ◌^◌, ◌≤◌, pos, ◌+ℤ◌, ◌<ℤ◌, IfOk};
 ghost use Rattle.elk_layers.specs.Layered.{plain, rows_of, total_height, AreRows, IsSound};
 ghost use Rattle.unit_blocks.specs.Constraints.{EndsWithinStack};
 ghost use Rattle.ns_place.specs.Heights.{pins_together};
@@ -13,6 +13,14 @@ use elk_layers::{Layered, Lines, Order};
 use level_model::LevelIn;
 use ns_place::place_straight;
 use std::alloc::{AllocError, Global};
+
+// What a link weighs that alignment keeps straight.
+fn straightness_of(level: &LevelIn) -> u32
+    ensures is { result ≡ straightness_for level.now }
+    ensures small { result ≤ greatest_weight }
+{
+    level.choices.straightness.min(64)
+}
 
 // Lines at which the links are least high together, where those that alignment keeps straight weigh so much.
 fn least_lines(
@@ -49,8 +57,6 @@ pub(crate) fn lines_for(
 {
     match level.placing {
         Placing::BrandesKoepf => place(alloc, layered, order, level.fixed),
-        Placing::NetworkSimplex => {
-            least_lines(alloc, layered, order, level.choices.straightness.min(64))
-        }
+        Placing::NetworkSimplex => { least_lines(alloc, layered, order, straightness_of(level)) }
     }
 }

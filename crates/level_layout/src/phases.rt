@@ -1,5 +1,6 @@
 //! The units of a level with the ranks of pins, and the order of its rows.
-ghost use Rattle.std.specs.Prelude.{◌≡◌, length, IfOk};
+ghost use Rattle.std.specs.Prelude.{◌≡◌, length, IfOk, IsNone};
+ghost use Rattle.std.specs.List.{All};
 ghost use Rattle.elk_layers.specs.Layered.{plain, rows_of, AreRows, IsSound};
 ghost use Rattle.level_model.specs.Conditions.{plain_level, IsLevel};
 ghost use Rattle.cross_reduce.specs.Reduced.{IsReduced};
@@ -8,7 +9,7 @@ ghost use Rattle.level_layout.specs.Certificate.{IsCertificateOf};
 ghost use Rattle.level_layout.specs.Chosen.{AreChosenRows, IsHeldOrder, held_keys};
 ghost use Rattle.level_layout.specs.Phases.{AreRankedUnits, IsStart};
 
-use crate::keys::keys_of;
+use crate::keys::{are_free, keys_of};
 use crate::units::units_for;
 use cross_reduce::{reduce_held, reduce_with_effort};
 use elk_doc::document::RowOrder;
@@ -65,6 +66,63 @@ fn swept_order(
     Ok(order)
 }
 
+/// The order of a start's rows in which the units with these keys are held.
+fn order_by_keys(
+    alloc: Global,
+    layered: &Layered,
+    start: &Order,
+    keys: &[Option<i64>],
+    effort: u32,
+) -> Result<Order, AllocError>
+    requires sound { IsSound (plain layered.now) }
+    requires rows { AreRows (plain layered.now) (rows_of start.now) }
+    requires keys { length keys.now ≡ length (plain layered.now).units }
+    ensures held { IfOk result (λ v. IsHeldOrder (plain layered.now) keys.now (rows_of start.now) (rows_of v)) }
+    ensures rows { IfOk result (λ v. AreRows (plain layered.now) (rows_of v)) }
+{
+    let copy = copy_of(alloc, start)?;
+    let order = reduce_held(alloc, layered, copy, keys, effort)?;
+    Ok(order)
+}
+
+/// The order of a start's rows that the usual search finds, in which units without keys are held.
+fn order_without_keys(
+    alloc: Global,
+    layered: &Layered,
+    start: &Order,
+    keys: &[Option<i64>],
+    effort: u32,
+) -> Result<Order, AllocError>
+    requires sound { IsSound (plain layered.now) }
+    requires rows { AreRows (plain layered.now) (rows_of start.now) }
+    requires free { All (λ k. IsNone k) keys.now }
+    ensures held { IfOk result (λ v. IsHeldOrder (plain layered.now) keys.now (rows_of start.now) (rows_of v)) }
+    ensures rows { IfOk result (λ v. AreRows (plain layered.now) (rows_of v)) }
+{
+    let order = swept_order(alloc, layered, start, effort)?;
+    Ok(order)
+}
+
+/// The order of a start's rows in which the units with these keys are held, and if none has a key, that of the usual search.
+fn order_with(
+    alloc: Global,
+    layered: &Layered,
+    start: &Order,
+    keys: &[Option<i64>],
+    effort: u32,
+) -> Result<Order, AllocError>
+    requires sound { IsSound (plain layered.now) }
+    requires rows { AreRows (plain layered.now) (rows_of start.now) }
+    requires keys { length keys.now ≡ length (plain layered.now).units }
+    ensures held { IfOk result (λ v. IsHeldOrder (plain layered.now) keys.now (rows_of start.now) (rows_of v)) }
+    ensures rows { IfOk result (λ v. AreRows (plain layered.now) (rows_of v)) }
+{
+    if are_free(keys) {
+        return order_without_keys(alloc, layered, start, keys, effort);
+    }
+    order_by_keys(alloc, layered, start, keys, effort)
+}
+
 /// The order of a start's rows in which the children that the level holds ascend.
 fn held_order(
     alloc: Global,
@@ -75,12 +133,11 @@ fn held_order(
     requires sound { IsSound (plain layered.now) }
     requires rows { AreRows (plain layered.now) (rows_of start.now) }
     ensures held { IfOk result
-        (λ v. IsHeldOrder (plain layered.now) (held_keys level.now.choices.order (plain_level level.now) (plain layered.now)) (rows_of start.now) (rows_of v)) }
+        (λ v. IsHeldOrder (plain layered.now) (held_keys (plain_level level.now) (plain layered.now)) (rows_of start.now) (rows_of v)) }
     ensures rows { IfOk result (λ v. AreRows (plain layered.now) (rows_of v)) }
 {
-    let keys = keys_of(alloc, level, layered)?;
-    let copy = copy_of(alloc, start)?;
-    let order = reduce_held(alloc, layered, copy, keys.as_slice(), level.choices.effort)?;
+    let keys = keys_of(alloc, level, layered.units.as_slice())?;
+    let order = order_with(alloc, layered, start, keys.as_slice(), level.choices.effort)?;
     Ok(order)
 }
 

@@ -1,3 +1,4 @@
+use Rattle.std.proofs.Common.{ℕ, subst}
 use Rattle.elk_layers.specs.declared.units.Lines.{Lines}
 use Rattle.elk_layers.specs.Layered.{plain, rows_of}
 use Rattle.unit_blocks.specs.Constraints.{EndsWithinStack}
@@ -19,8 +20,9 @@ returns-in-BrandesKoepf c =
 pub returns-in-NetworkSimplex : goal.returns-in-NetworkSimplex
 returns-in-NetworkSimplex c =
     if_both c.least_lines.result
-    (λ (v : Lines). AreLeastHigh (plain c.args.layered.now) (rows_of c.args.order.now) (straightness_for c.args.level.now) v.top.items)
+    (λ (v : Lines). AreLeastHigh (plain c.args.layered.now) (rows_of c.args.order.now) c.straightness_of.result v.top.items)
     (λ (v : Lines). EndsWithinStack (plain c.args.layered.now) v.top.items)
     (λ (v : Lines). AreChosenLines (plain c.args.layered.now) (rows_of c.args.order.now) c.args.level.now.placing c.args.level.now.fixed (straightness_for c.args.level.now) v.top.items)
     c.least_lines.ensures.least c.least_lines.ensures.within
-    (λ v lines ends. by_height (plain c.args.layered.now) (rows_of c.args.order.now) c.args.level.now.placing c.args.level.now.fixed (straightness_for c.args.level.now) v.top.items c.in-NetworkSimplex.is lines ends)
+    (λ v lines ends. by_height (plain c.args.layered.now) (rows_of c.args.order.now) c.args.level.now.placing c.args.level.now.fixed (straightness_for c.args.level.now) v.top.items c.in-NetworkSimplex.is
+    (subst (λ (s : ℕ). AreLeastHigh (plain c.args.layered.now) (rows_of c.args.order.now) s v.top.items) c.straightness_of.ensures.is lines) ends)

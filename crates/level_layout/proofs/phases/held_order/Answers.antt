@@ -1,26 +1,17 @@
-use Rattle.std.proofs.Common.{sym, subst, ◌∙◌, ap, length}
-use Rattle.elk_layers.specs.Layered.{AreRows, plain, rows_of}
-use Rattle.elk_layers.specs.Crossings.{HasSameRows}
+use Rattle.std.proofs.Common.{◌∙◌, ℤ, Option, List, ap, length, map, subst}
+use Rattle.std.proofs.lemmas.List.{length-map}
+use Rattle.elk_layers.specs.Layered.{plain, rows_of}
 use Rattle.level_model.specs.Conditions.{plain_level}
-use Rattle.cross_reduce.specs.Held.{AreHeldRows, NoBetterFreeSwap}
-use Rattle.level_layout.specs.Chosen.{IsHeldOrder, held_keys}
-use Rattle.level_layout.proofs.RowsLemmas.{rows_kept}
+use Rattle.level_layout.specs.Chosen.{IsHeldOrder, unit_key}
 use Rattle.level_layout.proofs.phases.held_order.Goals as goal
 
-pub reduce_held-requires-clause-rows : goal.reduce_held-requires-clause-rows
-reduce_held-requires-clause-rows c = subst (AreRows (plain c.args.layered.now)) (sym c.in_ok-copy.ensures) c.requires.rows
+pub order_with-requires-clause-keys : goal.order_with-requires-clause-keys
+order_with-requires-clause-keys c =
+    ap length (c.as_slice-2.ensures.value ∙ c.in_ok-keys.ensures) ∙ length-map c.as_slice.result.now (unit_key (plain_level c.args.level.now))
+    ∙ ap length c.as_slice.ensures.value
 
 pub returns-clause-held : goal.returns-clause-held
 returns-clause-held c =
-    let keys = c.as_slice.ensures.value ∙ c.in_ok-keys.ensures in
-    subst (λ held. IsHeldOrder (plain c.args.layered.now) held (rows_of c.args.start.now) (rows_of c.in_ok-order.order)) keys
-    (record {
-      same_rows = subst (λ s. HasSameRows s (rows_of c.in_ok-order.order)) c.in_ok-copy.ensures c.in_ok-order.ensures.same_rows;
-      ascends = c.in_ok-order.ensures.held;
-      settled = c.in_ok-order.ensures.settled;
-    })
-
-pub returns-clause-rows : goal.returns-clause-rows
-returns-clause-rows c =
-    rows_kept (plain c.args.layered.now) (rows_of c.args.start.now) (rows_of c.in_ok-copy.copy) (rows_of c.in_ok-order.order)
-    c.requires.sound c.requires.rows c.in_ok-copy.ensures c.in_ok-order.ensures.same_rows
+    subst (λ (held : List (Option ℤ)). IsHeldOrder (plain c.args.layered.now) held (rows_of c.args.start.now) (rows_of c.in_ok-order.order))
+    (c.as_slice-2.ensures.value ∙ c.in_ok-keys.ensures ∙ ap (map (unit_key (plain_level c.args.level.now))) c.as_slice.ensures.value)
+    c.in_ok-order.ensures.held
