@@ -103,7 +103,8 @@ test('what was meant by another value is a value', () => {
 });
 
 test('a default draws what no value draws', WITH_PROGRAM, () => {
-  for (const option of OPTIONS) {
+  // A node without a position has none.
+  for (const option of OPTIONS.filter(({ name }) => name !== 'layered.position')) {
     const byDefault = option.type === 'OBJECT' ? '[top=12,left=12,bottom=12,right=12]' : option.default;
     const drawn = replies([documentWith(option, byDefault), documentWith({ ...option, name: 'none' }, byDefault)]);
     const [asked, usual] = drawn.map((reply) => reply.replace(/"layoutOptions":\{[^}]*\},?/g, ''));
