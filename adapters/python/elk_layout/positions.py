@@ -38,4 +38,4 @@ def _middle_of(child: Mapping[str, Any], direction: str) -> float:
     """Where the middle of a child stands across the direction of its level."""
     place, size = ("x", "width") if direction in ("DOWN", "UP") else ("y", "height")
     length = child.get(size)
-    return float(child[place]) + (float(length) / 2 if is_measure(length) else 0)
+    return float(child[place]) + (float(length) / 2 if length is not None and is_measure(length) else 0)
