@@ -33,5 +33,5 @@ fn main(rt: HostRuntime) -> ExitCode {
         }
         Err(_) => return ExitCode::from(refuse_words(&mut notes)),
     };
-    ExitCode::from(run(alloc, &words, &mut source, &mut out, &mut notes))
+    ExitCode::from(run(alloc, words.as_slice(), &mut source, &mut out, &mut notes))
 }

@@ -36,12 +36,14 @@ fn id_value(alloc: Global, place: Option<&Id>) -> Result<Value, AllocError> {
 // The first characters of a text, and three points where there are more.
 fn shortened(alloc: Global, text: &str) -> Result<String, AllocError> {
     let mut out = String::new(alloc);
-    for (at, letter) in text.chars().enumerate() {
-        if at == MOST_CHARACTERS {
+    let mut count: usize = 0;
+    for letter in text.chars() {
+        if count == MOST_CHARACTERS {
             out.push('…')?;
             return Ok(out);
         }
         out.push(letter)?;
+        count = count.saturating_add(1);
     }
     Ok(out)
 }

@@ -53,7 +53,7 @@ fn made_of(alloc: Global, wish: Wish, bytes: &[u8]) -> Result<Vec<u8>, DocFault>
 
 fn sentence(alloc: Global, fault: Result<Fault, AllocError>) -> Result<Vec<u8>, AllocError> {
     let fault = fault?;
-    let message = fault.message;
+    let message = fault.message.as_str();
     Ok(format!(in alloc; "elk-draw: {message}\n")?.into_bytes())
 }
 

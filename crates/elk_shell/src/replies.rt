@@ -23,6 +23,11 @@ enum Failure {
 }
 
 impl From<AllocError> for Failure {
+    ghost use Rattle.std.specs.Prelude.{◌≡◌};
+    ghost use Rattle.elk_shell.specs.declared.replies.Failure.TheVariants.{Memory};
+
+    ghost from_gives = { λ _ e. e ≡ Memory };
+
     fn from(_refused: AllocError) -> Failure {
         Failure::Memory
     }
@@ -43,6 +48,8 @@ fn made_of(alloc: Global, graph: &Value, wanted: Wanted) -> Result<Value, Failur
     }
     if wanted.placed {
         put(&mut members, alloc, "placed", placed)?;
+    } else {
+        drop(placed);
     }
     Ok(Value::Object(members))
 }
@@ -79,16 +86,22 @@ fn done(alloc: Global, line: &[u8]) -> Result<Value, Failure> {
 
 // A fault as a reply.
 fn fault_value(alloc: Global, fault: Fault) -> Result<Value, AllocError> {
-    let rule = match fault.rule {
+    let Fault {
+        rule,
+        name,
+        id,
+        message,
+    } = fault;
+    let rule = match rule {
         Some(number) => Value::from(number),
         None => Value::Null,
     };
-    let name = String::from_str(alloc, fault.name)?;
+    let name = String::from_str(alloc, name)?;
     let mut told = Map::new(alloc);
     put(&mut told, alloc, "rule", rule)?;
     put(&mut told, alloc, "name", Value::String(name))?;
-    put(&mut told, alloc, "id", fault.id)?;
-    put(&mut told, alloc, "message", Value::String(fault.message))?;
+    put(&mut told, alloc, "id", id)?;
+    put(&mut told, alloc, "message", Value::String(message))?;
     let mut members = Map::new(alloc);
     put(&mut members, alloc, "fault", Value::Object(told))?;
     Ok(Value::Object(members))

@@ -45,15 +45,15 @@ pub fn refuse_words<N: Sink>(notes: &mut N) -> u8 {
 /// Does what the arguments ask for, and answers the program's status.
 pub fn run<S: Source, K: Sink, N: Sink>(
     alloc: Global,
-    words: &Vec<String>,
+    words: &[String],
     source: &mut S,
     out: &mut K,
     notes: &mut N,
 ) -> u8
     // With `--json` alone, a run that ends with 0 wrote the engine's answer to its whole input, and one that refuses its input wrote nothing.
-    ensures json { asks_for_json (texts words.now.items) ≡ true
+    ensures json { asks_for_json (texts words.now) ≡ true
         → result ≡ 0 → IsDone Answer (S.left source.old) (S.left source.new) (K.taken out.old) (K.taken out.new) }
-    ensures quiet { asks_for_json (texts words.now.items) ≡ true → result ≡ 2 → K.taken out.new ≡ K.taken out.old }
+    ensures quiet { asks_for_json (texts words.now) ≡ true → result ≡ 2 → K.taken out.new ≡ K.taken out.old }
 {
     match asked_by(alloc, words) {
         Ok(Asked::Run(task)) => run_task(alloc, task, source, out, notes),
