@@ -110,39 +110,28 @@ fn flag<'a>(alloc: Global, name: &'a str, help: &'a str) -> Arg<'a> {
 // What the program writes: a picture, a placed graph, or replies.
 fn with_forms<'a>(alloc: Global, command: Command<'a>) -> Result<Command<'a>, AllocError> {
     let svg = flag(alloc, "svg", "Write the picture (the default)");
-    let json = flag(alloc, "json", "Write the graph with its places, as JSON").conflicts_with_all(&[
-        "svg",
-        "placed",
-        "light",
-        "dark",
-        "no-arrows",
-    ])?;
-    let lines = flag(alloc, "lines", "Reply to one request a line").conflicts_with_all(&[
-        "svg",
-        "json",
-        "placed",
-        "light",
-        "dark",
-        "no-arrows",
-    ])?;
-    let placed = flag(alloc, "placed", "Draw a graph that has places, as it is");
+    let json = flag(alloc, "json", "Write the graph with its places, as JSON")
+        .conflicts_with("svg")?
+        .conflicts_with("lines")?;
+    let lines = flag(alloc, "lines", "Reply to one request a line").conflicts_with("svg")?;
+    let placed = flag(alloc, "placed", "Draw a graph that has places, as it is")
+        .conflicts_with("json")?
+        .conflicts_with("lines")?;
     command.arg(svg)?.arg(json)?.arg(lines)?.arg(placed)
+}
+
+// A look of pictures, which only a run that draws one has.
+fn look_flag<'a>(alloc: Global, name: &'a str, help: &'a str) -> Result<Arg<'a>, AllocError> {
+    flag(alloc, name, help)
+        .conflicts_with("json")?
+        .conflicts_with("lines")
 }
 
 // How pictures are drawn.
 fn with_looks<'a>(alloc: Global, command: Command<'a>) -> Result<Command<'a>, AllocError> {
-    let light = flag(
-        alloc,
-        "light",
-        "Draw for a light page, whatever the reader's setting",
-    )
-    .conflicts_with("dark")?;
-    let dark = flag(
-        alloc,
-        "dark",
-        "Draw for a dark page, whatever the reader's setting",
-    );
-    let bare = flag(alloc, "no-arrows", "Draw edges without arrow heads");
+    let light = look_flag(alloc, "light", "Draw for a light page")?.conflicts_with("dark")?;
+    let dark = look_flag(alloc, "dark", "Draw for a dark page")?;
+    let bare = look_flag(alloc, "no-arrows", "Draw edges without arrow heads")?;
     command.arg(light)?.arg(dark)?.arg(bare)
 }
 
