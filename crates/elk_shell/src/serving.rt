@@ -120,7 +120,7 @@ fn reply_to_lines<S: Source, K: Sink>(
     ensures { OnOk result (GrowsByLines (K.taken out.old) (K.taken out.new)) }
 {
     let mut reader = LineReader::new(alloc, LONGEST, LIMIT);
-    for _ in 0..LIMIT + 2 {
+    'lines: for _ in 0..LIMIT + 2 {
         match reply_next(alloc, &mut reader, source, out) {
             Ok(true) => return Ok(()),
             Ok(false) => {}

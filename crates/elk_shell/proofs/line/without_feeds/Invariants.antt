@@ -3,5 +3,5 @@ use Rattle.std.specs.Prelude.{map}
 use Rattle.elk_shell.specs.Line.{in_line}
 use Rattle.elk_shell.proofs.line.without_feeds.Given as goal
 
-abbrev pub invariant : goal.invariant
-invariant l = l.line.items ++ map in_line (drop l.byte-index l.bytes) ≡ map in_line l.bytes
+abbrev pub invariant-loop-byte : goal.invariant-loop-byte
+invariant-loop-byte l = l.line.items ++ map in_line (drop l.byte-index l.bytes) ≡ map in_line l.bytes
