@@ -1,4 +1,4 @@
-use Rattle.std.proofs.Common.{◌≡◌, ℕ}
+use Rattle.std.proofs.Common.{◌≡◌}
 use Rattle.elk_shell.specs.declared.words.Task.TheVariants.{Place}
 use Rattle.elk_shell.proofs.top.run.Goals as goal
 
