@@ -1,4 +1,4 @@
-"""Tries the launcher `elk`, `tools/unpack` and `tools/install` in small copies of this checkout, with the real program as the released one."""
+"""Tries the launchers `elk` and `elk-draw`, `tools/unpack` and `tools/install` in small copies of this checkout, with the real program as the released one."""
 import gzip
 import hashlib
 import os
@@ -25,10 +25,10 @@ class Copy:
 
     def __init__(self, room, programs):
         self.top, self.path = room / "checkout", room / "path"
-        for name in ("elk", "tools/unpack", "tools/install", "tools/sources-sum"):
+        for name in ("elk", "elk-draw", "tools/unpack", "tools/install", "tools/sources-sum"):
             (self.top / name).parent.mkdir(parents=True, exist_ok=True)
             shutil.copy(TOP / name, self.top / name)
-        (self.top / "crates.txt").write_text("elk:\n")
+        (self.top / "crates.txt").write_text("elk:\nelk_draw:\n")
         for folder in ("src", "specs", "proofs"):
             (self.top / "crates/elk" / folder).mkdir(parents=True)
         self.source = self.top / "crates/elk/src/main.rt"
@@ -44,8 +44,11 @@ class Copy:
         for name, content in programs.items():
             (folder / f"{name}.gz").write_bytes(packed(content))
         sums = [f"{name} {hashlib.sha256(content).hexdigest()}" for name, content in programs.items()]
-        total = subprocess.run([self.top / "tools/sources-sum"], capture_output=True, text=True, check=True).stdout
-        (folder / "RECORD").write_text("\n".join([*sums, f"sources {total}"]))
+        totals = [f"{line} {self.sum_of(crate)}" for line, crate in [("sources", "elk"), ("sources-elk-draw", "elk_draw")]]
+        (folder / "RECORD").write_text("\n".join([*sums, *totals, ""]))
+
+    def sum_of(self, crate):
+        return subprocess.run([self.top / "tools/sources-sum", crate], capture_output=True, text=True, check=True).stdout.strip()
 
     def command(self, name, text):
         """A command on the path of the copy."""
@@ -116,6 +119,19 @@ class Launcher(unittest.TestCase):
     def test_words_streams_and_status_pass_through(self):
         self.assertEqual(self.copy.run("layout", given=b"{"), (2, b"", "refused 1 NotJson -\n"))
         self.assertEqual(self.copy.run("a word", "")[0], 5)
+
+    def test_elk_draw_starts_its_own_program(self):
+        script = b'#!/bin/sh\n[ $# -gt 0 ] || exit 2\necho "draws $*"\nexit 3\n'
+        self.copy.release({"elk-x86_64-linux": self.real, "elk-draw-x86_64-linux": script})
+        for _ in range(2):
+            self.assertEqual(self.copy.run("--a word", program=self.copy.top / "elk-draw"), (3, b"draws --a word\n", ""))
+        self.assertIn("checkout/crates/elk_draw/out/elk_draw", self.copy.files())
+        self.answers()
+
+    def test_without_a_released_elk_draw_and_without_a_kit_it_says_so(self):
+        status, out, notes = self.copy.run(program=self.copy.top / "elk-draw")
+        self.assertEqual((status, out), (NO_PROGRAM, b""))
+        self.assertTrue(notes.startswith("elk-draw: "), notes)
 
     def test_it_is_called_by_a_link(self):
         (self.room / "link").symlink_to(self.copy.top / "elk")

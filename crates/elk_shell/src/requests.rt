@@ -1,0 +1,128 @@
+//! Requests.
+
+use crate::words::Look;
+use elk_picture::Theme;
+use serde_json::Value;
+use serde_json::value::Map;
+use thiserror::Error;
+
+/// What a request wants of its graph.
+#[derive(Clone, Copy, Drop)]
+pub(crate) struct Wanted {
+    /// The graph with its places.
+    pub(crate) placed: bool,
+    /// The picture.
+    pub(crate) svg: bool,
+    pub(crate) look: Look,
+}
+
+/// Why a line is no request.
+#[derive(Clone, Copy, Debug, Drop, PartialEq, Eq, Error)]
+pub(crate) enum Misfit {
+    #[error("the line is not valid JSON, or is nested more than 127 deep")]
+    NotJson,
+    #[error("a request is an object")]
+    NotObject,
+    #[error("a request has a member \"graph\", which is an object")]
+    NoGraph,
+    #[error("\"give\" is an array of \"placed\" and \"svg\", and has at least one of them")]
+    Give,
+    #[error("\"theme\" is \"light\", \"dark\" or \"auto\"")]
+    Theme,
+    #[error("\"arrows\" is true or false")]
+    Arrows,
+    #[error("a request has no other members than \"graph\", \"give\", \"theme\" and \"arrows\"")]
+    Member,
+}
+
+// Adds what one item of `give` names.
+fn with_item(wanted: Wanted, item: &Value) -> Result<Wanted, Misfit> {
+    match item.as_str() {
+        Some("placed") => Ok(Wanted {
+            placed: true,
+            ..wanted
+        }),
+        Some("svg") => Ok(Wanted {
+            svg: true,
+            ..wanted
+        }),
+        _ => Err(Misfit::Give),
+    }
+}
+
+fn with_given(wanted: Wanted, items: &[Value]) -> Result<Wanted, Misfit> {
+    if items.is_empty() {
+        return Err(Misfit::Give);
+    }
+    let mut all = wanted;
+    for item in items {
+        all = with_item(all, item)?;
+    }
+    Ok(all)
+}
+
+// The picture alone, where the request doesn't say what it wants.
+fn given(look: Look, give: Option<&Value>) -> Result<Wanted, Misfit> {
+    let nothing = Wanted {
+        placed: false,
+        svg: false,
+        look,
+    };
+    match give {
+        None => Ok(Wanted {
+            svg: true,
+            ..nothing
+        }),
+        Some(Value::Array(items)) => with_given(nothing, items.as_slice()),
+        Some(_) => Err(Misfit::Give),
+    }
+}
+
+fn theme_named(theme: Option<&Value>) -> Result<Theme, Misfit> {
+    match theme {
+        None => Ok(Theme::Auto),
+        Some(value) => match value.as_str() {
+            Some("auto") => Ok(Theme::Auto),
+            Some("light") => Ok(Theme::Light),
+            Some("dark") => Ok(Theme::Dark),
+            _ => Err(Misfit::Theme),
+        },
+    }
+}
+
+fn arrows_asked(arrows: Option<&Value>) -> Result<bool, Misfit> {
+    match arrows {
+        None => Ok(true),
+        Some(Value::Bool(yes)) => Ok(*yes),
+        Some(_) => Err(Misfit::Arrows),
+    }
+}
+
+fn is_known(key: &str) -> bool {
+    matches!(key, "graph" | "give" | "theme" | "arrows")
+}
+
+// A member that this program doesn't know may ask for what it doesn't do.
+fn refuse_unknown(members: &Map<String, Value>) -> Result<(), Misfit> {
+    for (key, _) in members.iter() {
+        if !is_known(key.as_str()) {
+            return Err(Misfit::Member);
+        }
+    }
+    Ok(())
+}
+
+/// What a request wants. Its graph is the member `graph`, which is read by the engine's rules.
+pub(crate) fn wanted_by(request: &Value) -> Result<Wanted, Misfit> {
+    match request {
+        Value::Object(members) => {
+            refuse_unknown(members)?;
+            let look = Look {
+                theme: theme_named(request.get("theme"))?,
+                arrows: arrows_asked(request.get("arrows"))?,
+            };
+            given(look, request.get("give"))
+        }
+        _ => Err(Misfit::NotObject),
+    }
+}
