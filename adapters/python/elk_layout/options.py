@@ -106,9 +106,9 @@ STAND_INS: List[Tuple[str, str, Callable[[Any], Any]]] = [
 STRATEGY = "layered.nodePlacement.strategy"
 ALIGNMENT = "layered.nodePlacement.bk.fixedAlignment"
 
-# What is asked for where a level says nothing.
-SLOTS = {"layered.slots": "UNCROSSED"}
-DEFAULTS: Dict[str, Any] = {**SLOTS, STRATEGY: "NETWORK_SIMPLEX", "layered.straightness": 4}
+# What is asked for where a level says nothing, and the part that is of placement.
+PLACEMENT: Dict[str, Any] = {STRATEGY: "NETWORK_SIMPLEX", "layered.straightness": 4}
+DEFAULTS: Dict[str, Any] = {"layered.slots": "UNCROSSED", **PLACEMENT}
 
 
 def _replaced(asked: Mapping[str, Carried]) -> Dict[str, Any]:
@@ -122,7 +122,7 @@ def stand_ins(asked: Mapping[str, Carried]) -> Dict[str, Any]:
     replaced = _replaced(asked)
     # If a level names a placement, the engine's own defaults hold for that.
     is_placed = (STRATEGY in asked or ALIGNMENT in asked) and not replaced
-    found: Dict[str, Any] = dict(SLOTS if is_placed else DEFAULTS)
+    found = {name: value for name, value in DEFAULTS.items() if not (is_placed and name in PLACEMENT)}
     for name, by, value_of in STAND_INS:
         value = value_of(asked[name].value) if name in asked else None
         if value is not None:
