@@ -140,7 +140,8 @@ function sentOptions(element, general, role) {
   }
   if (role === 'levels') {
     const asked = (name) => carried.get(name) ?? general.get(name);
-    for (const [name, value] of standIns((it) => asked(it)?.value, (it) => READERS.has(it))) {
+    const children = Array.isArray(element.children) ? element.children.length : 0;
+    for (const [name, value] of standIns((it) => asked(it)?.value, (it) => READERS.has(it), children)) {
       sent[asked(name) ? keyFor(name, asked(name).key) : `elk.${name}`] = value;
     }
   }

@@ -1,6 +1,8 @@
 'use strict';
 // Options of the engine that stand for options of ELK, and what is asked for where a level says nothing.
 
+const { placedUpTo } = require('./data/options.json');
+
 const nameIn = (value) => String(value).toUpperCase();
 
 /** The value that stands for one of ELK, by the names of these. */
@@ -22,9 +24,10 @@ const STAND_INS = [
 
 const STRATEGY = 'layered.nodePlacement.strategy';
 const ALIGNMENT = 'layered.nodePlacement.bk.fixedAlignment';
+const STRAIGHTNESS = 'layered.straightness';
 
 const SLOTS = [['layered.slots', 'UNCROSSED']];
-const PLACEMENT = [[STRATEGY, 'NETWORK_SIMPLEX'], ['layered.straightness', 4]];
+const PLACEMENT = [[STRATEGY, 'NETWORK_SIMPLEX'], [STRAIGHTNESS, 4]];
 
 const DEFAULTS = new Map([...SLOTS, ...PLACEMENT]);
 
@@ -37,20 +40,25 @@ function replaced(asked) {
   return isBalanced ? [[STRATEGY, 'NETWORK_SIMPLEX'], [ALIGNMENT, 'NONE']] : [];
 }
 
-/** What is asked for where a level says nothing. If it names a placement, the engine's own defaults hold for that. */
-function defaults(asked) {
+/**
+ * What is asked for where a level says nothing. If it names a placement, the engine's own defaults hold for that, and so they do
+ * if it has so many children that network simplex could take long.
+ */
+function defaults(asked, children) {
   const isPlaced = asked(STRATEGY) !== undefined || asked(ALIGNMENT) !== undefined;
-  return isPlaced && replaced(asked).length === 0 ? SLOTS : [...DEFAULTS];
+  const isSmall = children <= placedUpTo || asked(STRAIGHTNESS) !== undefined;
+  return replaced(asked).length > 0 || (!isPlaced && isSmall) ? [...DEFAULTS] : SLOTS;
 }
 
 /**
  * The options that a level is sent with besides those that it reads itself, or in place of these.
  * @param {(name: string) => unknown} asked what the level or the call asks for by an option
  * @param {(name: string) => boolean} isRead whether the running engine reads an option
+ * @param {number} [children] how many children the level has
  * @returns {[string, unknown][]} names and values
  */
-function standIns(asked, isRead) {
-  const found = new Map(defaults(asked));
+function standIns(asked, isRead, children = 0) {
+  const found = new Map(defaults(asked, children));
   for (const [from, to, valueOf] of STAND_INS) {
     const value = asked(from) === undefined ? undefined : valueOf(asked(from));
     if (value !== undefined) {

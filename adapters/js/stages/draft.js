@@ -190,7 +190,7 @@ class Draft {
   /** An option that a level is sent with: its own, or one that stands for an option of ELK. */
   sentOption(level, name) {
     const asked = (it) => this.option(level, it);
-    return new Map(standIns(asked, () => true)).get(name) ?? asked(name);
+    return new Map(standIns(asked, () => true, elementsOf(level.children).length)).get(name) ?? asked(name);
   }
 
   /** Adds an element to a list of a node until the answer is there. */

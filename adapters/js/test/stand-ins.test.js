@@ -76,3 +76,13 @@ test('an engine is asked for nothing that it does not read', () => {
   assert.deepEqual(askedBy(options, () => false), {});
   assert.deepEqual(askedBy(options, (name) => name === 'layered.effort'), { 'layered.effort': 20 });
 });
+
+test('a level with many children is placed by alignment, unless it asks for network simplex or straightness', () => {
+  const askedFor = (options, children) => Object.fromEntries(standIns((name) => options[name], () => true, children));
+  const straight = { 'layered.nodePlacement.strategy': 'NETWORK_SIMPLEX', 'layered.straightness': 4 };
+  assert.deepEqual(askedFor({}, 300), { 'layered.slots': 'UNCROSSED', ...straight });
+  assert.deepEqual(askedFor({}, 301), { 'layered.slots': 'UNCROSSED' });
+  assert.deepEqual(askedFor({ 'layered.straightness': 2 }, 301), {
+    'layered.slots': 'UNCROSSED', 'layered.nodePlacement.strategy': 'NETWORK_SIMPLEX',
+  });
+});

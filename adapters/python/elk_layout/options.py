@@ -106,8 +106,9 @@ STAND_INS: List[Tuple[str, str, Callable[[Any], Any]]] = [
 STRATEGY = "layered.nodePlacement.strategy"
 ALIGNMENT = "layered.nodePlacement.bk.fixedAlignment"
 
-# What is asked for where a level says nothing.
-PLACEMENT: Dict[str, Any] = {STRATEGY: "NETWORK_SIMPLEX", "layered.straightness": 4}
+# What is asked for where a level says nothing, and the part that is of placement.
+STRAIGHTNESS = "layered.straightness"
+PLACEMENT: Dict[str, Any] = {STRATEGY: "NETWORK_SIMPLEX", STRAIGHTNESS: 4}
 DEFAULTS: Dict[str, Any] = {"layered.slots": "UNCROSSED", **PLACEMENT}
 
 
@@ -117,11 +118,14 @@ def _replaced(asked: Mapping[str, Carried]) -> Dict[str, Any]:
     return {STRATEGY: "NETWORK_SIMPLEX", ALIGNMENT: "NONE"} if is_balanced else {}
 
 
-def stand_ins(asked: Mapping[str, Carried]) -> Dict[str, Any]:
-    """The options that a level is sent with besides those that it asks for itself, or in place of these, by their names."""
+def stand_ins(asked: Mapping[str, Carried], children: int = 0) -> Dict[str, Any]:
+    """The options that a level with so many children is sent with besides those that it asks for itself, or in place of
+    these, by their names.
+    """
     replaced = _replaced(asked)
-    # If a level names a placement, the engine's own defaults hold for that.
-    is_placed = (STRATEGY in asked or ALIGNMENT in asked) and not replaced
+    # If a level names a placement, the engine's own defaults hold for that, and so they do if network simplex could take long.
+    is_large = children > table("options")["placedUpTo"] and STRAIGHTNESS not in asked
+    is_placed = (STRATEGY in asked or ALIGNMENT in asked or is_large) and not replaced
     found = {name: value for name, value in DEFAULTS.items() if not (is_placed and name in PLACEMENT)}
     for name, by, value_of in STAND_INS:
         value = value_of(asked[name].value) if name in asked else None
@@ -150,6 +154,7 @@ def sent_options(element: Mapping[str, Any], general: Mapping[str, Carried], rol
     sent = {it.key: it.value for it in {**general_for(general, role), **own}.values()}
     if role == "levels":
         asked = {**general, **carried}
-        for name, value in stand_ins(asked).items():
+        children = element.get("children")
+        for name, value in stand_ins(asked, len(children) if isinstance(children, list) else 0).items():
             sent[asked[name].key if name in asked else f"elk.{name}"] = value
     return sent
