@@ -57,12 +57,24 @@ function moveParts(node, { left, top }) {
   moveLabels(node, { x: left, y: top });
 }
 
-/** Nodes and ports without a size have one of 0. */
+const NOWHERE = { x: 0, y: 0, width: 0, height: 0 };
+
+/** The labels of an element that nothing has placed stand at its corner. */
+function tellLabels(element) {
+  const isUntold = (label) => Object.keys(NOWHERE).some((name) => label[name] === undefined);
+  if (elementsOf(element.labels).some(isUntold)) {
+    element.labels = element.labels.map((label) => (isObject(label) ? { ...NOWHERE, ...label } : label));
+  }
+}
+
+/** Nodes and ports without a size have one of 0, and so have labels. */
 function tellSizes(node) {
   for (const element of [node, ...elementsOf(node.ports)]) {
     element.width ??= 0;
     element.height ??= 0;
+    tellLabels(element);
   }
+  elementsOf(node.edges).forEach(tellLabels);
 }
 
 /**

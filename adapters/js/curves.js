@@ -38,7 +38,7 @@ function optionsFor(draft, level) {
  * The gaps between the layers of a level, and from where to where slanted pieces lie in each.
  * @param {{ span: { u0: number, u1: number }, layer: number, part?: number }[]} nodes from where to where each reaches
  *   along the flow
- * @returns {{ from: number, to: number, stub: number }[]}
+ * @returns {{ from: number, to: number, stub: number, part: number }[]}
  */
 function gapsBetween(nodes) {
   const columns = new Map();
@@ -48,11 +48,11 @@ function gapsBetween(nodes) {
     const { u0, u1 } = layers[layer] ?? span;
     layers[layer] = { u0: Math.min(u0, span.u0), u1: Math.max(u1, span.u1) };
   }
-  return [...columns.values()].flatMap((layers) => {
+  return [...columns].flatMap(([part, layers]) => {
     const there = layers.filter(Boolean);
     return there.slice(1).map(({ u0 }, k) => {
       const from = there[k].u1;
-      return { from, to: u0, stub: Math.min(STUB, (u0 - from) * MOST_OF_GAP) };
+      return { from, to: u0, stub: Math.min(STUB, (u0 - from) * MOST_OF_GAP), part };
     });
   });
 }

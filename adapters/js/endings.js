@@ -1,7 +1,7 @@
 'use strict';
 // Which option of ELK a key of options means: its name, with a prefix or without, or an ending that no other has.
 
-const { adapter, elk, options, prefixes } = require('./data/options.json');
+const { adapter, elk, olderPrefix, options, prefixes } = require('./data/options.json');
 
 const named = (list) => list.map(({ name }) => name);
 
@@ -27,7 +27,7 @@ for (const name of ALL_NAMES) {
  * @returns {readonly string[]}
  */
 function meanings(key) {
-  const prefix = prefixes.find((it) => key.startsWith(it));
+  const prefix = [olderPrefix, ...prefixes].find((it) => key.startsWith(it));
   const name = key.slice(prefix.length);
   return NAMES.has(name) ? [name] : BY_ENDING.get(key) ?? [];
 }

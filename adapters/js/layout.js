@@ -10,7 +10,7 @@ const { edgesAcross } = require('./hierarchy');
 const { junctionPoints } = require('./junctions');
 const { ProgramError } = require('./program-error');
 const { Refusal, refusalOf } = require('./refusals');
-const { draftOf, lacksOf } = require('./stages');
+const { bindLayers, draftOf, lacksOf, packParts } = require('./stages');
 const { Draft } = require('./stages/draft');
 const { paddingOf } = require('./stages/node-sizes');
 
@@ -40,8 +40,8 @@ const NO_SIZE = { width: 0, height: 0 };
  * Levels that turn out too small for their labels are laid out once more, with the room that they lack.
  * @param {object} graph stays as it is
  * @param {{ numbers: 'ceil' | 'exact', general: object }} how whether numbers are made whole, and the options that count
- *   wherever an element has none of its own; `still` has the ids of edges whose labels stay in their layers, `isLevel`
- *   says that the graph is one level of another, whose own node grows later
+ *   wherever an element has none of its own; `still` has the ids of edges whose labels stay in their layers, `ends` those
+ *   of leaves that stand for borders, each with the end at which it stands, `isLevel` says that the graph is one level of another, whose own node grows later
  * @param {{ ask: (text: string) => Promise<{ reply: string, seconds: number }> }} engine
  * @param {Map<number, object>} [lacks] what nodes lacked when they were laid out before, by their numbers
  * @returns {Promise<{ placed: object, seconds: number, padding: object, least: object, outlines: Map, layering?: object }>} the placed
@@ -58,11 +58,20 @@ async function drawn(graph, how, engine, lacks = new Map()) {
   }
   const isLast = draft.leasts.size === 0 || lacks.size > 0;
   const again = isLast ? undefined : copyOf(graph);
-  const document = documentOf(placed, how);
-  const text = JSON.stringify(document);
-  const { reply, seconds } = await engine.ask(text);
   const { owners } = draft;
-  place(placed, answerOf(reply, text, { graph, owners, general: how.general }));
+  let seconds = 0;
+  const answered = async (document) => {
+    const text = JSON.stringify(document);
+    const { reply, seconds: more } = await engine.ask(text);
+    seconds += more;
+    return answerOf(reply, text, { graph, owners, general: how.general });
+  };
+  // Without layers the engine is asked at once, so that a call that is ended before its answer fails.
+  if (draft.ranks.size > 0) {
+    await bindLayers(draft, answered);
+  }
+  place(placed, await answered(documentOf(placed, how)));
+  packParts(draft, placed);
   const more = isLast ? undefined : lacksOf(draft);
   if (more) {
     const last = await drawn(again, how, engine, more);
@@ -116,8 +125,8 @@ async function laidOut(graph, how, engine) {
   const placed = copyOf(graph);
   const single = remembering(engine);
   let sum = 0;
-  await layOutAcross(placed, how, async (document, still) => {
-    const { seconds, ...rest } = await drawn(document, { ...how, still, isLevel: true }, single);
+  await layOutAcross(placed, how, async (document, sent) => {
+    const { seconds, ...rest } = await drawn(document, { ...how, ...sent, isLevel: true }, single);
     sum += seconds;
     return rest;
   });

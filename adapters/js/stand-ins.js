@@ -26,10 +26,10 @@ const STRATEGY = 'layered.nodePlacement.strategy';
 const ALIGNMENT = 'layered.nodePlacement.bk.fixedAlignment';
 const STRAIGHTNESS = 'layered.straightness';
 
-const SLOTS = [['layered.slots', 'UNCROSSED']];
+const ALWAYS = [['layered.slots', 'UNCROSSED'], ['separateConnectedComponents', true]];
 const PLACEMENT = [[STRATEGY, 'NETWORK_SIMPLEX'], [STRAIGHTNESS, 4]];
 
-const DEFAULTS = new Map([...SLOTS, ...PLACEMENT]);
+const DEFAULTS = new Map([...ALWAYS, ...PLACEMENT]);
 
 /** The default of an option of data/options.json in a call, in words. */
 const defaultOf = ({ name, default: byDefault }) => String(DEFAULTS.get(name) ?? byDefault);
@@ -47,7 +47,7 @@ function replaced(asked) {
 function defaults(asked, children) {
   const isPlaced = asked(STRATEGY) !== undefined || asked(ALIGNMENT) !== undefined;
   const isSmall = children <= placedUpTo || asked(STRAIGHTNESS) !== undefined;
-  return replaced(asked).length > 0 || (!isPlaced && isSmall) ? [...DEFAULTS] : SLOTS;
+  return replaced(asked).length > 0 || (!isPlaced && isSmall) ? [...DEFAULTS] : ALWAYS;
 }
 
 /**

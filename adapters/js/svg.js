@@ -17,7 +17,8 @@ const ROUND = 3 * CORNER;
 
 const isCompound = (node) => elementsOf(node.children).length > 0;
 
-const isPlacedLabel = ({ x, y }) => Number.isFinite(x) && Number.isFinite(y);
+// A label that nothing has placed comes back at the corner of its element, where no placed one stands.
+const isPlacedLabel = ({ x, y }) => Number.isFinite(x) && Number.isFinite(y) && (x !== 0 || y !== 0);
 
 /** The labels of an element that have a text. */
 const labelsOf = (element) =>

@@ -46,7 +46,7 @@ function remembered(find) {
   };
 }
 
-const prefixOf = (key) => /^((?:org\.eclipse\.)?elk\.)?/.exec(key)[0];
+const prefixOf = (key) => /^((?:(?:org\.)?eclipse\.)?elk\.|de\.cau\.cs\.kieler\.)?/.exec(key)[0];
 
 const bareOf = (key) => key.slice(prefixOf(key).length);
 

@@ -5,20 +5,21 @@
 const { elementsOf } = require('../levels');
 const { placeOfLabel } = require('../stages/edge-labels');
 const { AHEAD, BEHIND } = require('../stages/sides');
-const { backArcs } = require('../stages/turns');
+const { arcsAgainst, ranksOf } = require('../stages/ranks');
 
 // The ends of a piece: that of the edge itself, the border of a child, or the border of the level.
 const realEnd = ({ node, port, dock, isShared }) => ({ key: dock, node, port, isShared });
 const borderEnd = (border) => ({ key: `border ${border.key} of ${border.node.json.id}`, border, node: border.node });
 const frameEnd = (border) => ({ key: `frame ${border.key}`, border, isFrame: true });
 
-/** Turns edges that close cycles. A piece to a border closes none, so the siblings that edges join tell enough. */
+/** Turns edges that close cycles or run against the layers that are asked for. A piece to a border closes none, so the siblings that edges join tell enough. */
 function turnEdges(model) {
   for (const level of model.levels) {
     const numbers = new Map(level.children.map((child, at) => [child, at]));
     const here = level.edges.filter(({ up, down }) => up.length > 0 && down.length > 0);
     const arcs = here.map((edge) => ({ edge, tail: numbers.get(edge.up.at(-1)), head: numbers.get(edge.down.at(-1)) }));
-    const back = backArcs(level.children.length, arcs.filter(({ tail, head }) => tail !== head));
+    const children = level.children.map(({ json }) => json);
+    const back = arcsAgainst(children, arcs.filter(({ tail, head }) => tail !== head), ranksOf(model.draft, level.json));
     back.forEach(({ edge }) => {
       edge.isTurned = true;
     });

@@ -2,24 +2,18 @@
 // Helper edges of the least weight that keep the border of a level in a layer of its own, the first or the last. Each
 // spans one layer and lies in the gap that is cut off, so that it costs neither lanes nor crossings.
 
+const { clusters } = require('../stages/clusters');
 const { Bounds, FRAMES } = require('./geometry');
 
 /** One of the children in each part of a level that no edge joins with the others, the part of one child left out. */
 function otherParts({ level, pieces }, first, children) {
-  const parts = level.children.map((_, at) => at);
-  const rootOf = (at) => {
-    let root = at;
-    while (parts[root] !== root) {
-      root = parts[root];
-    }
-    return root;
-  };
+  const parts = clusters(level.children.length);
   const numbers = new Map(level.children.map((child, at) => [child, at]));
   for (const { from, to } of pieces.filter((it) => !it.from.isFrame && !it.to.isFrame)) {
-    parts[rootOf(numbers.get(from.node))] = rootOf(numbers.get(to.node));
+    parts.join(numbers.get(from.node), numbers.get(to.node));
   }
-  const seen = new Set([rootOf(first)]);
-  return children.filter((at) => !seen.has(rootOf(at)) && seen.add(rootOf(at)));
+  const seen = new Set([parts.of(first)]);
+  return children.filter((at) => !seen.has(parts.of(at)) && seen.add(parts.of(at)));
 }
 
 /**

@@ -36,7 +36,7 @@ async function improve(layout) {
  * Lays out a graph with edges that cross borders.
  * @param {object} graph is written into
  * @param {{ numbers: 'ceil' | 'exact', general: object }} how
- * @param {(document: object, still: Set<unknown>) => Promise<object>} draw lays out the graph of one level
+ * @param {(document: object, sent: object) => Promise<object>} draw lays out the graph of one level
  */
 async function layOutAcross(graph, how, draw) {
   const model = new Model(graph, how);

@@ -33,8 +33,8 @@ const mirrored = (points) => points.map(({ u, v }) => ({ u: -u, v })).reverse();
 class Layout {
   /**
    * @param {import('./model').Model} model
-   * @param {(document: object, still: Set<unknown>) => Promise<object>} draw lays out the graph of one level, where the
-   *   labels of some edges stay in their layers
+   * @param {(document: object, sent: { still: Set<unknown>, ends: Map }) => Promise<object>} draw lays out the graph of one
+   *   level, where the labels of some edges stay in their layers, and some leaves stand at its ends
    */
   constructor(model, draw) {
     this.model = model;
@@ -57,7 +57,7 @@ class Layout {
     for (let call = 0; call < MOST_CALLS; call += 1) {
       const sent = new LevelGraph(this, level, mode);
       this.work += sent.children.length + sent.pieces.length;
-      const drawn = await this.draw(sent.document(helpers), sent.still);
+      const drawn = await this.draw(sent.document(helpers), { still: sent.still, ends: sent.ends });
       const missing = missingHelpers(level, sent, drawn.outlines, helpers);
       if (missing.length === 0) {
         return { ...drawn, sent };
@@ -105,23 +105,24 @@ class Layout {
     const boxes = [...children.flatMap(labelBoxesOf), ...labels.flat().filter(isPlaced).map(wholeBox)];
     const content = new Bounds().addAll(children.map(outlineOf)).addAll(boxes).addAll(cut.flat());
     const isFramed = level.borders.size > 0 || level.ports.length > 0;
-    const gaps = this.#gapsOf(sent, outlines, layering);
-    return { level, pieces, children, labels, cut, content, padding, placed, isFramed, gaps };
+    const { gaps, parts } = this.#gapsOf(sent, outlines, layering);
+    return { level, pieces, children, labels, cut, content, padding, placed, isFramed, gaps, parts };
   }
 
-  /** The gaps between the columns of a level, the leaves of its border left out. */
+  /** The gaps between the columns of a level, the leaves of its border left out, and the part of each node by its id. */
   #gapsOf({ level, leaves }, outlines, { layers = [], parts = [] } = {}) {
     const frame = FRAMES[level.direction];
     const isLeaf = (id) => id === leaves.first?.id || id === leaves.last?.id;
     const nodes = [...outlines].map(([id, outline], at) => {
       return { id, span: spanIn(frame, outline), layer: layers[at], part: parts[at] };
     });
-    return layers.length > 0 ? gapsBetween(nodes.filter(({ id }) => !isLeaf(id))) : [];
+    const gaps = layers.length > 0 ? gapsBetween(nodes.filter(({ id }) => !isLeaf(id))) : [];
+    return { gaps, parts: new Map(nodes.map(({ id, part = 0 }) => [id, part])) };
   }
 
   /** The content of a level, moved to where its ring leaves room for it, with its routes led on to the border. */
   #led(content, least) {
-    const { level, pieces, children, labels, cut, placed, isFramed, gaps } = content;
+    const { level, pieces, children, labels, cut, placed, isFramed, gaps, parts } = content;
     const { size, shift, ends, pins } = isFramed ? new Ring({ ...content, least }).led() : asDrawn(placed);
     const moved = (it) => (isPlaced(it) ? { ...it, x: it.x + shift.x, y: it.y + shift.y } : it);
     const routes = pieces.map((piece, at) => {
@@ -134,7 +135,7 @@ class Layout {
     return {
       ...{ size, pins, titles: titles.labels, lack: isFramed ? titles.lack : 0 },
       children: children.map(moved),
-      gaps: gaps.map(({ from, to, stub }) => ({ from: from + by, to: to + by, stub })),
+      ...{ gaps: gaps.map((gap) => ({ ...gap, from: gap.from + by, to: gap.to + by })), parts },
       routes: new Map(pieces.map((piece, at) => [piece, routes[at]])),
       labels: new Map(pieces.map((piece, at) => [piece, labels[at].map(moved)])),
     };
@@ -244,12 +245,14 @@ class Layout {
     const hasStubs = edge.level.routing === 'SPLINES' || this.model.hasLoops;
     return edge.pieces.flatMap(({ piece, isFlipped }) => {
       const { level } = piece;
-      const { routes, gaps } = this.placed.get(level);
+      const { routes, gaps, parts } = this.placed.get(level);
       const origin = origins.get(level);
-      const found = stretchesOf(routes.get(piece), { frame: FRAMES[level.direction], gaps, hasStubs });
+      const { node } = [piece.from, piece.to].find((end) => !end.isFrame) ?? {};
+      const own = gaps.filter(({ part }) => part === (node ? parts.get(node.json.id) : 0));
+      const found = stretchesOf(routes.get(piece), { frame: FRAMES[level.direction], gaps: own, hasStubs });
       const moved = ({ x, y }) => ({ x: x + origin.x, y: y + origin.y });
-      const own = found.map((it) => ({ ...it, points: it.points.map(moved) }));
-      return isFlipped ? flipped(own) : own;
+      const all = found.map((it) => ({ ...it, points: it.points.map(moved) }));
+      return isFlipped ? flipped(all) : all;
     });
   }
 

@@ -22,7 +22,10 @@ const LAST_INDEX = 2 ** 20;
 const NO_PADDING = 5;
 
 // The options of a node that count for the leaf that stands for it.
-const OF_LEAVES = ['layered.position', 'portConstraints', 'nodeLabels.placement', 'portLabels.placement'];
+const OF_LEAVES = [
+  ...['layered.position', 'layered.layering.layerConstraint', 'partitioning.partition'],
+  ...['portConstraints', 'nodeLabels.placement', 'portLabels.placement'],
+];
 
 /** The names by which a label of a node is placed. */
 const placementOf = (model, label, json) =>
@@ -81,6 +84,12 @@ class LevelGraph {
   get still() {
     const isStill = ({ from, to }) => from.isFrame || to.isFrame || this.model.isBent;
     return new Set(this.pieces.filter(isStill).map(({ id }) => id));
+  }
+
+  /** The ids of the leaves that stand for the border, each with the end of the level at which it stands. */
+  get ends() {
+    const there = Object.entries(this.leaves).filter(([, leaf]) => leaf);
+    return new Map(there.map(([end, { id }]) => [id, end]));
   }
 
   /** What is sent, with a helper edge for each of these. */

@@ -10,7 +10,7 @@ const { replyTo } = require('../server');
 const { toSvg } = require('../svg');
 const { chosenIn } = require('./choices');
 const { placesIn } = require('./places');
-const { replyOf } = require('./redrawn');
+const { replyOf, withParts } = require('./redrawn');
 const { giveSizes } = require('./sizes');
 const { verdictOf } = require('./verdict');
 
@@ -137,7 +137,7 @@ class Studio {
     }
     tell({ phase: 'checking' });
     if (faults.length === 0) {
-      return { ...said, verdict: this.#judged(text) };
+      return { ...said, verdict: this.#judged(withParts(text)) };
     }
     const reply = value && isOfAdapter(value, faults) ? await this.#replyOf(text, value) : undefined;
     return reply ? { ...told({ faults: [], warnings: [] }), notes: [{ message: BY_ADAPTER }], verdict: this.#judged(reply) } : said;

@@ -5,6 +5,7 @@
 const { elementsIn } = require('../elements');
 const { laidOut } = require('../layout');
 const { elementsOf } = require('../levels');
+const { carriedBy } = require('../options');
 
 const PLACED = ['x', 'y', 'width', 'height'];
 
@@ -23,4 +24,21 @@ async function replyOf(placed, how, engine) {
   return JSON.stringify(drawingOf(anew)) === JSON.stringify(drawingOf(placed)) ? engine.reply : undefined;
 }
 
-module.exports = { replyOf };
+const SPLIT = 'separateConnectedComponents';
+
+/**
+ * A placed document as it is judged. A call lays levels out in parts if they say nothing of these, and the program doesn't, so
+ * that levels whose drawings have parts are to ask for them.
+ * @param {string} text a document without a fault
+ */
+function withParts(text) {
+  const document = JSON.parse(text);
+  const nodes = elementsIn(document).map(({ value }) => value);
+  const split = nodes.filter((node) => node.layering?.parts && !carriedBy(node).has(SPLIT));
+  split.forEach((node) => {
+    node.layoutOptions = { ...node.layoutOptions, [`elk.${SPLIT}`]: true };
+  });
+  return split.length > 0 ? JSON.stringify(document) : text;
+}
+
+module.exports = { replyOf, withParts };

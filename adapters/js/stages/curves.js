@@ -5,17 +5,19 @@ const { FRAMES, outlineOf } = require('../borders/geometry');
 const { gapsBetween, optionsFor, pointsAlong, routingOf, spanIn, stretchesOf } = require('../curves');
 const { pointsOf, sectionOf } = require('./sections');
 
-/** The gaps between the layers of a placed level, in the frame of its direction. */
+/** The gaps between the layers of a placed level, in the frame of its direction, and the part of each child. */
 function gapsOf(draft, level) {
   const frame = FRAMES[draft.directionOf(level)];
   const { layers = [], parts = [] } = level.layering ?? {};
   const nodes = layers.map((layer, at) => ({ span: spanIn(frame, outlineOf(level.children[at])), layer, part: parts[at] }));
-  return { frame, gaps: gapsBetween(nodes) };
+  return { frame, gaps: gapsBetween(nodes), parts: new Map(level.children.map((child, at) => [child, parts[at] ?? 0])) };
 }
 
-/** Draws the sections of an edge anew. Those of an edge of several ends keep their corners. */
-function bend(edge, { frame, gaps, routing, hasLoops }) {
-  const level = { frame, gaps: edge.sections.length === 1 ? gaps : [], hasStubs: hasLoops || routing === 'SPLINES' };
+/** Draws the sections of an edge of a node anew. Those of an edge of several ends keep their corners. */
+function bend(edge, node, { frame, gaps, parts, routing, hasLoops }) {
+  // Parts stand side by side, so that others have gaps elsewhere.
+  const own = edge.sections.length === 1 ? gaps.filter(({ part }) => part === parts.get(node)) : [];
+  const level = { frame, gaps: own, hasStubs: hasLoops || routing === 'SPLINES' };
   edge.sections = edge.sections.map((section) => {
     const points = pointsAlong(stretchesOf(pointsOf(section), level), routing);
     return points.length > 0 ? sectionOf(points, section) : section;
@@ -36,7 +38,8 @@ function askForCurves(draft) {
     edges.filter(({ source, target }) => source.node === target.node).forEach(({ level }) => {
       draft.curved.get(level).hasLoops = true;
     });
-    edges.filter(({ edge }) => !draft.owners.has(edge.id)).forEach(({ edge, level }) => bend(edge, draft.curved.get(level)));
+    const given = edges.filter(({ edge }) => !draft.owners.has(edge.id));
+    given.forEach(({ edge, level, source }) => bend(edge, source.node, draft.curved.get(level)));
   });
   for (const level of asking) {
     draft.ask(level, optionsFor(draft, level));

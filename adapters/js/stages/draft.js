@@ -37,6 +37,10 @@ class Draft {
     this.still = new Set();
     /** The levels whose routes are slanted or curved, each with what is known of them. */
     this.curved = new Map();
+    /** By the id of a leaf that stands for a border at an end of a level, which end it is: first or last. */
+    this.ends = new Map();
+    /** For each level that asks for layers the ranks of its children. */
+    this.ranks = new Map();
     /** The edges that are turned round. */
     this.turned = new Set();
     this.#enter(root, undefined);

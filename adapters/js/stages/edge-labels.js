@@ -7,12 +7,10 @@ const { numberOr0 } = require('../levels');
 const { columnsOf } = require('./columns');
 const { isTrue, labelsOf, namesIn, placeStack, stackOf } = require('./labels');
 const { placeLoops } = require('./loops');
+const { leadThrough, leafOn } = require('./pieces');
 const { keepDocumentOrder } = require('./positions');
-const { pointsOf, route } = require('./sections');
 const { slideLabels } = require('./slides');
-const { AHEAD, BEHIND, along, boxAt, isUpright, sideOfEnd, spotsAt } = require('./sides');
-
-const FULL = 'org.eclipse.elk.';
+const { AHEAD, along, boxAt, isUpright, sideOfEnd, spotsAt } = require('./sides');
 
 /** Where a label stands along its edge. */
 function placeOfLabel(draft, edge, label) {
@@ -90,30 +88,17 @@ function fits(draft, sides, { edge, end, level, labels, node, port }) {
 }
 
 /** Leads an edge through a leaf for each stop. */
-function passThrough(draft, { edge, at, level, direction, slides }, stops) {
-  const { layoutOptions, properties } = edge;
+function passThrough(draft, found, stops) {
+  const { edge, level } = found;
   keepDocumentOrder(draft, level);
-  const leaves = stops.map((stop) => leafOf(draft, { edge, level, direction, slides }, stop));
-  const [target] = edge.targets;
+  const leaves = stops.map((stop) => leafOf(draft, found, stop));
   draft.altered.add(level);
-  const pieces = leaves.map(({ leaf }, k) => ({
-    id: draft.freshId('piece', edge.id),
-    sources: [leaf.ports[1].id],
-    targets: [leaves[k + 1]?.leaf.ports[0].id ?? target],
-    layoutOptions,
-    properties,
-  }));
-  draft.change(edge, { targets: [leaves[0].leaf.ports[0].id] });
-  pieces.forEach((piece) => draft.add(at, 'edges', piece));
-  const all = [edge, ...pieces];
+  draft.after(() => leaves.forEach(({ place }) => place()));
+  const pieces = leadThrough(draft, found, leaves.map(({ leaf }) => leaf));
   // A label of an end stays next to its node: the piece between them is dearer than the rest.
   const near = stops.flatMap(({ end }) => (end === 'source' ? [edge] : end === 'target' ? [pieces.at(-1)] : []));
   const shortness = Math.max(1, draft.number(edge, 'layered.priority.shortness', 0)) + 1;
   near.forEach((piece) => draft.ask(piece, { 'layered.priority.shortness': shortness }));
-  draft.after(() => {
-    route(edge, all.flatMap((piece) => pointsOf(piece.sections[0])));
-    leaves.forEach(({ place }) => place());
-  });
 }
 
 /** The leaf that holds a stop's labels below the line, or on it, and how they are placed once it is. */
@@ -126,22 +111,7 @@ function leafOf(draft, { edge, level, direction, slides }, { labels, end }) {
   const stack = stackOf(labels, gap);
   const size = boxAt(side, along(side, stack) + beside, isUpright(side) ? stack.width : stack.height);
   const line = isInline ? Math.floor(along(side, size) / 2) : 0;
-  const spots = { WEST: [0, line], EAST: [size.width, line], NORTH: [line, 0], SOUTH: [line, size.height] };
-  const port = (at) => ({
-    id: draft.freshId('stop', edge.id),
-    width: 0,
-    height: 0,
-    x: spots[at][0],
-    y: spots[at][1],
-    layoutOptions: { [`${FULL}port.side`]: at },
-  });
-  const made = {
-    id: draft.freshId('label', edge.id),
-    ...size,
-    ports: [port(BEHIND[direction]), port(side)],
-    layoutOptions: { [`${FULL}portConstraints`]: 'FIXED_POS' },
-  };
-  const leaf = draft.add(level, 'children', made);
+  const leaf = leafOn(draft, { edge, level }, { kind: 'label', ...size, line });
   const place = () => {
     const free = columnsOf(draft, level).get(leaf);
     const shift = { source: free.behind, target: free.ahead }[end] ?? Math.round((free.behind + free.ahead) / 2);

@@ -10,12 +10,15 @@ const { placeEdgeLabels } = require('./edge-labels');
 const { splitHyperedges } = require('./hyper');
 const { moveInsets } = require('./insets');
 const { isTrue } = require('./labels');
+const { bindLayers, keepWhole } = require('./layers');
 const { mergeEnds } = require('./merge');
 const { renamePorts } = require('./names');
 const { nodeLabelsOf, placeInside, placeOutside } = require('./node-labels');
 const { lacksOf, sizeNodes } = require('./node-sizes');
+const { packParts } = require('./parts');
 const { placePortLabels, portLabelsOf } = require('./port-labels');
 const { keepPlaces } = require('./positions');
+const { ranksOf } = require('./ranks');
 const { sidesOf } = require('./sides');
 const { Strips, growPorts } = require('./strips');
 const { turnBack } = require('./turns');
@@ -55,16 +58,23 @@ function placeLabels(draft, lacks) {
   growPorts(draft, strips, sides);
 }
 
+/** The ranks of the children of levels that ask for layers, by level. */
+function askForLayers(draft, levels) {
+  const asking = levels.map((level) => [level, ranksOf(draft, level)]).filter(([, ranks]) => ranks);
+  asking.forEach(([level]) => keepWhole(draft, level));
+  draft.ranks = new Map(asking);
+}
+
 /**
  * The draft of a graph: what the engine reads in its place.
  * @param {object} graph is written into
  * @param {{ numbers: 'ceil' | 'exact', general: object }} how whether numbers are made whole, and the options that
  *   count wherever an element has none of its own; `lacks` is what nodes lacked in an answer before, `still` the ids of
- *   edges whose labels stay in their layers
+ *   edges whose labels stay in their layers, `ends` those of leaves that stand for borders, with the end at which they stand
  */
-function draftOf(graph, { numbers, general, lacks, still = new Set() }) {
+function draftOf(graph, { numbers, general, lacks, still = new Set(), ends = new Map() }) {
   const draft = new Draft(graph, general);
-  draft.still = still;
+  Object.assign(draft, { still, ends });
   shareOptions(draft);
   keepPlaces(draft);
   const curves = askForCurves(draft);
@@ -74,8 +84,9 @@ function draftOf(graph, { numbers, general, lacks, still = new Set() }) {
   const levels = levelsOf(draft);
   const merged = new Set(levels.filter((level) => isTrue(draft.option(level, 'layered.mergeEdges'))));
   const isLabelled = draft.nodes.some((node) => areLabelled(node) || asksForSize(draft, node));
-  if (isLabelled || merged.size > 0) {
-    turnBack(draft, isLabelled ? new Set(levels) : merged);
+  askForLayers(draft, levels);
+  if (isLabelled || merged.size > 0 || draft.ranks.size > 0) {
+    turnBack(draft, isLabelled ? new Set(levels) : new Set([...merged, ...draft.ranks.keys()]), draft.ranks);
     mergeEnds(draft, merged);
   }
   if (isLabelled) {
@@ -88,4 +99,4 @@ function draftOf(graph, { numbers, general, lacks, still = new Set() }) {
   return draft;
 }
 
-module.exports = { draftOf, lacksOf, roundUp };
+module.exports = { bindLayers, draftOf, lacksOf, packParts, roundUp };

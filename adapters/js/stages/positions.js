@@ -58,4 +58,4 @@ function keepDocumentOrder(draft, level) {
   }
 }
 
-module.exports = { keepDocumentOrder, keepPlaces };
+module.exports = { keepDocumentOrder, keepPlaces, takesOptions };

@@ -218,4 +218,4 @@ function placeBlocks({ port, blocks }, { node, side, axis, away, isBefore: isTur
   }
 }
 
-module.exports = { Strips, growPorts };
+module.exports = { Strips, growPorts, portFor };

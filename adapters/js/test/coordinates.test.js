@@ -73,3 +73,13 @@ test('a result in coordinates of the root leaves the given graph as it is', WITH
   await layout(given);
   assert.equal(JSON.stringify(given), before);
 });
+
+test('leaves without a size, and labels that nothing places, come back with 0', WITH_PROGRAM, async () => {
+  const texts = [{ text: 'a' }, { text: 'b', width: 9.5, height: 4 }];
+  const labels = texts.map((it) => ({ ...it }));
+  const children = [{ id: 'a', labels, ports: [{ id: 'p', labels }], layoutOptions: { 'elk.portLabels.placement': 'FIXED' } }];
+  const { children: [a] } = await layout({ id: 'r', children });
+  const [first, second] = [{ text: 'a', x: 0, y: 0, width: 0, height: 0 }, { text: 'b', x: 0, y: 0, width: 9.5, height: 4 }];
+  assert.deepEqual([a.width, a.height, a.labels, a.ports[0].labels], [0, 0, [first, second], [first, second]]);
+  assert.deepEqual(labels, texts);
+});

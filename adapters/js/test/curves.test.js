@@ -41,8 +41,27 @@ function flat(seed) {
   return { id: 'r', layoutOptions, children, edges };
 }
 
+/** A graph of several connected parts, whose layers stand at different places. */
+function inParts(seed) {
+  const { below, from, of } = chance(seed);
+  const [children, edges] = [[], []];
+  for (let part = from(2, 5); part > 0; part -= 1) {
+    const [first, count] = [children.length, from(3, 9)];
+    for (let id = first; id < first + count; id += 1) {
+      children.push({ id, width: from(20, 160), height: from(20, 160) });
+    }
+    for (let k = 1; k < count * 1.5; k += 1) {
+      const [source, target] = k < count ? [below(k), k] : [below(count), below(count)];
+      edges.push(edge(edges.length, first + source, first + target));
+    }
+  }
+  const layoutOptions = { 'elk.direction': of(['RIGHT', 'DOWN', 'LEFT', 'UP']), 'elk.separateConnectedComponents': true };
+  return { id: 'r', layoutOptions, children, edges };
+}
+
 const KINDS = [
   ['flat graphs', flat, (seed) => seed],
+  ['graphs of several parts', inParts, (seed) => seed],
   ['nested graphs with edges across borders', acrossBorders, (seed) => 30000 + seed],
 ];
 

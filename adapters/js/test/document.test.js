@@ -13,7 +13,10 @@ const FORMAT = readFileSync(path.join(__dirname, '..', '..', '..', 'docs', 'FORM
 const ASKED = { slots: 'UNCROSSED', 'nodePlacement.strategy': 'NETWORK_SIMPLEX', straightness: 4 };
 
 /** What every level is asked for besides. */
-const DEFAULTS = Object.fromEntries(Object.entries(ASKED).map(([name, value]) => [`elk.layered.${name}`, value]));
+const DEFAULTS = {
+  ...Object.fromEntries(Object.entries(ASKED).map(([name, value]) => [`elk.layered.${name}`, value])),
+  'elk.separateConnectedComponents': true,
+};
 
 /** A document without what every level is asked for besides. */
 function plainly(node) {
@@ -215,6 +218,7 @@ test('every level is asked for straight lines that cross no more than they must'
   assert.deepEqual(given, {
     'org.eclipse.elk.layered.slots': 'FEWEST',
     'org.eclipse.elk.layered.nodePlacement.bk.fixedAlignment': 'NONE',
+    'elk.separateConnectedComponents': true,
   });
 });
 

@@ -131,6 +131,8 @@ test('a graph is taken when the call is made', async (t) => {
 drawn('a graph is placed as the program places it, and the answer is judged right', async (made) => {
   for (const name of ['diagram', 'circuit', 'labels', 'spaced']) {
     const graph = unlabelled(example(name));
+    // Parts are moved into other rows than those of the program.
+    graph.layoutOptions = { ...graph.layoutOptions, 'elk.separateConnectedComponents': false };
     const placed = await made().layout(graph);
     const plain = JSON.parse(run(['layout'], JSON.stringify(documentOf(graph, { numbers: 'ceil', general: {} }))).stdout);
     for (const part of ['x', 'y', 'width', 'height', 'layering']) {
@@ -152,7 +154,7 @@ drawn('the given graph stays as it is, and the result shares what is not drawn',
   graph.edges[0].bendPoints = [{ x: 1, y: 1 }];
   const placed = await made().layout(frozen(graph));
   assert.equal(placed.children[0].data, graph.children[0].data);
-  assert.deepEqual(placed.children[0].labels, [{ text: 'label', width: 10.5 }]);
+  assert.deepEqual(placed.children[0].labels, [{ text: 'label', x: 0, y: 0, width: 10.5, height: 0 }]);
   assert.deepEqual(graph.edges[0].junctionPoints, [{ x: 1, y: 1 }]);
   assert.deepEqual(Object.keys(placed.edges[0]).sort(), ['container', 'id', 'sections', 'sources', 'targets']);
 });

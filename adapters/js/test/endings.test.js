@@ -7,7 +7,7 @@ const { ALL_NAMES, meanings } = require('../endings');
 
 test('every name is clear, under each of its prefixes', () => {
   for (const name of ALL_NAMES) {
-    for (const prefix of ['org.eclipse.elk.', 'eclipse.elk.', 'elk.', '']) {
+    for (const prefix of ['org.eclipse.elk.', 'eclipse.elk.', 'elk.', 'de.cau.cs.kieler.', '']) {
       assert.deepEqual(meanings(prefix + name), [name], prefix + name);
     }
   }
@@ -30,6 +30,8 @@ test('an ending is clear where no other option has it', () => {
     ['Direction'],
     [''],
     ['elk.'],
+    ['de.cau.cs.kieler.'],
+    ['de.cau.cs.kieler.thoroughness'],
     ['__proto__'],
     ['constructor'],
   ]) {

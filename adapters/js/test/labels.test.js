@@ -5,6 +5,7 @@ const test = require('node:test');
 const { copyOf, documentOf } = require('../document');
 const ELK = require('../elk');
 const { draftOf } = require('../stages');
+const { withLayers } = require('../testing/bound');
 const { chance } = require('../testing/chance');
 const { labelFaults, labelled } = require('../testing/labelled');
 const { PROGRAM, run, WITH_PROGRAM } = require('../testing/program');
@@ -64,7 +65,7 @@ function damage(graph, draw) {
 test('a damaged document is drawn or refused', WITH_PROGRAM, async () => {
   const elk = new ELK({ program: PROGRAM, onWarning: () => {} });
   for (const seed of seeds(SEEDS)) {
-    const graph = damage(damage(labelled(seed), chance(seed)), chance(-seed));
+    const graph = damage(damage(withLayers(labelled(seed), seed), chance(seed)), chance(-seed));
     await elk.layout(graph).catch((error) => assert.ok(error instanceof ELK.Refusal, `document ${seed}: ${error.stack}`));
   }
   elk.terminateWorker();
@@ -165,7 +166,7 @@ test('a level without labels in mid-edge keeps its certificate, cycles or not', 
   assert.deepEqual(placed.children[0].labels.map(({ text, x, height }) => [text, x > 20, height]), [['a', true, 15]]);
 });
 
-test('call options count for labels, and labels that are not to be placed stay as given', WITH_PROGRAM, async () => {
+test('call options count for labels, and labels that are not to be placed come back with 0', WITH_PROGRAM, async () => {
   const elk = new ELK({ program: PROGRAM });
   const labels = [{ text: 'one\nlonger line' }];
   const graph = {
@@ -185,8 +186,8 @@ test('call options count for labels, and labels that are not to be placed stay a
   const { children, edges } = await elk.layout(graph, { layoutOptions });
   elk.terminateWorker();
   const [a] = children;
-  assert.equal(a.labels, labels);
-  assert.equal(a.ports[0].labels, labels);
+  const unplaced = [{ ...labels[0], x: 0, y: 0, width: 0, height: 0 }];
+  assert.deepEqual([a.labels, a.ports[0].labels], [unplaced, unplaced]);
   assert.deepEqual([a.width, a.height], [20, 20]);
   const [{ x, height }] = edges[0].labels;
   assert.ok(x > a.x + a.width && x < a.x + a.width + 5);

@@ -167,7 +167,7 @@ const COMPLETED = [
   ['{ "layoutOptions": { "elk.layered.straightness": |', ['4'], /default 4$/],
   ['{ "layoutOptions": { "elk.layered.slots": |', ['"FEWEST"', '"UNCROSSED"'], /default UNCROSSED$/],
   ['{ "children": [{ "layoutOptions": { "elk.layered.position": |', ['0'], /default no position$/],
-  ['{ "layoutOptions": { "separateConnectedComponents": |', ['true', 'false'], /default false/],
+  ['{ "layoutOptions": { "separateConnectedComponents": |', ['true', 'false'], /default true$/],
   ['{ "children": [{ "ports": [{ "layoutOptions": { "|" } }] }] }', ['"elk.port.side": ', '"elk.port.index": '], /^$/],
   ['{ "children": [{ "wid|" }] }', ['"width": '], /^$/],
   ['{ "edges": [{ "sources": ["|"] }] }', ['"a"', '"b"'], /^$/],
@@ -251,6 +251,15 @@ test('a drawing that was saved here is judged as it was', WITH_MODULE, async () 
     const other = await toldOf({ text: JSON.stringify(moved), isPlaced: true });
     assert.ok(other.faults.length > 0 || !other.verdict.isGood, id);
   }
+});
+
+test('a drawing with parts is judged as it was, unless its level asks for none', WITH_MODULE, async () => {
+  const { drawing } = await toldOf({ text: '{ "id": "r", "children": [{ "id": "a", "width": 30, "height": 20 }, { "id": "b" }, { "id": "c" }] }' });
+  const verdictOn = async (more) => {
+    const text = JSON.stringify({ ...JSON.parse(drawing.placed), ...more });
+    return (await toldOf({ text, isPlaced: true })).verdict.line;
+  };
+  assert.deepEqual([await verdictOn({}), await verdictOn({ layoutOptions: { 'elk.separateConnectedComponents': false } })], ['yes', 'no 6 "a" "b"']);
 });
 
 test('a link carries any document, compressed or not', async () => {

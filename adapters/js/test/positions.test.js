@@ -113,7 +113,10 @@ function graphOf(seed) {
     const other = outer.children.find((it) => it !== box);
     outer.edges.push(step('across', other.id, draw.of(inner.children).id));
   }
-  return { draw, graph: { id: 'r', layoutOptions: { 'elk.direction': DIRECTIONS[seed % 4] }, ...outer } };
+  // Only in one part layers are comparable.
+  const whole = { 'elk.separateConnectedComponents': false };
+  Object.assign(box, { layoutOptions: whole });
+  return { draw, graph: { id: 'r', layoutOptions: { 'elk.direction': DIRECTIONS[seed % 4], ...whole }, ...outer } };
 }
 
 /** Adds a node to a level, with an edge from it and one to it. */

@@ -8,9 +8,9 @@ const STRATEGY = 'layered.nodePlacement.strategy';
 const ALIGNMENT = 'layered.nodePlacement.bk.fixedAlignment';
 const STRAIGHTNESS = 'layered.straightness';
 
-const SLOTS = { 'layered.slots': 'UNCROSSED' };
+const ALWAYS = { 'layered.slots': 'UNCROSSED', separateConnectedComponents: true };
 const PLACEMENT = { [STRATEGY]: 'NETWORK_SIMPLEX', [STRAIGHTNESS]: 4 };
-const DEFAULTS = { ...SLOTS, ...PLACEMENT };
+const DEFAULTS = { ...ALWAYS, ...PLACEMENT };
 
 const askedBy = (options, isRead = () => true) => Object.fromEntries(standIns((name) => options[name], isRead));
 
@@ -18,7 +18,8 @@ test('options of ELK are sent as those of the engine that stand for them', () =>
   const effort = 'layered.effort';
   for (const [options, expected] of [
     [{}, DEFAULTS],
-    [{ 'layered.slots': 'FEWEST' }, PLACEMENT],
+    [{ 'layered.slots': 'FEWEST' }, { ...PLACEMENT, separateConnectedComponents: true }],
+    [{ separateConnectedComponents: false }, { ...PLACEMENT, 'layered.slots': 'UNCROSSED' }],
     [{ 'layered.thoroughness': 20 }, { ...DEFAULTS, [effort]: 20 }],
     [{ 'layered.thoroughness': '5000' }, { ...DEFAULTS, [effort]: 1000 }],
     [{ 'layered.thoroughness': 20, [effort]: 3 }, DEFAULTS],
@@ -29,11 +30,11 @@ test('options of ELK are sent as those of the engine that stand for them', () =>
 
 test('a level that says nothing of placement is placed by network simplex, with straight lines', () => {
   for (const [options, expected] of [
-    [{ [STRATEGY]: 'BRANDES_KOEPF' }, SLOTS],
-    [{ [STRATEGY]: 'NETWORK_SIMPLEX' }, SLOTS],
-    [{ [ALIGNMENT]: 'NONE' }, SLOTS],
-    [{ [ALIGNMENT]: 'LEFTUP', [STRAIGHTNESS]: 9 }, SLOTS],
-    [{ [STRAIGHTNESS]: 9 }, { ...SLOTS, [STRATEGY]: 'NETWORK_SIMPLEX' }],
+    [{ [STRATEGY]: 'BRANDES_KOEPF' }, ALWAYS],
+    [{ [STRATEGY]: 'NETWORK_SIMPLEX' }, ALWAYS],
+    [{ [ALIGNMENT]: 'NONE' }, ALWAYS],
+    [{ [ALIGNMENT]: 'LEFTUP', [STRAIGHTNESS]: 9 }, ALWAYS],
+    [{ [STRAIGHTNESS]: 9 }, { ...ALWAYS, [STRATEGY]: 'NETWORK_SIMPLEX' }],
   ]) {
     assert.deepEqual(askedBy(options), expected, JSON.stringify(options));
   }
@@ -80,9 +81,7 @@ test('an engine is asked for nothing that it does not read', () => {
 test('a level with many children is placed by alignment, unless it asks for network simplex or straightness', () => {
   const askedFor = (options, children) => Object.fromEntries(standIns((name) => options[name], () => true, children));
   const straight = { 'layered.nodePlacement.strategy': 'NETWORK_SIMPLEX', 'layered.straightness': 4 };
-  assert.deepEqual(askedFor({}, 300), { 'layered.slots': 'UNCROSSED', ...straight });
-  assert.deepEqual(askedFor({}, 301), { 'layered.slots': 'UNCROSSED' });
-  assert.deepEqual(askedFor({ 'layered.straightness': 2 }, 301), {
-    'layered.slots': 'UNCROSSED', 'layered.nodePlacement.strategy': 'NETWORK_SIMPLEX',
-  });
+  assert.deepEqual(askedFor({}, 300), { ...ALWAYS, ...straight });
+  assert.deepEqual(askedFor({}, 301), ALWAYS);
+  assert.deepEqual(askedFor({ 'layered.straightness': 2 }, 301), { ...ALWAYS, 'layered.nodePlacement.strategy': 'NETWORK_SIMPLEX' });
 });

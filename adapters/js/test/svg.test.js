@@ -139,7 +139,7 @@ function textsIn(node) {
 }
 
 test('texts fit their room in width and height, several lines and wide letters too', () => {
-  const label = (text, size) => ({ labels: [{ text, x: 0, y: 0, ...size }] });
+  const label = (text, size) => ({ labels: [{ text, x: 1, y: 1, ...size }] });
   for (const [what, node, expected] of [
     ['lines', { id: 'n', width: 90, height: 40, labels: [{ text: 'one\ntwo\r\nthree' }] }, [['one', 10.29], ['two', 10.29], ['three', 10.29]]],
     ['an empty line', { id: 'n', width: 90, height: 60, labels: [{ text: 'one\n\nthree' }] }, [['one', 12], ['three', 12]]],
@@ -147,6 +147,7 @@ test('texts fit their room in width and height, several lines and wide letters t
     ['wide letters', { id: 'n', width: 68, height: 20, labels: [{ text: '漢字漢字漢字' }] }, [['漢字漢字漢字', 10]]],
     ['wide letters cut', { id: 'n', width: 36, height: 20, labels: [{ text: '漢字漢字漢字' }] }, [['漢字漢…', 7]]],
     ['a low label', { id: 'n', width: 90, height: 40, ...label('low', { width: 60, height: 8 }) }, [['low', 8]]],
+    ['a label that nothing has placed', { id: 'n', width: 90, height: 40, ...label('low', { x: 0, y: 0, width: 60, height: 8 }) }, [['low', 12]]],
     ['a label without a size', { id: 'n', width: 90, height: 40, ...label('any length that it likes to have', {}) }, [['any length that it likes to have', 12]]],
     ['a diamond', { id: 'n', width: 50, height: 30, style: { shape: 'diamond' }, labels: [{ text: 'within' }] }, [['wi…', 7]]],
   ]) {

@@ -1,5 +1,5 @@
 'use strict';
-// Forty uses of elkjs, each tried: the rows of a table of docs/EDITORS.md.
+// Forty-five uses of elkjs, each tried: the rows of a table of docs/EDITORS.md.
 
 const assert = require('node:assert/strict');
 const { readFileSync } = require('node:fs');
@@ -111,7 +111,7 @@ const USES = {
   },
   async 'an option that this engine does not have'() {
     const told = [];
-    assert.ok(isPlaced(await layout(pair({ layoutOptions: { 'elk.aspectRatio': '1.6' } }), { onWarning: ({ kind }) => told.push(kind) })));
+    assert.ok(isPlaced(await layout(pair({ layoutOptions: { 'elk.randomSeed': '1' } }), { onWarning: ({ kind }) => told.push(kind) })));
     assert.deepEqual(told, ['foreignOption']);
   },
   async 'a misspelt option'() {
@@ -148,9 +148,9 @@ const USES = {
   },
   async 'parts that are not connected'() {
     const graph = pair({ children: [box('a'), box('b'), box('alone')] });
-    assert.equal((await layout(graph)).layering.parts, undefined);
-    const split = await layout({ ...graph, layoutOptions: { 'elk.separateConnectedComponents': 'true' } });
-    assert.deepEqual(split.layering.parts, [0, 0, 1]);
+    assert.deepEqual((await layout(graph)).layering.parts, [0, 0, 1]);
+    const whole = await layout({ ...graph, layoutOptions: { 'elk.separateConnectedComponents': 'false' } });
+    assert.equal(whole.layering.parts, undefined);
   },
   async 'nodes in nodes, with edges in each'() {
     const group = { id: 'group', children: [box('c'), box('d')], edges: [{ id: 'cd', sources: ['c'], targets: ['d'] }] };
@@ -235,6 +235,37 @@ const USES = {
     assert.ok(isPlaced(await elk.layout(pair())));
     elk.terminateWorker();
   },
+  async '`elk.layered.layering.layerConstraint` FIRST, LAST, FIRST_SEPARATE, LAST_SEPARATE'() {
+    for (const [constraint, across] of [['FIRST', -50], ['LAST', 50], ['FIRST_SEPARATE', -50], ['LAST_SEPARATE', 50]]) {
+      const bound = box('b', { layoutOptions: { 'elk.layered.layering.layerConstraint': constraint } });
+      assert.deepEqual(gap(await layout(pair({ children: [box('a'), bound] }))), [across, 0], constraint);
+    }
+  },
+  async '`elk.partitioning.activate` and `elk.partitioning.partition`'() {
+    const inPartition = (id, partition) => box(id, { layoutOptions: { 'elk.partitioning.partition': partition } });
+    const graph = pair({ children: [inPartition('a', 1), inPartition('b', 0)], layoutOptions: { 'elk.partitioning.activate': true } });
+    assert.deepEqual(gap(await layout(graph)), [-50, 0]);
+  },
+  async 'nodes without edges, and `elk.aspectRatio`'() {
+    const children = Array.from({ length: 12 }, (_, id) => box(id));
+    for (const [ratio, columns] of [[undefined, 4], ['3', 6], [0.5, 2]]) {
+      const placed = await layout({ id: 'root', layoutOptions: ratio ? { 'elk.aspectRatio': ratio } : {}, children });
+      assert.equal(new Set(placed.children.map(({ x }) => x)).size, columns, ratio);
+    }
+  },
+  async '`elk.interactive`, to keep an earlier drawing'() {
+    const edges = [{ id: 'e', sources: ['a'], targets: ['b'] }, { id: 'f', sources: ['a'], targets: ['c'] }];
+    const placedAt = (id, y) => box(id, { x: 0, y });
+    const children = [box('a'), placedAt('b', 50), placedAt('c', 10)];
+    const { children: [, b, c] } = await layout(pair({ children, edges, layoutOptions: { 'elk.interactive': true } }));
+    assert.ok(c.y < b.y);
+  },
+  async '`elk.json.shapeCoords` and `elk.json.edgeCoords`'() {
+    const group = { id: 'group', children: [box('c'), box('d')], edges: [{ id: 'cd', sources: ['c'], targets: ['d'] }] };
+    const layoutOptions = { 'elk.json.shapeCoords': 'ROOT', 'elk.json.edgeCoords': 'ROOT' };
+    const { children: [{ x, children: [c], edges: [{ sections: [{ startPoint }] }] }] } = await layout({ id: 'root', layoutOptions, children: [group] });
+    assert.deepEqual([c.x, startPoint.x], [x + 12, x + 42]);
+  },
 };
 
 for (const [use, trial] of Object.entries(USES)) {
@@ -246,7 +277,7 @@ const page = readFileSync(path.join(TOP, 'docs', 'EDITORS.md'), 'utf8');
 test('the page has these uses, each the same, another or refused', () => {
   const rows = [...page.matchAll(/^\| (?:\d+) \| (.*) \| (.*) \|$/gm)].map(([, use, here]) => [use, here]);
   assert.deepEqual(rows.map(([use]) => use), Object.keys(USES));
-  assert.equal(rows.length, 40);
+  assert.equal(rows.length, 45);
   const odd = rows.filter(([, here]) => !/^(the same|differs: .+|refused: .+)/.test(here));
   assert.deepEqual(odd, []);
   for (const [, heading] of rows.map(([, here]) => /\(([^()]+)\)$/.exec(here)).filter(Boolean)) {

@@ -81,10 +81,10 @@ test('a value that the adapter does not know is told', () => {
 });
 
 test('what is done in place of an option of ELK is told with it', () => {
-  const document = { id: 'r', layoutOptions: { 'elk.aspectRatio': 1.6, 'elk.debugMode': true } };
+  const document = { id: 'r', layoutOptions: { 'elk.randomSeed': 1, 'elk.debugMode': true } };
   assert.deepEqual(messages(document), [
-    'layoutOptions["elk.aspectRatio"] has no effect, since this engine does not have this option of ELK: ' +
-      'the drawing has the shape that its layers give it',
+    'layoutOptions["elk.randomSeed"] has no effect, since this engine does not have this option of ELK: ' +
+      'the same graph is always drawn the same way',
     'layoutOptions["elk.debugMode"] has no effect, since this engine does not have this option of ELK',
   ]);
 });
@@ -144,4 +144,20 @@ test('without a callback the console tells each name once', WITH_PROGRAM, async 
   await elk.layout(graph);
   elk.terminateWorker();
   assert.deepEqual(lines, ['elk: layoutOptions["elk.paddding"] is not an option of ELK; did you mean "elk.padding"?']);
+});
+
+// What only counts beside another option that is told, and what nobody draws by.
+const BESIDE_OTHERS = /^layered\.(considerModelOrder\.groupModelOrder|highDegreeNodes|layerUnzipping|layering\.(coffmanGraham|minWidth|nodePromotion)|nodePlacement\.linearSegments|wrapping)\./;
+
+test('options of layered drawings that this engine lacks are told with what is done instead', () => {
+  const { adapter, elk, instead, options } = require('../data/options.json');
+  const read = new Set([...adapter, ...options].map(({ name }) => name));
+  const silent = elk.filter((name) => name.startsWith('layered.') && !read.has(name) && !(name in instead));
+  assert.deepEqual(silent.filter((name) => !BESIDE_OTHERS.test(name)), []);
+  assert.deepEqual(Object.keys(instead).filter((name) => read.has(name) || !elk.includes(name)), []);
+  const layer = { id: 'a', layoutOptions: { 'elk.layered.layering.layerId': 2 } };
+  assert.deepEqual(messages({ id: 'r', children: [layer] }), [
+    'children[0].layoutOptions["elk.layered.layering.layerId"] has no effect, since this engine does not have this option of ELK: ' +
+      'nodes stand in the layers that make edges shortest, or that layerConstraint and partitions ask for',
+  ]);
 });

@@ -172,7 +172,7 @@ function roomIn(json) {
   if (/box$/i.test(String(optionOf(json, 'algorithm', '')))) {
     return between;
   }
-  const isSplit = wordOf(json, 'separateConnectedComponents', false) === 'TRUE';
+  const isSplit = wordOf(json, 'separateConnectedComponents', true) === 'TRUE';
   const parts = isSplit ? number('spacing.componentComponent') : Infinity;
   return Math.min(between, Math.max(1, number('layered.spacing.nodeNodeBetweenLayers')), parts);
 }

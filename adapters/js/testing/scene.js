@@ -86,12 +86,13 @@ class Scene {
       const all = chain.flatMap(({ startPoint, bendPoints, endPoint }) => [startPoint, ...list(bendPoints), endPoint]);
       const points = all.map((point) => ({ x: point.x + x, y: point.y + y }));
       const isNew = (p, at) => at === 0 || p.x !== points[at - 1].x || p.y !== points[at - 1].y;
+      // Where sections meet, a route needn't turn. A loop at one dock is a point.
+      const kept = chain.length > 1 ? points.filter(isNew).filter(isTurn) : points;
       return {
         id: edge.json.id,
         source: this.endOf(edge.json, 'source', chain[0]),
         target: this.endOf(edge.json, 'target', chain.at(-1)),
-        // Where sections meet, a route needn't turn.
-        points: chain.length > 1 ? points.filter(isNew).filter(isTurn) : points,
+        points: kept.length > 1 ? kept : [points[0], points.at(-1)],
       };
     });
   }

@@ -138,7 +138,7 @@ class Sender:
     ) -> None:
         if numbers not in ("ceil", "exact"):
             raise ValueError(f"numbers is 'ceil' or 'exact', not {numbers!r}")
-        self._is_exact = numbers == "exact"
+        self._is_exact, self._is_placed = numbers == "exact", is_placed
         # A drawing is judged as it is.
         self._is_rounding = not (self._is_exact or is_placed)
         self._read = PLACED if is_placed else READ
@@ -220,7 +220,7 @@ class Sender:
                 sent["layoutOptions"] = {**general, **own}
         elif own or self._general or role == "levels" or "properties" in element or position is not None:
             kept = {} if position is None else {f"elk.{POSITION}": position}
-            options = {**sent_options(element, self._general, role), **kept}
+            options = {**sent_options(element, self._general, role, self._is_placed), **kept}
             if options or "layoutOptions" in element:
                 sent["layoutOptions"] = plain(options)
         return sent

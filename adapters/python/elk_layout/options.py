@@ -34,7 +34,8 @@ def _names_by_ending() -> Dict[str, Set[str]]:
 @lru_cache(maxsize=4096)
 def option_name(key: str) -> Optional[str]:
     """The name of the option that a key means: under a prefix or none, or by an ending that is clear."""
-    prefix = next(it for it in table("options")["prefixes"] if key.startswith(it))
+    options = table("options")
+    prefix = next(it for it in (options["olderPrefix"], *options["prefixes"]) if key.startswith(it))
     name = key[len(prefix) :]
     endings = _names_by_ending()
     names = {name} if name in endings and name in endings[name] else endings.get(key, set())
@@ -109,7 +110,8 @@ ALIGNMENT = "layered.nodePlacement.bk.fixedAlignment"
 # What is asked for where a level says nothing, and the part that is of placement.
 STRAIGHTNESS = "layered.straightness"
 PLACEMENT: Dict[str, Any] = {STRATEGY: "NETWORK_SIMPLEX", STRAIGHTNESS: 4}
-DEFAULTS: Dict[str, Any] = {"layered.slots": "UNCROSSED", **PLACEMENT}
+SPLIT = "separateConnectedComponents"
+DEFAULTS: Dict[str, Any] = {"layered.slots": "UNCROSSED", SPLIT: True, **PLACEMENT}
 
 
 def _replaced(asked: Mapping[str, Carried]) -> Dict[str, Any]:
@@ -145,9 +147,17 @@ def general_for(general: Mapping[str, Carried], role: str) -> Dict[str, Carried]
     return {name: it for name, it in general.items() if _readers().get(name) in READS[role]}
 
 
-def sent_options(element: Mapping[str, Any], general: Mapping[str, Carried], role: str) -> Dict[str, Any]:
+def _has_parts(element: Mapping[str, Any]) -> bool:
+    """Whether a placed level says of its children in which parts they are."""
+    layering = element.get("layering")
+    return isinstance(layering, Mapping) and "parts" in layering
+
+
+def sent_options(
+    element: Mapping[str, Any], general: Mapping[str, Carried], role: str, is_placed: bool = False
+) -> Dict[str, Any]:
     """The options that an element of a role is sent with: those that it carries, those of the call that it doesn't
-    carry, and those that stand for others.
+    carry, and those that stand for others. A level that is placed is split if its drawing is.
     """
     carried = carried_by(element.get("properties"), element.get("layoutOptions"))
     own = {name: it for name, it in carried.items() if name in _readers()}
@@ -157,4 +167,6 @@ def sent_options(element: Mapping[str, Any], general: Mapping[str, Carried], rol
         children = element.get("children")
         for name, value in stand_ins(asked, len(children) if isinstance(children, list) else 0).items():
             sent[asked[name].key if name in asked else f"elk.{name}"] = value
+        if is_placed and SPLIT not in asked:
+            sent[f"elk.{SPLIT}"] = _has_parts(element)
     return sent

@@ -25,7 +25,9 @@ def _is_compound(node: Element) -> bool:
 
 
 def _is_placed_label(label: Element) -> bool:
-    return is_measure(label.get("x")) and is_measure(label.get("y"))
+    # A label that nothing has placed comes back at the corner of its element, where no placed one stands.
+    place = (label.get("x"), label.get("y"))
+    return all(map(is_measure, place)) and place != (0, 0)
 
 
 def _labels_of(element: Element) -> List[Element]:

@@ -13,6 +13,13 @@ from .program import PACKAGE, PROGRAM, chain, with_program
 from elk_layout import __version__, to_svg
 
 
+def without_parts(text):
+    """A placed document of one part, without the member that names the parts: the package asks for parts where a document doesn't."""
+    placed = json.loads(text)
+    del placed["layering"]["parts"]
+    return placed
+
+
 class Command(unittest.TestCase):
     def setUp(self):
         folder = tempfile.TemporaryDirectory()
@@ -44,7 +51,7 @@ class Command(unittest.TestCase):
             for file in files:
                 placed = (self.folder / f"out{jobs}" / file[3:]).read_text()
                 own = subprocess.run([PROGRAM, "layout"], input=(self.folder / file).read_bytes(), stdout=subprocess.PIPE)
-                self.assertEqual(placed, own.stdout.decode(), file)
+                self.assertEqual(without_parts(placed), json.loads(own.stdout), file)
                 picture = (self.folder / f"out{jobs}" / file[3:]).with_suffix(".svg")
                 self.assertEqual(picture.read_text(), to_svg(json.loads(placed)))
             self.assertEqual((self.folder / f"out{jobs}" / "refused.jsonl").read_text(), "")
@@ -101,7 +108,7 @@ class Command(unittest.TestCase):
         self.file("a.json", chain(2))
         for words, given in ((["layout", "-"], text), (["layout", "a.json"], None)):
             ended = self.run_command(*words, given=given)
-            self.assertEqual((ended.returncode, ended.stdout, ended.stderr), (0, own, ""))
+            self.assertEqual((ended.returncode, without_parts(ended.stdout), ended.stderr), (0, json.loads(own), ""))
         ended = self.run_command("layout", "-", "--svg", given=text)
         self.assertEqual(ended.stdout, to_svg(json.loads(own)))
         ended = self.run_command("layout", "-", given='{"id":1,"children":[{"id":1}]}')

@@ -78,12 +78,13 @@ class Options(unittest.TestCase):
         inner = {"id": "in", "layoutOptions": {"slots": "FEWEST"}, "children": [{"id": "a"}, {"id": "b"}]}
         outer = {"id": "r", "layoutOptions": {"thoroughness": 9}, "children": [inner]}
         placement = {"elk.layered.nodePlacement.strategy": "NETWORK_SIMPLEX", "elk.layered.straightness": 4}
-        defaults = {"elk.layered.slots": "UNCROSSED", **placement}
+        split = {"elk.separateConnectedComponents": True}
+        defaults = {"elk.layered.slots": "UNCROSSED", **split, **placement}
         self.assertEqual(sent({"id": "r"})["layoutOptions"], defaults)
         self.assertNotIn("layoutOptions", sent({"id": "r", "children": [{"id": "a"}]})["children"][0])
         found = sent(outer)
         self.assertEqual(found["layoutOptions"], {**defaults, "elk.layered.effort": 9})
-        inner_options = {"org.eclipse.elk.layered.slots": "FEWEST", **placement}
+        inner_options = {"org.eclipse.elk.layered.slots": "FEWEST", **split, **placement}
         self.assertEqual(found["children"][0]["layoutOptions"], inner_options)
         balanced = {"layoutOptions": {"elk.layered.nodePlacement.bk.fixedAlignment": "BALANCED"}}
         none = {"elk.layered.nodePlacement.bk.fixedAlignment": "NONE"}

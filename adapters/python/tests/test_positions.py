@@ -110,7 +110,8 @@ class Positions(unittest.TestCase):
         for seed in range(40):
             draw = random.Random(seed)
             direction = ("RIGHT", "LEFT", "DOWN", "UP")[seed % 4]
-            options = {"elk.direction": direction}
+            # Only in one part layers are comparable.
+            options = {"elk.direction": direction, "elk.separateConnectedComponents": False}
             outer, inner = level_of(draw, "o"), level_of(draw, "i")
             outer["children"][draw.randrange(10)].update(inner)
             first = layout({"id": "r", **outer}, options=options, program=PROGRAM)

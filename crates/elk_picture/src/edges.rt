@@ -7,7 +7,7 @@ use crate::ink::ink_on;
 use crate::levels::{Edge, Levels};
 use crate::look::Paints;
 use crate::nodes::write_placed;
-use crate::path::{PointKey, passes, write_dot, write_route};
+use crate::path::{PointKey, is_curve, passes, write_curve, write_dot, write_route};
 use crate::routes::points_of;
 use crate::shapes::outline_point;
 use crate::style::Shape;
@@ -77,6 +77,13 @@ fn route_of<'a>(
     Ok(points)
 }
 
+fn is_curved(edge: &Value) -> bool {
+    match edge.get("routing").and_then(Value::as_str) {
+        Some(routing) => routing == "SPLINES",
+        None => false,
+    }
+}
+
 fn is_directed(edge: &Value) -> bool {
     !matches!(edge.get("directed"), Some(Value::Bool(false)))
 }
@@ -96,7 +103,11 @@ fn write_lines<'a>(
         let has_head = pen.arrows
             && is_directed(edge.value)
             && !has_items(*section, "outgoingSections");
-        write_route(out, points.as_slice(), pen.sharp, has_head, ink)?;
+        if is_curved(edge.value) && is_curve(points.as_slice()) {
+            write_curve(out, points.as_slice(), has_head, ink)?;
+        } else {
+            write_route(out, points.as_slice(), pen.sharp, has_head, ink)?;
+        }
     }
     Ok(())
 }

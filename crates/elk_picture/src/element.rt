@@ -72,6 +72,14 @@ pub(crate) fn has_items(value: &Value, key: &str) -> bool {
     }
 }
 
+// Whether a label has a place. One that nothing has placed comes back at the corner of its element, where no placed one stands.
+fn is_placed(label: &Value) -> bool {
+    match (finite_at(label, "x"), finite_at(label, "y")) {
+        (Some(x), Some(y)) => x != 0.0 || y != 0.0,
+        _ => false,
+    }
+}
+
 // The labels of an element that have a text.
 pub(crate) fn labels_of<'a>(
     alloc: Global,
@@ -81,7 +89,7 @@ pub(crate) fn labels_of<'a>(
     for value in elements_of(alloc, element, "labels")? {
         let text = words_of(alloc, value.get("text"))?;
         if !text.is_empty() {
-            let placed = finite_at(value, "x").is_some() && finite_at(value, "y").is_some();
+            let placed = is_placed(value);
             labels.push(Label {
                 value,
                 text,

@@ -2,10 +2,11 @@
 
 use crate::element::{elements_of, place_of};
 use crate::geometry::Point;
-use crate::levels::Levels;
+use crate::levels::{Levels, levels_of};
 use crate::path::{PointKey, point_key};
 use crate::routes::{Route, add_routes};
 use crate::ways::{Passes, passes_of, turns_of};
+use serde_json::Value;
 use std::alloc::{AllocError, Global};
 use std::collections::{BTreeMap, BTreeSet};
 
@@ -143,7 +144,10 @@ fn found_junctions(alloc: Global, levels: &Levels<'_>) -> Result<Vec<Vec<Point>>
     let mut routes = Vec::new(alloc);
     let mut found = Vec::new(alloc);
     for (at, edge) in levels.edges.iter().enumerate() {
-        add_routes(alloc, (at, edge.value), &levels.ids, &mut routes)?;
+        // Slanted and curved routes part by degrees.
+        if edge.value.get("routing").is_none() {
+            add_routes(alloc, (at, edge.value), &levels.ids, &mut routes)?;
+        }
         found.push(Vec::new(alloc))?;
     }
     for dock in docks_of(alloc, routes.as_slice())? {
@@ -152,6 +156,21 @@ fn found_junctions(alloc: Global, levels: &Levels<'_>) -> Result<Vec<Vec<Point>>
         }
     }
     Ok(found)
+}
+
+/// Where routes with a common dock part or join: for each edge of a placed graph, in document order, its points as pairs of x and y,
+/// relative to what its route is relative to. Each point is told once, with the first edge of its dock that passes it.
+pub fn junction_points(alloc: Global, placed: &Value) -> Result<Vec<Vec<(f64, f64)>>, AllocError> {
+    let levels = levels_of(alloc, placed)?;
+    let mut told = Vec::new(alloc);
+    for points in found_junctions(alloc, &levels)? {
+        let mut pairs = Vec::new(alloc);
+        for point in points.iter() {
+            pairs.push((point.x, point.y))?;
+        }
+        told.push(pairs)?;
+    }
+    Ok(told)
 }
 
 // The junction points of each edge in the whole drawing: those in the document, or else those found here.
@@ -177,7 +196,7 @@ pub(crate) fn junctions_of(
     Ok(junctions)
 }
 
-fn tells_junctions(value: Option<&serde_json::Value>) -> bool {
+fn tells_junctions(value: Option<&Value>) -> bool {
     match value {
         None => false,
         Some(value) => !value.is_null(),

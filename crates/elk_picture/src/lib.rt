@@ -13,7 +13,6 @@ mod headroom;
 mod ids;
 mod ink;
 mod junctions;
-mod letters;
 mod levels;
 mod look;
 mod nodes;
@@ -28,4 +27,5 @@ mod ways;
 mod words;
 
 pub use drawing::picture;
+pub use junctions::junction_points;
 pub use theme::Theme;

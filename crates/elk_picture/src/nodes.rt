@@ -4,13 +4,12 @@ use crate::element::{Label, box_at, box_of, id_of, labels_of};
 use crate::geometry::{Point, Rect};
 use crate::ink::ink_on;
 use crate::levels::Node;
-use crate::look::{
-    CORNER, Paints, ROUND, TEXT_LARGEST, TEXT_LINE, TINTS, TITLE_LEAST, TITLE_LEFT, TITLE_TOP,
-};
+use crate::look::{CORNER, Paints, ROUND, TINTS, TITLE_LEAST, TITLE_LEFT, TITLE_TOP};
 use crate::shapes::{room_in, write_shape};
 use crate::style::Shape;
 use crate::texts::{Anchor, Fit, fitted_in, height_of, heights_of, write_text};
 use crate::words::Escaped;
+use letter_widths::{TEXT_LARGEST, TEXT_LINE};
 use std::alloc::{AllocError, Global};
 
 pub(crate) fn is_root(node: &Node<'_>) -> bool {

@@ -154,6 +154,60 @@ pub(crate) fn write_route(
     }
 }
 
+fn is_straight(start: Point, from: Point, tip: Point) -> bool {
+    let is_upright = start.x == from.x && from.x == tip.x;
+    let is_level = start.y == from.y && from.y == tip.y;
+    is_upright || is_level
+}
+
+// Whether points are those of a curve: a start, and two control points and an end for each piece of it.
+pub(crate) fn is_curve(points: &[Point]) -> bool {
+    points.len() > 2 && points.len() % 3 == 1
+}
+
+fn write_curve_path(out: &mut String, points: &[Point], end: Point) -> Result<(), AllocError> {
+    out.push_str("<path d=\"")?;
+    let last = points.len().saturating_sub(1);
+    for (k, point) in points.iter().enumerate() {
+        let place = if k == last { end } else { *point };
+        if k == 0 {
+            out.push('M')?;
+        } else if k % 3 == 1 {
+            out.push('C')?;
+        } else {
+            out.push(' ')?;
+        }
+        write!(out, "{place}")?;
+    }
+    out.push_str("\"/>")
+}
+
+// The line of a curve, with a head at its end where it has one.
+pub(crate) fn write_curve(
+    out: &mut String,
+    points: &[Point],
+    has_head: bool,
+    ink: &str,
+) -> Result<(), AllocError> {
+    match points {
+        [.., start, _, from, tip] if has_head => {
+            // A last piece that runs straight has room for the head along all of it.
+            let begin = if is_straight(*start, *from, *tip) {
+                *start
+            } else {
+                *from
+            };
+            let length = length_of(begin, *tip).max(ARROW_SHORTEST).min(ARROW_LENGTH);
+            let piece = length_of(*from, *tip);
+            let end = towards(*tip, *from, (length - COVERED).min(piece));
+            write_curve_path(out, points, end)?;
+            write_head(out, *from, *tip, length, ink)
+        }
+        [.., last] => write_curve_path(out, points, *last),
+        [] => Ok(()),
+    }
+}
+
 fn is_overlap(from: Point, to: Point, at: Rect) -> bool {
     from.x.min(to.x) < at.right()
         && at.left < from.x.max(to.x)

@@ -4,12 +4,13 @@ use crate::element::{Label, box_at, box_of, elements_of, id_of, labels_of, numbe
 use crate::geometry::{Point, Rect, write_rectangle};
 use crate::ink::ink_on;
 use crate::levels::Node;
-use crate::look::{LINE, Paints, TEXT_SMALLEST};
+use crate::look::{LINE, Paints};
 use crate::nodes::write_placed;
 use crate::shapes::outline_point;
 use crate::style::Shape;
 use crate::texts::{Anchor, fitted, write_text};
 use crate::words::Escaped;
+use letter_widths::TEXT_SMALLEST;
 use serde_json::Value;
 use std::alloc::{AllocError, Global};
 

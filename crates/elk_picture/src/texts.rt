@@ -2,9 +2,8 @@
 
 use crate::decimal::Decimal;
 use crate::geometry::Point;
-use crate::letters::{begin, width_of};
-use crate::look::{TEXT_DROP, TEXT_LARGEST, TEXT_LINE, TEXT_SMALLEST};
 use crate::words::Escaped;
+use letter_widths::{TEXT_DROP, TEXT_LARGEST, TEXT_LINE, TEXT_SMALLEST, begin, width_of};
 use std::alloc::{AllocError, Global};
 use std::mem;
 use std::num::{nearest_usize_to_f64, saturating_f64_to_usize};

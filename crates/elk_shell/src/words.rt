@@ -10,7 +10,7 @@ use std::alloc::{AllocError, Global};
 const ABOUT: &str =
     "Lays out a block diagram and draws it.\n\nReads a graph as JSON from stdin and writes its picture, as SVG, to stdout.";
 
-const VERSION: &str = "0.4.0";
+const VERSION: &str = "0.5.0";
 
 /// How pictures are drawn.
 #[derive(Clone, Copy, Debug, Drop, PartialEq, Eq)]

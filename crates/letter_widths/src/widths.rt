@@ -1,6 +1,6 @@
 //! The width of texts in the font of pictures, summed up letter by letter.
 
-use crate::look::{ASCII_WIDTHS, OTHER_WIDTH, WIDTHS};
+use crate::table::{ASCII_WIDTHS, OTHER_WIDTH, WIDTHS};
 use std::alloc::{AllocError, Global};
 use std::num::nearest_u64_to_f64;
 
@@ -24,8 +24,8 @@ fn sized(thousandths: u64, size: f64) -> f64 {
     nearest_u64_to_f64(thousandths) * size / 1000.0
 }
 
-// The width of one line of text.
-pub(crate) fn width_of(text: &str, size: f64) -> f64 {
+/// The width of one line of text in letters of a size, in the same units.
+pub fn width_of(text: &str, size: f64) -> f64 {
     let mut thousandths = 0u64;
     for letter in text.chars() {
         thousandths = thousandths.saturating_add(width_of_letter(letter));
@@ -33,13 +33,8 @@ pub(crate) fn width_of(text: &str, size: f64) -> f64 {
     sized(thousandths, size)
 }
 
-// As many of the first letters of a text as fit a width, and at least one.
-pub(crate) fn begin(
-    alloc: Global,
-    text: &str,
-    width: f64,
-    size: f64,
-) -> Result<String, AllocError> {
+/// As many of the first letters of a text as fit a width, and at least one.
+pub fn begin(alloc: Global, text: &str, width: f64, size: f64) -> Result<String, AllocError> {
     let mut fit = String::new(alloc);
     let mut thousandths = 0u64;
     for letter in text.chars() {

@@ -1,0 +1,8 @@
+//! How wide texts are in the font of pictures, and how large their letters are.
+#![tactic(auto)]
+
+mod table;
+mod widths;
+
+pub use table::{TEXT_DROP, TEXT_LARGEST, TEXT_LINE, TEXT_SMALLEST};
+pub use widths::{begin, width_of};
