@@ -20,4 +20,4 @@ pub use insets::{Insets, draw_insets, move_insets};
 pub use merge::{levels_of, merge_ends, merging_levels};
 pub use positions::{keep_document_order, keep_places};
 pub use shared::share_options;
-pub use turns::{Turns, turn_again, turn_back};
+pub use turns::{Turns, turn_again, turn_edges};

@@ -1,8 +1,7 @@
 //! Edges that close cycles are turned round before the engine sees them, in the way in which it would turn them itself: a label in
 //! mid-edge makes two edges of one, and it might turn only one of these.
 
-use crate::arcs::{Arc, back_arcs};
-use graph_draft::{Draft, Joined, Mark, joined_edges};
+use graph_draft::{Draft, Mark};
 use serde_json::Value;
 use std::alloc::{AllocError, Global};
 use std::collections::{BTreeMap, BTreeSet};
@@ -38,64 +37,14 @@ impl Turns {
     }
 }
 
-// The edges between different nodes, by the levels of some that they lie at.
-fn edges_of_levels(
-    alloc: Global,
-    draft: &Draft,
-    levels: &BTreeSet<usize>,
-) -> Result<BTreeMap<usize, Vec<Joined>>, AllocError> {
-    let mut edges = BTreeMap::new(alloc);
-    for level in levels.iter() {
-        edges.insert(*level, Vec::new(alloc))?;
-    }
-    for joined in joined_edges(alloc, draft)? {
-        if !joined.is_loop() {
-            if let Some(list) = edges.get_mut(&joined.level) {
-                list.push(joined)?;
-            }
-        }
-    }
-    Ok(edges)
-}
-
-// The edges of a level to turn round.
-fn back_edges(
-    alloc: Global,
-    draft: &Draft,
-    level: usize,
-    edges: &[Joined],
-) -> Result<Vec<usize>, AllocError> {
-    let children = draft.children_of(level);
-    let mut numbers = BTreeMap::new(alloc);
-    for (at, child) in children.iter().enumerate() {
-        numbers.insert(*child, at)?;
-    }
-    let number = |node: usize| numbers.get(&node).copied().unwrap_or(0);
-    let mut arcs = Vec::new(alloc);
-    for joined in edges {
-        arcs.push(Arc {
-            tail: number(joined.source.node),
-            head: number(joined.target.node),
-        })?;
-    }
-    let mut back = Vec::new(alloc);
-    for at in back_arcs(alloc, children.len(), arcs.as_slice())? {
-        if let Some(joined) = edges.get(at) {
-            back.push(joined.edge)?;
-        }
-    }
-    Ok(back)
-}
-
-/// Turns the edges of some levels round that close cycles.
-pub fn turn_back(
+/// Turns edges round, which are given by their levels' numbers.
+pub fn turn_edges(
     alloc: Global,
     draft: &mut Draft,
-    levels: &BTreeSet<usize>,
+    edges: BTreeMap<usize, Vec<usize>>,
 ) -> Result<Turns, AllocError> {
     let mut turns = Turns::none(alloc);
-    for (level, joined) in edges_of_levels(alloc, draft, levels)?.iter() {
-        let edges = back_edges(alloc, draft, *level, joined.as_slice())?;
+    for (level, edges) in edges {
         for edge in edges.iter() {
             if let Some((source, target)) = draft.ends_of(*edge) {
                 draft.change_ends(alloc, *edge, target, source)?;
@@ -105,7 +54,6 @@ pub fn turn_back(
                     .push((draft.mark(), Deed::Turn { edge: *edge }))?;
             }
         }
-        let level = *level;
         turns
             .deeds
             .push((draft.mark(), Deed::Tell { level, edges }))?;
