@@ -239,8 +239,11 @@ class Install(unittest.TestCase):
         said = self.install(self.prefix)
         self.assertIn(f"PATH={self.prefix}/bin", said)
         self.program_answers()
-        self.assertNotIn("PATH=", self.install(self.prefix, PATH=f"{self.prefix}/bin:{os.environ['PATH']}").splitlines()[1:2])
-        self.assertEqual([it.name for it in (self.prefix / "bin").iterdir()], ["elk"])
+        self.assertNotIn("PATH=", "".join(self.install(self.prefix, PATH=f"{self.prefix}/bin:{os.environ['PATH']}").splitlines()[2:3]))
+        self.assertEqual(sorted(it.name for it in (self.prefix / "bin").iterdir()), ["elk", "elk-draw"])
+        given = (TOP / "examples/diagram.json").read_bytes()
+        drawn = subprocess.run(["elk-draw"], input=given, env={"PATH": f"{self.prefix}/bin"}, capture_output=True)
+        self.assertEqual((drawn.returncode, drawn.stdout), (0, (TOP / "docs/diagram.svg").read_bytes()))
 
     def test_without_a_prefix_it_goes_below_the_home(self):
         self.prefix = self.prefix / ".local"

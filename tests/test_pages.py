@@ -6,7 +6,7 @@ import tempfile
 import unittest
 
 TOP = pathlib.Path(__file__).resolve().parent.parent
-NEEDED = ("elk", "examples", "adapters", "crates", "release", "tools")
+NEEDED = ("elk", "elk-draw", "examples", "adapters", "crates", "release", "tools")
 
 
 def commands_of(text):
@@ -49,7 +49,7 @@ class Pages(unittest.TestCase):
         ran = self.run_in_room("set -e\n" + "\n".join(lines))
         self.assertEqual(ran.returncode, 0, ran.stdout)
         self.assertIn("yes\n", ran.stdout)
-        self.assertIn("<svg", (pathlib.Path(self.room.name) / "placed/diagram.svg").read_text())
+        self.assertEqual((pathlib.Path(self.room.name) / "diagram.svg").read_bytes(), (TOP / "docs/diagram.svg").read_bytes())
 
 
 if __name__ == "__main__":

@@ -18,7 +18,7 @@ from .plots import draw
 from .svg import to_svg
 from .verdict import Verdict
 
-__version__ = "0.5.0"
+__version__ = "0.6.0"
 
 __all__ = [
     "ElkError",

@@ -1,2 +1,1 @@
-mod Keyed
 mod Lines

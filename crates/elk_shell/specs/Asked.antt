@@ -7,7 +7,7 @@ use Rattle.std.specs.declared.alloc.Global.{Global}
 abbrev pub texts : List (String Global) → List (List ℕ)
 texts words = map string_bytes words
 
--- the words are `--json` alone
-abbrev pub asks_for_json : List (List ℕ) → Bool
-asks_for_json (word ∷ []) = bytes_eq word (codes "--json")
-asks_for_json _ = false
+-- the words are `--plain` alone
+abbrev pub asks_for_answer : List (List ℕ) → Bool
+asks_for_answer (word ∷ []) = bytes_eq word (codes "--plain")
+asks_for_answer _ = false

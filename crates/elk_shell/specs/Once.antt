@@ -3,12 +3,13 @@ use Rattle.std.specs.Prelude.{ℕ, List, ⊤, Option}
 use Rattle.std.specs.Io.KnownBytes.{Appends, Consumes, IsAtEnd}
 use Rattle.elk_answer.specs.Answer.{IsAnswer}
 use Rattle.elk_shell.specs.declared.once.Wish.{Wish}
-use Rattle.elk_shell.specs.declared.once.Wish.TheVariants.{Answer, Drawing, Picture}
+use Rattle.elk_shell.specs.declared.once.Wish.TheVariants.{Answer, Placed, Drawing, Picture}
 
 -- This text is what is wished of a graph with these bytes. If the answer is wished, it is the engine's answer, which is what
--- `elk layout` writes; what a picture shows is not said.
+-- `elk layout` writes; what a graph gets after stages, and what a picture shows, is not said.
 abbrev pub IsMade : Wish → List ℕ → List ℕ → Type 0
 IsMade Answer bytes text = IsAnswer bytes text
+IsMade Placed bytes text = ⊤
 IsMade (Drawing look) bytes text = ⊤
 IsMade (Picture look) bytes text = ⊤
 

@@ -1,25 +1,18 @@
-//! What is wrong with a graph, told in a sentence.
+//! What is wrong with a graph, as replies tell it.
 
+use crate::settings::Settings;
 use elk_doc::document::Id;
 use elk_json::{Refusal, Rule, rule_name, rule_number};
-use serde_json::{Number, Value};
+use graph_faults::{Fault, fault_value, faults_of_call, nested_fault, text_fault};
+use graph_layout::bare_document;
+use json_places::{Lines, Spot, Unread, letters_of, read_places};
+use serde_json::value::Map;
+use serde_json::{Number, Value, put};
 use std::alloc::{AllocError, Global};
+use std::collections::BTreeMap;
 
 // The most characters of an id that a sentence has.
 const MOST_CHARACTERS: usize = 60;
-
-/// What is wrong.
-#[derive(Drop)]
-pub(crate) struct Fault {
-    /// The number of the rule, where a rule is broken.
-    pub(crate) rule: Option<u32>,
-    /// The name of the rule, or of what else is wrong.
-    pub(crate) name: &'static str,
-    /// The id of the first element that breaks the rule, and `null` where that has none.
-    pub(crate) id: Value,
-    /// The sentence.
-    pub(crate) message: String,
-}
 
 // An id as it stands in a graph.
 fn id_value(alloc: Global, place: Option<&Id>) -> Result<Value, AllocError> {
@@ -112,38 +105,146 @@ fn words_at(alloc: Global, rule: Rule, it: &str) -> Result<String, AllocError> {
     }
 }
 
-/// The fault of a graph that the engine refuses.
-pub(crate) fn fault_of(alloc: Global, refusal: &Refusal) -> Result<Fault, AllocError> {
+fn text(alloc: Global, text: &str) -> Result<Value, AllocError> {
+    Ok(Value::String(String::from_str(alloc, text)?))
+}
+
+// A fault as replies have it.
+fn value_of(
+    alloc: Global,
+    rule: Value,
+    name: &str,
+    id: Value,
+    message: String,
+) -> Result<Value, AllocError> {
+    let mut told = Map::new(alloc);
+    put(&mut told, alloc, "rule", rule)?;
+    put(&mut told, alloc, "name", text(alloc, name)?)?;
+    put(&mut told, alloc, "id", id)?;
+    put(&mut told, alloc, "message", Value::String(message))?;
+    Ok(Value::Object(told))
+}
+
+fn rule_value(number: u32) -> Value {
+    match Number::from_i128(number as i128) {
+        Some(number) => Value::Number(number),
+        None => Value::Null,
+    }
+}
+
+/// The fault that the engine tells by a rule and a place.
+pub(crate) fn bare_fault(alloc: Global, refusal: &Refusal) -> Result<Value, AllocError> {
     let number = rule_number(refusal.rule);
     let name = rule_name(refusal.rule);
     let id = id_value(alloc, refusal.place.as_ref())?;
     let it = told_id(alloc, &id)?;
     let words = words_of(alloc, refusal.rule, it.as_str())?;
     let message = format!(in alloc; "{words} (rule {number}, {name})")?;
-    Ok(Fault {
-        rule: Some(number),
-        name,
-        id,
-        message,
-    })
+    value_of(alloc, rule_value(number), name, id, message)
 }
 
 /// The fault of an input that is longer than it may be.
-pub(crate) fn length_fault(alloc: Global, what: &str, limit: &str) -> Result<Fault, AllocError> {
-    Ok(Fault {
-        rule: Some(0),
-        name: "TooLong",
-        id: Value::Null,
-        message: format!(in alloc; "{what} is longer than {limit} bytes (rule 0, TooLong)")?,
-    })
+pub(crate) fn length_fault(alloc: Global, what: &str, limit: &str) -> Result<Value, AllocError> {
+    let message = format!(in alloc; "{what} is longer than {limit} bytes (rule 0, TooLong)")?;
+    value_of(alloc, rule_value(0), "TooLong", Value::Null, message)
 }
 
 /// The fault of a line that is no request.
-pub(crate) fn request_fault(alloc: Global, message: &str) -> Result<Fault, AllocError> {
-    Ok(Fault {
-        rule: None,
-        name: "BadRequest",
-        id: Value::Null,
-        message: String::from_str(alloc, message)?,
-    })
+pub(crate) fn request_fault(alloc: Global, message: &str) -> Result<Value, AllocError> {
+    let message = String::from_str(alloc, message)?;
+    value_of(alloc, Value::Null, "BadRequest", Value::Null, message)
+}
+
+// Whether a fault is the one that the engine tells.
+fn is_told(fault: &Fault, refusal: &Refusal, id: &Value) -> bool {
+    fault.rule == rule_number(refusal.rule)
+        && match fault.id.as_ref() {
+            Some(own) => own == id,
+            None => id.is_null(),
+        }
+}
+
+// The faults as values, that which the engine tells first.
+fn ordered(alloc: Global, faults: &[Fault], refusal: &Refusal) -> Result<Vec<Value>, AllocError> {
+    let id = id_value(alloc, refusal.place.as_ref())?;
+    let first = faults.iter().position(|fault| is_told(fault, refusal, &id));
+    let mut all = Vec::new(alloc);
+    all.push(match first {
+        Some(at) => match faults.get(at) {
+            Some(fault) => fault_value(alloc, fault)?,
+            None => Value::Null,
+        },
+        None => bare_fault(alloc, refusal)?,
+    })?;
+    for (at, fault) in faults.iter().enumerate() {
+        if Some(at) != first {
+            all.push(fault_value(alloc, fault)?)?;
+        }
+    }
+    Ok(all)
+}
+
+/// All faults of a graph that the engine refuses, the one that it tells first.
+pub(crate) fn faults_of_graph(
+    alloc: Global,
+    graph: &Value,
+    settings: &Settings,
+    refusal: &Refusal,
+) -> Result<Vec<Value>, AllocError> {
+    let faults = known_faults(alloc, graph, settings)?;
+    ordered(alloc, faults.as_slice(), refusal)
+}
+
+/// All faults of a graph that can be found without a layout.
+pub(crate) fn known_faults(
+    alloc: Global,
+    graph: &Value,
+    settings: &Settings,
+) -> Result<Vec<Fault>, AllocError> {
+    let document = bare_document(alloc, graph, &settings.how)?;
+    let owners = BTreeMap::new(alloc);
+    faults_of_call(alloc, &document, graph, &owners, &settings.general)
+}
+
+/// The fault of bytes that are no JSON, with its place in them.
+pub(crate) fn faults_of_text(
+    alloc: Global,
+    bytes: &[u8],
+    refusal: &Refusal,
+) -> Result<Vec<Value>, AllocError> {
+    let fault = match text_of(bytes) {
+        Some(text) => misread_value(alloc, text, refusal)?,
+        None => bare_fault(alloc, refusal)?,
+    };
+    Ok(vec![in alloc; fault]?)
+}
+
+/// Bytes as a text; nothing where they aren't UTF-8.
+pub(crate) fn text_of(bytes: &[u8]) -> Option<&str> {
+    std::str::from_utf8(bytes).ok()
+}
+
+fn misread_value(alloc: Global, text: &str, refusal: &Refusal) -> Result<Value, AllocError> {
+    let found = misread_in(alloc, text)?;
+    match found.as_ref() {
+        Some(found) => fault_value(alloc, &found.0),
+        None => bare_fault(alloc, refusal),
+    }
+}
+
+/// What is wrong with a text that is no JSON, and where.
+pub(crate) fn misread_in(alloc: Global, text: &str) -> Result<Option<(Fault, Spot)>, AllocError> {
+    let letters = letters_of(alloc, text)?;
+    let lines = Lines::of(alloc, letters.as_slice())?;
+    match read_places(alloc, letters.as_slice()) {
+        Ok(_) => Ok(None),
+        Err(Unread::Memory(error)) => Err(error),
+        Err(Unread::Misread(misread)) => match nested_fault(alloc, &misread)? {
+            Some((fault, at)) => Ok(Some((fault, lines.spot(alloc, at)?))),
+            None => {
+                let spot = lines.spot(alloc, misread.at)?;
+                Ok(Some((text_fault(alloc, &misread, &spot)?, spot)))
+            }
+        },
+    }
 }

@@ -1,20 +1,22 @@
 //! What is made of a graph: the engine's answer, its drawing, its picture.
 ghost use Rattle.std.specs.Prelude.{IfOk, IfErr};
-ghost use Rattle.serde_json.specs.View.{view};
-ghost use Rattle.elk_json.specs.Keyed.{IsKeyed};
 ghost use Rattle.elk_json.specs.Refused.{MatchFault};
 ghost use Rattle.elk_answer.specs.Answer.{IsAnswer, Refuses};
 
+use crate::failure::Failure;
+use crate::faults::{faults_of_graph, faults_of_text};
+use crate::settings::Settings;
 use crate::words::Look;
-use compound::lay_out;
 use elk_answer::answer;
-use elk_json::{DocFault, parse, read_doc};
+use elk_json::{DocFault, parse};
 use elk_picture::picture;
-use elk_write::answer_value;
+use graph_layout::{Laid, laid_out};
 use serde_json::Value;
-use std::alloc::Global;
+use std::alloc::{AllocError, Global};
 
-/// The engine's answer to a graph's bytes: what `elk layout` writes.
+const FEED: u8 = 10;
+
+/// The engine's answer to a document's bytes: what `elk layout` writes.
 pub fn answer_of(alloc: Global, bytes: &[u8]) -> Result<Vec<u8>, DocFault>
     ensures answered { IfOk result (λ text. IsAnswer bytes.now text.items) }
     ensures refused { IfErr result (λ fault. MatchFault fault (Refuses bytes.now)) }
@@ -22,27 +24,59 @@ pub fn answer_of(alloc: Global, bytes: &[u8]) -> Result<Vec<u8>, DocFault>
     answer(alloc, bytes)
 }
 
-/// A graph with the members that the engine writes.
-pub(crate) fn placed_value(alloc: Global, graph: &Value) -> Result<Value, DocFault>
-    requires { IsKeyed (view graph.now) }
-{
-    let doc = read_doc(alloc, graph)?;
-    let placed = lay_out(alloc, &doc)?;
-    let value = answer_value(alloc, graph, &doc, &placed)?;
-    Ok(value)
+fn line_of(alloc: Global, value: &Value) -> Result<Vec<u8>, AllocError> {
+    let mut line = value.to_vec(alloc)?;
+    line.push(FEED)?;
+    Ok(line)
 }
 
-/// The picture of the engine's drawing of a graph.
-pub fn drawing_of(alloc: Global, bytes: &[u8], look: Look) -> Result<Vec<u8>, DocFault> {
-    let graph = parse(alloc, bytes)?;
-    let placed = placed_value(alloc, &graph)?;
-    let svg = picture(alloc, &placed, look.theme, look.arrows)?;
+// The value of a text.
+fn parsed(alloc: Global, bytes: &[u8]) -> Result<Value, Failure> {
+    match parse(alloc, bytes) {
+        Ok(value) => Ok(value),
+        Err(DocFault::Memory) => Err(Failure::Memory),
+        Err(DocFault::Refused(refusal)) => {
+            Err(Failure::Refused(faults_of_text(alloc, bytes, &refusal)?))
+        }
+    }
+}
+
+/// A graph laid out, or all of its faults.
+pub(crate) fn laid(alloc: Global, graph: &Value, settings: &Settings) -> Result<Laid, Failure> {
+    match laid_out(alloc, graph, &settings.how) {
+        Ok(laid) => Ok(laid),
+        Err(DocFault::Memory) => Err(Failure::Memory),
+        Err(DocFault::Refused(refusal)) => {
+            let faults = faults_of_graph(alloc, graph, settings, &refusal)?;
+            Err(Failure::Refused(faults))
+        }
+    }
+}
+
+/// A graph with its places, as a line of JSON.
+pub fn placed_of(alloc: Global, bytes: &[u8], settings: &Settings) -> Result<Vec<u8>, Failure> {
+    let graph = parsed(alloc, bytes)?;
+    let laid = laid(alloc, &graph, settings)?;
+    let line = line_of(alloc, &laid.placed)?;
+    Ok(line)
+}
+
+/// The picture of a graph that is laid out.
+pub fn drawing_of(
+    alloc: Global,
+    bytes: &[u8],
+    settings: &Settings,
+    look: Look,
+) -> Result<Vec<u8>, Failure> {
+    let graph = parsed(alloc, bytes)?;
+    let laid = laid(alloc, &graph, settings)?;
+    let svg = picture(alloc, &laid.placed, look.theme, look.arrows)?;
     Ok(svg.into_bytes())
 }
 
 /// The picture of a graph that has places.
-pub fn picture_of(alloc: Global, bytes: &[u8], look: Look) -> Result<Vec<u8>, DocFault> {
-    let placed = parse(alloc, bytes)?;
+pub fn picture_of(alloc: Global, bytes: &[u8], look: Look) -> Result<Vec<u8>, Failure> {
+    let placed = parsed(alloc, bytes)?;
     let svg = picture(alloc, &placed, look.theme, look.arrows)?;
     Ok(svg.into_bytes())
 }

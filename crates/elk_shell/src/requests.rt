@@ -1,9 +1,11 @@
 //! Requests.
 
+use crate::settings::Settings;
 use crate::words::Look;
 use elk_picture::Theme;
 use serde_json::Value;
 use serde_json::value::Map;
+use std::alloc::{AllocError, Global};
 use thiserror::Error;
 
 /// What a request wants of its graph.
@@ -13,6 +15,12 @@ pub(crate) struct Wanted {
     pub(crate) placed: bool,
     /// The picture.
     pub(crate) svg: bool,
+    /// The document that the engine was sent last.
+    pub(crate) document: bool,
+    /// What has no effect in the graph.
+    pub(crate) warnings: bool,
+    /// Whether numbers are made whole.
+    pub(crate) whole: bool,
     pub(crate) look: Look,
 }
 
@@ -25,13 +33,17 @@ pub(crate) enum Misfit {
     NotObject,
     #[error("a request has a member \"graph\", which is an object")]
     NoGraph,
-    #[error("\"give\" is an array of \"placed\" and \"svg\", and has at least one of them")]
+    #[error("\"give\" is an array of \"placed\", \"svg\", \"document\" and \"warnings\", and has at least one of them")]
     Give,
+    #[error("\"options\" is an object of options")]
+    Options,
+    #[error("\"numbers\" is \"ceil\" or \"exact\"")]
+    Numbers,
     #[error("\"theme\" is \"light\", \"dark\" or \"auto\"")]
     Theme,
     #[error("\"arrows\" is true or false")]
     Arrows,
-    #[error("a request has no other members than \"graph\", \"give\", \"theme\" and \"arrows\"")]
+    #[error("a request has no other members than \"graph\", \"options\", \"numbers\", \"give\", \"theme\" and \"arrows\"")]
     Member,
 }
 
@@ -44,6 +56,14 @@ fn with_item(wanted: Wanted, item: &Value) -> Result<Wanted, Misfit> {
         }),
         Some("svg") => Ok(Wanted {
             svg: true,
+            ..wanted
+        }),
+        Some("document") => Ok(Wanted {
+            document: true,
+            ..wanted
+        }),
+        Some("warnings") => Ok(Wanted {
+            warnings: true,
             ..wanted
         }),
         _ => Err(Misfit::Give),
@@ -62,12 +82,7 @@ fn with_given(wanted: Wanted, items: &[Value]) -> Result<Wanted, Misfit> {
 }
 
 // The picture alone, where the request doesn't say what it wants.
-fn given(look: Look, give: Option<&Value>) -> Result<Wanted, Misfit> {
-    let nothing = Wanted {
-        placed: false,
-        svg: false,
-        look,
-    };
+fn given(nothing: Wanted, give: Option<&Value>) -> Result<Wanted, Misfit> {
     match give {
         None => Ok(Wanted {
             svg: true,
@@ -98,8 +113,30 @@ fn arrows_asked(arrows: Option<&Value>) -> Result<bool, Misfit> {
     }
 }
 
+// Whether numbers are made whole.
+fn whole_asked(numbers: Option<&Value>) -> Result<bool, Misfit> {
+    match numbers {
+        None => Ok(true),
+        Some(value) => match value.as_str() {
+            Some("ceil") => Ok(true),
+            Some("exact") => Ok(false),
+            _ => Err(Misfit::Numbers),
+        },
+    }
+}
+
+fn refuse_options(options: Option<&Value>) -> Result<(), Misfit> {
+    match options {
+        None | Some(Value::Object(_)) => Ok(()),
+        Some(_) => Err(Misfit::Options),
+    }
+}
+
 fn is_known(key: &str) -> bool {
-    matches!(key, "graph" | "give" | "theme" | "arrows")
+    matches!(
+        key,
+        "graph" | "options" | "numbers" | "give" | "theme" | "arrows"
+    )
 }
 
 // A member that this program doesn't know may ask for what it doesn't do.
@@ -112,17 +149,38 @@ fn refuse_unknown(members: &Map<String, Value>) -> Result<(), Misfit> {
     Ok(())
 }
 
-/// What a request wants. Its graph is the member `graph`, which is read by the engine's rules.
+/// What a request wants. Its graph is the member `graph`, its options are the member `options`.
 pub(crate) fn wanted_by(request: &Value) -> Result<Wanted, Misfit> {
     match request {
         Value::Object(members) => {
             refuse_unknown(members)?;
-            let look = Look {
-                theme: theme_named(request.get("theme"))?,
-                arrows: arrows_asked(request.get("arrows"))?,
+            refuse_options(request.get("options"))?;
+            let nothing = Wanted {
+                placed: false,
+                svg: false,
+                document: false,
+                warnings: false,
+                whole: whole_asked(request.get("numbers"))?,
+                look: Look {
+                    theme: theme_named(request.get("theme"))?,
+                    arrows: arrows_asked(request.get("arrows"))?,
+                },
             };
-            given(look, request.get("give"))
+            given(nothing, request.get("give"))
         }
         _ => Err(Misfit::NotObject),
     }
+}
+
+/// How the graph of a request is read.
+pub(crate) fn settings_of(
+    alloc: Global,
+    request: &Value,
+    wanted: Wanted,
+) -> Result<Settings, AllocError> {
+    let general = match request.get("options") {
+        Some(options) => Some(options.clone()?),
+        None => None,
+    };
+    Settings::of(alloc, general, wanted.whole)
 }

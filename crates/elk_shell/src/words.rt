@@ -1,16 +1,19 @@
 //! The arguments, read by clap.
 ghost use Rattle.std.specs.Prelude.{◌≡◌, Ok, true};
-ghost use Rattle.elk_shell.specs.Asked.{asks_for_json, texts};
+ghost use Rattle.elk_shell.specs.Asked.{asks_for_answer, texts};
 
+use crate::settings::{NoOption, Settings, add_option};
 use clap::error::ErrorKind;
 use clap::{Arg, ArgAction, ArgMatches, Command, Error};
 use elk_picture::Theme;
+use serde_json::Value;
+use serde_json::value::Map;
 use std::alloc::{AllocError, Global};
 
 const ABOUT: &str =
     "Lays out a block diagram and draws it.\n\nReads a graph as JSON from stdin and writes its picture, as SVG, to stdout.";
 
-const VERSION: &str = "0.5.0";
+const VERSION: &str = "0.6.0";
 
 /// How pictures are drawn.
 #[derive(Clone, Copy, Debug, Drop, PartialEq, Eq)]
@@ -23,12 +26,14 @@ pub struct Look {
 /// What a run does.
 #[derive(Clone, Copy, Debug, Drop, PartialEq, Eq)]
 pub enum Task {
-    /// Writes the engine's answer to a graph.
+    /// Lays a graph out, and writes it with its places.
     Place,
     /// Lays a graph out, and draws it.
     Draw(Look),
     /// Draws a graph that has places, as it is.
     DrawPlaced(Look),
+    /// Tells what is wrong with a graph, and what has no effect in it.
+    Lint,
     /// Replies to requests, one a line.
     Serve,
 }
@@ -36,7 +41,9 @@ pub enum Task {
 /// What the arguments ask for.
 #[derive(Drop)]
 pub enum Asked {
-    Run(Task),
+    /// The engine's answer to a document.
+    Answer,
+    Run(Task, Settings),
     /// This text: the help, or the version.
     Text(String),
     /// Nothing, since they are invalid: what is wrong, and the usage.
@@ -45,14 +52,14 @@ pub enum Asked {
 
 /// What the arguments after the program's name ask for.
 pub fn asked_by(alloc: Global, words: &[String]) -> Result<Asked, AllocError>
-    ensures json { asks_for_json (texts words.now) ≡ true → result ≡ Ok (Asked.Run Task.Place) }
+    ensures answer { asks_for_answer (texts words.now) ≡ true → result ≡ Ok Asked.Answer }
 {
     // No parser is needed for this, so a contract can say what it asks for.
-    if is_json(words) {
-        return Ok(Asked::Run(Task::Place));
+    if is_plain(words) {
+        return Ok(Asked::Answer);
     }
     match matches_of(alloc, words) {
-        Ok(matches) => Ok(Asked::Run(task_of(&matches))),
+        Ok(matches) => asked_run(alloc, &matches),
         Err(error) => match error.kind() {
             ErrorKind::OutOfMemory => Err(AllocError),
             ErrorKind::DisplayHelp | ErrorKind::DisplayVersion => {
@@ -63,13 +70,41 @@ pub fn asked_by(alloc: Global, words: &[String]) -> Result<Asked, AllocError>
     }
 }
 
-// Whether the words are `--json` alone.
-fn is_json(words: &[String]) -> bool
-    ensures { result ≡ asks_for_json (texts words.now) }
+// Whether the words are `--plain` alone.
+fn is_plain(words: &[String]) -> bool
+    ensures { result ≡ asks_for_answer (texts words.now) }
 {
     match words {
-        [word] => word.as_str() == "--json",
+        [word] => word.as_str() == "--plain",
         _ => false,
+    }
+}
+
+// The options of a call, as an object of names and values; the text that is none, where there is one.
+fn options_of<'a>(
+    alloc: Global,
+    matches: &ArgMatches<'a>,
+) -> Result<Result<Value, &'a str>, AllocError> {
+    let mut options = Map::new(alloc);
+    if let Some(texts) = matches.get_strs("option") {
+        for text in texts {
+            if let Err(NoOption) = add_option(alloc, &mut options, *text)? {
+                return Ok(Err(*text));
+            }
+        }
+    }
+    Ok(Ok(Value::Object(options)))
+}
+
+fn asked_run(alloc: Global, matches: &ArgMatches<'_>) -> Result<Asked, AllocError> {
+    match options_of(alloc, matches)? {
+        Ok(options) => {
+            let settings = Settings::of(alloc, Some(options), !matches.get_flag("exact"))?;
+            Ok(Asked::Run(task_of(matches), settings))
+        }
+        Err(text) => Ok(Asked::Wrong(format!(in alloc;
+            "error: an option is given as NAME=VALUE, and not as '{text}'\n"
+        )?)),
     }
 }
 
@@ -92,6 +127,8 @@ fn task_of(matches: &ArgMatches<'_>) -> Task {
         Task::Place
     } else if matches.get_flag("lines") {
         Task::Serve
+    } else if matches.get_flag("lint") {
+        Task::Lint
     } else if matches.get_flag("placed") {
         Task::DrawPlaced(look)
     } else {
@@ -117,13 +154,53 @@ fn with_forms<'a>(alloc: Global, command: Command<'a>) -> Result<Command<'a>, Al
     let placed = flag(alloc, "placed", "Draw a graph that has places, as it is")
         .conflicts_with("json")?
         .conflicts_with("lines")?;
-    command.arg(svg)?.arg(json)?.arg(lines)?.arg(placed)
+    let lint = flag(
+        alloc,
+        "lint",
+        "Write what is wrong with the graph, and what has no effect in it",
+    )
+    .conflicts_with("svg")?
+    .conflicts_with("json")?
+    .conflicts_with("lines")?
+    .conflicts_with("placed")?;
+    command
+        .arg(svg)?
+        .arg(json)?
+        .arg(lines)?
+        .arg(placed)?
+        .arg(lint)
+}
+
+// How graphs are read. A request tells this itself.
+fn with_settings<'a>(alloc: Global, command: Command<'a>) -> Result<Command<'a>, AllocError> {
+    let option = Arg::new(alloc, "option")
+        .long("option")
+        .value_name("NAME=VALUE")
+        .help("Set a layout option for all elements that don't set it")
+        .action(ArgAction::Append)
+        .conflicts_with("lines")?
+        .conflicts_with("placed")?;
+    let exact = flag(
+        alloc,
+        "exact",
+        "Don't round numbers, so that fractions are refused",
+    )
+    .conflicts_with("lines")?
+    .conflicts_with("placed")?;
+    let plain = flag(
+        alloc,
+        "plain",
+        "Write what `elk layout` writes; alone, with no other option",
+    )
+    .exclusive(true);
+    command.arg(option)?.arg(exact)?.arg(plain)
 }
 
 // A look of pictures, which only a run that draws one has.
 fn look_flag<'a>(alloc: Global, name: &'a str, help: &'a str) -> Result<Arg<'a>, AllocError> {
     flag(alloc, name, help)
         .conflicts_with("json")?
+        .conflicts_with("lint")?
         .conflicts_with("lines")
 }
 
@@ -141,6 +218,7 @@ fn matches_of<'a>(alloc: Global, words: &'a [String]) -> Result<ArgMatches<'a>, 
         .about(ABOUT)
         .version(VERSION)
         .no_binary_name(true);
-    let command = with_looks(alloc, with_forms(alloc, named)?)?;
+    let forms = with_forms(alloc, named)?;
+    let command = with_looks(alloc, with_settings(alloc, forms)?)?;
     command.try_get_matches_from(words)
 }
