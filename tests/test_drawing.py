@@ -24,6 +24,38 @@ EDGE = {"id": "e", "sources": ["a"], "targets": ["b"]}
 GRAPH = {"id": "r", "children": NODES, "edges": [EDGE]}
 INNER = {"id": "a", "children": [{"id": "i"}]}
 
+# An edge crosses a border, and fractions stand where the engine reads nothing.
+LABELLED_NODE = {"id": "i", "width": 30, "height": 30, "x": 1.5, "y": 2.25, "labels": [{"text": "i", "width": 10.5, "height": 8.5}]}
+ACROSS = {
+    "id": "r",
+    "layoutOptions": {"elk.spacing.labelNode": 1.5, "elk.aspectRatio": 1.6},
+    "children": [{"id": "a", "children": [LABELLED_NODE]}, {"id": "b", "width": 30, "height": 30}],
+    "edges": [{"id": "e", "sources": ["i"], "targets": ["b"], "labels": [{"text": "e", "width": 12.5, "height": 8.25}]}],
+}
+
+# Graphs that ELK takes, and the engine only as the program sends them.
+TAKEN = [
+    ("a port is called like a node", '{"id":"r","children":[{"id":"a","width":30,"height":30,"ports":[{"id":"a"}]},{"id":"b"}],"edges":[{"id":"e","source":"a","sourcePort":"a","target":"b"}]}'),
+    ("a pinned port lies a little inside", '{"id":"r","children":[{"id":"a","width":30,"height":30,"layoutOptions":{"portConstraints":"FIXED_POS"},"ports":[{"id":"p","x":23,"y":3,"width":2,"height":2}]}]}'),
+    ("an alignment that the engine lacks", '{"id":"r","layoutOptions":{"elk.layered.nodePlacement.bk.fixedAlignment":"BALANCED"},"children":[{"id":"a"}]}'),
+    ("whole numbers are written as floats", '{"id":"r","layoutOptions":{"elk.layered.effort":7.0},"children":[{"id":"a","width":30.0,"height":3e1}]}'),
+    ("edges of several ends", '{"id":"r","children":[{"id":"a"},{"id":"b"},{"id":"c"}],"edges":[{"id":"e","sources":["a"],"targets":["b","c"]}]}'),
+    ("whole numbers of one float are two ids", '{"id":"r","children":[{"id":9007199254740992},{"id":9007199254740993}],"edges":[{"id":"e","source":9007199254740993,"target":9007199254740992}]}'),
+]
+
+NAMESAKES = {"id": "a", "width": 30, "height": 30, "ports": [{"id": "a"}, {"id": "b", "width": -1}]}
+CHAIN = [{"id": at, "source": at, "target": at + 1, "labels": [{"text": "x", "width": 9, "height": 9}]} for at in range(1199)]
+
+# What is wrong with elements that are sent under other ids or in pieces: the rule, the id in the graph, and words of the sentence.
+SENT_OTHERWISE = [
+    ("a port that is called like a node", 4, "b", 'a size of "b" is not', {"id": "r", "children": [NAMESAKES, {"id": "b"}]}),
+    ("an edge of several ends that leads into a box", 10, "e", 'the edge "e" joins nodes of two levels: "b" is in "r", and "i" in "a"',
+     {"id": "r", "layoutOptions": {"elk.hierarchyHandling": "SEPARATE_CHILDREN"}, "children": [INNER, {"id": "b"}, {"id": "c"}],
+      "edges": [{"id": "e", "sources": ["b"], "targets": ["c", "i"]}]}),
+    ("labels with which there are too many nodes", 5, None, "2,400 nodes are sent, including those for labels",
+     {"id": "r", "children": [{"id": at} for at in range(1200)], "edges": CHAIN}),
+]
+
 # Documents that break a rule, with the id that is named.
 REFUSED = [
     (1, None, '{"id":'),
@@ -54,6 +86,10 @@ BROKEN = [
     ("options that are a list", '{"graph":{},"options":[]}', "options"),
     ("unknown numbers", '{"graph":{},"numbers":"floor"}', "numbers"),
     ("an unknown member", '{"graph":{},"graphs":[]}', "no other members"),
+    ("two graphs", '{"graph":{},"text":"{}"}', "several"),
+    ("a text that is an object", '{"text":{}}', "text"),
+    ("a placed graph to lay out", '{"placed":{},"give":["placed"]}', "as it is"),
+    ("a placed graph to judge", '{"placed":{},"give":["svg","lint"]}', "as it is"),
 ]
 
 
@@ -84,6 +120,14 @@ def replies_to(*lines):
     return [json.loads(line) for line in out.splitlines()]
 
 
+def graph_of(case):
+    """The file that has the graph of a case, and the words with which it is read. There is none if the case has only places."""
+    for name, words in [("graph.json", []), ("graph.gv", ["--dot"])]:
+        if (case / name).exists():
+            return case / name, words
+    return None, []
+
+
 def request(graph, **members):
     return json.dumps({"graph": graph, **members})
 
@@ -106,7 +150,7 @@ class Drawing(unittest.TestCase):
                 if "picture.svg" in command:
                     self.assertIn("</svg>", (room / "picture.svg").read_text())
 
-    def test_a_graph_with_places_is_drawn_as_the_packages_draw_it(self):
+    def test_a_graph_with_places_is_drawn(self):
         for case in CASES:
             with self.subTest(case.name):
                 args = case / "args"
@@ -124,19 +168,19 @@ class Drawing(unittest.TestCase):
                 self.assertEqual((status, out), (wanted.returncode, wanted.stdout))
                 self.assertEqual(status == 0, notes == "")
 
-    def test_a_graph_is_laid_out_as_the_package_for_javascript_does(self):
+    def test_a_graph_is_laid_out_and_drawn(self):
         for case in CASES:
-            graph = case / "graph.json"
-            if not graph.exists():
+            graph, read = graph_of(case)
+            if graph is None:
                 continue
             with self.subTest(case.name):
                 given = graph.read_bytes()
-                status, out, notes = run("--json", given=given)
+                status, out, notes = run(*read, "--json", given=given)
                 self.assertEqual((status, notes), (0, ""))
                 self.assertEqual(json.loads(out), json.loads((case / "placed.json").read_text()))
                 args = case / "args"
                 words = args.read_text().split() if args.exists() else []
-                self.assertEqual(run(*words, given=given), (0, (case / "picture.svg").read_bytes(), ""))
+                self.assertEqual(run(*read, *words, given=given), (0, (case / "picture.svg").read_bytes(), ""))
 
     def test_options_of_a_call_count_where_an_element_says_nothing(self):
         plain, downwards = (json.loads(run("--json", *words, given=json.dumps(GRAPH))[1]) for words in [[], ["--option", "direction=DOWN"]])
@@ -157,6 +201,62 @@ class Drawing(unittest.TestCase):
         status, out, notes = run("--json", "--exact", given=given)
         self.assertEqual((status, out), (2, b""))
         self.assertIn("NotWhole", notes)
+
+    def test_fractions_that_the_engine_does_not_read_are_no_faults(self):
+        given = json.dumps(ACROSS)
+        status, out, notes = run("--json", given=given)
+        self.assertEqual((status, notes), (0, ""))
+        placed = json.loads(out)
+        self.assertEqual(placed["children"][0]["children"][0]["labels"][0]["width"], 10.5)
+        self.assertEqual(placed["edges"][0]["labels"][0]["height"], 8.25)
+        self.assertEqual(run("--lint", given=given)[0], 0)
+        negative = {"id": "r", "children": [{"id": "a", "width": -1, "labels": [{"text": "a", "width": 1.5}]}]}
+        (reply,) = replies_to(request(negative))
+        self.assertEqual((reply["fault"]["rule"], "faults" in reply["fault"]), (4, False))
+
+    def test_a_graph_is_refused_for_what_is_wrong_with_it(self):
+        status, out, notes = run("--json", given='{"children":[{"id":"a","width":30.5},{"width":3}]}')
+        self.assertEqual((status, out), (2, b""))
+        self.assertEqual([line for line in notes.splitlines() if "BadShape" not in line], [])
+
+    def test_what_is_taken_has_no_faults(self):
+        for what, given in TAKEN:
+            for words in [[], ["--exact"]]:
+                with self.subTest(what, words=words):
+                    self.assertEqual(run("--json", *words, given=given)[::2], (0, ""))
+                    status, out, _ = run("--lint", *words, given=given)
+                    self.assertEqual((status, [line for line in out.decode().splitlines() if "(rule" in line]), (0, []))
+
+    def test_what_is_sent_otherwise_is_told_of_the_graph(self):
+        for what, rule, id, words, graph in SENT_OTHERWISE:
+            with self.subTest(what):
+                (reply,) = replies_to(json.dumps({"graph": graph, "give": ["lint", "placed"]}))
+                for fault in [reply["fault"], reply["lint"][0]]:
+                    self.assertEqual((fault["rule"], fault.get("id")), (rule, id))
+                    self.assertIn(words, fault["message"])
+
+    def test_numbers_that_nothing_reads_stay_as_they_are(self):
+        status, out, _ = run("--json", given='{"id":"r","mine":[5.0,-0.0],"children":[{"id":1.0,"width":5.0,"height":-0.0,"note":2.0}]}')
+        self.assertEqual(status, 0)
+        self.assertIn(b'"mine":[5.0,-0.0]', out)
+        self.assertIn(b'{"height":0,"id":1,"note":2.0,"width":5,', out)
+
+    def test_the_words_of_elk_do_what_elk_does(self):
+        document = json.dumps({**GRAPH, "layoutOptions": {"elk.direction": "DOWN"}})
+        placed = run("layout", given=document)[1].decode()
+        for words, given in [
+            (["layout"], document),
+            (["layout"], '{"id":'),
+            (["check"], placed),
+            (["check"], document),
+            (["batch"], f"{document}\n{{}}\n3\n"),
+            (["demo", "7"], ""),
+            (["demo"], ""),
+            (["layout", "--json"], document),
+        ]:
+            with self.subTest(words, given=given):
+                wanted = subprocess.run([TOP / "elk", *words], input=given.encode(), capture_output=True, timeout=SECONDS)
+                self.assertEqual(run(*words, given=given), (wanted.returncode, wanted.stdout, wanted.stderr.decode()))
 
     def test_a_picture_is_that_of_the_placed_graph(self):
         given = json.dumps(GRAPH)
@@ -227,7 +327,7 @@ class Drawing(unittest.TestCase):
     def test_help_and_version(self):
         status, out, notes = run("--help")
         self.assertEqual((status, notes), (0, ""))
-        for word in ["--json", "--plain", "--lint", "--option", "--exact", "--svg", "--lines", "--placed", "--light", "--dark", "--no-arrows", "--help", "--version"]:
+        for word in ["layout", "batch", "--json", "--plain", "--lint", "--option", "--dot", "--exact", "--svg", "--lines", "--placed", "--light", "--dark", "--no-arrows", "--help", "--version"]:
             self.assertIn(word, out.decode())
         version = json.loads((TOP / "adapters/js/package.json").read_text())["version"]
         self.assertEqual(run("--version"), (0, f"elk-draw {version}\n".encode(), ""))
@@ -272,6 +372,52 @@ class Requests(unittest.TestCase):
         twice = {"id": "r", "children": [{"id": "a", "width": -1}, {"id": "a", "height": -2}]}
         (reply,) = replies_to(request(twice))
         self.assertEqual([it["rule"] for it in reply["fault"]["faults"]], [4, 4, 7])
+
+    def test_a_graph_can_be_a_text_or_have_its_places(self):
+        given = json.dumps(GRAPH)
+        placed = json.loads(run("--json", given=given)[1])
+        svg = run("--dark", given=given)[1].decode()
+        replies = replies_to(
+            json.dumps({"text": given, "give": ["placed", "graph"]}),
+            json.dumps({"placed": placed, "theme": "dark"}),
+            json.dumps({"placed": placed, "theme": "dark", "give": ["svg"]}),
+        )
+        self.assertEqual(replies, [{"placed": placed, "graph": GRAPH}, {"svg": svg}, {"svg": svg}])
+        (reply,) = replies_to(json.dumps({"text": "{", "give": ["svg"]}))
+        self.assertEqual((reply["fault"]["rule"], reply["fault"]["name"]), (1, "NotJson"))
+
+    def test_a_graph_is_judged_without_a_layout(self):
+        wrong = {"id": "r", "widht": 3, "children": [{"id": "a", "width": -1}, {"id": "a"}]}
+        (reply,) = replies_to(request(wrong, give=["lint"]))
+        self.assertEqual(list(reply), ["lint"])
+        self.assertEqual([(it["severity"], it["path"]) for it in reply["lint"]], [("fault", "children[0].width"), ("fault", "children[1].id"), ("warning", "widht")])
+        self.assertNotIn("line", reply["lint"][0])
+        good, refused, warned = replies_to(
+            request(GRAPH, give=["lint", "svg"]), request(wrong, give=["svg", "lint"]), request(wrong, give=["lint", "graph", "warnings"])
+        )
+        self.assertEqual((list(good), good["lint"]), (["lint", "svg"], []))
+        self.assertEqual((sorted(refused), len(refused["fault"]["faults"]), len(refused["lint"])), (["fault", "lint"], 2, 3))
+        self.assertEqual((warned["graph"], len(warned["warnings"]), len(warned["lint"])), (wrong, 1, 3))
+
+    def test_a_text_is_judged_with_its_places(self):
+        text = '{"id": "r",\n "children": [{"id": "a", "width": -3, "heigth": 30}]}'
+        json_reply, no_json, both, dot_reply, no_dot = replies_to(
+            json.dumps({"text": text, "give": ["lint"]}),
+            json.dumps({"text": "{", "give": ["lint"]}),
+            json.dumps({"text": "{", "give": ["lint", "placed"]}),
+            json.dumps({"dot": "digraph { a -> b [minlen=3] }", "give": ["lint"]}),
+            json.dumps({"dot": "digraph { a -> }", "give": ["lint"]}),
+        )
+        places = [(it["severity"], it["line"], it["column"], it["source"], it["mark"]) for it in json_reply["lint"]]
+        source = text.splitlines()[1]
+        self.assertEqual(places, [("fault", 2, 36, source, 35), ("warning", 2, 40, source, 39)])
+        (fault,) = no_json["lint"]
+        self.assertEqual((list(no_json), fault["severity"], fault["rule"], fault["line"], fault["column"]), (["lint"], "fault", 1, 1, 2))
+        self.assertEqual((sorted(both), both["fault"]["rule"], both["lint"]), (["fault", "lint"], 1, no_json["lint"]))
+        (warning,) = dot_reply["lint"]
+        self.assertEqual((warning["severity"], warning["line"], warning["column"], warning["mark"]), ("warning", 1, 19, 18))
+        (fault,) = no_dot["lint"]
+        self.assertEqual((fault["severity"], fault["name"], fault["line"], fault["column"]), ("fault", "BadDot", 1, 16))
 
     def test_a_refused_graph_gets_a_fault_and_the_next_line_a_reply(self):
         for rule, id, text in REFUSED[1:]:

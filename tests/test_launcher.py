@@ -10,7 +10,7 @@ import unittest
 
 TOP = pathlib.Path(__file__).resolve().parent.parent
 PROGRAM = TOP / "crates/elk/out/elk"
-COMMANDS = "sh awk cat chmod cp cut dirname env find grep gzip id mkdir mktemp mv readlink rm sed sha256sum sort touch uname".split()
+COMMANDS = "sh awk cat chmod cp cut dirname env find grep gzip id mkdir mktemp mv readlink rm sed sha256sum sort touch uname xargs".split()
 NO_PROGRAM = 70
 TOO_OLD = b"#!/bin/sh\necho \"version 'GLIBC_2.34' not found\" >&2\nexit 1\n"
 ANSWER = b"nodes 3 edges 3 weight 4 span 4\n"
@@ -69,9 +69,9 @@ class Copy:
         done = subprocess.run([*before, program or self.top / "elk", *words], input=given, capture_output=True, env=env, cwd="/")
         return done.returncode, done.stdout, done.stderr.decode()
 
-    def edit(self):
+    def edit(self, text="fn main() { }\n"):
         """Changes a source, after the release and then the program were made."""
-        self.source.write_text("fn main() { }\n")
+        self.source.write_text(text)
         now = self.source.stat().st_mtime
         os.utime(self.top / "release/RECORD", (now, now - 20))
         program = self.top / "crates/elk/out/elk"
@@ -153,6 +153,13 @@ class Launcher(unittest.TestCase):
         self.assertIn("building the program", notes)
         self.assertTrue(self.copy.has_called_kit)
         self.answers()
+
+    def test_a_comment_is_no_reason_to_build(self):
+        self.answers()
+        self.copy.kit()
+        self.copy.edit("// It does nothing.\nfn main() {}\n")
+        self.answers()
+        self.assertFalse(self.copy.has_called_kit)
 
     def test_a_stale_source_is_no_reason_to_build_without_the_kit(self):
         self.answers()

@@ -104,8 +104,8 @@ class Wheels(Room):
 
     def test_the_one_for_arm_has_the_program_for_arm(self):
         with zipfile.ZipFile(io.BytesIO(self.wheel_for("aarch64")[1])) as archive:
-            program = archive.read("elk_layout/bin/elk")
-            self.assertEqual(archive.getinfo("elk_layout/bin/elk").external_attr >> 16, 0o100755)
+            program = archive.read("elk_layout/bin/elk-draw")
+            self.assertEqual(archive.getinfo("elk_layout/bin/elk-draw").external_attr >> 16, 0o100755)
         self.assertEqual((program[:4], int.from_bytes(program[18:20], "little")), (b"\x7fELF", ARM))
 
     def installed(self, wheel):
@@ -119,9 +119,9 @@ class Wheels(Room):
     @unittest.skipUnless(has_pip() and platform.machine() == "x86_64" and sys.platform == "linux", "pip, venv and Linux are needed")
     def test_pip_installs_the_program_with_it(self):
         python = self.installed(self.wheel_for("x86_64"))
-        self.assertEqual(self.run_in([python, "-c", SCRIPT]), "54 yes True ['elk']\n")
+        self.assertEqual(self.run_in([python, "-c", SCRIPT]), "54 yes True ['elk-draw']\n")
         self.assertEqual(self.run_in([python, "-m", "elk_layout", "--version"]), f"elk-layout {VERSION}\n")
-        command = python.parent / "elk"
+        command = python.parent / "elk-draw"
         placed = self.run_in([command, "layout"], given=DOCUMENT)
         self.assertEqual(json.loads(placed)["width"], 54)
         self.assertEqual(self.run_in([command, "check"], given=placed), "yes\n")
@@ -136,12 +136,12 @@ class Wheels(Room):
         path.mkdir()
         (path / "node").symlink_to(os.path.realpath(shutil.which("node")))
         for script in (SCRIPT, f"{ELSEWHERE}\n{SCRIPT}"):
-            self.assertEqual(self.run_in([python, "-c", script], path), "54 yes True ['node', 'elk']\n")
+            self.assertEqual(self.run_in([python, "-c", script], path), "54 yes True ['node', 'elk-draw']\n")
         # Whatever package stands around it.
         self.put("package.json", b'{"type":"module"}')
-        self.assertEqual(self.run_in([python, "-c", SCRIPT], path), "54 yes True ['node', 'elk']\n")
+        self.assertEqual(self.run_in([python, "-c", SCRIPT], path), "54 yes True ['node', 'elk-draw']\n")
         said = self.run_in([python, "-c", f"{ELSEWHERE}\n{SCRIPT}"], status=1)
-        self.assertIn("there is no program elk for Darwin arm64. Its WebAssembly module runs by Node 18 or later", said)
+        self.assertIn("there is no program elk-draw for Darwin arm64. Its WebAssembly module runs by Node 18 or later", said)
 
 
 @unittest.skipUnless(PACKER.tomllib and shutil.which("npm"), "npm is missing")
@@ -176,7 +176,7 @@ class Checked(unittest.TestCase):
             found = {it: room / it for it in made}
             self.assertEqual(list(PACKER.faults(made, found)), [])
             (room / name).write_bytes(PACKER.wheel(["any"], {"elk_layout/more": b""})[1])
-            self.assertRegex(list(PACKER.faults(made, found))[0], f"release/{re.escape(name)} is not of these sources: .*elk_layout/bin/elk")
+            self.assertRegex(list(PACKER.faults(made, found))[0], f"release/{re.escape(name)} is not of these sources: .*elk_layout/bin/elk-draw")
             self.assertEqual(list(PACKER.faults({}, {name: room / name})), [f"release/{name} is not a package of these sources"])
             self.assertEqual(list(PACKER.faults(made, {}))[0], f"release/{sorted(made)[0]} is missing")
 

@@ -1,12 +1,15 @@
 """Commands of pages do what the pages say, pasted as they are."""
 import pathlib
 import re
+import shutil
 import subprocess
 import tempfile
 import unittest
 
 TOP = pathlib.Path(__file__).resolve().parent.parent
 NEEDED = ("elk", "elk-draw", "examples", "adapters", "crates", "release", "tools")
+# What needs other machines, a server, a registry of packages, or a test of its own.
+ELSEWHERE = re.compile(r"ssh|dask-|npm |npx |tools/")
 
 
 def commands_of(text):
@@ -41,6 +44,25 @@ class Pages(unittest.TestCase):
                     self.assertEqual(ran.stdout.splitlines(), lines)
                 else:
                     self.assertEqual(ran.returncode, 0, ran.stdout)
+
+    @unittest.skipUnless(all(map(shutil.which, ("jq", "node", "parallel"))), "jq, node or parallel is missing")
+    def test_the_commands_for_editors_and_for_many_graphs_do_what_the_pages_say(self):
+        room = pathlib.Path(self.room.name)
+        shutil.copytree(TOP / "docs", room / "docs")
+        for page, count in (("EDITORS", 4), ("PIPELINES", 6)):
+            shown = [it for it in commands_of((TOP / f"docs/{page}.md").read_text()) if not ELSEWHERE.search(it[0])]
+            self.assertEqual(len(shown), count)
+            for command, lines in shown:
+                with self.subTest(command):
+                    ran = self.run_in_room(command)
+                    # Faults are told by a status, and so is that none is found.
+                    self.assertEqual(ran.returncode, 2 if lines else command.startswith("grep"), ran.stdout)
+                    if lines:
+                        self.assertEqual(ran.stdout.splitlines(), lines)
+        for name in ("labels.svg", "layers.svg"):
+            self.assertEqual((room / "docs" / name).read_bytes(), (TOP / "docs" / name).read_bytes())
+        self.assertEqual(len((room / "replies.jsonl").read_text().splitlines()), 3)
+        self.assertTrue((room / "placed/stack.svg").is_file())
 
     def test_the_commands_of_the_front_page_end_in_a_picture(self):
         part = (TOP / "README.md").read_text().partition("## Try it")[2].partition("\n## ")[0]

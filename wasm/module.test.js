@@ -6,11 +6,13 @@ const assert = require('node:assert');
 const { existsSync, readFileSync } = require('node:fs');
 const path = require('node:path');
 const test = require('node:test');
-const { withMemoryLimit } = require('../adapters/js/module');
-const { moduleBytes, moduleFile } = require('../adapters/js/module-file');
+const { withMemoryLimit } = require('../adapters/js/src/module');
+const { moduleBytes, moduleFile } = require('../adapters/js/src/module/file');
 
 const PAGE = 2 ** 16;
 const NO_MEMORY = { status: 6, out: '', notes: 'out of memory\n' };
+// Before its words are read, the program doesn't know that the engine is meant, and says its own name.
+const OF_ITS_WORDS = { ...NO_MEMORY, notes: 'elk-draw: out of memory\n' };
 const SMALL =
   '{"id":"r","children":[{"id":"a","children":[{"id":"i"},{"id":"j"}],"edges":[{"id":"f","sources":["i"],"targets":["j"]}]},{"id":"b"}],"edges":[{"id":"e","sources":["a"],"targets":["b"]}]}';
 const DOUBLE = '{"id":"r","children":[{"id":"a"},{"id":"a"}]}';
@@ -19,7 +21,7 @@ const options = moduleFile() ? {} : { skip: 'there is no module: release/ has no
 const bytes = moduleFile() && moduleBytes();
 
 // The module with the function that makes calls for memory fail, which `tools/wasm` writes beside the one that is released.
-const FOR_TESTS = 'elk-for-tests.wasm';
+const FOR_TESTS = 'elk-draw-for-tests.wasm';
 const besides = moduleFile() && path.join(path.dirname(moduleFile()), FOR_TESTS);
 const isRefusing = Boolean(besides) && existsSync(besides);
 const refusing = isRefusing ? {} : { skip: `there is no ${FOR_TESTS} beside the module: tools/wasm makes it` };
@@ -44,7 +46,7 @@ class Instance {
     const rest = { bytes: Buffer.from(given) };
     const written = { 1: [], 2: [] };
     this.#call = {
-      words: ['elk', ...words].map((word) => Buffer.from(word)),
+      words: ['elk-draw', ...words].map((word) => Buffer.from(word)),
       take: (room) => {
         const count = rest.bytes.copy(room);
         rest.bytes = rest.bytes.subarray(count);
@@ -112,9 +114,12 @@ for (const row of words) {
     const whole = instance.run(row.words, given);
     const memory = instance.memory;
     let number = 0;
+    let isInWords = true;
     for (let seen; (seen = instance.run(row.words, given, number)).status === 6; number++) {
       const begun = row.words[0] === 'batch' && whole.out.startsWith(seen.out) ? seen.out : '';
-      assert.deepStrictEqual(seen, { ...NO_MEMORY, out: begun }, `call ${number}`);
+      const isOfWords = isInWords && seen.notes === OF_ITS_WORDS.notes;
+      isInWords = isOfWords;
+      assert.deepStrictEqual(seen, isOfWords ? OF_ITS_WORDS : { ...NO_MEMORY, out: begun }, `call ${number}`);
     }
     assert.ok(number > 10, `only ${number} calls were refused`);
     assert.deepStrictEqual(instance.run(row.words, given, number), whole, 'a run with no call left to refuse');

@@ -1,6 +1,7 @@
 /* Tries the heap, the calls for memory, the whole numbers of 128 bits and the copying of bytes as a program of this machine, whose
  * compiler has such numbers and such copying of its own. A line tells each case that fails; the last line counts. */
 #include "heap.c"
+#include "moves.c"
 #include "runtime.c"
 #include "wide.h"
 
@@ -301,6 +302,12 @@ static void bytes_are_right(size_t length, size_t from, size_t to)
     holds(own_set(made + to, (int)length, length) == made + to, "what was set isn't where it was due");
     memset(due + to, (int)length, length);
     end_bytes("set bytes are wrong");
+    copy_bytes(made + to, given + from, length);
+    memcpy(due + to, given + from, length);
+    end_bytes("bytes that a small function copies are wrong");
+    clear_bytes(made + to, length);
+    memset(due + to, 0, length);
+    end_bytes("bytes that a small function clears are wrong");
     memcpy(made + to, given + from, length);
     holds(!own_compare(made + to, given + from, length), "equal bytes aren't the same");
     if (length)
@@ -348,6 +355,6 @@ int main(void)
     growth();
     refusals();
     refused_calls();
-    printf("heap, runtime, wide and bytes: %d passed, %d failed\n", passed, failed);
+    printf("heap, moves, runtime, wide and bytes: %d passed, %d failed\n", passed, failed);
     return failed != 0;
 }

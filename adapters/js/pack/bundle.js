@@ -1,77 +1,60 @@
 'use strict';
-// Joins modules to one file for pages.
+// Bundles for pages, by Debian's esbuild.
 
-const { existsSync, readFileSync } = require('node:fs');
+const { spawnSync } = require('node:child_process');
+const { mkdtempSync, rmSync, writeFileSync } = require('node:fs');
+const { tmpdir } = require('node:os');
 const path = require('node:path');
 
 const TOP = path.join(__dirname, '..');
 
-const REQUIRED = /\brequire\('([^']+)'\)/g;
+const ESBUILD = process.env.ELK_ESBUILD ?? 'esbuild';
 
-// A comment that fills whole lines.
-const COMMENT = /^[ \t]*(?:\/\/.*|\/\*(?:(?!\*\/)[^])*\*\/)\n/gm;
+// Names of files would make bundles depend on the folder in which they are made, so identifiers are shortened as well.
+const WORDS = ['--bundle', '--minify', '--format=cjs', '--platform=browser', '--target=es2022', '--charset=ascii', '--loader:.txt=text', '--log-level=error'];
 
-/** Where a module stands, below the package: that of pages where they have one in place of Node's. */
-const placeOf = (id) => [`page/${id}`, id].find((place) => existsSync(path.join(TOP, place)));
-
-/** The id of a module that another one names: its path below the package, with its ending. */
-function idOf(name, by) {
-  if (!name.startsWith('.')) {
-    throw new Error(`${by} asks for ${name}, which no page has`);
+/** What esbuild writes to stdout. */
+function esbuild(words) {
+  const { status, stdout, stderr, error } = spawnSync(ESBUILD, words, { cwd: TOP, encoding: 'utf8', maxBuffer: 2 ** 26 });
+  if (status !== 0) {
+    throw new Error(`esbuild failed: ${error?.message ?? stderr}`);
   }
-  const id = path.posix.join(path.posix.dirname(by), name);
-  const file = /\.(js|json)$/.test(id) ? id : `${id}.js`;
-  return !placeOf(file) && placeOf(id) ? `${id}/index.js` : file;
+  return stdout;
 }
 
-function textOf(place) {
-  const text = readFileSync(path.join(TOP, place), 'utf8').trim();
-  return place.endsWith('.json') ? `module.exports = ${JSON.stringify(JSON.parse(text))};` : text;
+/** The version of esbuild; undefined if it isn't installed. */
+function version() {
+  const { status, stdout } = spawnSync(ESBUILD, ['--version'], { encoding: 'utf8' });
+  return status === 0 ? stdout.trim() : undefined;
 }
 
 /**
- * A module and all that it needs, as one expression whose value is what the module exports.
- * @param {string} entry the module's path below the package
- * @param {object} [given]
- * @param {Record<string, string>} [given.texts] modules that stand in no file, and need no others
- * @param {Record<string, string>} [given.places] where modules stand that are taken from elsewhere
- * @param {boolean} [given.isShort] whether comments that fill whole lines are left out
+ * A module and everything that it requires, as the text of a CommonJS module. The field `browser` of package.json names the
+ * modules that pages have instead of Node's.
+ * @param {string} entry its path below the package
+ * @param {Record<string, string>} [texts] modules whose value is a text, by the names by which they are required
  */
-function bundle(entry, { texts = {}, places = {}, isShort = false } = {}) {
-  const modules = new Map();
-  const joined = (place) =>
-    textOf(place).replace(isShort ? COMMENT : '', '').replace(REQUIRED, (_, name) => {
-      const id = idOf(name, place);
-      take(id);
-      return `require('${id}')`;
+function bundle(entry, texts = {}) {
+  const room = mkdtempSync(path.join(tmpdir(), 'elk-bundle-'));
+  try {
+    const aliases = Object.entries(texts).map(([name, text]) => {
+      const file = path.join(room, `${name}.txt`);
+      writeFileSync(file, text);
+      return `--alias:${name}=${file}`;
     });
-  const take = (id) => {
-    if (!modules.has(id)) {
-      // Its place is kept before those that it needs are taken, so that a circle ends.
-      modules.set(id, '');
-      modules.set(id, `'${id}': (module, exports, require) => {\n${texts[id] ?? joined(places[id] ?? placeOf(id))}\n}`);
-    }
-  };
-  take(entry);
-  return `(() => {
-const modules = {
-${[...modules.values()].join(',\n')}
-};
-const loaded = {};
-const require = (id) => {
-  if (!loaded[id]) {
-    loaded[id] = { exports: {} };
-    modules[id](loaded[id], loaded[id].exports, require);
+    return esbuild([path.join(TOP, entry), ...WORDS, ...aliases]);
+  } finally {
+    rmSync(room, { recursive: true });
   }
-  return loaded[id].exports;
-};
-return require('${entry}');
-})()`;
 }
 
-/** A file for <script> tags, for `require` and for `define`, as that of elkjs is. */
-function universal(name, expression) {
-  return `(function (make) {
+/** A module with its bundle as one expression, whose value is what the module exports. */
+const expression = (text) => `(() => {\nconst module = { exports: {} };\n${text}return module.exports;\n})()`;
+
+/** A file for <script> tags, for `require` and for `define`, as elkjs has them. Another version of esbuild may make another file. */
+function universal(name, text) {
+  return `// Made by esbuild ${version()} from the sources of elk-layout.
+(function (make) {
   if (typeof exports === 'object' && typeof module !== 'undefined') {
     module.exports = make();
   } else if (typeof define === 'function' && define.amd) {
@@ -79,8 +62,8 @@ function universal(name, expression) {
   } else {
     globalThis.${name} = make();
   }
-})(() => ${expression});
+})(() => ${expression(text)});
 `;
 }
 
-module.exports = { bundle, universal };
+module.exports = { bundle, expression, universal, version };

@@ -1,37 +1,24 @@
 'use strict';
-// The files of the package that are made of others: its folder lib/, with the paths that users of elkjs import.
+// The files of the package that are made from others: its folder lib/, with the paths that users of elkjs import.
 
-const { packedModule } = require('../module-file');
+const { packedModule } = require('../src/module/file');
+const { withModule } = require('../src/page/module-file');
 const { bundle, universal } = require('./bundle');
 
-const HOLE = '@MODULE@';
+const moduleText = () => packedModule().toString('base64');
 
-/** The script of a worker, with a hole for the module. */
-function workerScript() {
-  const texts = { 'page/packed.js': `module.exports = '${HOLE}';` };
-  return universal('ElkWorker', bundle('page/elk-worker.js', { texts }));
-}
+/** The script of a worker, without the module. */
+const workerScript = () => universal('ElkWorker', bundle('src/page/elk-worker.js'));
 
-/** The call with its worker and its module in one file, or what stands on the call. */
-function bundled(packed, name = 'ELK', entry = 'elk.js') {
-  const [before, after] = workerScript().split(HOLE).map((part) => JSON.stringify(part));
-  const texts = {
-    'page/packed.js': `module.exports = '${packed}';`,
-    'page/script.js': `module.exports = (packed) => [${before}, packed, ${after}];`,
-  };
-  return universal(name, bundle(entry, { texts }));
-}
+const fileOf = (name, entry, texts) => universal(name, bundle(entry, texts));
+
+/** An entry with its worker and the module in one file. */
+const bundled = (name, entry) => fileOf(name, entry, { 'module-text': moduleText(), 'worker-script': workerScript() });
 
 /** The call alone, for pages that serve the worker as a file of its own. */
-const api = () => universal('ELK', bundle('elk.js', { places: { 'host.js': 'page/api-host.js' } }));
+const api = () => fileOf('ELK', 'src/elk.js', { 'module-text': '', 'worker-script': '' });
 
-/** Pictures of placed documents, for <script> tags. */
-const pictures = () => universal('ElkSvg', bundle('svg.js'));
-
-/** Judging of documents, for <script> tags. */
-const judging = () => universal('ElkLint', bundle('lint.js'));
-
-// In a page the file is a script that leaves the class behind; a bundler hands it over.
+// In a page without a bundler the file is a script that leaves the class behind; a bundler passes it on.
 const BUNDLED_MODULE = `import * as bundled from './elk.bundled.js';
 
 const ELK = bundled.default ?? globalThis.ELK;
@@ -41,14 +28,23 @@ export { ELK };
 export const { Refusal, ProgramError } = ELK;
 `;
 
-const NODE = `'use strict';\n\nmodule.exports = require('../elk');\n`;
+// What Node does at once, the worker of a page does.
+const CALLS = {
+  svg: `export const toSvg = (placed, look) => new ELK().toSvg(placed, look);\n`,
+  lint: `export const lint = (text, { numbers, layoutOptions } = {}) => new ELK({ numbers }).lint(text, { layoutOptions });\n`,
+};
 
-const TYPES = `import ELK = require('../elk');\n\nexport = ELK;\n`;
+const inPages = (name) => `import ELK from './elk.bundled.mjs';\n\n${CALLS[name]}`;
+
+const NODE = `'use strict';\n\nmodule.exports = require('../src/elk');\n`;
+
+const TYPES = `import ELK = require('../src/elk');\n\nexport = ELK;\n`;
+
+const DIAGRAM_TYPES = TYPES.replaceAll('ELK', 'ElkDiagram').replace('src/elk', 'src/elk-diagram');
 
 /** All files of lib/, by their names. */
 function library() {
-  const packed = packedModule().toString('base64');
-  const worker = workerScript().replace(HOLE, packed);
+  const worker = withModule(workerScript(), moduleText()).join('');
   return {
     'main.js': NODE,
     'main.d.ts': TYPES,
@@ -56,14 +52,14 @@ function library() {
     'elk-api.d.ts': TYPES,
     'elk-worker.js': worker,
     'elk-worker.min.js': worker,
-    'elk.bundled.js': bundled(packed),
+    'elk.bundled.js': bundled('ELK', 'src/elk.js'),
     'elk.bundled.d.ts': TYPES,
     'elk.bundled.mjs': BUNDLED_MODULE,
-    'elk-diagram.js': bundled(packed, 'ElkDiagram', 'elk-diagram.js'),
-    'elk-diagram.d.ts': TYPES.replaceAll('ELK', 'ElkDiagram').replace('../elk', '../elk-diagram'),
-    'elk-lint.js': judging(),
-    'elk-svg.js': pictures(),
+    'elk-diagram.js': bundled('ElkDiagram', 'src/elk-diagram.js'),
+    'elk-diagram.d.ts': DIAGRAM_TYPES,
+    'svg.mjs': inPages('svg'),
+    'lint.mjs': inPages('lint'),
   };
 }
 
-module.exports = { judging, library };
+module.exports = { library };

@@ -1,67 +1,82 @@
 'use strict';
-// The playground as one file, which needs no network: the page, its worker, and the module within.
+// The playground as one file that needs no network: the page, its worker, and the module.
 
 const { createHash } = require('node:crypto');
 const { readFileSync } = require('node:fs');
 const path = require('node:path');
-const { packedModule } = require('../module-file');
-const { bundle } = require('./bundle');
+const { deflateRawSync } = require('node:zlib');
+const { packed } = require('../playground/packing');
+const { moduleBytes } = require('../src/module/file');
+const { bundle, expression } = require('./bundle');
+const { withoutCopies } = require('./copies');
 
 const SOURCES = path.join(__dirname, '..', 'playground');
 const VENDOR = path.join(SOURCES, 'vendor');
 const EXAMPLES = path.join(__dirname, '..', '..', '..', 'examples');
 
-const HOLE = '@MODULE@';
-
 const read = (folder, name) => readFileSync(path.join(folder, name), 'utf8');
 
-/** The examples that the page offers, in its order. */
+/** The examples of the page, in its order. */
 function examples() {
   const listed = JSON.parse(read(SOURCES, 'examples.json'));
   return listed.map(({ file, title, isPlaced = false, isOwn = false }) => ({
-    id: file.replace('.json', ''),
+    id: file.replace(/\.\w+$/, ''),
     title,
     isPlaced,
     text: read(isOwn ? path.join(SOURCES, 'examples') : EXAMPLES, file),
   }));
 }
 
-// Within a script element nothing may look like its end, or like a comment of HTML.
-const embedded = (value) => JSON.stringify(value).replace(/</g, '\\u003c');
+/** A script of the page: a bundle that is run at once. */
+const scriptOf = (text) => `\n'use strict';\n${expression(text)};\n`;
 
-function workerScript() {
-  const texts = { 'page/packed.js': `module.exports = '${HOLE}';` };
-  return `'use strict';\n${bundle('playground/worker.js', { texts, isShort: true })};\n`;
+/** @param {string} worker the module of the worker, below the package */
+function mainScript(worker) {
+  return scriptOf(
+    bundle('playground/main.js', {
+      'editor-style': read(VENDOR, 'codemirror.css'),
+      'worker-script': `'use strict';\n${expression(bundle(worker))};\n`,
+      'examples-text': JSON.stringify(examples()),
+    }),
+  );
 }
 
-function pageScript() {
-  const [before, after] = workerScript().split(HOLE).map(embedded);
-  return bundle('playground/main.js', {
-    isShort: true,
-    texts: {
-      'page/packed.js': `module.exports = '${packedModule().toString('base64')}';`,
-      'playground/script.js': `module.exports = (packed) => [${before}, packed, ${after}];`,
-      'playground/texts.js': `module.exports = ${embedded(examples())};`,
-    },
-  });
-}
-
-/** The licence of the editor, as a comment. */
+/** The licence of the editor, which can be read in the page. */
 const licence = () => `/*\n${read(VENDOR, 'LICENSE')}*/\n`;
 
-const styles = () => [read(VENDOR, 'codemirror.css'), read(SOURCES, 'style.css')].map((text) => text.trim()).join('\n');
+/** The script that stands in the page as it is. Within an element nothing may look like its end, or like a comment of HTML. */
+const bootScript = () => `\n${licence()}${scriptOf(bundle('playground/boot.js'))}`.replace(/<(?=\/script|!--)/gi, '\\x3c');
 
-/** The policy by which a browser runs this very script of the page and no other. */
-const sourceOf = (script) => `'sha256-${createHash('sha256').update(script).digest('base64')}'`;
+/** The policy that lets a browser run these scripts of the page and no other. */
+const sourcesOf = (scripts) => scripts.map((script) => `'sha256-${createHash('sha256').update(script).digest('base64')}'`).join(' ');
 
-/** The text of the page. */
-function playground() {
-  const script = `\n'use strict';\n${licence()}${pageScript()}\n`;
-  if (/<\/script|<!--/i.test(script)) {
-    throw new Error('a module of the playground has what ends a script in a page');
+const deflated = (bytes) => packed(deflateRawSync(bytes, { level: 9 }));
+
+let last;
+
+/** The module as the page carries it. Packing takes seconds, so that of the last module is kept. */
+function packedModule() {
+  const bytes = Buffer.from(moduleBytes());
+  if (!last?.bytes.equals(bytes)) {
+    last = { bytes, text: deflated(withoutCopies(bytes)) };
   }
-  const holes = { STYLE: styles(), SCRIPT: script, SOURCE: sourceOf(script) };
-  return read(SOURCES, 'page.html').replace(/@(STYLE|SCRIPT|SOURCE)@/g, (_, name) => holes[name]);
+  return last.text;
+}
+
+/**
+ * The text of the page.
+ * @param {{ worker?: string }} [given] the module of its worker, below the package
+ */
+function playground({ worker = 'playground/worker.js' } = {}) {
+  const [boot, main] = [bootScript(), mainScript(worker)];
+  const holes = {
+    STYLE: read(SOURCES, 'style.css').trim(),
+    SOURCES: sourcesOf([boot, main]),
+    SCRIPT: deflated(main),
+    MODULE: packedModule(),
+    BOOT: boot,
+  };
+  return read(SOURCES, 'page.html').replace(/@(STYLE|SOURCES|SCRIPT|MODULE|BOOT)@/g, (_, name) => holes[name]);
 }
 
 module.exports = { examples, playground };

@@ -1,13 +1,13 @@
 'use strict';
-// The controls of options: each shows what the text says, and writes into the text.
+// The controls of options. Each shows what the text says, and writes into the text.
 
-const { CHOSEN } = require('./choices');
+const { FORMS } = require('./forms');
 
-const WORDS = { RIGHT: 'right', LEFT: 'left', DOWN: 'down', UP: 'up' };
+const WORDS = { RIGHT: 'right', LEFT: 'left', DOWN: 'down', UP: 'up', SPLINES: 'curves', POLYLINE: 'slanted', BRANDES_KOEPF: 'Brandes and Köpf' };
 
-const wordsOf = (value) => WORDS[value] ?? value.toLowerCase().replace(/_/g, ' ').replace('brandes koepf', 'Brandes and Köpf');
+const wordsOf = (value) => WORDS[value] ?? value.toLowerCase().replace(/_/g, ' ');
 
-/** All values, of which the default is none: it is chosen by taking the option away. */
+/** All values. The default is none: it is chosen by taking the option away. */
 function listOf({ values, default: byDefault }) {
   const list = document.createElement('select');
   const others = values.filter((value) => value !== 'UNDEFINED' && value !== byDefault);
@@ -23,29 +23,51 @@ function fieldOf({ low, high, default: byDefault }) {
 
 const valueOf = ({ type, value }) => (value === '' ? undefined : type === 'number' ? Number(value) : value);
 
+const OFF = 'A drawing that is judged as it is placed has no options to choose';
+
 class Controls {
+  #host;
+  #onChoice;
   #fields = new Map();
+  #form;
 
   /**
    * @param {HTMLElement} host
-   * @param {(name: string, value: string | number | undefined) => void} onChoice is told which option is to have which
+   * @param {(name: string, value: string | number | undefined) => void} onChoice hears which option is to have which
    *   value; without one it is to go
    */
   constructor(host, onChoice) {
-    for (const option of CHOSEN) {
-      const label = document.createElement('label');
-      const field = option.values ? listOf(option) : fieldOf(option);
-      field.dataset.option = option.name;
-      field.addEventListener('change', () => field.checkValidity() && onChoice(option.name, valueOf(field)));
-      label.append(`${option.title} `, field);
-      host.append(label);
-      this.#fields.set(option.name, field);
+    this.#host = host;
+    this.#onChoice = onChoice;
+  }
+
+  /** Shows the controls that a form of texts has. */
+  set form(form) {
+    if (this.#form !== form) {
+      this.#form = form;
+      this.#fields = new Map(FORMS[form].controls.map((option) => [option.name, this.#controlOf(option)]));
+      this.#host.replaceChildren(...[...this.#fields.values()].map(({ label }) => label));
     }
   }
 
-  /** Shows the values of a text; what isn't of the list is shown as the default. */
+  #controlOf(option) {
+    const [label, field] = [document.createElement('label'), option.values ? listOf(option) : fieldOf(option)];
+    field.dataset.option = option.name;
+    field.addEventListener('change', () => field.checkValidity() && this.#onChoice(option.name, valueOf(field)));
+    label.append(`${option.title} `, field);
+    this.#put(label, field, option.lack);
+    return { label, field, lack: option.lack };
+  }
+
+  /** Puts a control out of use, with the reason. */
+  #put(label, field, why) {
+    field.disabled = why !== undefined;
+    label.title = why ?? '';
+  }
+
+  /** Shows the values of a text. What isn't in the list is shown as the default. */
   show(chosen) {
-    for (const [name, field] of this.#fields) {
+    for (const [name, { field }] of this.#fields) {
       const value = String(chosen[name] ?? '');
       field.value = field.localName === 'select' ? value.toUpperCase() : value;
       if (field.selectedIndex === -1) {
@@ -55,9 +77,7 @@ class Controls {
   }
 
   set isOff(isOff) {
-    this.#fields.forEach((field) => {
-      field.disabled = isOff;
-    });
+    this.#fields.forEach(({ label, field, lack }) => this.#put(label, field, isOff ? OFF : lack));
   }
 }
 

@@ -101,7 +101,7 @@ class Desk {
   }
 
   #hear({ id, news, answer, error }) {
-    if (id !== this.#current?.id) {
+    if (!this.#current || id !== this.#current.id) {
       return;
     }
     if (news) {

@@ -1,7 +1,10 @@
 'use strict';
 // The text of the document in an editor, with marks at places in it.
 
+const { define } = require('./dot/mode');
 const CodeMirror = require('./vendor/codemirror');
+
+define(CodeMirror);
 
 // What is marked at a place: a text, a word or a number, or else one letter.
 const TOKEN = /"(?:[^"\\\n]|\\.)*"?|[\w.+-]+|[^]/y;
@@ -11,8 +14,10 @@ const MOST_MARKS = 100;
 // Letters of one line that are coloured: more take long, and nobody reads such a line.
 const MOST_COLOURED = 20_000;
 
+const MODES = { json: { name: 'javascript', json: true }, dot: 'dot', lines: 'dot' };
+
 const LOOK = {
-  mode: { name: 'javascript', json: true },
+  mode: MODES.json,
   lineNumbers: true,
   matchBrackets: true,
   autoCloseBrackets: true,
@@ -77,6 +82,13 @@ class Editor {
     this.#mirror.on('cursorActivity', onCaret);
     this.#mirror.getInputField().setAttribute('aria-describedby', 'told');
     new ResizeObserver(() => this.#mirror.refresh()).observe(host);
+  }
+
+  /** Colours the text as one of this form. */
+  set form(form) {
+    if (this.#mirror.getOption('mode') !== MODES[form]) {
+      this.#mirror.setOption('mode', MODES[form]);
+    }
   }
 
   get text() {

@@ -52,7 +52,10 @@ class Gallery {
       return;
     }
     this.#drawnIn = theme;
-    for (const { example, card } of this.#cards.filter(({ example: { text } }) => text)) {
+    const drawn = this.#cards.filter(({ example: { text } }) => text);
+    // Pictures of another theme would glare.
+    drawn.forEach(({ card }) => card.firstElementChild.replaceChildren());
+    for (const { example, card } of drawn) {
       const svg = await this.#sketch(example, theme).catch(() => undefined);
       if (svg) {
         card.firstElementChild.innerHTML = svg;

@@ -42,6 +42,17 @@ async function pngOf(svg) {
   return blob;
 }
 
+/**
+ * Copies a picture.
+ * @param {Promise<Blob>} png browsers must be asked at once, while the click counts for which it is made
+ */
+async function copyPicture(png) {
+  if (typeof ClipboardItem !== 'function' || !navigator.clipboard?.write) {
+    throw new Error('this browser copies no pictures; save it as PNG');
+  }
+  await navigator.clipboard.write([new ClipboardItem({ 'image/png': png })]);
+}
+
 /** Whether a text could be handed to the clipboard. */
 async function copied(text) {
   try {
@@ -58,4 +69,4 @@ async function copied(text) {
   }
 }
 
-module.exports = { copied, pngOf, save };
+module.exports = { copied, copyPicture, pngOf, save };

@@ -29,7 +29,7 @@ class Search {
   /** The nodes that have the words, without the outermost one, which is the whole drawing. */
   #matches(words) {
     const has = (text) => text.toLowerCase().includes(words);
-    return this.#places().slice(1).filter(({ kind, id, text }) => kind === 'node' && (has(id) || has(text)));
+    return this.#places().slice(1).filter(({ kind, id, text, isAgain }) => kind === 'node' && !isAgain && (has(id) || has(text)));
   }
 
   #find(by) {

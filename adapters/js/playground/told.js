@@ -29,7 +29,7 @@ function summaryOf({ faults, warnings, counts }, drawing) {
     return 'This document has no size to draw: choose "Lay out".';
   }
   const { seconds, measures: { nodes, edges, width, height } } = drawing;
-  const time = seconds === undefined ? '' : `, engine ${Math.max(1, Math.round(seconds * 1000)).toLocaleString('en')} ms`;
+  const time = seconds === undefined ? '' : `, drawn in ${Math.max(1, Math.round(seconds * 1000)).toLocaleString('en')} ms`;
   const warned = warnings.length > 0 ? `; ${many(counts.warnings, 'warning')}` : '';
   return `${many(nodes, 'node')}, ${many(edges, 'edge')}, ${width} by ${height}${time}${warned}`;
 }

@@ -1,5 +1,5 @@
 'use strict';
-// The verdict of `elk check` in words.
+// The verdict of `elk-draw check` in words.
 
 const DEFINITIONS = new Map([
   [6, ['Apart', 'nodes stand nearer to each other than the options ask for, or out of their order']],
@@ -34,4 +34,31 @@ function verdictOf(line) {
   return { isGood: false, line: said, words: `${words}${ids && `: ${ids}`} (${number}, ${name})` };
 }
 
-module.exports = { verdictOf };
+// The refusals of a document that the program could lay out.
+const REFUSED = {
+  NotJson: 'the text is not JSON, or is nested more than 127 deep',
+  NotWhole: 'a number is not whole',
+  Hyperedge: 'an edge has not one source and one target',
+  CrossLevel: 'an edge joins nodes of two levels',
+  NotPlaced: 'a place, a size, a route or the layering is missing, or has another form',
+};
+
+/**
+ * Why a document isn't judged.
+ * @param {string} line what the program wrote to stderr
+ * @returns {{ name: string, id: string, message: string } | undefined} undefined if it is no refusal
+ */
+function refusalIn(line) {
+  const [, rule, name, id] = /^refused (\d+) (\w+) (.*)$/s.exec(line.trim()) ?? [];
+  if (name === undefined) {
+    return undefined;
+  }
+  const words = REFUSED[name] ?? 'the document is refused';
+  return {
+    name,
+    id: id.startsWith('"') ? JSON.parse(id) : id,
+    message: `${words}${id === '-' ? '' : `: ${id}`} (rule ${rule}, ${name})`,
+  };
+}
+
+module.exports = { refusalIn, verdictOf };

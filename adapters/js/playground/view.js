@@ -1,72 +1,34 @@
 'use strict';
 // The drawing: it is moved, made larger and smaller, and its nodes and edges light up.
 
-const { text: TEXT } = require('../data/look.json');
-const { darkRules } = require('../picture/looks');
+const { hearKeys } = require('./keys');
+const { closeTo, fitted, moved, resized, zoomed } = require('./part');
+const { Elements, LIT, MARKED, STYLE, chosenOf, groupsIn, isEdge, isLarge, largestText, partsOf, pictureIn, widen, wordsOf } = require('./picture');
+const { Pointers } = require('./pointers');
 
-// A small picture isn't blown up beyond this.
-const MOST_FIT = 2;
-
-const CLOSEST = 40;
-const FARTHEST = 0.005;
-
-// A pointer that moves less, in pixels, has clicked.
-const CLICK = 4;
-
-// A step of the keys, as a part of the stage.
-const STEP = 0.12;
-
-// A picture of more edges is drawn anew only when it has come to rest, so long after it was moved, in milliseconds.
-const MANY_EDGES = 500;
+// A large picture is drawn anew only when it has come to rest, so long after it was moved, in milliseconds.
 const REST = 150;
 
 // Letters that are lower, in pixels, can't be read and aren't drawn.
 const READABLE = 4;
 
-// So large, as a part of the stage, a node is shown that was looked for.
-const FOUND = 0.25;
-
-// What a document can't name: its classes mean nothing here.
-const [LIT, MARKED, TARGET] = ['data-lit', 'data-marked', 'data-target'];
-
-const STYLE = `
-  :host { display: block; }
-  svg { position: absolute; inset: 0; width: 100%; height: 100%; transform-origin: 0 0; }
-  svg[data-moving] { will-change: transform; overflow: visible; }
-  svg[data-far] text { display: none; }
-  [${TARGET}] { stroke: transparent !important; stroke-width: 10 !important; fill: none !important; pointer-events: stroke; }
-  g[${LIT}] path:not([${TARGET}]) { stroke: var(--accent) !important; stroke-width: 2.6 !important; }
-  g[${LIT}] path[stroke="none"]:not([${TARGET}]), g[${LIT}] circle { fill: var(--accent) !important; stroke: none !important; }
-  :not(g)[${LIT}] { stroke: var(--accent) !important; stroke-width: 2.6 !important; }
-  :not(g)[${MARKED}] { stroke: var(--accent) !important; stroke-width: 2.2 !important; stroke-dasharray: 5 3; }
-  g[${MARKED}] path:not([${TARGET}]):not([stroke="none"]) { stroke: var(--accent) !important; stroke-width: 2.2 !important; }
-  svg[data-lighting] g[data-id]:not([${LIT}]) { opacity: .25; }
-  @media print { svg { position: static; height: auto; max-height: 100vh; } svg[data-far] text { display: inline; } }
-`;
-
-const midOf = ([one, other]) => ({ x: (one.x + other.x) / 2, y: (one.y + other.y) / 2 });
-
-const distanceOf = ([one, other]) => Math.hypot(one.x - other.x, one.y - other.y);
-
-const isEdge = (element) => element.localName === 'g';
-
-const kindOf = (element) => (isEdge(element) ? 'edge' : 'node');
-
-const wordsOf = (element) => element?.querySelector('title')?.textContent ?? '';
+/** Does something when the next frame has been drawn. */
+const afterFrame = (act) => requestAnimationFrame(() => setTimeout(act));
 
 class View {
   #stage;
   #root;
+  // The rules that turn the picture dark, and whether they hold.
   #dark = document.createElement('style');
+  #rules = '';
+  #isDark = false;
+  #largestText = 0;
   // The size of the stage: asking for it would lay a new picture out before all is known of it.
   #size = { clientWidth: 0, clientHeight: 0 };
   #picture;
   // The text from which the picture was made.
   #svg;
-  // In the order of the drawing, without its outermost level.
-  #nodes = [];
-  #edges = [];
-  #byId = new Map();
+  #elements = new Elements();
   #whole;
   // The part of it that the stage shows, and the one for which it was drawn.
   #part;
@@ -76,10 +38,10 @@ class View {
   #isWhole = false;
   #isDue = false;
   #rest;
-  #pointers = new Map();
-  #pressed;
   #lit;
   #marked;
+  // What is to be lit and marked when it has been read.
+  #wanted = {};
   #onLit;
   #onChoice;
 
@@ -98,10 +60,25 @@ class View {
     const style = document.createElement('style');
     style.textContent = STYLE;
     this.#root.append(style, this.#dark);
-    this.#hearPointers();
-    stage.addEventListener('keydown', (event) => this.#hearKey(event));
+    this.#hear();
     this.#measure();
     new ResizeObserver(() => this.#resized()).observe(stage);
+  }
+
+  #hear() {
+    const view = {
+      isEmpty: () => this.isEmpty,
+      move: (x, y) => this.move(x, y),
+      step: (x, y) => this.move(x * this.#size.clientWidth, y * this.#size.clientHeight),
+      zoom: (by, at) => this.zoom(by, at),
+      fit: () => this.fit(),
+      light: (element) => this.#light(element),
+      lightNext: (kind, by) => this.#lightNext(this.#elements[kind], by),
+      choose: (element) => this.#onChoice(chosenOf(element)),
+      chooseLit: () => this.#lit && this.#onChoice(chosenOf(this.#lit)),
+    };
+    new Pointers(this.#stage, this.#root, view);
+    hearKeys(this.#stage, view);
   }
 
   #measure() {
@@ -109,9 +86,14 @@ class View {
     this.#size = { clientWidth, clientHeight };
   }
 
-  /** Shows a light picture on a dark page, or as it is. On paper it stays light. */
+  /** Shows the picture as for a dark page, or for a light one. On paper it is light. */
   set isDark(isDark) {
-    this.#dark.textContent = isDark ? `@media screen{${darkRules()}}` : '';
+    this.#isDark = isDark;
+    this.#showTheme();
+  }
+
+  #showTheme() {
+    this.#dark.textContent = this.#isDark ? this.#rules : '';
   }
 
   get isEmpty() {
@@ -123,28 +105,30 @@ class View {
     // Many changes of a text, such as blanks, change nothing that is drawn.
     if (svg !== this.#svg) {
       this.#svg = svg;
-      this.#put(pictureIn(svg));
+      this.#largestText = largestText(svg);
+      const [first, ...later] = partsOf(svg);
+      this.#put(pictureIn(first));
+      this.#addInTurn(this.#picture, later);
     }
   }
 
   #put(picture) {
     const [x, y, width, height] = picture.getAttribute('viewBox').split(' ').map(Number);
     this.#whole = { x, y, width, height };
-    this.#take(picture);
-    const [lit, marked] = [this.#lit, this.#marked].map((it) => it && this.#sameAs(it));
+    this.#takeRules(picture);
+    const [lit, marked] = [this.#lit, this.#marked].map((it) => it && chosenOf(it));
     this.#light(undefined);
+    this.#mark(undefined);
+    this.#wanted = { lit, marked };
     const former = this.#picture;
     this.#picture = picture;
     if (this.#isFitted || !this.#part) {
-      this.#part = this.#fittedPart();
+      this.#part = fitted(this.#whole, this.#size);
       this.#isFitted = true;
     }
     this.#drawPart();
-    this.#light(lit);
-    this.#mark(marked);
-    if (this.#isLarge) {
-      this.#addInTurn(picture);
-    }
+    this.#elements = new Elements();
+    this.#take([...picture.children]);
     if (former) {
       former.replaceWith(picture);
     } else {
@@ -152,46 +136,55 @@ class View {
     }
   }
 
-  /** Takes all but the nodes out of a large picture, and adds part after part, so that the page is never long at work. */
-  #addInTurn(picture) {
-    const [, ...later] = picture.querySelectorAll(':scope > g');
-    later.forEach((part) => part.remove());
+  /** Adds the later parts of a large picture one after the other. */
+  #addInTurn(picture, parts) {
     const addNext = () => {
-      const part = later.shift();
-      if (part && this.#picture === picture) {
-        picture.append(part);
+      if (this.#picture === picture && parts.length > 0) {
+        const groups = groupsIn(parts.shift());
+        picture.append(...groups);
+        this.#take(groups);
         afterFrame(addNext);
       }
     };
     afterFrame(addNext);
   }
 
-  #take(picture) {
-    const all = [...picture.querySelectorAll('[data-id]')];
-    this.#edges = all.filter(isEdge);
-    this.#nodes = all.filter((it) => !isEdge(it)).slice(1);
-    this.#byId = new Map([...this.#nodes, ...this.#edges].map((it) => [`${kindOf(it)} ${it.dataset.id}`, it]));
+  /** Takes the elements of groups. What was lit or marked in the last picture is so in this one. */
+  #take(groups) {
+    this.#elements.add(groups);
     if (!this.#isLarge) {
-      this.#edges.forEach(widened);
+      this.#elements.edges.forEach(widen);
+    }
+    const { lit, marked } = this.#wanted;
+    if (lit && !this.#lit) {
+      this.#light(this.#elements.find(lit));
+    }
+    if (marked && !this.#marked) {
+      this.#mark(this.#elements.find(marked));
     }
   }
 
-  #sameAs(element) {
-    return this.#byId.get(`${kindOf(element)} ${element.dataset.id}`);
+  /** The picture follows the theme of the page, and not that of the system. */
+  #takeRules(picture) {
+    const style = picture.querySelector(':scope > style');
+    this.#rules = style?.textContent.replace('(prefers-color-scheme:dark)', 'screen') ?? '';
+    style?.remove();
+    this.#showTheme();
   }
 
   clear() {
     this.#light(undefined);
     this.#picture?.remove();
-    [this.#picture, this.#svg] = [undefined, undefined];
-    [this.#edges, this.#nodes, this.#marked] = [[], [], undefined];
-    this.#byId = new Map();
+    [this.#picture, this.#svg, this.#marked] = [];
+    this.#wanted = {};
+    this.#elements = new Elements();
     this.#isFitted = true;
   }
 
   /** Marks the element in whose text the caret stands; nothing where none is given. */
   point(chosen) {
-    this.#mark(chosen && this.#byId.get(`${chosen.kind} ${chosen.id}`));
+    this.#wanted.marked = chosen;
+    this.#mark(chosen && this.#elements.find(chosen));
   }
 
   #mark(element) {
@@ -201,63 +194,38 @@ class View {
   }
 
   /** Lights an element and moves the drawing so that it stands in the middle, large enough to be read. */
-  reveal({ kind, id }) {
-    const element = this.#byId.get(`${kind} ${id}`);
-    if (!element) {
-      return;
+  reveal(chosen) {
+    const element = this.#elements.find(chosen);
+    if (element) {
+      this.#drawnPart = undefined;
+      this.#showPart(closeTo(element.getBBox(), this.#size));
+      this.#light(element);
     }
-    const { x, y, width, height } = element.getBBox();
-    const { clientWidth, clientHeight } = this.#size;
-    const scale = Math.min((clientWidth * FOUND) / width, (clientHeight * FOUND) / height, MOST_FIT);
-    const [wide, high] = [clientWidth / scale, clientHeight / scale];
-    this.#part = { x: x + (width - wide) / 2, y: y + (height - high) / 2, width: wide, height: high };
-    this.#isFitted = false;
-    this.#drawnPart = undefined;
-    this.#draw();
-    this.#light(element);
   }
 
   fit() {
     if (!this.isEmpty) {
-      this.#part = this.#fittedPart();
+      this.#showPart(fitted(this.#whole, this.#size));
       this.#isFitted = true;
-      this.#draw();
     }
-  }
-
-  /** The part with all of the picture in its middle. */
-  #fittedPart() {
-    const { clientWidth, clientHeight } = this.#size;
-    const { x, y, width: wide, height: high } = this.#whole;
-    const scale = Math.min(clientWidth / wide, clientHeight / high, MOST_FIT) || 1;
-    const [width, height] = [clientWidth / scale, clientHeight / scale];
-    return { x: x + (wide - width) / 2, y: y + (high - height) / 2, width, height };
   }
 
   /** Zooms so that a point of the stage stays where it is. */
   zoom(by, at = { x: this.#size.clientWidth / 2, y: this.#size.clientHeight / 2 }) {
-    if (this.isEmpty) {
-      return;
+    if (!this.isEmpty) {
+      this.#showPart(zoomed(this.#part, this.#size, by, at));
     }
-    const scale = this.#part.width / this.#size.clientWidth;
-    const next = Math.min(Math.max(scale / by, 1 / CLOSEST), 1 / FARTHEST) / scale;
-    this.#part = {
-      x: this.#part.x + at.x * scale * (1 - next),
-      y: this.#part.y + at.y * scale * (1 - next),
-      width: this.#part.width * next,
-      height: this.#part.height * next,
-    };
-    this.#isFitted = false;
-    this.#draw();
   }
 
   /** Moves the picture by pixels of the stage. */
   move(x, y) {
-    if (this.isEmpty) {
-      return;
+    if (!this.isEmpty) {
+      this.#showPart(moved(this.#part, this.#size, x, y));
     }
-    const scale = this.#part.width / this.#size.clientWidth;
-    this.#part = { ...this.#part, x: this.#part.x - x * scale, y: this.#part.y - y * scale };
+  }
+
+  #showPart(part) {
+    this.#part = part;
     this.#isFitted = false;
     this.#draw();
   }
@@ -279,6 +247,7 @@ class View {
     this.#lit?.removeAttribute(LIT);
     element?.setAttribute(LIT, '');
     this.#lit = element;
+    this.#wanted.lit = undefined;
     this.#picture?.toggleAttribute('data-lighting', element !== undefined && isEdge(element));
     this.#onLit(wordsOf(element));
   }
@@ -292,7 +261,7 @@ class View {
   }
 
   get #isLarge() {
-    return this.#edges.length > MANY_EDGES;
+    return this.#svg !== undefined && isLarge(this.#svg);
   }
 
   // However often it is moved, it is drawn once a frame.
@@ -320,7 +289,7 @@ class View {
     this.#picture?.setAttribute('viewBox', `${x} ${y} ${width} ${height}`);
     this.#picture?.removeAttribute('data-moving');
     this.#picture?.style.removeProperty('transform');
-    const isFar = (TEXT.largest * this.#size.clientWidth) / width < READABLE;
+    const isFar = (this.#largestText * this.#size.clientWidth) / width < READABLE;
     this.#picture?.toggleAttribute('data-far', isFar);
     this.#drawnPart = this.#part;
   }
@@ -348,123 +317,10 @@ class View {
     if (this.#isFitted) {
       this.fit();
     } else {
-      const scale = this.#part.height / this.#part.width;
-      const { clientWidth, clientHeight } = this.#size;
-      const { width } = this.#part;
-      this.#part = { ...this.#part, height: (width * clientHeight) / clientWidth || width * scale };
       this.#drawnPart = undefined;
-      this.#draw();
+      this.#showPart(resized(this.#part, this.#size));
     }
   }
-
-  #placeOf({ clientX, clientY }) {
-    const { left, top } = this.#stage.getBoundingClientRect();
-    return { x: clientX - left, y: clientY - top };
-  }
-
-  #hearPointers() {
-    const stage = this.#stage;
-    stage.addEventListener('wheel', (event) => {
-      event.preventDefault();
-      // Some browsers tell lines in place of pixels.
-      const pixels = event.deltaY * (event.deltaMode === 1 ? 16 : 1);
-      this.zoom(Math.exp(-pixels / (event.ctrlKey ? 100 : 400)), this.#placeOf(event));
-    }, { passive: false });
-    stage.addEventListener('pointerdown', (event) => {
-      if (event.button === 0 && !this.isEmpty) {
-        this.#pressed = { place: this.#placeOf(event), target: event.composedPath()[0] };
-        this.#pointers.set(event.pointerId, this.#placeOf(event));
-        stage.setPointerCapture(event.pointerId);
-        stage.classList.add('dragging');
-      }
-    });
-    stage.addEventListener('pointermove', (event) => this.#dragged(event));
-    stage.addEventListener('pointerup', (event) => this.#released(event));
-    for (const kind of ['pointerup', 'pointercancel']) {
-      stage.addEventListener(kind, ({ pointerId }) => {
-        this.#pointers.delete(pointerId);
-        stage.classList.toggle('dragging', this.#pointers.size > 0);
-      });
-    }
-    this.#root.addEventListener('pointerover', ({ target }) => {
-      if (this.#pointers.size === 0) {
-        this.#light(target.closest('g[data-id]') ?? undefined);
-      }
-    });
-    stage.addEventListener('pointerleave', () => this.#light(undefined));
-  }
-
-  #released(event) {
-    const { place, target } = this.#pressed ?? {};
-    const drawn = target?.closest?.('[data-id]');
-    if (drawn && this.#pointers.size === 1 && distanceOf([place, this.#placeOf(event)]) < CLICK) {
-      this.#onChoice({ kind: kindOf(drawn), id: drawn.dataset.id });
-    }
-    this.#pressed = undefined;
-  }
-
-  // One pointer moves the picture, and two zoom it too.
-  #dragged(event) {
-    if (!this.#pointers.has(event.pointerId)) {
-      return;
-    }
-    const before = [...this.#pointers.values()];
-    this.#pointers.set(event.pointerId, this.#placeOf(event));
-    const after = [...this.#pointers.values()];
-    const [from, to] = after.length === 2 ? [midOf(before), midOf(after)] : [before[0], after[0]];
-    this.move(to.x - from.x, to.y - from.y);
-    if (after.length === 2 && distanceOf(before) > 0) {
-      this.zoom(distanceOf(after) / distanceOf(before), to);
-    }
-  }
-
-  #hearKey(event) {
-    const { clientWidth, clientHeight } = this.#size;
-    const keys = {
-      ArrowLeft: () => this.move(clientWidth * STEP, 0),
-      ArrowRight: () => this.move(-clientWidth * STEP, 0),
-      ArrowUp: () => this.move(0, clientHeight * STEP),
-      ArrowDown: () => this.move(0, -clientHeight * STEP),
-      '+': () => this.zoom(1.25),
-      '=': () => this.zoom(1.25),
-      '-': () => this.zoom(0.8),
-      0: () => this.fit(),
-      e: () => this.#lightNext(this.#edges, 1),
-      E: () => this.#lightNext(this.#edges, -1),
-      n: () => this.#lightNext(this.#nodes, 1),
-      N: () => this.#lightNext(this.#nodes, -1),
-      Enter: () => this.#lit && this.#onChoice({ kind: kindOf(this.#lit), id: this.#lit.dataset.id }),
-      Escape: () => this.#light(undefined),
-    };
-    if (keys[event.key] && !event.ctrlKey && !event.metaKey && !event.altKey) {
-      event.preventDefault();
-      keys[event.key]();
-    }
-  }
-}
-
-/** Does something when the next frame has been drawn. */
-const afterFrame = (act) => requestAnimationFrame(() => setTimeout(act));
-
-/** The picture of a text, as large as its room, with a name. */
-function pictureIn(svg) {
-  const made = document.createElement('template');
-  made.innerHTML = svg;
-  const picture = made.content.firstElementChild;
-  ['width', 'height'].forEach((name) => picture.removeAttribute(name));
-  picture.setAttribute('role', 'img');
-  picture.setAttribute('aria-label', 'the drawing');
-  return picture;
-}
-
-/** Makes an edge's lines wide enough to be met by a pointer. */
-function widened(edge) {
-  const lines = [...edge.querySelectorAll('path:not([stroke="none"])')];
-  lines.forEach((line) => {
-    const target = line.cloneNode();
-    target.setAttribute(TARGET, '');
-    edge.append(target);
-  });
 }
 
 module.exports = { View };

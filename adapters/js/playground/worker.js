@@ -1,21 +1,30 @@
 'use strict';
-// The script of the playground's worker. It is ended where a layout is stopped, and started anew.
+// The script of the playground's workers. One that is stopped is ended, and another is started.
 
-const { Program } = require('../module');
-const { moduleBytes } = require('../module-file');
-const { Studio, pictureOf } = require('./answer');
+const { Program } = require('../src/module');
+const { withCopies } = require('./copies');
+const { inflated } = require('./inflated');
 const { documentIn } = require('./link');
+const { Studio } = require('./studio');
 
-const started = async () => new Studio(new Program(await WebAssembly.compile(await moduleBytes())));
+let studio;
 
-const studio = started();
-// Whoever asks is told.
-studio.catch(() => {});
+const compiled = async (packed) => WebAssembly.compile(withCopies(new Uint8Array(await inflated(packed).arrayBuffer())));
+
+/** Takes the module. The first worker hands it on when it is compiled, so that no other one compiles it again. */
+async function begun({ packed, module }) {
+  const own = module ?? (await compiled(packed));
+  if (packed) {
+    self.postMessage({ module: own });
+  }
+  return new Studio(new Program(own));
+}
 
 const ANSWERS = {
   answer: async (asked, tell) => (await studio).answer(asked, tell),
-  picture: async ({ placed, look }) => ({ svg: pictureOf(placed, look) }),
-  sketch: async (asked) => ({ svg: await (await studio).sketch(asked) }),
+  judge: async (asked) => (await studio).judge(asked),
+  picture: async ({ placed, look }) => ({ svg: (await studio).pictureOf(placed, look) }),
+  sketch: async (asked) => ({ svg: (await studio).sketch(asked) }),
   unpack: async ({ hash }) => ({ given: await documentIn(hash) }),
 };
 
@@ -28,4 +37,12 @@ async function answerTo({ id, kind, ...asked }) {
   }
 }
 
-self.onmessage = ({ data }) => answerTo(data);
+self.onmessage = ({ data }) => {
+  if (data.kind === 'begin') {
+    studio = begun(data);
+    // Whoever asks is told.
+    studio.catch(() => {});
+  } else {
+    answerTo(data);
+  }
+};

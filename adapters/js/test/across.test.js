@@ -3,11 +3,11 @@
 
 const assert = require('node:assert/strict');
 const test = require('node:test');
-const ELK = require('../elk');
-const { acrossBorders } = require('../testing/across');
-const { judged } = require('../testing/drawing-faults');
-const { quietLayout: layout } = require('../testing/layout');
-const { WITH_PROGRAM, run } = require('../testing/program');
+const ELK = require('../src/elk');
+const { acrossBorders } = require('./helpers/across');
+const { judged } = require('./helpers/drawing-faults');
+const { quietLayout: layout } = require('./helpers/layout');
+const { WITH_PROGRAM, run } = require('./helpers/program');
 
 // ELK_SEEDS documents of each kind.
 const SEEDS = Number(process.env.ELK_SEEDS ?? 12);

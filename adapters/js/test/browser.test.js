@@ -9,8 +9,8 @@ const path = require('node:path');
 const test = require('node:test');
 const { pathToFileURL } = require('node:url');
 const { library } = require('../pack/library');
-const { Browser, WITH_BROWSER } = require('../testing/browser');
-const { WITH_MODULE } = require('../testing/module');
+const { Browser, WITH_BROWSER } = require('./helpers/browser');
+const { WITH_MODULE } = require('./helpers/module');
 
 const WITH_BOTH = { skip: WITH_BROWSER.skip || WITH_MODULE.skip, timeout: 120_000 };
 
@@ -42,7 +42,7 @@ const SCRIPT = '<script src="elk.bundled.js"></script>';
 const STRICT = "script-src 'self' 'unsafe-inline' 'wasm-unsafe-eval'; worker-src 'self'";
 
 const HEADS = {
-  'page.html': `${SCRIPT}<script src="elk-svg.js"></script>`,
+  'page.html': SCRIPT,
   'module.html': `<script type="module">import ELK from './elk.bundled.mjs'; window.elk = new ELK();</script>`,
   'url.html': `${SCRIPT}<script>window.elk = new ELK({ workerUrl: 'elk-worker.js' });</script>`,
   'api.html': `<script src="elk-api.js"></script><script>window.elk = new ELK({ workerUrl: 'elk-worker.min.js' });</script>`,
@@ -50,6 +50,9 @@ const HEADS = {
 <script>window.elk = new ELK({ workerFactory: (url) => new Worker(url), workerUrl: 'elk-worker.js' });</script>`,
   'strict.html': `<meta http-equiv="Content-Security-Policy" content="${STRICT}">
 ${SCRIPT}<script>window.elk = new ELK({ workerUrl: 'elk-worker.js' });</script>`,
+  'blob.html': `<meta http-equiv="Content-Security-Policy" content="${STRICT}">
+${SCRIPT}<script>window.elk = new ELK();</script>`,
+  'functions.html': `<script type="module">import { toSvg } from './svg.mjs'; import { lint } from './lint.mjs'; Object.assign(window, { toSvg, lint });</script>`,
   'diagram.html': `<script src="elk-diagram.js"></script>`,
   'none.html': `${SCRIPT}<script>window.elk = new ELK({ workerUrl: 'none.js' });</script>`,
 };
@@ -120,6 +123,29 @@ test('a page of one script lays out, from a file, and stays free meanwhile', WIT
   assert.deepEqual(page.faults, []);
 });
 
+test('a page works for less than 16 ms itself in a layout of 600 labelled nodes', WITH_BOTH, async (t) => {
+  const page = await pageOfFile();
+  // What other programs take is not counted.
+  await page.send('Performance.enable', { timeDomain: 'threadTicks' });
+  await page.evaluate(`(async () => {
+    window.elk = new ELK();
+    window.graph = level(600);
+    [...graph.children, ...graph.edges].forEach((it) => { it.labels = [{ text: it.id, width: 30, height: 12 }]; });
+  })()`);
+  const worked = async () => {
+    const { metrics } = await page.send('Performance.getMetrics');
+    return metrics.find(({ name }) => name === 'TaskDuration').value * 1000;
+  };
+  const times = [];
+  for (let call = 0; call < 8; call += 1) {
+    const before = await worked();
+    await page.evaluate('elk.layout(graph).then(() => 0)');
+    times.push(Math.round(await worked() - before));
+  }
+  t.diagnostic(`all work of the page in a layout, so no stop is longer: ${times} ms`);
+  assert.ok(Math.min(...times) < 16, `${times}`);
+});
+
 test('a page lays out edges that cross the borders of boxes', WITH_BOTH, async () => {
   const page = await pageOfFile();
   const [x, container] = await page.evaluate(`(async () => {
@@ -131,10 +157,10 @@ test('a page lays out edges that cross the borders of boxes', WITH_BOTH, async (
   assert.deepEqual([x, container, page.faults], [0, 'r', []]);
 });
 
-test('a page draws what it has laid out', WITH_BOTH, async () => {
+test('a page draws a graph', WITH_BOTH, async () => {
   const page = await pageOfFile();
-  const texts = await page.evaluate(`new ELK().layout(pair()).then((placed) => {
-    document.body.innerHTML = ElkSvg.toSvg(placed);
+  const texts = await page.evaluate(`new ELK().svg(pair()).then((svg) => {
+    document.body.innerHTML = svg;
     return [...document.querySelectorAll('svg text')].map(({ textContent }) => textContent);
   })`);
   assert.deepEqual(texts.sort(), ['a', 'b']);
@@ -174,7 +200,21 @@ test('a page takes the class as a module, and a worker from a file, also where n
 test('a page tells why it has no worker', WITH_BOTH, async () => {
   const page = await pageOfServer('none.html');
   const said = await page.evaluate(`elk.layout(pair()).catch(({ name, message }) => [name, message])`);
-  assert.deepEqual(said, ['ProgramError', 'the worker ended: its script can not be loaded']);
+  assert.deepEqual(said, ['ProgramError', "the worker ended: its script can't be loaded"]);
+  const strict = await pageOfServer('blob.html');
+  const [name, message] = await strict.evaluate(`elk.layout(pair()).catch(({ name, message }) => [name, message])`);
+  assert.equal(name, 'ProgramError');
+  assert.match(message, /allows no workers from blobs, serve lib\/elk-worker\.js, and give its address as workerUrl$/);
+});
+
+test('a page judges texts and draws placed graphs by promises', WITH_BOTH, async () => {
+  const page = await pageOfServer('functions.html');
+  const said = await page.evaluate(`(async () => {
+    const svg = await toSvg({ id: 'r', width: 50, height: 50, children: [{ id: 'a', x: 9, y: 9, width: 20, height: 20 }] });
+    const [{ severity, rule }] = await lint('{"children":[{"id":"a"},{"id":"a"}]}');
+    return [svg.slice(0, 4), severity, rule];
+  })()`);
+  assert.deepEqual(said, ['<svg', 'fault', 7]);
 });
 
 /** A page with the element, and a promise of its next event. */
@@ -197,7 +237,11 @@ test('an element draws the graph of its attribute, and again what is set', WITH_
   const said = await page.evaluate(`(async () => {
     const it = added(\`<elk-diagram graph='{ "id": "r", "children": [{ "id": "a", "width": 30, "height": 30 }] }'></elk-diagram>\`);
     const first = await told(it, 'elk-placed');
-    const seen = [first.width, it.placed === first, words(it)];
+    const picture = it.firstElementChild;
+    const seen = [first.width, it.placed === first, words(it), picture.getAttribute('role'), picture.getAttribute('aria-label')];
+    document.body.style.width = '20px';
+    seen.push(picture.getBoundingClientRect().width <= 20);
+    document.body.style.width = '';
     it.graph = pair();
     it.layoutOptions = { 'elk.direction': 'DOWN' };
     it.arrows = false;
@@ -209,7 +253,7 @@ test('an element draws the graph of its attribute, and again what is set', WITH_
     await new Promise((resolve) => setTimeout(resolve, 50));
     return [...seen, it.children.length, it.placed === undefined];
   })()`);
-  assert.deepEqual(said, [54, true, ['a'], true, ['a', 'b'], 0, 1, 0, true]);
+  assert.deepEqual(said, [54, true, ['a'], 'img', 'a diagram with 1 node and 0 edges', true, true, ['a', 'b'], 0, 1, 0, true]);
   assert.deepEqual(page.faults, []);
 });
 

@@ -9,7 +9,7 @@ const { tmpdir } = require('node:os');
 const path = require('node:path');
 const { createInterface } = require('node:readline');
 const test = require('node:test');
-const { WITH_MODULE } = require('../testing/module');
+const { WITH_MODULE } = require('./helpers/module');
 
 const COMMAND = path.join(__dirname, '..', 'bin', 'elk');
 

@@ -3,8 +3,8 @@
 
 const assert = require('node:assert/strict');
 const test = require('node:test');
-const { layout } = require('../testing/layout');
-const { WITH_PROGRAM } = require('../testing/program');
+const { layout } = require('./helpers/layout');
+const { WITH_PROGRAM } = require('./helpers/program');
 
 const leaf = (id, more) => ({ id, width: 40, height: 30, ...more });
 const label = (text) => ({ text, width: 20, height: 10, layoutOptions: { 'elk.nodeLabels.placement': 'INSIDE V_TOP H_LEFT' } });

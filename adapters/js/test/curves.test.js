@@ -3,13 +3,13 @@
 
 const assert = require('node:assert/strict');
 const test = require('node:test');
-const { toSvg } = require('../svg');
-const { acrossBorders } = require('../testing/across');
-const { chance } = require('../testing/chance');
-const { curvesJudged } = require('../testing/curve-faults');
-const { labelFaults, labelled } = require('../testing/labelled');
-const { quietLayout } = require('../testing/layout');
-const { WITH_PROGRAM } = require('../testing/program');
+const { toSvg } = require('../src/svg');
+const { acrossBorders } = require('./helpers/across');
+const { chance } = require('./helpers/chance');
+const { curvesJudged } = require('./helpers/curve-faults');
+const { labelFaults, labelled } = require('./helpers/labelled');
+const { quietLayout } = require('./helpers/layout');
+const { WITH_PROGRAM } = require('./helpers/program');
 
 // ELK_SEEDS documents of each kind.
 const SEEDS = Number(process.env.ELK_SEEDS ?? 12);

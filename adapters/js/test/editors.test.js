@@ -3,8 +3,8 @@
 
 const assert = require('node:assert/strict');
 const test = require('node:test');
-const { layout } = require('../testing/layout');
-const { WITH_PROGRAM } = require('../testing/program');
+const { layout } = require('./helpers/layout');
+const { WITH_PROGRAM } = require('./helpers/program');
 
 const byId = (list) => Object.fromEntries(list.map((it) => [it.id, it]));
 

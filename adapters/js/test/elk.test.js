@@ -4,15 +4,11 @@ const assert = require('node:assert/strict');
 const { readFileSync } = require('node:fs');
 const path = require('node:path');
 const test = require('node:test');
-const { documentOf } = require('../document');
-const ELK = require('../elk');
-const { WITH_MODULE } = require('../testing/module');
-const { PROGRAM, run, TOP, WITH_PROGRAM } = require('../testing/program');
+const ELK = require('../src/elk');
+const { WITH_MODULE } = require('./helpers/module');
+const { PROGRAM, replyOf, run, TOP, WITH_PROGRAM } = require('./helpers/program');
 
-// Where a native program is named, it answers in place of the module.
-delete process.env.ELK_PROGRAM;
-
-const PUPPET = path.join(__dirname, '..', 'testing', 'puppet');
+const PUPPET = path.join(__dirname, 'helpers', 'puppet');
 
 const example = (name) => JSON.parse(readFileSync(path.join(TOP, 'examples', `${name}.json`), 'utf8'));
 
@@ -57,7 +53,7 @@ const pair = (edge = {}, options = {}) => ({
 });
 
 test('the class is had in every way in which elkjs is', async () => {
-  const module = await import('../elk.js');
+  const module = await import('../src/elk.js');
   assert.equal(module.default, ELK);
   assert.equal(module.ELK, ELK);
   assert.equal(ELK.ELK, ELK);
@@ -93,7 +89,7 @@ test('a call without a graph, or with one that is no JSON, fails alone', async (
   const round = {};
   round.children = [round];
   await assert.rejects(elk.layout(round), { rule: 6, name: 'TooDeep' });
-  await assert.rejects(elk.layout({ id: 1n }), TypeError);
+  await assert.rejects(elk.layout({ id: 1n }), { name: 'TypeError', path: 'id' });
   assert.equal((await elk.layout({ id: 'on' })).id, 'on');
 });
 
@@ -102,8 +98,10 @@ test('a reply that is no answer, or none at all, rejects the call', async (t) =>
   t.after(() => elk.terminateWorker());
   await assert.rejects(elk.layout({ id: 'say nonsense' }), { name: 'ProgramError', message: /no answer: nonsense/ });
   await assert.rejects(elk.layout({ id: 'kill' }), { name: 'ProgramError', signal: 'SIGKILL' });
-  await assert.rejects(elk.layout({ id: 'say refused 99 Later "x"' }), { rule: 99, name: 'Later', id: 'x' });
-  await assert.rejects(elk.layout({ id: 'say refused 0 TooLong -' }), { rule: 0, name: 'TooLong', id: undefined });
+  const later = { rule: 99, name: 'Later', id: 'x', message: 'the document is refused (rule 99, Later)' };
+  await assert.rejects(elk.layout({ id: `say ${JSON.stringify({ fault: later })}` }), later);
+  await assert.rejects(elk.layout({ id: 'say {"fault":{"rule":null,"message":"too new"}}' }), { name: 'ProgramError', message: /too new/ });
+  await assert.rejects(elk.layout({ id: 'say {"warnings":[]}' }), { name: 'ProgramError', message: /no answer: \{"warnings"/ });
   assert.equal((await elk.layout({ id: 'on' })).id, 'on');
 });
 
@@ -124,8 +122,7 @@ test('a graph is taken when the call is made', async (t) => {
   const call = elk.layout(graph);
   graph.id = 'second';
   graph.children.pop();
-  const none = { width: 0, height: 0 };
-  assert.deepEqual(await call, { id: 'first', ...none, children: [{ id: 'a', ...none }] });
+  assert.deepEqual(await call, { id: 'first', children: [{ id: 'a' }] });
 });
 
 drawn('a graph is placed as the program places it, and the answer is judged right', async (made) => {
@@ -134,7 +131,7 @@ drawn('a graph is placed as the program places it, and the answer is judged righ
     // Parts are moved into other rows than those of the program.
     graph.layoutOptions = { ...graph.layoutOptions, 'elk.separateConnectedComponents': false };
     const placed = await made().layout(graph);
-    const plain = JSON.parse(run(['layout'], JSON.stringify(documentOf(graph, { numbers: 'ceil', general: {} }))).stdout);
+    const plain = JSON.parse(run(['layout'], JSON.stringify(replyOf({ graph, give: ['document'] }).document)).stdout);
     for (const part of ['x', 'y', 'width', 'height', 'layering']) {
       assert.deepEqual(placed[part], plain[part], part);
     }
@@ -192,7 +189,7 @@ drawn('the time and the program are told where they are asked for', async (made)
   assert.equal('logging' in (await elk.layout(pair())), false);
   const { logging } = await elk.layout(pair(), { measureExecutionTime: true, logging: true });
   assert.ok(logging.executionTime > 0 && logging.executionTime < 60);
-  assert.deepEqual({ ...logging, executionTime: 0 }, { name: 'elk batch', executionTime: 0, logs: [], children: [] });
+  assert.deepEqual({ ...logging, executionTime: 0 }, { name: 'elk-draw', executionTime: 0, logs: [], children: [] });
 });
 
 drawn('junction points are told where edges of one port part', async (made) => {
@@ -204,10 +201,10 @@ drawn('junction points are told where edges of one port part', async (made) => {
 
 drawn('fractions are rounded by default and refused where they are to be exact', async (made) => {
   const graph = pair();
-  Object.assign(graph.children[0], { width: 30.2, height: 29.5, x: 7.25 });
+  Object.assign(graph.children[0], { width: 30.2, x: 7.25 });
   const placed = await made().layout(graph);
   assert.deepEqual([placed.children[0].width, placed.children[0].height], [31, 30]);
-  assert.deepEqual([graph.children[0].width, graph.children[0].height], [30.2, 29.5]);
+  assert.equal(graph.children[0].width, 30.2);
   await assert.rejects(made({ numbers: 'exact' }).layout(graph), {
     rule: 2,
     name: 'NotWhole',
@@ -216,9 +213,22 @@ drawn('fractions are rounded by default and refused where they are to be exact',
   });
 });
 
+drawn('spacings and paddings are drawn as if they were rounded up', async (made) => {
+  const placesWith = async (layoutOptions, general) => {
+    const placed = await made().layout(pair({}, layoutOptions), { layoutOptions: general });
+    return [placed, ...placed.children].map(({ x, y, width, height }) => ({ x, y, width, height }));
+  };
+  const between = 'elk.layered.spacing.nodeNodeBetweenLayers';
+  const fractions = { [between]: 30.2, 'elk.padding': '[top=10.5,left=3]', 'elk.edgeRouting': 'POLYLINE' };
+  const whole = { ...fractions, [between]: 31, 'elk.padding': '[top=11,left=3]' };
+  const expected = await placesWith(whole);
+  assert.deepEqual(await placesWith(fractions), expected);
+  assert.deepEqual(await placesWith({}, fractions), expected);
+});
+
 drawn('a hundred calls at once are answered in order', async (made) => {
   const elk = made();
-  const order = [];
+  const order = { drawn: [], refused: [] };
   const calls = Array.from({ length: 100 }, async (_, at) => {
     const graph = pair();
     graph.children[0].width = at;
@@ -228,11 +238,13 @@ drawn('a hundred calls at once are answered in order', async (made) => {
     } catch ({ name }) {
       return name;
     } finally {
-      order.push(at);
+      order[at % 9 === 0 ? 'refused' : 'drawn'].push(at);
     }
   });
   const answers = await Promise.all(calls);
-  assert.deepEqual(order, [...answers.keys()]);
+  // A refusal comes later, because the program is asked for the warnings then.
+  const inOrder = (list) => list.slice().sort((one, other) => one - other);
+  Object.values(order).forEach((list) => assert.deepEqual(list, inOrder(list)));
   assert.deepEqual(answers, [...answers.keys()].map((at) => (at % 9 === 0 ? 'UnknownEnd' : at)));
 });
 
@@ -249,7 +261,8 @@ const REFUSED = [
   [1, 'NotJson', undefined, /is not JSON: id: a string has half/, { id: '\ud800' }],
   [6, 'TooDeep', undefined, /more than 50 levels/, nested(70)],
   [2, 'NotWhole', undefined, /: children\[1\]\.id is 1\.5 \(rule/, { children: [{ id: 1 }, { id: 1.5 }] }],
-  [2, 'NotWhole', undefined, /layoutOptions\["elk\.spacing\.nodeNode"\] is 2\.5/, pair({}, { 'elk.spacing.nodeNode': 2.5 })],
+  [2, 'NotWhole', undefined, /layoutOptions\["elk\.layered\.effort"\] is 2\.5/, pair({}, { 'elk.layered.effort': 2.5 })],
+  [2, 'NotWhole', undefined, /layoutOptions\["elk\.spacing\.nodeNode"\] is -2\.5/, pair({}, { 'elk.spacing.nodeNode': -2.5 })],
   [3, 'BadShape', undefined, /wrong kind of value/, { children: {} }],
   [3, 'BadShape', undefined, /wrong kind of value/, 5],
   [4, 'OutOfRange', 'a', /^a size of "a" is not from 0 to 2\^20/, { children: [{ id: 'a', width: -1 }] }],

@@ -2,8 +2,8 @@
 
 const assert = require('node:assert/strict');
 const test = require('node:test');
-const ELK = require('../elk');
-const { PROGRAM, WITH_PROGRAM } = require('../testing/program');
+const ELK = require('../src/elk');
+const { PROGRAM, WITH_PROGRAM } = require('./helpers/program');
 
 async function placedEdges(edges, options = {}) {
   const elk = new ELK({ program: PROGRAM });

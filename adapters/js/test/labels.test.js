@@ -2,13 +2,11 @@
 
 const assert = require('node:assert/strict');
 const test = require('node:test');
-const { copyOf, documentOf } = require('../document');
-const ELK = require('../elk');
-const { draftOf } = require('../stages');
-const { withLayers } = require('../testing/bound');
-const { chance } = require('../testing/chance');
-const { labelFaults, labelled } = require('../testing/labelled');
-const { PROGRAM, run, WITH_PROGRAM } = require('../testing/program');
+const ELK = require('../src/elk');
+const { withLayers } = require('./helpers/bound');
+const { chance } = require('./helpers/chance');
+const { labelFaults, labelled } = require('./helpers/labelled');
+const { PROGRAM, replyOf, run, WITH_PROGRAM } = require('./helpers/program');
 
 // The gate tries a part of the documents; LABELS=all tries all of them.
 const SEEDS = process.env.LABELS === 'all' ? 900 : 120;
@@ -39,10 +37,8 @@ test('no label of a document drawn by chance meets a node, a port, a line or ano
 
 test('what the engine is asked for these documents it answers rightly', WITH_PROGRAM, () => {
   for (const seed of seeds(JUDGED)) {
-    const how = { numbers: 'ceil', general: {}, lacks: new Map() };
-    const graph = copyOf(labelled(seed));
-    draftOf(graph, how);
-    const { stdout, stderr } = run(['layout'], JSON.stringify(documentOf(graph, how)));
+    const { document } = replyOf({ graph: labelled(seed), give: ['document'] });
+    const { stdout, stderr } = run(['layout'], JSON.stringify(document));
     assert.equal(stderr, '', `document ${seed}`);
     assert.equal(run(['check'], stdout).stdout, 'yes\n', `document ${seed}`);
   }

@@ -4,15 +4,15 @@
 
 const assert = require('node:assert/strict');
 const test = require('node:test');
-const ELK = require('../elk');
-const { acrossBorders } = require('../testing/across');
-const { withLayers } = require('../testing/bound');
-const { curvesJudged } = require('../testing/curve-faults');
-const { judged } = require('../testing/drawing-faults');
-const { labelFaults, labelled } = require('../testing/labelled');
-const { layersJudged } = require('../testing/layer-faults');
-const { quietLayout: layout } = require('../testing/layout');
-const { PROGRAM, WITH_PROGRAM } = require('../testing/program');
+const ELK = require('../src/elk');
+const { acrossBorders } = require('./helpers/across');
+const { withLayers } = require('./helpers/bound');
+const { curvesJudged } = require('./helpers/curve-faults');
+const { judged } = require('./helpers/drawing-faults');
+const { labelFaults, labelled } = require('./helpers/labelled');
+const { layersJudged } = require('./helpers/layer-faults');
+const { quietLayout: layout } = require('./helpers/layout');
+const { PROGRAM, WITH_PROGRAM } = require('./helpers/program');
 
 // ELK_SEEDS documents of each kind.
 const SEEDS = Number(process.env.ELK_SEEDS ?? 12);

@@ -6,11 +6,8 @@ const { mkdtempSync, readFileSync, rmSync, writeFileSync } = require('node:fs');
 const { tmpdir } = require('node:os');
 const path = require('node:path');
 const test = require('node:test');
-const { pathToFileURL } = require('node:url');
-const { lint } = require('../lint');
-const { judging } = require('../pack/library');
-const { Browser, WITH_BROWSER } = require('../testing/browser');
-const { TOP } = require('../testing/program');
+const { lint } = require('../src/lint');
+const { TOP } = require('./helpers/program');
 
 const LINT = path.join(TOP, 'adapters', 'js', 'bin', 'elk-lint');
 
@@ -54,53 +51,51 @@ const NO_JSON = [
   ['['.repeat(128), '1:128 arrays and objects are nested more than 127 deep'],
 ];
 
+/** What is said of a text: the faults, and the warnings. */
+function judged(text, how) {
+  const all = lint(text, how);
+  return ['fault', 'warning'].map((kind) => all.filter(({ severity }) => severity === kind));
+}
+
 test('a text that is no JSON is told with its place and its reason', () => {
   for (const [text, said] of NO_JSON) {
-    const { faults, warnings } = lint(text);
-    const [{ rule, line, column, detail }] = faults;
-    assert.deepEqual([faults.length, warnings.length, rule], [1, 0, 1]);
+    const [[fault, ...others], warnings] = judged(text);
+    const { rule, line, column, detail } = fault;
+    assert.deepEqual([others.length, warnings.length, rule], [0, 0, 1]);
     assert.equal(`${line}:${column} ${detail.replace(/^line \d+, column \d+: /, '')}`, said, text.slice(0, 40));
   }
 });
 
 test('no text is too deep to be judged', () => {
-  const namesOf = (text, how) => lint(text, how).faults.map(({ rule, name }) => [rule, name]);
   for (const text of ['['.repeat(100_000), '{"a":'.repeat(100_000), '{"children":['.repeat(50_000)]) {
-    for (const how of [{}, { isPlaced: true }]) {
-      assert.deepEqual(namesOf(text, how), [[1, 'NotJson']]);
-    }
-    // A call names the rule of nodes where it is nodes that stand so deep.
-    assert.deepEqual(namesOf(text, { call: {} }), text.includes('children') ? [[6, 'TooDeep']] : [[1, 'NotJson']]);
+    const names = lint(text).map(({ rule, name }) => [rule, name]);
+    assert.deepEqual(names, text.includes('children') ? [[6, 'TooDeep']] : [[1, 'NotJson']]);
   }
 });
 
 test('places are those of values for faults, and those of names for warnings', () => {
   const text = '{\r\n  "id": "r", "é😀": 1,\n  "children": [ { "id": "a", "width": 0.5 } ],\n  "layoutOptions": { "elk.directon": "UP" }\n}';
-  const { faults, warnings } = lint(text);
+  const [faults, warnings] = judged(text, { numbers: 'exact' });
   assert.deepEqual(faults.map(({ line, column, source, mark }) => [line, column, source[mark]]), [[3, 39, '0']]);
   assert.deepEqual(warnings.map(({ line, column, source, mark }) => [line, column, source[mark]]), [[4, 22, '"']]);
 });
 
 test('of a long line a piece is shown', () => {
   const text = `{"id":"r","own":"${'x'.repeat(5000)}","children":[{"id":"a","width":0.5}],"more":"${'y'.repeat(5000)}"}`;
-  const [{ source, mark }] = lint(text).faults;
+  const [{ source, mark }] = lint(text, { numbers: 'exact' });
   assert.ok(source.length < 200);
   assert.equal(source.slice(mark, mark + 3), '0.5');
 });
 
 test('a member that stands twice is told, and the last one counts', () => {
-  const { faults, warnings } = lint('{"id":"r","width":0.5,"width":1}');
+  const [faults, warnings] = judged('{"id":"r","width":0.5,"width":1}', { numbers: 'exact' });
   assert.deepEqual([faults, warnings.map(({ message }) => message)], [[], ['width is there twice, and the last one counts']]);
 });
 
-test('numbers that JavaScript can\'t hold are read as the program reads them', () => {
+test('whole ids may be as large as those of the engine', () => {
   const ids = (one, other) => `{"children":[{"id":${one}},{"id":${other}}]}`;
-  assert.deepEqual(lint(ids('9007199254740993', '9007199254740992')).faults, []);
-  assert.deepEqual(lint(ids('18446744073709551615', '-9223372036854775808')).faults, []);
-  assert.deepEqual(lint(ids('9007199254740993', '9007199254740993')).faults.map(({ rule }) => rule), [7]);
-  const fractions = ['1.0', '-0', '1e2', '18446744073709551616', '-9223372036854775809'];
-  const found = lint(`{"own":[${fractions}]}`).faults;
-  assert.deepEqual(found.map(({ detail }) => detail), fractions.map((text, at) => `own[${at}] is ${text}`));
+  assert.deepEqual(lint(ids('18446744073709551615', '-9223372036854775808')), []);
+  assert.deepEqual(lint(ids('9007199254740993', '9007199254740993')).map(({ rule }) => rule), [7]);
 });
 
 test('the command tells faults and warnings of files, and ends with its status', (t) => {
@@ -115,10 +110,10 @@ test('the command tells faults and warnings of files, and ends with its status',
   const binary = file('binary.json', Buffer.from([0x22, 0xff, 0x22]));
   for (const [words, status, stdout, stderr] of [
     [[good], 0, /^$/, /^$/],
-    [[good, bad], 2, /^\S+bad\.json:1:52: a number is not whole: .*\n.*\n +\^\n\S+bad\.json:1:33: warning: children\[0\]\.widht is/, /^$/],
-    [['--call', bad], 0, /^\S+bad\.json:1:33: warning: children\[0\]\.widht is not read; did you mean "width"\?\n/, /^$/],
+    [['--exact', good, bad], 2, /^\S+bad\.json:1:52: a number is not whole: .*\n.*\n +\^\n\S+bad\.json:1:33: warning: children\[0\]\.widht is/, /^$/],
+    [[bad], 0, /^\S+bad\.json:1:33: warning: children\[0\]\.widht is not read; did you mean "width"\?\n/, /^$/],
     [[binary], 2, /^\S+binary\.json: the document is not JSON: the bytes are not UTF-8 \(rule 1, NotJson\)\n$/, /^$/],
-    [[path.join(folder, 'none.json'), bad], 3, /a number is not whole/, /^elk-lint: \S+none\.json can't be read: /],
+    [['--exact', path.join(folder, 'none.json'), bad], 3, /a number is not whole/, /^elk-lint: \S+none\.json can't be read: /],
     [['--help'], 5, /^$/, /^usage: elk-lint/],
   ]) {
     const ran = command(words);
@@ -126,32 +121,14 @@ test('the command tells faults and warnings of files, and ends with its status',
     assert.match(ran.stdout, stdout);
     assert.match(ran.stderr, stderr);
   }
-  const told = command(['--json', good, bad]).stdout.trimEnd().split('\n').map((line) => JSON.parse(line));
-  assert.deepEqual(told.map((it) => [it.file, it.faults.length, it.warnings.length]), [[good, 0, 0], [bad, 1, 1]]);
-  assert.deepEqual([told[1].faults[0].path, told[1].faults[0].line], ['children[0].height', 1]);
-});
-
-test('a page judges documents too', WITH_BROWSER, async (t) => {
-  const folder = mkdtempSync(path.join(tmpdir(), 'elk-lint-'));
-  const browser = new Browser();
-  t.after(async () => {
-    await browser.close();
-    rmSync(folder, { recursive: true });
-  });
-  writeFileSync(path.join(folder, 'elk-lint.js'), judging());
-  const head = '<!doctype html><meta charset="utf-8"><title>A page</title>';
-  writeFileSync(path.join(folder, 'page.html'), `${head}<script src="elk-lint.js"></script>`);
-  const page = await browser.open(pathToFileURL(path.join(folder, 'page.html')).href);
-  const text = '{"id":"r","layoutOptions":{"elk.directon":"UP"},"children":[{"id":"a","width":0.5},{"id":"a"}]}';
-  for (const how of [{}, { call: {} }]) {
-    const judged = await page.evaluate(`ElkLint.lint(${JSON.stringify(text)}, ${JSON.stringify(how)})`);
-    assert.deepEqual(judged, JSON.parse(JSON.stringify(lint(text, how))));
-  }
+  const told = command(['--exact', '--json', good, bad]).stdout.trimEnd().split('\n').map((line) => JSON.parse(line));
+  assert.deepEqual(told.map((it) => [it.file, it.lint.map(({ severity }) => severity)]), [[good, []], [bad, ['fault', 'warning']]]);
+  assert.deepEqual([told[1].lint[0].path, told[1].lint[0].line], ['children[0].height', 1]);
 });
 
 test('the page shows what the command says', () => {
   const page = readFileSync(path.join(TOP, 'docs', 'EDITORS.md'), 'utf8');
-  const [, block] = /echo '(.*)' \| adapters\/js\/bin\/elk-lint\n((?: {4}.*\n)+)/.exec(page) ?? [];
-  const [, , shown] = /echo '(.*)' \| adapters\/js\/bin\/elk-lint\n((?: {4}.*\n)+)/.exec(page);
-  assert.equal(command([], `${block}\n`).stdout, shown.replace(/^ {4}/gm, ''));
+  const [, block] = /echo '(.*)' \| adapters\/js\/bin\/elk-lint --exact\n((?: {4}.*\n)+)/.exec(page) ?? [];
+  const [, , shown] = /echo '(.*)' \| adapters\/js\/bin\/elk-lint --exact\n((?: {4}.*\n)+)/.exec(page);
+  assert.equal(command(['--exact'], `${block}\n`).stdout, shown.replace(/^ {4}/gm, ''));
 });

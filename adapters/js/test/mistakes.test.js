@@ -5,17 +5,14 @@ const assert = require('node:assert/strict');
 const { readFileSync } = require('node:fs');
 const path = require('node:path');
 const test = require('node:test');
-const ELK = require('../elk');
-const { lint } = require('../lint');
-const { PROGRAM, TOP, WITH_PROGRAM } = require('../testing/program');
+const ELK = require('../src/elk');
+const { lint } = require('../src/lint');
+const { PROGRAM, TOP, WITH_PROGRAM } = require('./helpers/program');
 
 // Each mistake with a graph that has it, or a text that isn't even JSON.
 const MISTAKES = JSON.parse(readFileSync(path.join(TOP, 'tests', 'mistakes.json'), 'utf8')).map(({ mistake, graph, text }) => [mistake, text ?? graph]);
 
-const told = (document) => {
-  const { faults, warnings } = lint(typeof document === 'string' ? document : JSON.stringify(document), { call: {} });
-  return [...faults, ...warnings].map(({ message }) => message);
-};
+const told = (document) => lint(typeof document === 'string' ? document : JSON.stringify(document)).map(({ message }) => message);
 
 test('the page has the message of each mistake', () => {
   const page = readFileSync(path.join(TOP, 'docs', 'EDITORS.md'), 'utf8');

@@ -7,12 +7,12 @@ const { tmpdir } = require('node:os');
 const path = require('node:path');
 const test = require('node:test');
 const { gzipSync } = require('node:zlib');
-const { Program, withMemoryLimit } = require('../module');
-const { ProgramError } = require('../program-error');
-const { PUPPET_MODULE } = require('../testing/module');
+const { Program, withMemoryLimit } = require('../src/module');
+const { ProgramError } = require('../src/errors');
+const { PUPPET_MODULE } = require('./helpers/module');
 
 const PUPPET = readFileSync(PUPPET_MODULE);
-const COMMAND = path.join(__dirname, '..', 'bin', 'elk');
+const COMMAND = path.join(__dirname, '..', 'bin', 'elk-draw');
 const PAGE = 2 ** 16;
 
 const programOf = (bytes) => new Program(new WebAssembly.Module(bytes));
@@ -43,7 +43,7 @@ test('words, input and output pass through a module', () => {
   assert.deepEqual(run(programOf(PUPPET), text, ['batch', '', 'long words']), {
     status: 0,
     out: text,
-    notes: 'elk\nbatch\n\nlong wor\n',
+    notes: 'elk-draw\nbatch\n\nlong wor\n',
   });
 });
 
@@ -89,7 +89,7 @@ test('an instance that has grown large is let go', () => {
 
 test('the command has the words, streams and statuses of its module', () => {
   const { status, stdout, stderr } = command('text');
-  assert.deepEqual({ status, stdout, stderr }, { status: 0, stdout: 'text', stderr: 'elk\none\ntwo\n' });
+  assert.deepEqual({ status, stdout, stderr }, { status: 0, stdout: 'text', stderr: 'elk-draw\none\ntwo\n' });
   assert.equal(command('N').status, 1);
   assert.equal(command('G', { ELK_MEMORY: String(2 ** 20) }).status, 6);
 });
@@ -97,14 +97,14 @@ test('the command has the words, streams and statuses of its module', () => {
 test('the command says why it has no program to run', () => {
   const seen = (input, environment) => {
     const { status, stderr } = command(input, environment);
-    return [status, stderr.replace('elk\none\ntwo\n', '')];
+    return [status, stderr.replace('elk-draw\none\ntwo\n', '')];
   };
-  assert.deepEqual(seen('T'), [70, 'elk: the program was ended by a trap: unreachable\n']);
-  const limit = 'elk: a limit of 5 bytes is below the 131072 with which the program starts\n';
+  assert.deepEqual(seen('T'), [70, 'elk-draw: the program was ended by a trap: unreachable\n']);
+  const limit = 'elk-draw: a limit of 5 bytes is below the 131072 with which the program starts\n';
   assert.deepEqual(seen('', { ELK_MEMORY: '5' }), [70, limit]);
   const [status, note] = seen('', { ELK_MODULE: '/no/such/module' });
   assert.equal(status, 70);
-  assert.match(note, /^elk: the module \/no\/such\/module can't be read: /);
+  assert.match(note, /^elk-draw: the module \/no\/such\/module can't be read: /);
 });
 
 test('a packed module is as good as a plain one', (t) => {

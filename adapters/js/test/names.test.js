@@ -2,8 +2,8 @@
 
 const assert = require('node:assert/strict');
 const test = require('node:test');
-const ELK = require('../elk');
-const { PROGRAM, WITH_PROGRAM } = require('../testing/program');
+const ELK = require('../src/elk');
+const { PROGRAM, WITH_PROGRAM } = require('./helpers/program');
 
 const layout = async (graph) => {
   const elk = new ELK({ program: PROGRAM });
@@ -44,12 +44,13 @@ test('a port may be called like a node', WITH_PROGRAM, async () => {
 test('a refusal names the caller\'s element', WITH_PROGRAM, async () => {
   const graph = namesakes([]);
   graph.children[0].ports[1].width = -1;
-  await assert.rejects(layout(graph), { name: 'OutOfRange', id: 'b', message: /size of "b" is/ });
+  const path = 'children[0].ports[1].width';
+  await assert.rejects(layout(graph), { name: 'OutOfRange', id: 'b', path, found: -1, message: /size of "b" is/ });
   const across = [box('c', { children: [box('d')] })];
   const layoutOptions = { 'elk.hierarchyHandling': 'SEPARATE_CHILDREN' };
   const many = { ...namesakes([{ id: 'many', sources: ['a'], targets: ['b', 'd'] }]), layoutOptions };
   many.children.push(...across);
-  await assert.rejects(layout(many), { name: 'CrossLevel', id: 'many' });
+  await assert.rejects(layout(many), { name: 'CrossLevel', id: 'many', path: 'edges[0]', message: /edge "many" joins .* and "d" in "c"/ });
 });
 
 test('options count under any clear name, and in properties', WITH_PROGRAM, async () => {

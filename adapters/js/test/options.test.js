@@ -3,10 +3,8 @@
 
 const assert = require('node:assert/strict');
 const test = require('node:test');
-const limits = require('../data/limits.json');
-const { OPTIONS } = require('../options');
-const { isTaken, nearValue } = require('../values');
-const { run, WITH_PROGRAM } = require('../testing/program');
+const { options: OPTIONS } = require('../data/options.json');
+const { run, WITH_PROGRAM } = require('./helpers/program');
 
 const PREFIXES = ['org.eclipse.elk.', 'elk.', ''];
 
@@ -73,35 +71,6 @@ test('every other value of an option is refused', WITH_PROGRAM, () => {
   }
 });
 
-test('which values are taken is known before', () => {
-  for (const option of OPTIONS) {
-    assert.deepEqual(TAKEN[option.type](option).filter((value) => !isTaken(option, value)), [], option.name);
-    assert.deepEqual(REFUSED[option.type](option).filter((value) => isTaken(option, value)), [], option.name);
-  }
-});
-
-test('what was meant by another value is a value', () => {
-  for (const [name, value, meant] of [
-    ['direction', 'Rigth', 'RIGHT'],
-    ['direction', ' down ', 'DOWN'],
-    ['direction', 'sideways', undefined],
-    ['direction', 5, undefined],
-    ['algorithm', 'Layered', 'layered'],
-    ['algorithm', 'elk.laered', 'elk.layered'],
-    ['algorithm', 'eclipse.layered', undefined],
-    ['spacing.nodeNode', ' 20 ', '20'],
-    ['spacing.nodeNode', '20px', undefined],
-    ['padding', '12', '[top=12,left=12,bottom=12,right=12]'],
-    ['padding', '12px', '[top=12,left=12,bottom=12,right=12]'],
-    ['padding', '[12, 3]', undefined],
-    ['separateConnectedComponents', 'ture', 'true'],
-  ]) {
-    const option = OPTIONS.find((it) => it.name === name);
-    assert.equal(nearValue(option, value), meant, `${name}: ${value}`);
-    assert.ok(meant === undefined || isTaken(option, meant));
-  }
-});
-
 test('a default draws what no value draws', WITH_PROGRAM, () => {
   // A node without a position has none.
   for (const option of OPTIONS.filter(({ name }) => name !== 'layered.position')) {
@@ -118,34 +87,5 @@ test('an element reads the options that stand at it alone', WITH_PROGRAM, () => 
     const said = replies(places.map((at) => documentWith({ ...option, at }, 'NO_SUCH')));
     const readers = places.filter((_, at) => said[at].startsWith('refused'));
     assert.deepEqual(readers, option.at === 'nodes' ? ['levels', 'nodes'] : [option.at], option.name);
-  }
-});
-
-const list = (length, make) => Array.from({ length }, (_, at) => make(at));
-
-const nested = (depth) => ({ id: depth, children: depth > 0 ? [nested(depth - 1)] : [] });
-
-const loops = (length) => ({ children: [{ id: 'a' }], edges: list(length, (id) => ({ id, source: 'a', target: 'a' })) });
-
-test('the limits are those of the program', WITH_PROGRAM, () => {
-  const port = (x) => ({ children: [{ id: 'a', ports: [{ id: 'p', x }] }] });
-  const farPort = (x) => ({ ports: [{ id: 'p', x }] });
-  for (const [name, rule, make] of [
-    ['nodes', 'TooMany', (most) => ({ children: list(most - 1, (id) => ({ id })) })],
-    ['ports', 'TooMany', (most) => ({ ports: list(most, (id) => ({ id })) })],
-    ['edges', 'TooMany', loops],
-    ['levels', 'TooDeep', nested],
-    ['size', 'OutOfRange', (width) => ({ children: [{ id: 'a', width }] })],
-    ['place', 'OutOfRange', port],
-    ['place', 'OutOfRange', (most) => port(-most)],
-    ['nesting', 'NotJson', (most) => ({ own: JSON.parse('['.repeat(most - 1) + ']'.repeat(most - 1)) })],
-    ['farPlace', 'OutOfRange', farPort],
-    ['bytes', 'TooLong', (most) => ({ id: 'x'.repeat(most - 9) })],
-  ]) {
-    // Past 2^53 numbers of JavaScript are two apart.
-    const past = limits[name] + (name === 'farPlace' ? 2 : 1);
-    const [taken, refused] = replies([make(limits[name]), make(past)]);
-    assert.match(taken.slice(0, 40), /^\{/, name);
-    assert.match(refused.slice(0, 40), new RegExp(`^refused \\d+ ${rule} `), name);
   }
 });

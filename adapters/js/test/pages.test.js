@@ -2,24 +2,32 @@
 
 const assert = require('node:assert/strict');
 const { spawnSync } = require('node:child_process');
-const { readFileSync } = require('node:fs');
+const { mkdirSync, mkdtempSync, readFileSync, rmSync, symlinkSync } = require('node:fs');
+const { tmpdir } = require('node:os');
 const path = require('node:path');
 const test = require('node:test');
-const { PROGRAM, TOP, WITH_PROGRAM } = require('../testing/program');
-const { elementsOfXml } = require('../testing/xml');
+const { PROGRAM, TOP, WITH_PROGRAM } = require('./helpers/program');
+const { elementsOfXml } = require('./helpers/xml');
 
 const page = readFileSync(path.join(TOP, 'docs', 'EDITORS.md'), 'utf8');
 
-/** The script of the page that stands below a heading, run as a user would run it at the repository's top. */
+/** Runs a script as a user would run it in a folder. */
+function ran(script, cwd = TOP) {
+  const environment = { ...process.env, ELK_DRAW_PROGRAM: PROGRAM };
+  const words = ['--input-type=module', '--eval', script];
+  const { status, stdout, stderr } = spawnSync(process.execPath, words, { cwd, encoding: 'utf8', env: environment, timeout: 120_000 });
+  assert.deepEqual([status, stderr], [0, '']);
+  return stdout;
+}
+
+const tried = new Set();
+
+/** What the script of the page says that stands below a heading. */
 function scriptBelow(heading) {
+  tried.add(heading);
   const [, below] = page.split(`## ${heading}\n`);
   const [, script] = /```js\n(.*?)```/s.exec(below);
-  const program = PROGRAM;
-  const environment = { ...process.env, ELK_PROGRAM: program };
-  const words = ['--input-type=module', '--eval', script];
-  const ran = spawnSync(process.execPath, words, { cwd: TOP, encoding: 'utf8', env: environment, timeout: 120_000 });
-  assert.deepEqual([ran.status, ran.stderr], [0, '']);
-  return ran.stdout;
+  return ran(script);
 }
 
 test('the first script of the page for editors draws a diagram', WITH_PROGRAM, () => {
@@ -58,3 +66,25 @@ test('the second drawing of the page keeps the order of the first', WITH_PROGRAM
   assert.deepEqual(Object.keys(places).sort(), ['left', 'new', 'right', 'start']);
   assert.ok(places.left < places.right);
 });
+
+test('the layers of the page are those of its picture', WITH_PROGRAM, () => {
+  assert.equal(scriptBelow('Layers'), readFileSync(path.join(TOP, 'docs', 'layers.svg'), 'utf8'));
+});
+
+test('the picture of the page has its shapes and colours', WITH_PROGRAM, () => {
+  const picture = scriptBelow('Pictures');
+  const texts = elementsOfXml(picture).filter(({ name }) => name === 'text').map(({ content }) => content);
+  assert.deepEqual(texts.sort(), ['is it', 'new', 'paid?', 'ship', 'yes']);
+  assert.match(picture, /#2b8a3e.*#ffe066/is);
+});
+
+test('the script of the package draws its graph', WITH_PROGRAM, (t) => {
+  const room = mkdtempSync(path.join(tmpdir(), 'elk-pages-'));
+  t.after(() => rmSync(room, { recursive: true }));
+  mkdirSync(path.join(room, 'node_modules'));
+  symlinkSync(path.join(TOP, 'adapters', 'js'), path.join(room, 'node_modules', 'elk-layout'));
+  const [, script] = /```js\n(.*?)```/s.exec(readFileSync(path.join(TOP, 'adapters', 'js', 'README.md'), 'utf8'));
+  assert.match(ran(`${script}console.log(placed.width, picture.slice(0, 4));`, room), /^\d+ <svg\n$/);
+});
+
+test('each script of the page is tried', WITH_PROGRAM, () => assert.equal(tried.size, page.match(/^```js$/gm).length));

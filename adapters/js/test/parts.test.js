@@ -3,39 +3,17 @@
 
 const assert = require('node:assert/strict');
 const test = require('node:test');
-const { rowsFor } = require('../stages/parts');
-const { chance } = require('../testing/chance');
-const { curvesJudged } = require('../testing/curve-faults');
-const { judged } = require('../testing/drawing-faults');
-const { labelFaults, labelled } = require('../testing/labelled');
-const { quietLayout: layout } = require('../testing/layout');
-const { WITH_PROGRAM, run } = require('../testing/program');
+const { chance } = require('./helpers/chance');
+const { curvesJudged } = require('./helpers/curve-faults');
+const { judged } = require('./helpers/drawing-faults');
+const { labelFaults, labelled } = require('./helpers/labelled');
+const { quietLayout: layout } = require('./helpers/layout');
+const { WITH_PROGRAM, run } = require('./helpers/program');
 
 const SEEDS = Number(process.env.ELK_SEEDS ?? 12);
 
 const leaf = (id, more) => ({ id, width: 30, height: 30, ...more });
 const edge = (source, target) => ({ id: `${source}${target}`, sources: [source], targets: [target] });
-
-const boxes = (...sizes) => sizes.map(([width, height]) => ({ width, height }));
-
-// Boxes with a gap of 10, the ratio, and the size of the rows.
-const ROWS = [
-  [boxes([30, 30]), 1.6, [30, 30]],
-  [boxes(...Array(6).fill([30, 30])), 1.6, [110, 70]],
-  [boxes(...Array(6).fill([30, 30])), 0.2, [30, 230]],
-  [boxes(...Array(6).fill([30, 30])), 100, [230, 30]],
-  [boxes([200, 10], ...Array(4).fill([30, 30])), 1.6, [200, 50]],
-  [boxes([100, 100], [30, 30], [30, 30]), 1.6, [180, 100]],
-  [boxes([0, 0], [0, 0]), 1.6, [10, 0]],
-];
-
-test('boxes stand in rows that come near a shape', () => {
-  for (const [list, ratio, expected] of ROWS) {
-    const { size, at } = rowsFor(list, 10, ratio);
-    assert.deepEqual([size.width, size.height], expected, JSON.stringify(list));
-    assert.equal(at.length, list.length);
-  }
-});
 
 /** A graph of some parts, with loops, in some direction. */
 function scattered(seed) {

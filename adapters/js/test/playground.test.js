@@ -10,23 +10,28 @@ const path = require('node:path');
 const test = require('node:test');
 const { setTimeout: rest } = require('node:timers/promises');
 const { pathToFileURL } = require('node:url');
-const { deflateRawSync } = require('node:zlib');
-const { Program } = require('../module');
-const { moduleBytes } = require('../module-file');
+const { deflateRawSync, inflateRawSync } = require('node:zlib');
+const { withoutCopies } = require('../pack/copies');
 const { examples, playground } = require('../pack/playground');
-const { Studio } = require('../playground/answer');
-const { withOption } = require('../playground/choices');
-const { completionAt, helpAt } = require('../playground/completion');
-const { formatted } = require('../playground/format');
+const { withCopies } = require('../playground/copies');
+const { elementAt } = require('../playground/element-at');
+const { FORMS, formOf } = require('../playground/forms');
+const { withOption } = require('../playground/json/choices');
+const { completionAt, helpAt } = require('../playground/json/completion');
+const { formatted } = require('../playground/json/format');
+const { placesIn } = require('../playground/json/places');
 const { documentIn, hashOf } = require('../playground/link');
-const { elementAt, placesIn } = require('../playground/places');
+const { packed: packedBytes, unpacked } = require('../playground/packing');
+const { Studio } = require('../playground/studio');
 const { STEPS } = require('../playground/tour');
 const { verdictOf } = require('../playground/verdict');
 const { Ways } = require('../playground/ways');
-const { Browser, WITH_BROWSER } = require('../testing/browser');
-const { Firefox, WITH_FIREFOX } = require('../testing/firefox');
-const { WITH_MODULE } = require('../testing/module');
-const { elementsOfXml } = require('../testing/xml');
+const { Program } = require('../src/module');
+const { moduleBytes } = require('../src/module/file');
+const { Browser, WITH_BROWSER } = require('./helpers/browser');
+const { Firefox, WITH_FIREFOX } = require('./helpers/firefox');
+const { WITH_MODULE } = require('./helpers/module');
+const { elementsOfXml } = require('./helpers/xml');
 
 const room = mkdtempSync(path.join(tmpdir(), 'elk-playground-'));
 
@@ -51,14 +56,17 @@ test('the editor of the page is what its packages make, where they are here', ()
   assert.equal(status, 0, stderr);
 });
 
+const LOOK = { theme: 'auto', arrows: true };
+
 /** All that the playground tells of a text. */
-async function toldOf(asked) {
+async function toldOf({ text, form = formOf(text), isPlaced = false }) {
   studio ??= started();
-  let drawing;
-  const answer = await (await studio).answer({ look: {}, ...asked }, (news) => {
-    drawing = news.drawing ?? drawing;
-  });
-  return { ...answer, drawing };
+  const asked = { text, form, isPlaced };
+  const heard = {};
+  const answer = (await studio).answer({ ...asked, look: LOOK }, (news) => Object.assign(heard, news));
+  const drawing = heard.drawing && { ...heard.drawing, placed: heard.placed };
+  const judged = drawing || isPlaced ? (await studio).judge(asked) : {};
+  return { ...heard, ...answer, ...judged, notes: [...(answer.notes ?? []), ...(judged.notes ?? [])], drawing };
 }
 
 test('the page needs no network', WITH_MODULE, () => {
@@ -67,21 +75,28 @@ test('the page needs no network', WITH_MODULE, () => {
   assert.doesNotMatch(page, /<[^>]*(?:src|href)="(?!data:)/);
 });
 
-test('the page runs no script but its own', WITH_MODULE, () => {
+test('the page runs no script but its own two: one that stands there, and one that it unpacks', WITH_MODULE, () => {
   const page = playground();
-  const [, script] = /<script>(.*)<\/script>/s.exec(page);
+  const [, boot] = /<script>(.*)<\/script>/s.exec(page);
+  const [, main] = /<script id="script" [^>]*>(.*?)<\/script>/s.exec(page);
   const [, sources] = /script-src ([^;]*);/.exec(page);
-  const sum = createHash('sha256').update(script).digest('base64');
-  assert.equal(sources, `'sha256-${sum}' 'wasm-unsafe-eval' blob:`);
+  const sums = [boot, inflateRawSync(unpacked(main))].map((script) => createHash('sha256').update(script).digest('base64'));
+  assert.equal(sources, `${sums.map((sum) => `'sha256-${sum}'`).join(' ')} 'wasm-unsafe-eval' blob:`);
 });
 
-test('the page is of one file below 1.4 MB, and names the licence of what it holds', WITH_MODULE, () => {
+test('the page is smaller than 1.4 MB, and names the licence of what it holds', WITH_MODULE, () => {
   const page = playground();
-  assert.ok(Buffer.byteLength(page) < 1_400_000);
+  assert.ok(Buffer.byteLength(page) < 1_400_000, `${Buffer.byteLength(page)} bytes`);
   assert.match(page, /CodeMirror, MIT License\n\nCopyright \d+ Marijn Haverbeke/);
 });
 
 const OTHERWISE = {
+  // Its edges lead into clusters, so that the engine is asked level by level.
+  release: ({ faults, warnings, verdict, notes, drawing }) => {
+    assert.deepEqual([faults, warnings, verdict], [[], [], undefined]);
+    assert.match(notes[0].message, /cross the borders of nodes/);
+    assert.match(drawing.svg, /compile/);
+  },
   overlap: ({ verdict }) => assert.equal(verdict.line, 'no 6 "reader" "parser"'),
   mistakes: ({ faults, warnings }) => assert.deepEqual([faults.length, warnings.length], [4, 2]),
 };
@@ -149,11 +164,107 @@ test('elements of the drawing and places in the text lead to one another', () =>
   assert.deepEqual(placesIn('{ "id": '), []);
 });
 
+const FORMED = [
+  ['', 'json'],
+  ['{}', 'json'],
+  ['\n [', 'json'],
+  ['hello', 'json'],
+  ['graph{', 'dot'],
+  ['// a -> b\n/* { */ strict digraph "a b" {', 'dot'],
+  ['# 1 "x.gv"\ndigraph G\n{', 'dot'],
+  ['a -> b', 'lines'],
+  ['a--b', 'lines'],
+  ['graph -> plan', 'lines'],
+];
+
+test('the form of a text is told by its beginning', () => {
+  for (const [text, form] of FORMED) {
+    assert.equal(formOf(text), form, text);
+  }
+});
+
+const LINES = [
+  ['a -> b', 'a -> b'],
+  ['  a -> b : yes', '  a -> b [label="yes"]'],
+  ['read file -> "x y" -> b2 : say "hi"', '"read file" -> "x y" -> b2 [label="say \\"hi\\""]'],
+  ['a : start here', 'a [label="start here"]'],
+  ['node -> edge', '"node" -> "edge"'],
+  ['a:e -> b:w', 'a:e -> b:w'],
+  ['a -> b [color=red]', 'a -> b [color=red]'],
+  ['rankdir=LR', 'rankdir=LR'],
+  ['// a -> b', '// a -> b'],
+  ['subgraph cluster_x {', 'subgraph cluster_x {'],
+  ['a ->', 'a ->'],
+];
+
+test('lines are statements of DOT, with names that have blanks and labels behind a colon', () => {
+  for (const [line, statement] of LINES) {
+    assert.deepEqual(FORMS.lines.request(line), { dot: `digraph {\n${statement}\n}` }, line);
+  }
+  assert.match(FORMS.lines.request('a -- b').dot, /^graph \{\na -- b\n\}$/);
+});
+
+const GRAPH = 'digraph G {\n  subgraph cluster_a { a -> b [label="x"]; b }\n  a -> b; "c d":p -> b:e\n}\n';
+
+test('nodes and edges of a drawing are found in DOT and in lines', WITH_MODULE, async () => {
+  const dot = (await toldOf({ text: GRAPH })).places;
+  const words = (text, { start, end }) => text.slice(Math.max(start, 0), end);
+  const found = (places, text) => places.filter(({ isAgain }) => !isAgain).map((it) => [it.kind, it.id, it.line, it.column, words(text, it)]);
+  assert.deepEqual(found(dot, GRAPH).slice(1), [
+    ['node', 'cluster_a', 2, 12, 'cluster_a { a -> b [label="x"]; b }'],
+    ['edge', 'a->b', 2, 24, 'a -> b [label="x"]'],
+    ['node', 'a', 2, 24, 'a'],
+    ['node', 'b', 2, 29, 'b'],
+    ['edge', 'a->b 2', 3, 3, 'a -> b'],
+    ['edge', 'c d:p->b:e', 3, 11, '"c d":p -> b:e'],
+    ['node', 'c d', 3, 11, '"c d":p'],
+  ]);
+  assert.equal(elementAt(dot, GRAPH.indexOf('->')).id, 'a->b');
+  assert.equal(elementAt(dot, GRAPH.indexOf('; b }') + 3).id, 'b');
+  const text = 'a b -> c : some words\n// c\nc -> a b';
+  const lines = (await toldOf({ text })).places;
+  assert.deepEqual(found(lines, text).slice(1), [
+    ['edge', 'a b->c', 1, 1, 'a b -> c : some words'],
+    ['node', 'a b', 1, 1, 'a b'],
+    ['node', 'c', 1, 8, 'c'],
+    ['edge', 'c->a b', 3, 1, 'c -> a b'],
+  ]);
+});
+
+test('faults and warnings of DOT and of lines are told with their places', WITH_MODULE, async () => {
+  const placesOf = (list) => list.map(({ line, column, message }) => [line, column, message.slice(0, 24)]);
+  const broken = await toldOf({ text: 'digraph {\n  a -> ;\n}' });
+  assert.deepEqual([placesOf(broken.faults), broken.drawing], [[[2, 8, 'expected a node or a sub']], undefined]);
+  const { warnings } = await toldOf({ text: 'digraph {\n  a -> b [minlen=3]\n}' });
+  assert.deepEqual(placesOf(warnings), [[2, 11, 'the attribute minlen has']]);
+  const lines = await toldOf({ text: 'a -> b\nb -> ]' });
+  assert.deepEqual(placesOf(lines.faults), [[2, 6, 'expected a node or a sub']]);
+  const open = await toldOf({ text: 'a -> b\nb ->' });
+  assert.deepEqual(placesOf(open.faults), [[2, 5, 'expected a node or a sub']]);
+});
+
+test('bytes survive without their far copies', () => {
+  const random = Buffer.from(Array.from({ length: 5000 }, (_, at) => (at * at * 31 + at * 7) >> 5));
+  const far = Buffer.concat([random, Buffer.alloc(40_000, 7), random, Buffer.from('end'), random.subarray(20, 45), Buffer.alloc(90_000)]);
+  for (const bytes of [Buffer.alloc(0), Buffer.from('short'), Buffer.alloc(100_000), random, far]) {
+    assert.deepEqual(Buffer.from(withCopies(withoutCopies(bytes))), bytes);
+  }
+  assert.ok(far.length - withoutCopies(far).length > 4900);
+});
+
+test('bytes survive their text, and a page that is read again', () => {
+  for (const bytes of [[], [60], [0, 13, 60, 255], Array.from({ length: 999 }, (_, at) => (at * 97) & 255), Array(50).fill(60), Array(51).fill(0)]) {
+    const text = packedBytes(Uint8Array.from(bytes));
+    assert.doesNotMatch(text, /[\0\r<]/);
+    assert.deepEqual([...unpacked(Buffer.from(text).toString())], bytes);
+  }
+});
+
 test('a text that is formatted keeps each value as it was written', () => {
   const text = '{"id":12345678901234567890,"a":[ ],"b":{ },"c":"x{,}\\"","d":1.50e5,"a":[1,{"k":[[]]}]}';
   const lines = ['{', '  "id": 12345678901234567890,', '  "a": [],', '  "b": {},', '  "c": "x{,}\\"",', '  "d": 1.50e5,'];
   assert.equal(formatted(text), [...lines, '  "a": [1, { "k": [[]] }]', '}', ''].join('\n'));
-  for (const { text: example } of examples()) {
+  for (const { text: example } of examples().filter((it) => formOf(it.text) === 'json')) {
     assert.deepEqual(JSON.parse(formatted(example)), JSON.parse(example));
     assert.equal(formatted(formatted(example)), formatted(example));
   }
@@ -207,6 +318,28 @@ test('an option is written into a text, and taken out of it', () => {
   }
   assert.equal(withOption('[]', 'direction', 'UP'), undefined);
   assert.equal(withOption('{ "layoutOptions": { "a": 1 } }', 'direction', undefined), undefined);
+});
+
+const ATTRIBUTES = [
+  ['digraph { a -> b }', 'direction', 'UP', 'digraph { rankdir=BT; a -> b }'],
+  ['digraph {\n  a -> b\n}', 'edgeRouting', 'SPLINES', 'digraph {\n  splines=true;\n  a -> b\n}'],
+  ['graph { graph [nodesep=1] rankdir=LR a -- b [rankdir=TB] }', 'spacing.nodeNode', 36, 'graph { graph [nodesep=0.5] rankdir=LR a -- b [rankdir=TB] }'],
+  ['digraph { rankdir=LR; a -> b }', 'direction', undefined, 'digraph { a -> b }'],
+  ['digraph {\n  rankdir="LR";\n  a\n}', 'direction', undefined, 'digraph {\n  a\n}'],
+  ['a -> b', 'layered.spacing.nodeNodeBetweenLayers', 72, 'ranksep=1\na -> b'],
+  ['rankdir=LR\na -> b', 'direction', 'DOWN', 'rankdir=TB\na -> b'],
+];
+
+test('an option is written into DOT and lines as an attribute, and taken out of them', () => {
+  for (const [text, name, value, expected] of ATTRIBUTES) {
+    const form = FORMS[formOf(text)];
+    const made = changed(text, form.withOption(text, name, value));
+    assert.equal(made, expected);
+    assert.equal(form.chosenIn(made)[name], value);
+  }
+  assert.equal(FORMS.dot.withOption('digraph { a }', 'direction', undefined), undefined);
+  const lacking = FORMS.dot.controls.filter(({ lack }) => lack).map(({ title }) => title);
+  assert.deepEqual(lacking, ['Placement', 'Effort']);
 });
 
 test('the tour has five steps, of which the last alone has faults, and all are mended by buttons', WITH_MODULE, async () => {
@@ -335,7 +468,7 @@ async function until(page, expression) {
 
 const click = (id) => `document.getElementById('${id}').click()`;
 
-const texts = `[...document.getElementById('picture').shadowRoot.querySelectorAll('text')].map(({ textContent }) => textContent)`;
+const texts = `[...(document.getElementById('picture').shadowRoot?.querySelectorAll('text') ?? [])].map(({ textContent }) => textContent)`;
 
 const viewBox = `document.getElementById('picture').shadowRoot.querySelector('svg').getAttribute('viewBox')`;
 
@@ -670,6 +803,73 @@ const CASES = {
     assert.deepEqual(layoutOptions, { 'elk.spacing.nodeNode': 55, 'elk.direction': 'DOWN' });
     await putIn(page, pair({ 'elk.direction': 'left' }));
     await until(page, `${control('direction')}.value === 'LEFT' && ${control('spacing.nodeNode')}.value === ''`);
+  },
+
+  'edges are drawn with right angles, slanted, or as curves': async (page) => {
+    const control = `document.querySelector('#choices [data-option=edgeRouting]')`;
+    assert.deepEqual(await page.evaluate(`[...${control}.options].map(({ text }) => text)`), ['orthogonal', 'slanted', 'curves']);
+    await page.evaluate(`(() => {
+      const it = ${control};
+      it.value = 'SPLINES';
+      it.dispatchEvent(new Event('change'));
+    })()`);
+    await until(page, `(${textOfPage}).includes('"elk.edgeRouting": "SPLINES"')`);
+    await until(page, isDrawn('a'));
+  },
+
+  'a text in DOT is known, drawn, and marked at its faults': async (page) => {
+    await putIn(page, 'digraph pair {\n  a -> b [label="yes"]\n}\n');
+    await until(page, isDrawn('b'));
+    assert.deepEqual(await page.evaluate(texts), ['a', 'b', 'yes']);
+    const form = `document.getElementById('form').value`;
+    assert.deepEqual(await page.evaluate(`[${form}, document.getElementById('format').disabled, document.getElementById('way').disabled]`), ['dot', true, true]);
+    await page.evaluate(`${mirror}.focus(), ${mirror}.setCursor(1, 4)`);
+    const marked = `document.getElementById('picture').shadowRoot.querySelector('[data-marked]')?.dataset.id`;
+    await until(page, `${marked} === 'a->b'`);
+    await page.evaluate(`document.getElementById('stage').focus()`);
+    await page.press('n');
+    await page.press('n');
+    await page.press('Enter');
+    assert.equal(await page.evaluate(selected), 'b');
+    await putIn(page, 'digraph pair {\n  a -> \n}\n');
+    assert.match(await until(page, `document.querySelector('#told button')?.textContent`), /^line 3, column 1: expected a node or a subgraph/);
+    assert.deepEqual(await page.evaluate(`[...document.querySelectorAll('.CodeMirror-line .of-fault')].map((it) => it.innerText)`), ['}']);
+  },
+
+  'controls write attributes into DOT, and tell which there are not': async (page) => {
+    await putIn(page, 'digraph pair { a -> b }');
+    await until(page, isDrawn('b'));
+    await page.evaluate(`(() => {
+      const it = document.querySelector('#choices [data-option=direction]');
+      it.value = 'RIGHT';
+      it.dispatchEvent(new Event('change'));
+    })()`);
+    assert.equal(await page.evaluate(textOfPage), 'digraph pair { rankdir=LR; a -> b }');
+    await until(page, isDrawn('b'));
+    const off = `[...document.querySelectorAll('#choices label')].filter((it) => it.querySelector(':disabled')).map((it) => it.title)`;
+    assert.deepEqual(await page.evaluate(off), Array(2).fill('DOT has no attribute for this'));
+  },
+
+  'lines are drawn, and a text can be taken for another form': async (page) => {
+    await putIn(page, 'read it -> b : then');
+    await until(page, isDrawn('read it'));
+    assert.deepEqual(await page.evaluate(texts), ['read it', 'b', 'then']);
+    assert.equal(await page.evaluate(`document.getElementById('form').value`), 'lines');
+    await page.evaluate(choose('form', 'json'));
+    assert.match(await until(page, `document.querySelector('#told:not([inert]) .fault')?.textContent`), /JSON/);
+    await page.evaluate(choose('form', 'lines'));
+    await until(page, isDrawn('read it'));
+  },
+
+  'the drawing is copied as a picture': async (page) => {
+    await page.evaluate(`(() => {
+      navigator.clipboard.write = async ([item]) => {
+        window.copied = [...new Uint8Array(await (await item.getType('image/png')).arrayBuffer())].slice(0, 8);
+      };
+    })()`);
+    await page.evaluate(click('copy'));
+    await until(page, `document.getElementById('status').textContent === 'The picture is copied.'`);
+    assert.deepEqual(await page.evaluate('window.copied'), [...PNG]);
   },
 
   'the gallery has a picture of each example without a fault': async (page) => {

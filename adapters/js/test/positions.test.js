@@ -3,22 +3,15 @@
 
 const assert = require('node:assert/strict');
 const test = require('node:test');
-const { copyOf, documentOf } = require('../document');
-const ELK = require('../elk');
-const { draftOf } = require('../stages');
-const { chance } = require('../testing/chance');
-const { PROGRAM, WITH_PROGRAM } = require('../testing/program');
+const ELK = require('../src/elk');
+const { chance } = require('./helpers/chance');
+const { PROGRAM, replyOf, WITH_PROGRAM } = require('./helpers/program');
 
 const POSITION = 'layered.position';
 const FULL = 'org.eclipse.elk.';
 
 /** What is sent for a graph. */
-function sent(graph, general = {}) {
-  const how = { numbers: 'ceil', general };
-  const copy = copyOf(graph);
-  draftOf(copy, { ...how, lacks: new Map() });
-  return documentOf(copy, how);
-}
+const sent = (graph, options = {}) => replyOf({ graph, options, give: ['document'] }).document;
 
 /** The position that each child is sent with. */
 const positionsIn = ({ children }) =>
@@ -37,7 +30,7 @@ const PLACED = [
   { id: 'half', x: 5 },
 ];
 
-test('a level that keeps an earlier drawing sends the ranks of its children across its direction', () => {
+test('a level that keeps an earlier drawing sends the ranks of its children across its direction', WITH_PROGRAM, () => {
   for (const [direction, expected] of [
     ['RIGHT', [2, undefined, 0, 1, undefined]],
     ['LEFT', [2, undefined, 0, 1, undefined]],
@@ -50,7 +43,7 @@ test('a level that keeps an earlier drawing sends the ranks of its children acro
   }
 });
 
-test('a position that a child has stays, and a level that keeps nothing sends none', () => {
+test('a position that a child has stays, and a level that keeps nothing sends none', WITH_PROGRAM, () => {
   const [a, ...others] = PLACED;
   const children = [{ ...a, properties: { [POSITION]: -5 } }, ...others];
   const own = [-5, undefined, undefined, undefined, undefined];
@@ -66,16 +59,9 @@ test('a position that a child has stays, and a level that keeps nothing sends no
   assert.deepEqual(positionsIn(sent(asked)), [2, undefined, 0, 1, undefined]);
 });
 
-test('options that are no object stay for the engine to refuse', () => {
-  const graph = { id: 'r', layoutOptions: KEPT, children: [{ ...PLACED[0], layoutOptions: 'x' }, PLACED[2]] };
-  const { children } = sent(graph);
-  assert.equal(children[0].layoutOptions, 'x');
-  assert.equal(children[1].layoutOptions[FULL + POSITION], 0);
-});
-
 const step = (id, source, target, text) => ({ id, sources: [source], targets: [target], ...(text && { labels: [{ text }] }) });
 
-test('with the order of the document, labels of edges get no position, and all other nodes do', () => {
+test('with the order of the document, labels of edges get no position, and all other nodes do', WITH_PROGRAM, () => {
   const children = ['a', 'b', 'c'].map((id) => ({ id, width: 30, height: 30, layoutOptions: { [FULL + POSITION]: 7 } }));
   const edges = [step('1', 'a', 'b', 'one'), step('2', 'a', 'c', 'two')];
   const layoutOptions = { 'elk.layered.order': 'DOCUMENT' };

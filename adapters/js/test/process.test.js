@@ -4,16 +4,16 @@ const assert = require('node:assert/strict');
 const { spawnSync } = require('node:child_process');
 const path = require('node:path');
 const test = require('node:test');
-const { Batch, LineCutter } = require('../process');
-const { ProgramError } = require('../program-error');
+const { Lines, LineCutter } = require('../src/engines/process');
+const { ProgramError } = require('../src/errors');
 
-const PUPPET = path.join(__dirname, '..', 'testing', 'puppet');
-const ELK_MODULE = path.join(__dirname, '..', 'elk.js');
+const PUPPET = path.join(__dirname, 'helpers', 'puppet');
+const ELK_MODULE = path.join(__dirname, '..', 'src', 'elk.js');
 
-async function withBatch(t, use, most) {
-  const batch = new Batch(PUPPET, most);
-  t.after(() => batch.stop());
-  return use(async (line) => (await batch.ask(line)).reply, batch);
+async function withLines(t, use, most) {
+  const lines = new Lines(PUPPET, most);
+  t.after(() => lines.stop());
+  return use(async (line) => (await lines.ask(line)).reply, lines);
 }
 
 const rest = (milliseconds) => new Promise((resolve) => setTimeout(resolve, milliseconds));
@@ -50,7 +50,7 @@ test('a line is cut whole out of any pieces', () => {
 });
 
 test('a hundred calls at once are answered in order by one process', (t) =>
-  withBatch(t, async (ask) => {
+  withLines(t, async (ask) => {
     const order = [];
     const calls = Array.from({ length: 100 }, async (_, at) => {
       const reply = await ask(at % 10 === 0 ? 'pid' : `say ${at}`);
@@ -64,17 +64,17 @@ test('a hundred calls at once are answered in order by one process', (t) =>
   }));
 
 test('letters that are torn between two pieces of a reply are whole', (t) =>
-  withBatch(t, async (ask) => assert.equal(await ask('pieces é 😀 é'), 'é 😀 é')));
+  withLines(t, async (ask) => assert.equal(await ask('pieces é 😀 é'), 'é 😀 é')));
 
 test('very long lines pass both ways', (t) =>
-  withBatch(t, async (ask) => {
+  withLines(t, async (ask) => {
     const line = `say ${'ü'.repeat(6_000_000)}`;
     assert.equal((await ask(line)).length, 6_000_000);
     assert.equal((await ask('long 5000000')).length, 5_000_000);
   }));
 
 test('a killed program fails all waiting calls and is started again at the next', (t) =>
-  withBatch(t, async (ask) => {
+  withLines(t, async (ask) => {
     const before = await ask('pid');
     const ended = await Promise.allSettled([ask('kill'), ask('say 1'), ask('say 2')]);
     for (const { reason } of ended) {
@@ -86,14 +86,14 @@ test('a killed program fails all waiting calls and is started again at the next'
   }));
 
 test('a program that ends tells its status and its last words', (t) =>
-  withBatch(t, async (ask) => {
+  withLines(t, async (ask) => {
     await assert.rejects(ask('exit 6'), failsBy(6, /ended with the status 6: the notes of the end/));
-    await assert.rejects(ask('exit 5'), failsBy(5, /does not take the word batch/));
+    await assert.rejects(ask('exit 5'), failsBy(5, /does not know --lines: name the program elk-draw/));
     assert.equal(await ask('say on'), 'on');
   }));
 
 test('a program that ends between two calls is started again', (t) =>
-  withBatch(t, async (ask) => {
+  withLines(t, async (ask) => {
     const pid = Number(await ask('pid'));
     process.kill(pid, 'SIGKILL');
     await gone(pid);
@@ -103,8 +103,8 @@ test('a program that ends between two calls is started again', (t) =>
 
 test('a program that is not there, or is none, fails the calls', async () => {
   for (const program of ['/no/such/program', __dirname, '']) {
-    const batch = new Batch(program);
-    const ended = await Promise.allSettled([batch.ask('say 1'), batch.ask('say 2')]);
+    const lines = new Lines(program);
+    const ended = await Promise.allSettled([lines.ask('say 1'), lines.ask('say 2')]);
     for (const { reason } of ended) {
       assert.ok(reason instanceof ProgramError, String(reason));
       assert.match(reason.message, /can't be started/);
@@ -113,7 +113,7 @@ test('a program that is not there, or is none, fails the calls', async () => {
 });
 
 test('the launcher is heard when it builds the program, and nothing else is', (t) =>
-  withBatch(t, async (ask) => {
+  withLines(t, async (ask) => {
     const warnings = [];
     const hear = ({ message }) => warnings.push(message);
     process.on('warning', hear);
@@ -125,27 +125,27 @@ test('the launcher is heard when it builds the program, and nothing else is', (t
   }));
 
 test('an ended process fails what waits and serves no later call', (t) =>
-  withBatch(t, async (ask, batch) => {
+  withLines(t, async (ask, lines) => {
     const waiting = ask('never');
     const queued = ask('say 1');
     await rest(50);
-    batch.stop();
+    lines.stop();
     await assert.rejects(waiting, failsBy(undefined, /terminateWorker/));
     await assert.rejects(queued, ProgramError);
     assert.equal(await ask('say on'), 'on');
-    batch.stop();
-    batch.stop();
+    lines.stop();
+    lines.stop();
   }));
 
 test('a reply that nobody asked for goes to no call', (t) =>
-  withBatch(t, async (ask) => {
+  withLines(t, async (ask) => {
     assert.equal(await ask('twice one'), 'one');
     await rest(100);
     assert.equal(await ask('say two'), 'two');
   }));
 
 test('a process that has read its share is followed by another', (t) =>
-  withBatch(
+  withLines(
     t,
     async (ask) => {
       const pids = [];
@@ -163,15 +163,15 @@ test('a process that has read its share is followed by another', (t) =>
 /** Runs a script of its own in node, which must end by itself. */
 function script(source) {
   const code = `const ELK = require(${JSON.stringify(ELK_MODULE)}); const elk = new ELK(); ${source}`;
-  const environment = { ...process.env, ELK_PROGRAM: PUPPET };
+  const environment = { ...process.env, ELK_DRAW_PROGRAM: PUPPET };
   return spawnSync(process.execPath, ['-e', code], { encoding: 'utf8', timeout: 120_000, env: environment });
 }
 
 test('an idle process lets node end, a waiting call does not', () => {
   const idle = script(`elk.layout({ id: 'one' }).then(({ id }) => console.log(id));`);
   assert.deepEqual([idle.status, idle.signal, idle.stdout], [0, null, 'one\n']);
-  const waiting = script(`elk.layout({ id: 'wait {"id":"late"}' }).then(({ id }) => console.log(id));`);
-  assert.deepEqual([waiting.status, waiting.signal, waiting.stdout], [0, null, 'wait {"id":"late"}\n']);
+  const waiting = script(`elk.layout({ id: 'wait {"placed":{"width":1},"warnings":[]}' }).then(({ width }) => console.log(width));`);
+  assert.deepEqual([waiting.status, waiting.signal, waiting.stdout], [0, null, '1\n']);
 });
 
 test('a process ends with its parent', { timeout: 60_000 }, async () => {

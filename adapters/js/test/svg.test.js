@@ -5,9 +5,9 @@ const { spawnSync } = require('node:child_process');
 const { existsSync, readdirSync, readFileSync } = require('node:fs');
 const path = require('node:path');
 const test = require('node:test');
-const { toSvg } = require('../svg');
-const { run, TOP, WITH_PROGRAM } = require('../testing/program');
-const { elementsOfXml } = require('../testing/xml');
+const { toSvg } = require('../src/svg');
+const { run, TOP, WITH_PROGRAM } = require('./helpers/program');
+const { elementsOfXml } = require('./helpers/xml');
 
 const HOSTILE = [
   '<script>alert(1)</script>',
@@ -17,7 +17,6 @@ const HOSTILE = [
   '--><!--',
   'tab\t line\n\r feed',
   '\u0000\u0007\u001b\ufffe\uffff',
-  '\ud800 alone \udc00',
   '😀 é ‮ text',
   '$& $1 `',
   '__proto__',
@@ -64,6 +63,10 @@ test('pictures with hostile ids and texts are well-formed and of known elements'
     const attributes = elementsOfXml(svg).map(({ attributes: it }) => it.replace(/ data-id="[^"]*"/, '')).join('\n');
     assert.doesNotMatch(attributes, /script|onload|alert|proto|CDATA/);
   }
+});
+
+test('a text with half of a surrogate pair is told', () => {
+  assert.throws(() => toSvg(documentWith('\ud800 alone')), { name: 'ProgramError', message: /half of a surrogate pair/ });
 });
 
 test('the check for well-formed text refuses what is not', () => {
@@ -311,24 +314,22 @@ test('colours are those of light or dark pages, or follow the setting of the rea
   const colours = (svg) => new Set(svg.match(/#[0-9a-f]{6}/g));
   assert.ok([...colours(light)].every((it) => !colours(dark).has(it)));
   assert.deepEqual(colours(auto), new Set([...colours(light), ...colours(dark), ...OTHER_INKS]));
-  assert.throws(() => joined({ look: { theme: 'blue' } }), /the theme of a picture is "blue", and may be auto, light or dark/);
+  assert.throws(() => joined({ look: { theme: 'blue' } }), { name: 'ProgramError', status: 5 });
 });
 
 const command = (words, input) =>
   spawnSync(path.join(TOP, 'adapters', 'js', 'bin', 'elk-svg'), words, { input, encoding: 'utf8' });
 
-test('elk-svg draws a placed document and tells what it does not take', () => {
+test('elk-svg draws a placed graph and tells what it does not take', () => {
   const placed = { id: 'r', width: 10, height: 10 };
   const drawn = command([], JSON.stringify(placed));
   assert.deepEqual([drawn.status, drawn.stdout, drawn.stderr], [0, toSvg(placed), '']);
   assert.equal(command(['--dark'], JSON.stringify(placed)).stdout, toSvg(placed, { theme: 'dark' }));
   for (const [words, input, status, note] of [
-    [['--help'], '', 5, /^usage: elk-svg/],
-    [['--light', '--dark'], '{}', 5, /^usage: elk-svg/],
-    [[], '', 2, /no document/],
+    [['--light', '--dark'], '{}', 5, /--dark/],
+    [['--no-such'], '{}', 5, /--no-such/],
+    [[], '', 2, /the text is empty/],
     [[], '{', 2, /not JSON/],
-    [[], '{"id":1}', 2, /not placed/],
-    [[], 'null', 2, /not placed/],
   ]) {
     const refused = command(words, input);
     assert.deepEqual([refused.status, refused.stdout], [status, '']);
@@ -336,21 +337,16 @@ test('elk-svg draws a placed document and tells what it does not take', () => {
   }
 });
 
-test('the drawings of tests/draw are what elk-svg makes', () => {
+test('the drawings of tests/draw are what toSvg makes', () => {
   const cases = path.join(TOP, 'tests', 'draw');
   for (const name of readdirSync(cases)) {
     const file = (part) => path.join(cases, name, part);
     const words = existsSync(file('args')) ? readFileSync(file('args'), 'utf8').split(/\s+/).filter(Boolean) : [];
-    const drawn = command(words, readFileSync(file('placed.json'))).stdout;
+    const look = { arrows: !words.includes('--no-arrows'), theme: ['light', 'dark'].find((it) => words.includes(`--${it}`)) };
+    const drawn = toSvg(JSON.parse(readFileSync(file('placed.json'), 'utf8')), look);
     elementsOfXml(drawn);
     assert.equal(drawn, readFileSync(file('picture.svg'), 'utf8'), name);
   }
-});
-
-test('the viewer holds the modules as they are', () => {
-  const built = spawnSync(path.join(TOP, 'adapters', 'js', 'viewer', 'build'), { encoding: 'utf8' });
-  assert.equal(readFileSync(path.join(TOP, 'adapters', 'js', 'viewer.html'), 'utf8'), built.stdout, built.stderr);
-  assert.doesNotMatch(built.stdout, /https?:(?!\/\/www\.w3\.org\/2000\/svg)/);
 });
 
 for (const [name, words] of [

@@ -5,11 +5,14 @@ const assert = require('node:assert/strict');
 const { spawnSync } = require('node:child_process');
 const path = require('node:path');
 const test = require('node:test');
-const ELK = require('../elk');
-const { PUPPET_MODULE, WITH_MODULE } = require('../testing/module');
+const ELK = require('../src/elk');
+const { PUPPET_MODULE, WITH_MODULE } = require('./helpers/module');
 
-// Where a native program is named, it answers in place of the module.
-delete process.env.ELK_PROGRAM;
+// A native program would answer instead of the module.
+delete process.env.ELK_DRAW_PROGRAM;
+
+// What is said of a reply that is the request.
+const ECHO = `the program's reply is no answer: {"graph":{"id":"fine"},"opt`;
 
 const leaf = (id = 'a') => ({ id, width: 30, height: 30 });
 
@@ -27,7 +30,7 @@ function level(nodes) {
 
 /** Runs a script of its own in node, which must end by itself. */
 function script(source, environment = {}) {
-  const code = `const ELK = require(${JSON.stringify(path.join(__dirname, '..', 'elk.js'))}); ${source}`;
+  const code = `const ELK = require(${JSON.stringify(path.join(__dirname, '..', 'src', 'elk.js'))}); ${source}`;
   const env = { ...process.env, ...environment };
   return spawnSync(process.execPath, ['-e', code], { encoding: 'utf8', timeout: 120_000, env });
 }
@@ -71,14 +74,14 @@ test('an idle worker lets node end, a waiting call does not', WITH_MODULE, () =>
 });
 
 test('a trap fails its call, and the next one is answered', () => {
-  // The puppet gives back what it reads, and traps at a piece of 16 bytes that begins with T.
+  // The puppet gives back what it reads, which is no reply, and traps at a piece of 16 bytes that begins with T.
   const ended = script(
     `const elk = new ELK();
-     elk.layout({ id: '123456789T' }).catch(({ name, message }) => console.log(name, message));
-     elk.layout({ id: 'fine' }).then(({ id }) => console.log(id));`,
+     elk.layout({ id: 'T' }).catch(({ name, message }) => console.log(name, message));
+     elk.layout({ id: 'fine' }).catch(({ message }) => console.log(message.slice(0, 61)));`,
     { ELK_MODULE: PUPPET_MODULE },
   );
-  const said = 'ProgramError the program was ended by a trap: unreachable\nfine\n';
+  const said = `ProgramError the program was ended by a trap: unreachable\n${ECHO}\n`;
   assert.deepEqual([ended.status, ended.stdout, ended.stderr], [0, said, '']);
 });
 
@@ -86,11 +89,11 @@ test('want of memory fails its call, and the next one is answered', () => {
   // The puppet takes a megabyte at a piece that begins with G.
   const ended = script(
     `const elk = new ELK();
-     elk.layout({ id: '123456789' + 'G'.padEnd(16).repeat(9) }).catch(({ status, message }) => console.log(status, message));
-     elk.layout({ id: 'fine' }).then(({ id }) => console.log(id));`,
+     elk.layout({ id: 'G'.padEnd(16).repeat(9) }).catch(({ status, message }) => console.log(status, message));
+     elk.layout({ id: 'fine' }).catch(({ message }) => console.log(message.slice(0, 61)));`,
     { ELK_MODULE: PUPPET_MODULE, ELK_MEMORY: String(2 ** 23) },
   );
-  assert.deepEqual([ended.status, ended.stdout, ended.stderr], [0, '6 the program ran out of memory\nfine\n', '']);
+  assert.deepEqual([ended.status, ended.stdout, ended.stderr], [0, `6 the program ran out of memory\n${ECHO}\n`, '']);
 });
 
 test('a module that is none fails the calls', () => {

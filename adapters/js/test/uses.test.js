@@ -5,9 +5,9 @@ const assert = require('node:assert/strict');
 const { readFileSync } = require('node:fs');
 const path = require('node:path');
 const test = require('node:test');
-const ELK = require('../elk');
-const { quietLayout: layout } = require('../testing/layout');
-const { PROGRAM, TOP, WITH_PROGRAM } = require('../testing/program');
+const ELK = require('../src/elk');
+const { quietLayout: layout } = require('./helpers/layout');
+const { PROGRAM, TOP, WITH_PROGRAM } = require('./helpers/program');
 
 const box = (id, more) => ({ id, width: 30, height: 20, ...more });
 
@@ -35,7 +35,7 @@ const isPlaced = ({ x, y, width, height }) => [x, y, width, height].every(Number
 
 const USES = {
   async '`import ELK from \'elkjs\'`, or `require`'() {
-    const { default: imported } = await import('../elk.js');
+    const { default: imported } = await import('../src/elk.js');
     assert.equal(imported, ELK);
     assert.equal(ELK.default, ELK);
   },
@@ -224,7 +224,7 @@ const USES = {
   },
   async '`logging` and `measureExecutionTime`'() {
     const { logging } = await layout(pair(), { call: { logging: true, measureExecutionTime: true } });
-    assert.deepEqual([logging.name, logging.executionTime > 0, logging.logs], ['elk batch', true, []]);
+    assert.deepEqual([logging.name, logging.executionTime > 0, logging.logs], ['elk-draw', true, []]);
   },
   async 'a call without a graph, many calls at once, and `terminateWorker()`'() {
     const elk = engine();

@@ -2,8 +2,8 @@
 
 const assert = require('node:assert/strict');
 const test = require('node:test');
-const { ProgramError } = require('../program-error');
-const { WorkerQueue } = require('../worker-queue');
+const { ProgramError } = require('../src/errors');
+const { WorkerQueue } = require('../src/engines/worker-queue');
 
 /** A worker of pages whose replies the tests give. */
 class Puppet {
@@ -101,7 +101,7 @@ test('a worker that fails fails what waits, and another is made at the next call
   const calls = [ask('one'), ask('two')];
   made[0].onerror({});
   for (const call of calls) {
-    await assert.rejects(call, endedBy(/^the worker ended: its script can not be loaded$/));
+    await assert.rejects(call, endedBy(/^the worker ended: its script can't be loaded$/));
   }
   const next = ask('three');
   made[1].reply('THREE');

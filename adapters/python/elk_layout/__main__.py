@@ -3,19 +3,25 @@
 from __future__ import annotations
 
 import argparse
+import json
 import os
 import sys
 from collections import Counter
+from functools import partial
 from pathlib import Path
-from typing import List, NoReturn, Optional
+from typing import Any, Dict, Iterator, List, NoReturn, Optional, Sequence, Union
 
 from . import __version__
-from .calls import check
-from .errors import ProgramError, Refusal
-from .files import Failure, Task, lay_out_files, pairs_of, placed_text, read_document
+from .errors import ElkError, Fault, ProgramError, Refusal
+from .processes import Pool, Request
 from .program import find_program
-from .streams import shown
+from .query import Query
+from .streams import HELD, answered, shown
+from .verdict import check
 
+# The name of a file that stands for stdin.
+STDIN = "-"
+DOT_ENDINGS = (".dot", ".gv")
 REPORT = "refused.jsonl"
 
 # Statuses as those of the program and its launcher.
@@ -29,105 +35,167 @@ class _Parser(argparse.ArgumentParser):
 
 
 def _parser() -> argparse.ArgumentParser:
-    parser = _Parser(prog="python -m elk_layout", description="Lays out documents of ELK's JSON, and checks placed ones.")
+    parser = _Parser(
+        prog="python -m elk_layout",
+        description="Lays out graphs of ELK's JSON or DOT, and checks placed ones.",
+        epilog="The status is 1 if a graph isn't good, 2 if one is refused, 5 if the arguments are invalid, else 0.",
+    )
     parser.add_argument("--version", action="version", version=f"elk-layout {__version__}")
     commands = parser.add_subparsers(dest="command", required=True, metavar="COMMAND")
-    layout = commands.add_parser(
-        "layout",
-        help="lays out files into a folder, or one document to stdout",
-        description=f"Lays out each file into a folder; {REPORT} there lists the files that weren't, and why. "
-        "One document without a folder goes to stdout.",
-        fromfile_prefix_chars="@",
-        epilog="An argument @LIST stands for the lines of the file LIST. The status is 0 if all were laid out, 2 if some "
-        "were not, and 5 if the arguments are invalid.",
+    about = (
+        f"Lays out each file into a folder; {REPORT} there lists the files that weren't, and why. One graph without a "
+        "folder goes to stdout. Files whose names end with .dot or .gv are DOT. @LIST stands for the lines of the file LIST."
     )
-    _add_files(layout)
-    add = layout.add_argument
-    add("-o", "--output", metavar="FOLDER", help="where the placed documents are written")
-    add("--svg", action="store_true", help="draws a picture of each too; to stdout, the picture alone")
-    add("--no-arrows", action="store_true", help="draws no arrow heads")
-    add("--jobs", type=int, default=1, metavar="N", help="how many files are laid out at once")
-    add("--option", action="append", default=[], metavar="NAME=VALUE", help="an option of all elements that have none")
-    checking = commands.add_parser(
-        "check",
-        help="checks placed documents",
-        description="Checks placed documents, whoever placed them, and prints a verdict for each.",
-        epilog="The status is 0 if all are good, 1 if one isn't, 2 if one is refused, and 5 if the arguments are invalid.",
-    )
-    _add_files(checking)
+    layout = commands.add_parser("layout", help="lays out files", description=about, fromfile_prefix_chars="@")
+    layout.add_argument("-o", "--output", metavar="FOLDER", help="where the placed graphs are written")
+    layout.add_argument("--svg", action="store_true", help="draws a picture of each too; to stdout, the picture alone")
+    layout.add_argument("--no-arrows", action="store_true", help="draws no arrow heads")
+    layout.add_argument("--jobs", type=int, default=1, metavar="N", help="how many files are laid out at once")
+    about = "Checks placed graphs, of any program, and prints a verdict for each."
+    for one in (layout, commands.add_parser("check", help="checks placed graphs", description=about)):
+        one.add_argument("files", nargs="+", metavar="FILE", help="a graph; - stands for stdin")
+        one.add_argument("--numbers", choices=["ceil", "exact"], default="ceil", help="rounds fractions, or refuses them")
+        one.add_argument("--option", action="append", default=[], metavar="NAME=VALUE", help="of elements that have none")
+        one.add_argument("--program", metavar="PATH", help="the program elk-draw")
     return parser
-
-
-def _add_files(parser: argparse.ArgumentParser) -> None:
-    add = parser.add_argument
-    add("files", nargs="+", metavar="FILE", help="a document of ELK's JSON; - stands for stdin")
-    add("--numbers", choices=["ceil", "exact"], default="ceil", help="whether fractions are made whole or refused")
-    add("--program", metavar="PATH", help="the program elk")
 
 
 def main(words: Optional[List[str]] = None) -> int:
     parser = _parser()
     given = parser.parse_args(words)
+    given.options = dict(it.partition("=")[::2] for it in given.option)
     try:
         find_program(given.program)
         if given.command == "check":
             return max(_checked(file, given) for file in given.files)
-        if given.jobs < 1:
-            raise ValueError(f"--jobs is at least 1, not {given.jobs}")
-        options = dict(it.partition("=")[::2] for it in given.option)
-        task = Task(options, given.numbers, given.program, given.svg, not given.no_arrows)
-        if not given.output:
-            return _lay_out_one(given.files, task)
-        pairs = pairs_of(given.files, given.output)
-        os.makedirs(given.output, exist_ok=True)
+        return _laid_out(given)
     except ProgramError as error:
         print(error, file=sys.stderr)
         return NO_PROGRAM
     except (ValueError, OSError) as error:
         parser.error(str(error))
-    found = shown(lay_out_files(pairs, task, given.jobs), sys.stderr.isatty(), len(pairs))
-    faults = [it for it in found if it]
-    _report(len(pairs), faults, Path(given.output) / REPORT)
-    return REFUSED if faults else DONE
 
 
 def _checked(file: str, given: argparse.Namespace) -> int:
     """Prints the verdict on a file, and gives the status."""
-    lead = "" if len(given.files) == 1 else f"{file}: "
     try:
-        verdict = check(read_document(file), numbers=given.numbers, program=given.program)
+        verdict = check(_text_of(file), options=given.options, numbers=given.numbers, program=given.program)
     except (Refusal, OSError) as error:
-        return _refused(file, error)
-    print(f"{lead}{verdict}")
+        print(f"{file}: {_error_of(error)}", file=sys.stderr)
+        return REFUSED
+    print(verdict if len(given.files) == 1 else f"{file}: {verdict}")
     return DONE if verdict else NOT_GOOD
 
 
-def _lay_out_one(files: List[str], task: Task) -> int:
-    """Lays one document out to stdout."""
-    if len(files) > 1:
+def _laid_out(given: argparse.Namespace) -> int:
+    """Lays files out into a folder, or one to stdout, and tells which weren't."""
+    folder, count = given.output, len(given.files)
+    if given.jobs < 1:
+        raise ValueError(f"--jobs is at least 1, not {given.jobs}")
+    if count > 1 and not folder:
         raise ValueError("several files need a folder: -o/--output FOLDER")
+    targets = _targets_of(given.files, folder) if folder else [None]
+    errors = list(shown(_errors(given, targets), bool(folder) and sys.stderr.isatty(), count))
+    refused = [(file, error) for file, error in zip(given.files, errors) if error]
+    for file, error in refused:
+        print(f"{file}: {error}", file=sys.stderr)
+    if folder:
+        report = Path(folder) / REPORT
+        report.write_text("".join(f"{json.dumps(_told_of(*it), ensure_ascii=False)}\n" for it in refused), encoding="utf-8")
+        print(f"{count - len(refused):,} of {count:,} files laid out")
+        for kind, times in sorted(Counter(_kind_of(error) for _, error in refused).items()):
+            print(f"{times:,} {kind}")
+        if refused:
+            print(f"which and why: {report}")
+    return REFUSED if refused else DONE
+
+
+def _targets_of(files: List[str], folder: str) -> Sequence[Optional[Path]]:
+    """What is written for each file: in the folder they lie as the files lie to one another."""
+    if STDIN in files:
+        raise ValueError("stdin, as -, is laid out to stdout: leave -o/--output away")
+    paths = [Path(os.path.abspath(it)) for it in files]
+    top = os.path.commonpath([it.parent for it in paths])
+    targets = [(Path(folder) / it.relative_to(top)).with_suffix(".json") for it in paths]
+    given = {it.resolve() for it in paths}
+    seen: Dict[Path, str] = {}
+    for file, target in zip(files, targets):
+        if target.resolve() in given:
+            raise ValueError(f"{target} is one of the given files: take another folder")
+        if seen.setdefault(target, file) != file:
+            raise ValueError(f"{file} and {seen[target]} would both be written to {target}")
+    Path(folder).mkdir(parents=True, exist_ok=True)
+    return targets
+
+
+def _errors(given: argparse.Namespace, targets: Sequence[Optional[Path]]) -> Iterator[Optional[ElkError]]:
+    """Lays files out, some at once, and tells for each in order nothing, or what was wrong with it."""
+    give = "placed warnings svg" if given.svg else "placed warnings"
+    how = {"options": given.options, "numbers": given.numbers, "arrows": not given.no_arrows}
+    kinds = ["dot" if file.endswith(DOT_ENDINGS) else "graph" for file in given.files]
+    queries = [Query(give, given.program, kind, partial(_warn, file), **how) for kind, file in zip(kinds, given.files)]
+    pool = Pool(queries[0].command, given.jobs)
+    requests = answered(zip(queries, given.files), lambda it: _request(*it), pool, HELD * given.jobs)
+    for query, target, request in zip(queries, targets, requests):
+        try:
+            _write(query.reply_of(request), target, given.svg)
+            yield None
+        except (ElkError, OSError) as cause:
+            yield _error_of(cause)
+
+
+def _warn(file: str, warning: Fault) -> None:
+    print(f"{file}: warning: {warning.message}", file=sys.stderr)
+
+
+def _request(query: Query, file: str) -> Request:
     try:
-        placed = task.placed(files[0])
-    except (Refusal, OSError) as error:
-        return _refused(files[0], error)
-    sys.stdout.write(task.picture(placed) if task.has_pictures else placed_text(placed))
-    return DONE
+        return query.request(_text_of(file))
+    except OSError as cause:
+        return Request(b"", error=_error_of(cause))
 
 
-def _refused(file: str, error: Exception) -> int:
-    print(f"{file}: {getattr(error, 'strerror', None) or error}", file=sys.stderr)
-    return REFUSED
+def _text_of(file: str) -> str:
+    """The text of a file or of stdin. What isn't UTF-8 is read as Latin-1."""
+    content = sys.stdin.buffer.read() if file == STDIN else Path(file).read_bytes()
+    try:
+        return content.decode("utf-8-sig")
+    except UnicodeDecodeError:
+        return content.decode("latin-1")
 
 
-def _report(count: int, faults: List[Failure], report: Path) -> None:
-    report.write_text("".join(f"{it.line()}\n" for it in faults), encoding="utf-8")
-    for it in faults:
-        print(f"{it.file}: {it.reason}", file=sys.stderr)
-    print(f"{count - len(faults):,} of {count:,} files laid out")
-    for kind, times in sorted(Counter(it.kind for it in faults).items()):
-        print(f"{times:,} {kind}")
-    if faults:
-        print(f"which and why: {report}")
+def _write(reply: Dict[str, Any], target: Optional[Path], has_picture: bool) -> None:
+    placed = json.dumps(reply["placed"], ensure_ascii=False, separators=(",", ":"), sort_keys=True) + "\n"
+    if target is None:
+        sys.stdout.write(reply["svg"] if has_picture else placed)
+        return
+    target.parent.mkdir(parents=True, exist_ok=True)
+    for ending, text in ((".json", placed), (".svg", reply.get("svg"))):
+        if text is not None:
+            # Whoever looks meanwhile finds no half of a file.
+            part = target.with_name(f".{target.name}.{os.getpid()}")
+            try:
+                part.write_text(text, encoding="utf-8")
+                part.replace(target.with_suffix(ending))
+            finally:
+                part.unlink(missing_ok=True)
+
+
+def _error_of(cause: Union[ElkError, OSError]) -> ElkError:
+    return ElkError(cause.strerror or str(cause)) if isinstance(cause, OSError) else cause
+
+
+def _kind_of(error: ElkError) -> str:
+    """What went wrong with a file, in short."""
+    if isinstance(error, Refusal):
+        return f"refused: {error.name}" if error.rule is None else f"refused by rule {error.rule}, {error.name}"
+    return "left by the program" if isinstance(error, ProgramError) else "not read or not written"
+
+
+def _told_of(file: str, error: ElkError) -> Dict[str, Any]:
+    """What a report tells about a file that wasn't laid out."""
+    more = ("rule", "name", "id", "path", "line", "column") if isinstance(error, Refusal) else ()
+    return {"file": file, "reason": str(error), **{name: getattr(error, name) for name in more}}
 
 
 if __name__ == "__main__":

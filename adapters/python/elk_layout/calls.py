@@ -1,210 +1,142 @@
-"""The calls: one document, a stream of them, and the judgement of a drawing."""
+"""The calls about one graph: its layout, its picture, and what is wrong with it."""
 
 from __future__ import annotations
 
+import base64
+import importlib.util
 import os
-from typing import Any, Dict, Iterable, Iterator, Literal, Mapping, Optional, Sized, Union, overload
+import shutil
+import subprocess
+from pathlib import Path
+from typing import Any, Dict, List, Literal, Union
 
-from .document import Element, Numbers, Placed, Sender, placed_of
-from .errors import ElkError, ProgramError, Refusal, refusal_of
-from .pool import Pool
-from .process import HOPELESS, Request
-from .program import Command, Program, find_program
-from .streams import Progress, answered, shown
-from .verdict import Verdict, judge
+from .errors import Fault, Refusal
+from .graphs import from_networkx, is_placed
+from .program import Program
+from .query import Numbers, OnWarning, Options, Query
 
-# How many documents of a stream are held at once for each process, where nothing is said.
-HELD = 256
+Theme = Literal["auto", "light", "dark"]
 
-Options = Optional[Mapping[str, Any]]
-#: Whether a refusal is raised, or is the result.
-Errors = Literal["raise", "return"]
-
-# The processes that answer single documents, by their programs. A copy of this Python has none.
-_kept: Dict[Command, Pool] = {}
-os.register_at_fork(after_in_child=_kept.clear)
-
-
-@overload
-def layout(
-    document: Element,
-    *,
-    options: Options = None,
-    numbers: Numbers = "ceil",
-    errors: Literal["raise"] = "raise",
-    program: Program = None,
-) -> Placed: ...
-
-
-@overload
-def layout(
-    document: Element, *, options: Options = None, numbers: Numbers = "ceil", errors: Errors, program: Program = None
-) -> Union[Placed, Refusal]: ...
+KINDS = (".svg", ".png", ".pdf")
+IMAGE = '<img alt="a layered drawing" style="max-width:100%" src="data:image/svg+xml;base64,{}">'
 
 
 def layout(
-    document: Element,
+    graph: Any,
     *,
     options: Options = None,
     numbers: Numbers = "ceil",
-    errors: Errors = "raise",
+    errors: str = "raise",
+    on_warning: OnWarning = None,
     program: Program = None,
-) -> Union[Placed, Refusal]:
-    """Lays out a document of ELK's JSON, which stays as it is.
+) -> Any:
+    """Lays out a graph of ELK's JSON or its text. The graph stays as it is, and the result is a `Placed`.
 
-    `options` are those of every element that reads them and has none of its own. `numbers` is `ceil` where sizes are
-    rounded up, places of ports to the nearest, and only what the engine reads is sent, or `exact` where all is handed
-    on as it is. `errors` is `raise`, or `return` where a refusal is the result. `program` is the path of the program;
-    else it is the one that ELK_PROGRAM names, that on the search path, or the repository's launcher.
-
-    One process answers all calls. It is kept, and started again when it dies.
+    `options` apply to all elements that read them and have none of their own. With `numbers` as `ceil`, sizes are
+    rounded up and places of ports to the nearest whole number; with `exact`, fractions are refused. `errors` is `raise`,
+    or `return` if a Refusal is to be the result. `on_warning` gets each warning about what has no effect; without it,
+    Python's module `warnings` tells each name once. `program` is the path of the program.
     """
-    raises = _is_raising(errors)
-    request = _request(document, Sender(numbers, options))
-    if not request.is_done:
-        _ask(find_program(program), request)
-    if isinstance(request.error, ProgramError):
-        raise request.error
-    result: Union[Placed, Refusal] = _result(request, raises, options)
-    return result
-
-
-def _ask(command: Command, request: Request) -> None:
-    """Asks the kept process; one that is closed meanwhile answers no more, and another is kept then."""
-    while not (_kept.get(command) or _kept.setdefault(command, Pool(command))).ask(request):
-        pass
-
-
-def close() -> None:
-    """Ends the kept processes, once they have answered. A later call starts them again."""
-    # Threads that go on calling keep others meanwhile, which are theirs to close.
-    for command in list(_kept):
-        pool = _kept.pop(command, None)
-        if pool:
-            pool.close()
-
-
-def check(placed: Element, *, numbers: Numbers = "ceil", program: Program = None) -> Verdict:
-    """Judges a placed document, whoever placed it; a Refusal is raised where it isn't placed.
-
-    With `exact` fractions anywhere in it are refused, else only those that are read.
-    """
-    return judge(find_program(program), Sender(numbers, is_placed=True).sent_of(placed).line, placed)
-
-
-@overload
-def layout_many(
-    documents: Iterable[Element],
-    *,
-    processes: int = 1,
-    options: Options = None,
-    numbers: Numbers = "ceil",
-    errors: Literal["raise"] = "raise",
-    program: Program = None,
-    held: Optional[int] = None,
-    progress: Progress = False,
-    total: Optional[int] = None,
-) -> Iterator[Placed]: ...
-
-
-@overload
-def layout_many(
-    documents: Iterable[Element],
-    *,
-    processes: int = 1,
-    options: Options = None,
-    numbers: Numbers = "ceil",
-    errors: Errors,
-    program: Program = None,
-    held: Optional[int] = None,
-    progress: Progress = False,
-    total: Optional[int] = None,
-) -> Iterator[Union[Placed, Refusal, ProgramError]]: ...
-
-
-def layout_many(
-    documents: Iterable[Element],
-    *,
-    processes: int = 1,
-    options: Options = None,
-    numbers: Numbers = "ceil",
-    errors: Errors = "raise",
-    program: Program = None,
-    held: Optional[int] = None,
-    progress: Progress = False,
-    total: Optional[int] = None,
-) -> Iterator[Any]:
-    """Lays out a stream of documents by processes of its own; the results come in the order of the documents.
-
-    The stream is read at most `held` documents ahead, 256 for each process where nothing is said. `progress` is true
-    where a bar is shown, or a function that is told how many are done and of how many; `total` is the latter, for
-    streams without a length. An error has the place of its document in the stream as `index`. With `errors` as
-    `return` a document at which the program ends twice has the ProgramError as its result.
-    """
-    raises = _is_raising(errors)
-    sender = Sender(numbers, options)
-    pool = Pool(find_program(program), processes)
-    if total is None and isinstance(documents, Sized):
-        total = len(documents)
-    requests = answered(documents, lambda it: _request(it, sender), pool, held or HELD * processes)
-    return shown(_results(requests, raises, options), progress, total)
-
-
-def replies(
-    lines: Iterable[Union[str, bytes]], *, processes: int = 1, program: Program = None, held: Optional[int] = None
-) -> Iterator[str]:
-    """The replies of the program to lines of text, in order: for each its answer, or the line of its refusal.
-
-    A text with line feeds within is one line too: to JSON they are the same as blanks.
-    """
-    pool = Pool(find_program(program), processes)
-    for index, request in enumerate(answered(lines, _line_request, pool, held or HELD * processes)):
-        if request.error:
-            request.error.index = index
-            raise request.error
-        yield request.reply or ""
-
-
-def _line_request(text: Union[str, bytes]) -> Request:
-    line = (text.encode() if isinstance(text, str) else text).rstrip(b"\n")
-    # Between values a carriage return is blank too, and within a text JSON takes neither.
-    return Request(line.replace(b"\n", b"\r") + b"\n")
-
-
-def _is_raising(errors: str) -> bool:
-    if errors not in ("raise", "return"):
-        raise ValueError(f"errors is 'raise' or 'return', not {errors!r}")
-    return errors == "raise"
-
-
-def _request(document: Any, sender: Sender) -> Request:
+    query = layout_query(options, numbers, errors, on_warning, program)
     try:
-        sent = sender.sent_of(document)
-        return Request(sent.line, sent)
+        return Placed(query.ask(graph)["placed"], program)
     except Refusal as refusal:
-        request = Request(b"")
-        request.error = refusal
-        return request
-
-
-def _results(requests: Iterator[Request], raises: bool, options: Options) -> Iterator[Any]:
-    for index, request in enumerate(requests):
-        try:
-            result = _result(request, raises, options)
-        except ElkError as error:
-            error.index = index
+        if errors == "raise":
             raise
-        if isinstance(result, ElkError):
-            result.index = index
-        yield result
+        return refusal
 
 
-def _result(request: Request, raises: bool, options: Options) -> Any:
-    reply, error = request.reply or "", request.error
-    if reply.startswith("{"):
-        return placed_of(request.about, reply)
-    error = error or refusal_of(reply, request.line, request.about.document(), options)
-    error = error or ProgramError(f"the reply is no answer: {reply[:80]}")
-    if raises or getattr(error, "status", None) in HOPELESS:
-        raise error
-    return error
+def layout_query(options: Options, numbers: str, errors: str, on_warning: OnWarning, program: Program) -> Query:
+    """What is asked about each graph that is to be laid out."""
+    for name, value, values in (("numbers", numbers, ("ceil", "exact")), ("errors", errors, ("raise", "return"))):
+        if value not in values:
+            raise ValueError(f"{name} is {values[0]!r} or {values[1]!r}, not {value!r}")
+    return Query("placed warnings", program, "graph", on_warning, options=options, numbers=numbers)
+
+
+def from_dot(text: str, *, on_warning: OnWarning = None, program: Program = None) -> Dict[str, Any]:
+    """The graph of a text in DOT, the language of Graphviz."""
+    return dict(Query("graph warnings", program, "dot", on_warning).ask(text)["graph"])
+
+
+def lint(graph: Any, *, options: Options = None, numbers: Numbers = "ceil", program: Program = None) -> List[Fault]:
+    """What is wrong in a graph, and what has no effect there, without a layout. In a text, faults have their lines."""
+    query = Query("lint", program, "graph", options=options, numbers=numbers)
+    return [Fault(**it) for it in query.ask(graph)["lint"]]
+
+
+def svg(
+    graph: Any,
+    *,
+    options: Options = None,
+    numbers: Numbers = "ceil",
+    theme: Theme = "auto",
+    arrows: bool = True,
+    on_warning: OnWarning = None,
+    program: Program = None,
+) -> str:
+    """Lays out a graph and draws it: the picture as a text of SVG. The arguments are those of `layout` and `to_svg`."""
+    members = {"options": options, "numbers": numbers, "theme": theme, "arrows": arrows}
+    query = Query("svg warnings", program, "graph", on_warning, **members)
+    return str(query.ask(graph)["svg"])
+
+
+def to_svg(placed: Any, *, theme: Theme = "auto", arrows: bool = True, program: Program = None) -> str:
+    """Draws a graph that has places, of any program, as it is: the picture as a text of SVG.
+
+    It follows the reader's setting unless `theme` is `light` or `dark`. `arrows` is whether edges have heads.
+    """
+    return str(Query("svg", program, "placed", theme=theme, arrows=arrows).ask(placed)["svg"])
+
+
+def draw(graph: Any, ax: Any = None, *, arrows: bool = True, program: Program = None, **reading: Any) -> Any:
+    """Draws a graph of networkx, or a placed graph, into axes of matplotlib, and gives the axes.
+
+    Without `ax` a figure is made in which a unit of the drawing is a point of print. `reading` are members of `Reading`.
+    Places in the axes are those of `positions` and `routes`.
+    """
+    from .plots import plot
+
+    if is_placed(graph, reading):
+        return plot(to_svg(graph, theme="light", arrows=arrows, program=program), ax)
+    return plot(svg(from_networkx(graph, **reading), theme="light", arrows=arrows, program=program), ax)
+
+
+class Placed(Dict[str, Any]):
+    """A placed graph. A notebook shows it as its picture, which the program that placed it draws."""
+
+    def __init__(self, placed: Any = (), program: Program = None) -> None:
+        super().__init__(placed)
+        self._program = program
+
+    def to_svg(self, **look: Any) -> str:
+        """The picture as a text of SVG. The arguments are those of `to_svg`."""
+        return to_svg(self, program=self._program, **look)
+
+    def save(self, path: Union[str, "os.PathLike[str]"], *, scale: float = 1, **look: Any) -> None:
+        """Writes the picture to a file whose name ends with .svg, .png or .pdf. `look` is as for `to_svg`.
+
+        PNG and PDF are light by default, and `scale` makes them larger.
+        """
+        kind = Path(path).suffix.lower()
+        if kind not in KINDS:
+            raise ValueError(f"the ending of {os.fspath(path)!r} is {kind!r}, and may be {', '.join(KINDS)}")
+        picture = self.to_svg(**{"theme": "auto" if kind == ".svg" else "light", **look}).encode()
+        Path(path).write_bytes(picture if kind == ".svg" else _converted(picture, kind[1:], scale))
+
+    def _repr_mimebundle_(self, include: Any = None, exclude: Any = None) -> Dict[str, str]:
+        # Pages that nbconvert makes lack pictures in SVG, and those that LaTeX prints have no elements of HTML.
+        picture = self.to_svg()
+        return {"image/svg+xml": picture, "text/html": IMAGE.format(base64.b64encode(picture.encode()).decode())}
+
+
+def _converted(svg: bytes, kind: str, scale: float) -> bytes:
+    if shutil.which("rsvg-convert"):
+        words = ["rsvg-convert", "--format", kind, "--zoom", str(scale)]
+        return subprocess.run(words, input=svg, stdout=subprocess.PIPE, check=True).stdout
+    if importlib.util.find_spec("cairosvg"):
+        import cairosvg
+
+        return bytes(getattr(cairosvg, f"svg2{kind}")(bytestring=svg, scale=scale))
+    means = "the command rsvg-convert (in Debian's package librsvg2-bin) or by the Python package cairosvg"
+    raise RuntimeError(f"a picture becomes {kind.upper()} by {means}, and neither is there")

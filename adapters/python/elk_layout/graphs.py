@@ -2,53 +2,47 @@
 
 from __future__ import annotations
 
+import contextlib
 import math
-from typing import Any, Callable, Dict, Hashable, Iterable, List, Mapping, NamedTuple, Optional, Set, Tuple, Union
+from decimal import Decimal
+from graphlib import CycleError, TopologicalSorter
+from numbers import Integral, Real
+from typing import Any, Callable, Dict, Hashable, Iterator, List, Mapping, NamedTuple, Optional, Tuple, Union
 
-from .document import Element
-from .errors import TOO_MANY, Refusal
-from .json_values import plain
-from .rounding import is_measure, round_near
-from .tables import table
-from .text_width import width_of
-
-# The name of an attribute, or a function of a node and its attributes.
-OfNode = Union[str, Callable[[Any, Mapping[str, Any]], Any], None]
-# The name of an attribute, or a function of an edge's two ends and its attributes.
-OfEdge = Union[str, Callable[[Any, Any, Mapping[str, Any]], Any], None]
-Size = Union[Tuple[Any, Any], Callable[[Any, Mapping[str, Any]], Tuple[Any, Any]], None]
-
-# A node without a size has room for its label, and at least this.
-LEAST_WIDTH, HEIGHT, BESIDE_LABEL = 40, 30, 16
-PORT_SIZE = {"width": 6, "height": 6}
-# What a group has above its nodes for its label.
-GROUP = {"elk.padding": "[top=28,left=12,bottom=12,right=12]"}
-
-# The members of `style`, each with the attributes that ask for it; the first that is there counts.
-NODE_STYLE = {"shape": ("shape",), "fill": ("fill", "fillcolor"), "stroke": ("color",), "color": ("fontcolor",), "width": ("penwidth",)}
-EDGE_STYLE = {"stroke": ("color",), "color": ("fontcolor",), "width": ("width", "penwidth")}
-DASHES = ("dashed", "dotted")
-
-WEIGHT = "layered.priority.shortness"
-
+Element = Dict[str, Any]
 Id = Union[str, int]
-# The two ends of an edge, its key, and its attributes.
-Edge = Tuple[Any, Any, Any, Mapping[str, Any]]
+Data = Mapping[str, Any]
 
+# The name of an attribute, or a function of a node and its attributes, or of an edge's two ends and its attributes.
+OfNode = Union[str, Callable[[Any, Data], Any], None]
+OfEdge = Union[str, Callable[[Any, Any, Data], Any], None]
+Size = Union[Tuple[Any, Any], Callable[[Any, Data], Tuple[Any, Any]], None]
 
-class _Graph(NamedTuple):
-    """A graph: its nodes by their keys, and its edges as their ends, their key among those of the same ends if there
-    may be several, and their attributes.
-    """
+# The two ends of an edge, its key if there may be several edges with these, and its attributes.
+Edge = Tuple[Any, Any, Element, Data]
 
-    nodes: Dict[Hashable, Mapping[str, Any]]
-    edges: List[Edge]
-    has_keys: bool
-    is_directed: bool
+# A node without a size has at least this, and grows with its label, which a group has above its nodes.
+LEAST_WIDTH, LEAST_HEIGHT = 40, 30
+GROWS = {"elk.nodeSize.constraints": "NODE_LABELS"}
+LEAF = {**GROWS, "elk.nodeLabels.placement": "INSIDE V_CENTER H_CENTER", "elk.nodeLabels.padding": "[top=5,left=8,bottom=5,right=8]"}
+GROUP = {**GROWS, "elk.nodeLabels.placement": "INSIDE V_TOP H_LEFT"}
+PORT_SIZE: Element = {"width": 6, "height": 6}
+
+# The attributes that ask for a look, each with its member of `style`; of two for the same member the first counts.
+EDGE_STYLE = {"color": "stroke", "fontcolor": "color", "width": "width", "penwidth": "width"}
+NODE_STYLE = {"shape": "shape", "fill": "fill", "fillcolor": "fill", "color": "stroke", "fontcolor": "color", "penwidth": "width"}
+DASHES = ("dashed", "dotted")
+WEIGHT = "elk.layered.priority.shortness"
+# What asks for more than nothing, once it is rounded, and the most that counts.
+LEAST_WEIGHT, MOST_WEIGHT = 1.5, 2**20
 
 
 class Reading(NamedTuple):
-    """What is read of a node and of an edge, and where."""
+    """What is read of a node and of an edge, and where; README.md says what each does.
+
+    Each is the name of an attribute, or a function of a node and its attributes, or of an edge's two ends and its
+    attributes. `options` are those of the root and of all groups, and `size` is a width and a height, or a function.
+    """
 
     options: Optional[Mapping[str, Any]] = None
     size: Size = None
@@ -63,46 +57,17 @@ class Reading(NamedTuple):
     weight: OfEdge = "weight"
 
 
-def from_networkx(
-    graph: Any,
-    *,
-    options: Optional[Mapping[str, Any]] = None,
-    size: Size = None,
-    label: OfNode = "label",
-    ports: OfNode = "ports",
-    parent: OfNode = "parent",
-    node_options: OfNode = "options",
-    edge_label: OfEdge = "label",
-    edge_options: OfEdge = "options",
-    source_port: OfEdge = "source_port",
-    target_port: OfEdge = "target_port",
-    weight: OfEdge = "weight",
-) -> Element:
-    """The document of a graph of networkx.
+def from_networkx(graph: Any, **reading: Any) -> Element:
+    """The document of a graph of networkx. `reading` are members of `Reading`.
 
     The edges of a graph without directions are drawn without arrow heads, from the first to the second of the two ends
-    that `graph.edges` tells of them.
-
-    Of `label`, `ports` and so on each is the name of an attribute, or a function of a node and its attributes, or of
-    an edge's two ends and its attributes. `parent` is the key of the node in which a node stands. `ports` are names, or
-    objects with a `name` and members of a port; `source_port` and `target_port` are the names of two. The greater the
-    `weight` of an edge, the shorter it is drawn. `size` is a width and a height for nodes without attributes of these
-    names, or a function; if nothing is said, a node has room for its label. `options` are those of the root and of all
-    groups. The attributes `color`, `fillcolor`, `fontcolor`, `shape`, `style` and `penwidth`, as Graphviz has them,
-    become the member `style`.
-
-    A node's key is its id if it is a text or a whole number; of another key it is the text, made to differ from all
-    others, and the member `key` tells the key. An edge of a multigraph has its key as its member `key`.
+    that `graph.edges` tells of them. A key that is neither a text nor a whole number is the member `key` of a node, whose
+    id is its text then. An edge of a multigraph has its key as its member `key`.
     """
-    has_keys = bool(graph.is_multigraph())
-    edges: List[Edge] = [
-        (source, target, rest[0] if has_keys else None, data)
-        for source, target, *rest, data in graph.edges(data=True, **({"keys": True} if has_keys else {}))
-    ]
-    reading = Reading(
-        options, size, label, ports, parent, node_options, edge_label, edge_options, source_port, target_port, weight
-    )
-    return _document_of(_Graph(dict(graph.nodes(data=True)), edges, has_keys, bool(graph.is_directed())), reading)
+    keys = {"keys": True} if graph.is_multigraph() else {}
+    told = graph.edges(data=True, **keys)
+    edges = [(source, target, {"key": key[0]} if key else {}, data) for source, target, *key, data in told]
+    return _Maker(dict(graph.nodes(data=True)), Reading(**reading)).document(edges, bool(graph.is_directed()))
 
 
 def from_edges(
@@ -117,208 +82,167 @@ def from_edges(
 ) -> Element:
     """The document of a data frame of pandas with one row for each edge.
 
-    `source` and `target` are the columns of its ends, `key` that of what tells several edges with the same ends apart;
-    all other columns are attributes, as `from_networkx` reads them. `nodes` is a frame of the nodes' attributes, whose
-    index has the nodes. Nodes without an edge come from there, and all others in the order of the rows.
+    `source` and `target` are the columns of its ends, and `key` that of what tells edges with the same ends apart. All
+    others are attributes, as `from_networkx` reads them. `nodes` is a frame of the nodes' attributes, by its index; nodes
+    that are there come first, and all others in the order of the rows.
     """
+    unknown = [it for it in (source, target) if it not in frame.columns]
+    if unknown:
+        raise ValueError(f"the frame has no column {unknown[0]!r} for the ends of edges")
     attributes: Dict[Hashable, Mapping[str, Any]] = {} if nodes is None else nodes.to_dict("index")
     edges: List[Edge] = []
     for at, row in enumerate(frame.to_dict("records")):
-        ends = [_end_in(row, column, at) for column in (source, target)]
-        for end in ends:
+        ends = {it: row.pop(it) for it in (source, target)}
+        for column, end in ends.items():
+            if _is_missing(end):
+                raise ValueError(f"the {column} of the edge in row {at} is missing")
             attributes.setdefault(end, {})
-        edges.append((ends[0], ends[1], None if key is None else row.pop(key), row))
-    return _document_of(_Graph(attributes, edges, key is not None, directed), Reading(**reading))
+        edges.append((ends[source], ends[target], {} if key is None else {"key": row.pop(key)}, row))
+    return _Maker(attributes, Reading(**reading)).document(edges, directed)
 
 
-def _end_in(row: Dict[str, Any], column: str, at: int) -> Any:
-    """Takes an end of an edge out of a row."""
-    if column not in row:
-        raise ValueError(f"the frame has no column {column!r} for the ends of edges")
-    end = row.pop(column)
-    if _is_missing(end):
-        raise ValueError(f"the {column} of the edge in row {at} is missing")
-    return end
-
-
-def _document_of(graph: _Graph, reading: Reading) -> Element:
-    _refuse_large(graph)
-    taken: Set[Id] = set()
-    ids = _ids_of(graph.nodes, taken)
-    port_ids: Dict[Tuple[Any, Any], Id] = {}
-    parents = _parents_of(graph, reading)
-    groups = {it for it in parents.values() if it is not None}
-    root: Element = {"layoutOptions": dict(reading.options or {}), "children": []}
-    made = {key: _node_of(key, data, ids[key], reading, key in groups) for key, data in graph.nodes.items()}
-    for key, data in graph.nodes.items():
-        made[key]["ports"] = _ports_of(key, data, ids[key], reading, port_ids, taken)
-        holder = root if parents[key] is None else made[parents[key]]
-        holder["children"].append(made[key])
-    root["edges"] = [_edge_of(f"e{at}", edge, graph, reading, ids, port_ids) for at, edge in enumerate(graph.edges)]
-    return root
-
-
-def _refuse_large(graph: _Graph) -> None:
-    limits = table("limits")
-    most_nodes, most_edges = limits["nodes"] - 1, limits["edges"]
-    nodes, edges = len(graph.nodes), len(graph.edges)
-    if nodes > most_nodes or edges > most_edges:
-        has = f"the graph has {nodes:,} nodes and {edges:,} edges"
-        raise Refusal(TOO_MANY, "TooMany", None, f"{has}, and at most {most_nodes:,} and {most_edges:,} are laid out")
-
-
-def _ids_of(keys: Iterable[Hashable], taken: Set[Id]) -> Dict[Hashable, Id]:
-    ids: Dict[Hashable, Id] = {}
-    for key in keys:
-        id = plain(key)
-        if isinstance(id, (str, int)) and not isinstance(id, bool):
-            ids[key] = id
-    taken.update(ids.values())
-    for key in keys:
-        if key not in ids:
-            ids[key] = _free(str(key), taken)
-    return ids
-
-
-def _free(text: str, taken: Set[Id]) -> str:
-    """The text, with marks behind it if it is taken; it is taken then."""
-    while text in taken:
-        text += "'"
-    taken.add(text)
-    return text
+def is_placed(graph: Any, reading: Element) -> bool:
+    """Whether a graph is a placed one, which is taken as it is, and not one of networkx."""
+    if isinstance(graph, dict) and reading:
+        raise TypeError(f"a placed graph is taken as it is, without {', '.join(reading)}")
+    return isinstance(graph, dict)
 
 
 def _is_missing(value: Any) -> bool:
     """Whether a value is what data frames have in empty cells."""
-    try:
-        return value is None or bool(value != value)
-    except (TypeError, ValueError):
-        # Of pandas.NA nobody knows whether it differs from itself, and of an array it is no single answer.
-        return type(value).__name__ == "NAType"
+    if value is None or isinstance(value, (str, float)):
+        return value is None or value != value
+    return type(value).__name__ in ("NAType", "NaTType") or (isinstance(value, (Real, Decimal)) and value != value)
 
 
-def _value(of: Any, ends: Tuple[Any, ...], data: Mapping[str, Any]) -> Any:
+def _value(of: Any, ends: Tuple[Any, ...], data: Data) -> Any:
     """What a function tells, or else the attribute of a name; None if it is missing."""
     value = of(*ends, data) if callable(of) else data.get(of)
     return None if _is_missing(value) else value
 
 
-def _number(value: Any, what: str) -> Any:
+def _number(value: Any, what: str, of: Any) -> Any:
     """A number that may be written as a text."""
+    number = value
     if isinstance(value, str):
-        try:
-            number: Any = float(value)
-            number = int(number) if number.is_integer() else number
-        except (OverflowError, ValueError):
-            number = value
-    else:
-        number = value
-    if not is_measure(number):
-        raise ValueError(f"{what} is {value!r}, and has to be a number")
-    return number
+        with contextlib.suppress(ValueError):
+            number = float(value)
+    if isinstance(number, bool) or not isinstance(number, (Real, Decimal)) or not math.isfinite(number):
+        raise ValueError(f"the {what} {of!r} is {value!r}, and has to be a number")
+    return int(number) if number == int(number) else number
 
 
-def _parents_of(graph: _Graph, reading: Reading) -> Dict[Hashable, Any]:
-    """The node in which each node stands; None at the root."""
-    parents = {key: _value(reading.parent, (key,), data) for key, data in graph.nodes.items()}
-    # The nodes of which it is known that a way leads to the root.
-    known: Set[Hashable] = set()
-    for key in parents:
-        way, at = set(), key
-        while at is not None and at not in known:
-            if at not in parents:
-                raise ValueError(f"the parent of a node is {at!r}, which is not a node of the graph")
-            if at in way:
-                raise ValueError(f"the node {at!r} stands in itself, by its parents")
-            way.add(at)
-            at = parents[at]
-        known |= way
-    return parents
-
-
-def _style_of(data: Mapping[str, Any], names: Mapping[str, Tuple[str, ...]], what: str) -> Element:
-    """The member `style` that attributes ask for; no member if they ask for none."""
+def _told(label: Any, options: Element, data: Data, kind: str, of: Any) -> Element:
+    """The members for a label, for options and for a look; none of those that are missing or empty."""
     style: Element = {}
-    for member, attributes in names.items():
-        value = next((data[it] for it in attributes if not _is_missing(data.get(it))), None)
-        if value is not None:
-            style[member] = _number(value, f"the line width of {what}") if member == "width" else value
+    for name, member in (NODE_STYLE if kind == "node" else EDGE_STYLE).items():
+        if name in data and not _is_missing(data[name]):
+            style.setdefault(member, data[name])
+    if "width" in style:
+        style["width"] = _number(style["width"], f"line width of the {kind}", of)
     own = data.get("style")
     if isinstance(own, Mapping):
         style.update(own)
     elif isinstance(own, str):
         style.update({"dash": it.strip() for it in own.split(",") if it.strip() in DASHES})
-    return {"style": style} if style else {}
+    labels = [] if label is None else [{"text": str(label)}]
+    return {name: it for name, it in (("labels", labels), ("layoutOptions", options), ("style", style)) if it}
 
 
-def _node_of(key: Any, data: Mapping[str, Any], id: Id, reading: Reading, is_group: bool) -> Element:
-    label = _value(reading.label, (key,), data)
-    node: Element = {"id": id} if id == key else {"id": id, "key": key}
-    own = _value(reading.node_options, (key,), data)
-    if is_group:
-        # Groups are as wide and as high as what stands in them.
-        own = {**GROUP, **(reading.options or {}), **(own or {})}
-        node["children"] = []
-    else:
-        node["width"], node["height"] = _size_of(key, data, str(id if label is None else label), reading)
-    return {**node, **_told(label, own), **_style_of(data, NODE_STYLE, f"the node {key!r}")}
+def _own_id(key: Any) -> Optional[Id]:
+    """The id that a key is itself, of JSON's own classes; None if it is neither a text nor a whole number."""
+    is_whole = isinstance(key, (Integral, float)) and not isinstance(key, bool) and key == key // 1
+    return key if isinstance(key, str) else int(key) if is_whole else None
 
 
-def _size_of(key: Any, data: Mapping[str, Any], text: str, reading: Reading) -> Tuple[Any, Any]:
-    size: Any = reading.size(key, data) if callable(reading.size) else None
-    if size is None:
-        room = max(LEAST_WIDTH, math.ceil(width_of(text, 12)) + BESIDE_LABEL)
-        width, height = reading.size or (room, HEIGHT)  # type: ignore[misc]
-        own = _value("width", (), data), _value("height", (), data)
-        size = width if own[0] is None else own[0], height if own[1] is None else own[1]
-    width, height = (_number(it, f"the {name} of the node {key!r}") for it, name in zip(size, ("width", "height")))
-    return width, height
+class _Maker:
+    """Makes the document of a graph, of whose nodes it has the attributes by their keys."""
 
+    def __init__(self, nodes: Mapping[Hashable, Data], reading: Reading) -> None:
+        self._nodes, self._reading = nodes, reading
+        own = {key: _own_id(key) for key in nodes}
+        self._taken = {it for it in own.values() if it is not None}
+        self._ids = {key: self._free(str(key)) if it is None else it for key, it in own.items()}
+        self._ports: Dict[Tuple[Any, Any], Id] = {}
 
-def _ports_of(
-    key: Any, data: Mapping[str, Any], id: Id, reading: Reading, port_ids: Dict[Tuple[Any, Any], Id], taken: Set[Id]
-) -> List[Element]:
-    ports = []
-    for port in _value(reading.ports, (key,), data) or ():
-        named = dict(port) if isinstance(port, Mapping) else {"name": port}
-        name = named.pop("name")
-        port_ids[key, name] = _free(f"{id}.{name}", taken)
-        ports.append({"id": port_ids[key, name], **PORT_SIZE, "labels": [{"text": str(name)}], **named})
-    return ports
+    def _free(self, text: str) -> str:
+        """The text, with marks behind it if it is taken; it is taken then."""
+        while text in self._taken:
+            text += "'"
+        self._taken.add(text)
+        return text
 
+    def document(self, edges: List[Edge], is_directed: bool) -> Element:
+        parents = self._parents()
+        groups = {it for it in parents.values() if it is not None}
+        root: Element = {"layoutOptions": dict(self._reading.options or {}), "children": []}
+        made = {key: self._node(key, data, key in groups) for key, data in self._nodes.items()}
+        for key, node in made.items():
+            (root if parents[key] is None else made[parents[key]])["children"].append(node)
+        heads = {} if is_directed else {"directed": False}
+        root["edges"] = [{"id": f"e{at}", **self._edge(*edge), **heads} for at, edge in enumerate(edges)]
+        return root
 
-def _told(label: Any, options: Any) -> Element:
-    labels = {} if label is None else {"labels": [{"text": str(label)}]}
-    return {**labels, "layoutOptions": dict(options)} if options else labels
+    def _parents(self) -> Dict[Hashable, Any]:
+        """The node in which each node stands; None at the root."""
+        parents = {key: _value(self._reading.parent, (key,), data) for key, data in self._nodes.items()}
+        for parent in parents.values():
+            if parent is not None and parent not in parents:
+                raise ValueError(f"the parent of a node is {parent!r}, which is not a node of the graph")
+        try:
+            TopologicalSorter({key: () if it is None else (it,) for key, it in parents.items()}).prepare()
+        except CycleError as error:
+            raise ValueError(f"the node {error.args[1][0]!r} stands in itself, by its parents") from None
+        return parents
 
+    def _node(self, key: Any, data: Data, is_group: bool) -> Element:
+        id, reading = self._ids[key], self._reading
+        label = _value(reading.label, (key,), data)
+        node: Element = {"id": id} if id == key else {"id": id, "key": key}
+        options: Element = dict(_value(reading.node_options, (key,), data) or {})
+        if is_group:
+            # Groups are as wide and as high as what stands in them.
+            node["children"] = []
+            options = {**GROUP, **(reading.options or {}), **options}
+        else:
+            width, height = self._size(key, data)
+            node["width"] = LEAST_WIDTH if width is None else width
+            node["height"] = LEAST_HEIGHT if height is None else height
+            if width is None or height is None:
+                label = id if label is None else label
+                options = {**LEAF, **options}
+        return {**node, **_told(label, options, data, "node", key), "ports": self._ports_of(key, data)}
 
-def _edge_of(
-    id: str,
-    edge: Edge,
-    graph: _Graph,
-    reading: Reading,
-    ids: Dict[Hashable, Id],
-    port_ids: Dict[Tuple[Any, Any], Id],
-) -> Element:
-    source, target, key, data = edge
-    ends = []
-    for end, of in ((source, reading.source_port), (target, reading.target_port)):
-        port = _value(of, (source, target), data)
-        if port is not None and (end, port) not in port_ids:
-            raise ValueError(f"the node {end!r} has no port {port!r}, which the edge {(source, target)!r} names")
-        ends.append(ids[end] if port is None else port_ids[end, port])
-    what = f"the edge {(source, target)!r}"
-    own = _value(reading.edge_options, (source, target), data)
-    options = {**_weight_of(_value(reading.weight, (source, target), data), what), **(own or {})}
-    told = {**_told(_value(reading.edge_label, (source, target), data), options), **_style_of(data, EDGE_STYLE, what)}
-    keys = {"key": key} if graph.has_keys else {}
-    return {"id": id, "sources": ends[:1], "targets": ends[1:], **keys, **({} if graph.is_directed else {"directed": False}), **told}
+    def _size(self, key: Any, data: Data) -> Iterator[Any]:
+        """The width and the height of a node; None where nothing is said."""
+        of = self._reading.size
+        told, general = (of(key, data), None) if callable(of) else (None, of)
+        for at, name in enumerate(("width", "height")):
+            value = told[at] if told else _value(name, (), data)
+            value = general[at] if value is None and general else value
+            yield value if value is None else _number(value, f"{name} of the node", key)
 
+    def _ports_of(self, key: Any, data: Data) -> List[Element]:
+        ports = []
+        for port in _value(self._reading.ports, (key,), data) or ():
+            named: Element = dict(port) if isinstance(port, Mapping) else {"name": port}
+            name = named.pop("name")
+            id = self._ports[key, name] = self._free(f"{self._ids[key]}.{name}")
+            ports.append({"id": id, **PORT_SIZE, "labels": [{"text": str(name)}], **named})
+        return ports
 
-def _weight_of(weight: Any, what: str) -> Element:
-    """The option that a weight asks for; a weight of 1 or less asks for nothing."""
-    if weight is None:
-        return {}
-    most = next(it["high"] for it in table("options")["options"] if it["name"] == WEIGHT)
-    whole = min(round_near(_number(weight, f"the weight of {what}")), most)
-    return {f"elk.{WEIGHT}": whole} if whole > 1 else {}
+    def _edge(self, source: Any, target: Any, key: Element, data: Data) -> Element:
+        reading, ends = self._reading, (source, target)
+        ids = []
+        for end, of in zip(ends, (reading.source_port, reading.target_port)):
+            port = _value(of, ends, data)
+            if port is not None and (end, port) not in self._ports:
+                raise ValueError(f"the node {end!r} has no port {port!r}, which the edge {ends!r} names")
+            ids.append(self._ids[end] if port is None else self._ports[end, port])
+        options: Element = {}
+        weight = _number(_value(reading.weight, ends, data) or 1, "weight of the edge", ends)
+        if weight >= LEAST_WEIGHT:
+            options[WEIGHT] = min(math.floor(weight + 0.5), MOST_WEIGHT)
+        options.update(_value(reading.edge_options, ends, data) or {})
+        told = _told(_value(reading.edge_label, ends, data), options, data, "edge", ends)
+        return {"sources": ids[:1], "targets": ids[1:], **key, **told}

@@ -1,4 +1,4 @@
-"""Where the program `elk` is."""
+"""Where the program `elk-draw` is."""
 
 from __future__ import annotations
 
@@ -7,7 +7,7 @@ import platform
 import shutil
 import sys
 from pathlib import Path
-from typing import Iterator, NoReturn, Tuple, Union
+from typing import NoReturn, Tuple, Union
 
 from .errors import ProgramError
 
@@ -16,62 +16,44 @@ Program = Union[str, "os.PathLike[str]", None]
 #: The words with which the program is started, before its own.
 Command = Tuple[str, ...]
 
+NAME = "elk-draw"
+VARIABLE = "ELK_DRAW_PROGRAM"
 FOLDER = Path(__file__).resolve().parent
-
-# The program that came with the package, and the command that runs its WebAssembly module by Node.
-OWN = FOLDER / "bin" / "elk"
-OWN_MODULE = FOLDER / "module" / "bin" / "elk"
-
-# The launcher of the repository and its command, if the package stands in it. It may stand in the root of a system too.
-LAUNCHER = Path(os.path.abspath(FOLDER / "../../../elk"))
-MODULE = Path(os.path.abspath(FOLDER / "../../js/bin/elk"))
-
+# The program that came with the package, and the script that runs its WebAssembly module by Node.
+OWN = FOLDER / "bin" / NAME
+OWN_MODULE = FOLDER / "module" / "bin" / NAME
+# The launcher of the repository and its script, if the package stands in it. It may also stand in the root of a system.
+TOP = Path(os.path.abspath(FOLDER / "../../.."))
+LAUNCHER = TOP / NAME
+MODULE = TOP / "adapters" / "js" / "bin" / NAME
 # The systems for which there is a program.
 SYSTEMS = (("Linux", "x86_64"), ("Linux", "aarch64"))
 
 
 def find_program(program: Program = None) -> Command:
-    """What starts the program: the given one, else that of ELK_PROGRAM, of the package, of the search path, or of the
-    repository. On a system for which there is no program Node runs its module.
+    """What starts the program: the given one, or that of ELK_DRAW_PROGRAM, of the package, of the search path, or of
+    the repository. On a system without a program, Node runs its module.
     """
-    named = os.fspath(program) if program else os.environ.get("ELK_PROGRAM")
+    named = os.fspath(program) if program else os.environ.get(VARIABLE)
     if named:
         return (named,)
-    found = next(_found(), None)
-    if found:
-        return found
-    if _has_system():
-        raise ProgramError(
-            "the program elk isn't found: put it on the search path, name it in the environment's ELK_PROGRAM, "
-            "or give its path as program=.."
-        )
-    system = " ".join(_system())
-    raise ProgramError(
-        f"there is no program elk for {system}. Its WebAssembly module runs by Node 18 or later: install Node, "
-        "so that node is on the search path, and the package for any system, whose file name ends with none-any.whl"
-    )
-
-
-def _system() -> Tuple[str, str]:
-    return platform.system(), platform.machine()
-
-
-def _has_system() -> bool:
-    return _system() in SYSTEMS
-
-
-def _found() -> Iterator[Command]:
-    """What there is without a name, the best first."""
-    for path in (str(OWN), shutil.which("elk"), str(LAUNCHER)):
-        # The launcher starts on every system, but has no program for some.
-        if path and os.access(path, os.X_OK) and (_has_system() or path != str(LAUNCHER)):
-            yield (path,)
+    system = platform.system(), platform.machine()
+    # The launcher starts on every system, but has no program for some.
+    for path in (OWN, shutil.which(NAME), LAUNCHER if system in SYSTEMS else None):
+        if path and os.access(path, os.X_OK):
+            return (str(path),)
     node = shutil.which("node")
-    for module in (OWN_MODULE, MODULE):
-        if node and module.is_file():
-            yield (node, str(module))
+    for script in (OWN_MODULE, MODULE):
+        if node and script.is_file():
+            return (node, str(script))
+    if system in SYSTEMS:
+        ways = f"put it on the search path, name it in the environment variable {VARIABLE}, or pass its path as program=.."
+        raise ProgramError(f"the program {NAME} isn't found: {ways}")
+    way = "install Node, so that node is on the search path, and the package whose file name ends with none-any.whl"
+    module = "Its WebAssembly module runs by Node 18 or later"
+    raise ProgramError(f"there is no program {NAME} for {' '.join(system)}. {module}: {way}")
 
 
 def start() -> NoReturn:
-    """The command `elk` of an installed package: the program itself, with the same arguments."""
-    os.execv(OWN, ["elk", *sys.argv[1:]])
+    """The command `elk-draw` of an installed package: the program itself, with the same arguments."""
+    os.execv(OWN, [NAME, *sys.argv[1:]])

@@ -1,6 +1,6 @@
 """What the tests stand on: the program that they ask, and one whose replies they choose.
 
-The program is the one that ELK_PROGRAM names, or else the one that was built. No test builds it.
+The program is the one that ELK_DRAW names, or else the one that was built. No test builds it.
 """
 
 import atexit
@@ -15,7 +15,7 @@ PACKAGE = Path(__file__).resolve().parent.parent
 TOP = PACKAGE.parent.parent
 sys.path.insert(0, str(PACKAGE))
 
-PROGRAM = os.environ.get("ELK_PROGRAM") or str(TOP / "crates" / "elk" / "out" / "elk")
+PROGRAM = os.environ.get("ELK_DRAW") or str(TOP / "crates" / "elk_draw" / "out" / "elk_draw")
 
 
 def _puppet():
@@ -31,10 +31,8 @@ def _puppet():
 PUPPET = _puppet()
 
 with_program = unittest.skipUnless(
-    os.access(PROGRAM, os.X_OK), "no program stands: ELK_PROGRAM names one, or the gate builds it"
+    os.access(PROGRAM, os.X_OK), f"there is no program {PROGRAM}: build it, or name one by ELK_DRAW"
 )
-
-with_node = unittest.skipUnless(shutil.which("node"), "node isn't there")
 
 
 def needs(*names):
@@ -48,8 +46,15 @@ def needs(*names):
     return unittest.skipIf(missing, f"{', '.join(missing)} isn't there")
 
 
+def box(id, width=30, height=20, **more):
+    return {"id": id, "width": width, "height": height, **more}
+
+
+def edge(source, target, **more):
+    return {"id": f"{source} {target}", "sources": [source], "targets": [target], **more}
+
+
 def chain(size, id="root"):
-    """A document of some nodes in a chain."""
-    nodes = [{"id": f"n{at}", "width": 30, "height": 20} for at in range(size)]
-    edges = [{"id": f"e{at}", "sources": [f"n{at - 1}"], "targets": [f"n{at}"]} for at in range(1, size)]
-    return {"id": id, "children": nodes, "edges": edges}
+    """A graph of some nodes in a chain."""
+    edges = [{**edge(f"n{at - 1}", f"n{at}"), "id": f"e{at}"} for at in range(1, size)]
+    return {"id": id, "children": [box(f"n{at}") for at in range(size)], "edges": edges}

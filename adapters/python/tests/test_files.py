@@ -1,4 +1,7 @@
-"""The command, which lays out files and checks them."""
+"""The command, which lays out files and checks them.
+
+Most of these wait for the members `text` and `placed` of requests, and those that check for the command `check`.
+"""
 
 import json
 import os
@@ -10,14 +13,7 @@ import unittest
 from pathlib import Path
 
 from .program import PACKAGE, PROGRAM, chain, with_program
-from elk_layout import __version__, to_svg
-
-
-def without_parts(text):
-    """A placed document of one part, without the member that names the parts: the package asks for parts where a document doesn't."""
-    placed = json.loads(text)
-    del placed["layering"]["parts"]
-    return placed
+from elk_layout import __version__, layout, svg
 
 
 class Command(unittest.TestCase):
@@ -27,7 +23,7 @@ class Command(unittest.TestCase):
         self.folder = Path(folder.name)
 
     def run_command(self, *words, given=None, **more):
-        environment = {**os.environ, "PYTHONPATH": str(PACKAGE), "ELK_PROGRAM": PROGRAM, **more}
+        environment = {**os.environ, "PYTHONPATH": str(PACKAGE), "ELK_DRAW_PROGRAM": PROGRAM, **more}
         return subprocess.run(
             [sys.executable, "-m", "elk_layout", *map(str, words)],
             **{"stdout": subprocess.PIPE, "stderr": subprocess.PIPE, "cwd": self.folder, "env": environment},
@@ -49,11 +45,9 @@ class Command(unittest.TestCase):
             ended = self.run_command("layout", *words, "-o", f"out{jobs}", "--svg", "--jobs", jobs)
             self.assertEqual((ended.returncode, ended.stdout, ended.stderr), (0, "7 of 7 files laid out\n", ""))
             for file in files:
-                placed = (self.folder / f"out{jobs}" / file[3:]).read_text()
-                own = subprocess.run([PROGRAM, "layout"], input=(self.folder / file).read_bytes(), stdout=subprocess.PIPE)
-                self.assertEqual(without_parts(placed), json.loads(own.stdout), file)
-                picture = (self.folder / f"out{jobs}" / file[3:]).with_suffix(".svg")
-                self.assertEqual(picture.read_text(), to_svg(json.loads(placed)))
+                graph, placed = json.loads((self.folder / file).read_text()), self.folder / f"out{jobs}" / file[3:]
+                self.assertEqual(json.loads(placed.read_text()), layout(graph, program=PROGRAM), file)
+                self.assertEqual(placed.with_suffix(".svg").read_text(), svg(graph, program=PROGRAM))
             self.assertEqual((self.folder / f"out{jobs}" / "refused.jsonl").read_text(), "")
         written = [it.name for it in (self.folder / "out1").rglob("*") if it.is_file()]
         self.assertEqual(len(written), 15)
@@ -63,7 +57,7 @@ class Command(unittest.TestCase):
         files = [
             self.file("good.json", chain(3)),
             self.file("double.json", {"id": "é", "children": [{"id": "é"}]}),
-            self.file("fraction.json", {"id": 1, "layoutOptions": {"elk.spacing.nodeNode": 0.5}}),
+            self.file("fraction.json", {"id": 1, "layoutOptions": {"elk.layered.effort": 0.5}}),
             self.file("broken.json", '{"id":\n  5,, }'),
             self.file("again.json", {"id": 5, "children": [{"id": 5}]}),
             "missing.json",
@@ -103,20 +97,29 @@ class Command(unittest.TestCase):
 
     @with_program
     def test_one_document_goes_from_stdin_to_stdout(self):
-        text = json.dumps(chain(2))
-        own = subprocess.run([PROGRAM, "layout"], input=text, stdout=subprocess.PIPE, text=True).stdout
+        text, placed = json.dumps(chain(2)), layout(chain(2), program=PROGRAM)
         self.file("a.json", chain(2))
         for words, given in ((["layout", "-"], text), (["layout", "a.json"], None)):
             ended = self.run_command(*words, given=given)
-            self.assertEqual((ended.returncode, without_parts(ended.stdout), ended.stderr), (0, json.loads(own), ""))
-        ended = self.run_command("layout", "-", "--svg", given=text)
-        self.assertEqual(ended.stdout, to_svg(json.loads(own)))
+            self.assertEqual((ended.returncode, json.loads(ended.stdout), ended.stderr), (0, placed, ""))
+        ended = self.run_command("layout", "-", "--svg", "--no-arrows", given=text)
+        self.assertEqual(ended.stdout, svg(chain(2), arrows=False, program=PROGRAM))
         ended = self.run_command("layout", "-", given='{"id":1,"children":[{"id":1}]}')
         self.assertEqual((ended.returncode, ended.stdout), (2, ""))
         self.assertEqual(ended.stderr, "-: the id 1 is used twice: children[0].id is 1, as id is (rule 7, DoubleId)\n")
 
     @with_program
-    def test_placed_documents_are_checked(self):
+    def test_files_in_dot_are_laid_out_and_warnings_are_told(self):
+        self.file("a.dot", "digraph { a -> b [minlen=2] }")
+        self.file("b.json", {**chain(1), "widht": 5})
+        ended = self.run_command("layout", "a.dot", "b.json", "-o", "out")
+        self.assertEqual(ended.returncode, 0, ended.stderr)
+        self.assertEqual([it["id"] for it in json.loads((self.folder / "out/a.json").read_text())["children"]], ["a", "b"])
+        said = ["a.dot: warning: the attribute minlen has no effect", 'b.json: warning: widht is not read; did you mean "width"?']
+        self.assertEqual(ended.stderr.splitlines(), said)
+
+    @with_program
+    def test_placed_graphs_are_checked(self):
         placed = self.run_command("layout", "-", given=json.dumps(chain(2))).stdout
         self.file("good.json", placed)
         moved = json.loads(placed)
@@ -163,9 +166,9 @@ class Command(unittest.TestCase):
     def test_a_program_that_is_not_there_is_told_once(self):
         self.file("a.json", chain(2))
         shutil.copytree(PACKAGE / "elk_layout", self.folder / "elk_layout")
-        ended = self.run_command("layout", "a.json", "-o", "out", ELK_PROGRAM="", PATH="/nowhere", PYTHONPATH=".")
+        ended = self.run_command("layout", "a.json", "-o", "out", ELK_DRAW_PROGRAM="", PATH="/nowhere", PYTHONPATH=".")
         self.assertEqual((ended.returncode, ended.stdout), (70, ""))
-        self.assertIn("the program elk isn't found", ended.stderr)
+        self.assertIn("the program elk-draw isn't found", ended.stderr)
 
 
 if __name__ == "__main__":

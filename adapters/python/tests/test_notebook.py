@@ -31,7 +31,7 @@ class Notebook(unittest.TestCase):
     def test_it_runs_and_shows_pictures(self):
         with tempfile.TemporaryDirectory() as folder:
             words = ["--to", "notebook", "--execute", str(NOTEBOOK), "--output-dir", folder, "--output", "run.ipynb"]
-            environment = {**os.environ, "ELK_PROGRAM": PROGRAM, "IPYTHONDIR": folder, "HOME": folder}
+            environment = {**os.environ, "ELK_DRAW_PROGRAM": PROGRAM, "IPYTHONDIR": folder, "HOME": folder}
             ended = subprocess.run(
                 ["jupyter-nbconvert", *words], stderr=subprocess.PIPE, env=environment, timeout=SECONDS
             )

@@ -2,6 +2,7 @@
 
 import contextlib
 import io
+import json
 import os
 import signal
 import subprocess
@@ -11,12 +12,12 @@ import threading
 import time
 import unittest
 import unittest.mock
+import warnings
 
 from .program import PACKAGE, PROGRAM, PUPPET, needs, with_program
-from elk_layout import ProgramError, Refusal, close, layout, layout_many, replies
-from elk_layout.calls import _kept
-from elk_layout.pool import Pool
-from elk_layout.process import Request, State, running
+from elk_layout import LayoutWarning, ProgramError, Refusal, close, layout, layout_many, replies
+from elk_layout.query import _kept
+from elk_layout.processes import Pool, Request, running
 from elk_layout.streams import HELD_BYTES
 
 
@@ -25,7 +26,7 @@ def ask(id, **more):
 
 
 def pid():
-    return layout({"id": "pid"}, program=PUPPET) and _kept[PUPPET,].processes[0].pid
+    return layout({"id": "pid"}, program=PUPPET) and _kept[PUPPET,].processes[0].child.pid
 
 
 def asked(pool, text):
@@ -85,13 +86,14 @@ class Kept(unittest.TestCase):
 
     def test_letters_that_are_torn_between_two_pieces_are_whole(self):
         pool = Pool((PUPPET,))
-        self.assertEqual(asked(pool, '{"id": "pieces é 😀"}'), '{"id": "pieces é 😀"}')
+        text = '{"id": "pieces é 😀"}'
+        self.assertEqual(asked(pool, f'{{"graph": {text}}}'), f'{{"placed": {text}}}')
         pool.stop()
 
     def test_very_long_lines_pass_both_ways(self):
         pool = Pool((PUPPET,))
         text = '{"id": "%s"}' % ("ü" * 3_000_000)
-        self.assertEqual(asked(pool, text), text)
+        self.assertEqual(asked(pool, f'{{"graph": {text}}}'), f'{{"placed": {text}}}')
         pool.stop()
 
     def test_threads_get_their_own_replies(self):
@@ -129,27 +131,16 @@ class Kept(unittest.TestCase):
         self.assertEqual(os.waitpid(child, 0)[1], 0)
         self.assertEqual(pid(), before)
 
-    def test_the_launcher_is_heard_and_nothing_else_is(self):
-        for words, heard in (("elk: building the program", "elk: building the program\n"), ("else", "")):
-            note = io.StringIO()
-            with contextlib.redirect_stderr(note):
-                ask(f"note {words}")
-                # What is said may come after the reply.
-                for _ in range(20):
-                    ask("on")
-                    time.sleep(0.005)
-            self.assertEqual(note.getvalue(), heard)
-
     def test_no_process_outlives_python(self):
         script = (
             "import sys; sys.path.insert(0, sys.argv[1])\n"
-            "from elk_layout import layout, layout_many\nfrom elk_layout.calls import _kept\n"
+            "from elk_layout import layout, layout_many\nfrom elk_layout.query import _kept\n"
             "layout({'id': 'a'}, program=sys.argv[2])\n"
             "stream = layout_many(({'id': f'slow 5'} for _ in range(3)), program=sys.argv[2], held=1)\n"
-            "print(_kept[sys.argv[2],].processes[0].pid)\n"
+            "print(_kept[sys.argv[2],].processes[0].child.pid)\n"
         )
         words = [sys.executable, "-W", "error", "-c", script, str(PACKAGE), PUPPET]
-        ended = subprocess.run(words, stdout=subprocess.PIPE, stderr=subprocess.PIPE, timeout=20)
+        ended = subprocess.run(words, stdout=subprocess.PIPE, stderr=subprocess.PIPE, timeout=100)
         self.assertEqual((ended.returncode, ended.stderr), (0, b""))
         with self.assertRaises(ProcessLookupError):
             os.kill(int(ended.stdout), 0)
@@ -223,23 +214,14 @@ class Streams(unittest.TestCase):
         with self.assertRaises(ProcessLookupError):
             os.kill(child, 0)
 
-    def test_a_run_reads_only_so_much_and_another_takes_over(self):
-        pool = Pool((PUPPET,), 1, most_bytes=1000)
-        requests = [pool.put(Request(b'{"id": "pid %d"}\n' % at)) for at in range(200)]
-        while not all(it.is_done for it in requests):
-            pool.turn()
-        pool.stop()
-        pids = [it.reply.split('"pid": ')[1] for it in requests]
-        self.assertEqual([f'"pid {at}"' in it.reply for at, it in enumerate(requests)], [True] * 200)
-        self.assertGreater(len(set(pids)), 3)
-
-    def test_a_run_that_has_read_its_most_and_waits_for_nothing_ends(self):
-        pool = Pool((PUPPET,), 1, most_bytes=100)
-        before = len(running)
-        pids = {asked(pool, '{"id": "pid %d"}' % at) for at in range(12)}
-        self.assertEqual((len(running) - before, len(pool.processes)), (1, 1))
-        self.assertEqual(len(pids), 12)
-        pool.stop()
+    def test_a_process_that_has_read_its_most_is_followed_by_another(self):
+        for held in (1, 100):
+            with self.subTest(held=held):
+                before = len(running)
+                results = list(self.many([f"most {at}" for at in range(200)], held=held))
+                self.assertEqual([it["id"] for it in results], [f"most {at}" for at in range(200)])
+                self.assertGreater(len({it["pid"] for it in results}), 3)
+                self.assertEqual(len(running), before)
 
     def test_no_document_makes_no_result(self):
         self.assertEqual(list(self.many([])), [])
@@ -256,8 +238,24 @@ class Streams(unittest.TestCase):
             self.assertIn("5", note.getvalue())
 
     def test_lines_are_replied_to_as_they_are(self):
-        lines = ['{"id": "a"}', b'{"id": "b"}\n', '{"id": "refuse 7 DoubleId 5"}\n']
-        self.assertEqual(list(replies(lines, program=PUPPET)), ['{"id": "a"}', '{"id": "b"}', "refused 7 DoubleId 5"])
+        lines = ['{"graph": {"id": "a"}}', b'{"graph": {"id": "b"}}\n', '{"graph": {"id": "odd"}}\n']
+        found = list(replies(lines, program=PUPPET))
+        self.assertEqual(found, ['{"placed": {"id": "a"}}', '{"placed": {"id": "b"}}', "no answer"])
+
+    def test_warnings_are_told_once_for_each_name_or_to_a_function(self):
+        ids = ["warn elk.directon", "warn elk.directon", "warn widht", "plain"]
+        for _ in range(2):
+            told = []
+            self.assertEqual(len(list(self.many(ids, on_warning=told.append))), 4)
+            self.assertEqual([it.steps for it in told], [["elk.directon"], ["elk.directon"], ["widht"]])
+        with unittest.mock.patch("elk_layout.query._told", set()), warnings.catch_warnings(record=True) as told:
+            warnings.simplefilter("always")
+            list(self.many(ids))
+            ask("warn elk.directon")
+            ask("warn elk.spacing")
+        self.assertEqual([str(it.message) for it in told], ["elk.directon is odd", "widht is odd", "elk.spacing is odd"])
+        self.assertEqual({it.category for it in told}, {LayoutWarning})
+        self.assertEqual(told[2].filename, __file__)
 
     def test_wrong_words_are_told_at_once(self):
         for wrong in ({"processes": 0}, {"errors": "ignore"}, {"numbers": "floor"}):
@@ -289,8 +287,8 @@ class Sources(unittest.TestCase):
                 self.assertEqual([it["id"] for it in seen], [str(at) for at in range(count)])
 
     def test_what_was_read_before_a_document_that_is_no_json_is_given_first(self):
-        stream = layout_many([{"id": "a"}, {"id": "b"}, {"id": object()}, {"id": "c"}], program=PUPPET)
-        self.assertEqual([it["id"] for it in self.given_before(TypeError, stream)], ["a", "b"])
+        stream = layout_many([{"id": "a"}, {"id": "b"}, {(1, 2): 3}, {"id": "c"}], program=PUPPET)
+        self.assertEqual([it["id"] for it in self.given_before(Refusal, stream)], ["a", "b"])
 
     def test_a_slow_source_holds_no_result_back(self):
         read = []
@@ -331,13 +329,12 @@ class Sources(unittest.TestCase):
 
         mine, array = object(), numpy.array([1.5])
         document = {"id": "a", "mine": mine, "own": [{"array": array, "number": numpy.float64(2.5), "key": (1, [2])}]}
-        document["own"].append(document["own"])
         (placed,) = layout_many([document], program=PUPPET)
-        (own, itself), given = placed["own"], document["own"][0]
+        (own,), given = placed["own"], document["own"][0]
         self.assertIs(placed["mine"], mine)
-        self.assertIs(itself, placed["own"])
         self.assertIsNot(own, given)
-        self.assertEqual([own[it] is given[it] for it in given], [True] * 3)
+        self.assertIs(own["array"], array)
+        self.assertEqual((own["number"], own["key"]), (2.5, [1, [2]]))
 
     @with_program
     def test_a_refusal_speaks_of_the_document_as_it_was(self):
@@ -352,14 +349,16 @@ class Sources(unittest.TestCase):
         self.assertIn('children[1].id is "a"', str(results[1]))
 
     def test_a_line_with_line_feeds_within_is_one_line(self):
-        for lines in (['{"id":\n1}', '{"id":2}', '{"id":3}'], [b'{"id":1\n\n}\n', b'\n{"id":2}', '{"id":3}\n\n']):
+        one, two, three = ('{"graph":\n{"id":%d}}' % at for at in (1, 2, 3))
+        for lines in ([one, two, three], [one.encode() + b"\n", b"\n" + two.encode(), f"{three}\n\n"]):
             with self.subTest(lines):
-                self.assertEqual(list(replies(lines, program=PUPPET)), [f'{{"id": {at}}}' for at in (1, 2, 3)])
+                found = list(replies(lines, program=PUPPET))
+                self.assertEqual(found, [f'{{"placed": {{"id": {at}}}}}' for at in (1, 2, 3)])
 
     @with_program
     def test_a_line_feed_within_a_text_stays_a_fault(self):
-        found = list(replies(['{"id":"a\nb"}', "", '{"id":"c"}'], program=PROGRAM))
-        self.assertEqual(found[:2], ["refused 1 NotJson -"] * 2)
+        found = list(replies(['{"graph":{"id":"a\nb"}}', "", '{"graph":{"id":"c"},"give":["placed"]}'], program=PROGRAM))
+        self.assertEqual([json.loads(it)["fault"]["name"] for it in found[:2]], ["BadRequest"] * 2)
         self.assertIn('"id":"c"', found[2])
 
 
@@ -373,7 +372,7 @@ class Interrupted(unittest.TestCase):
         """Whether a deed is true in a copy of this Python that must not take longer than some seconds."""
         child = os.fork()
         if child == 0:
-            signal.alarm(20)
+            signal.alarm(100)
             try:
                 good = deed()
             except BaseException:
@@ -409,7 +408,7 @@ class Interrupted(unittest.TestCase):
             thread.start()
         closing = threading.Thread(target=lambda: [close() for _ in range(20)], daemon=True)
         closing.start()
-        closing.join(20)
+        closing.join(100)
         is_closed = not closing.is_alive()
         end.set()
         for thread in threads:
@@ -434,13 +433,13 @@ class Interrupted(unittest.TestCase):
             "print(layout({'id': 'after'}, program=sys.argv[2])['id'])\n"
         )
         words = [sys.executable, "-c", script, str(PACKAGE), PUPPET]
-        ended = subprocess.run(words, stdout=subprocess.PIPE, stderr=subprocess.PIPE, timeout=20)
+        ended = subprocess.run(words, stdout=subprocess.PIPE, stderr=subprocess.PIPE, timeout=100)
         self.assertEqual((ended.stderr, ended.stdout), (b"", b"slow 1 [True, True]\nafter\n"))
 
 
 def a_child():
     """One of the processes that are running."""
-    return next(iter(running)).pid
+    return next(iter(running)).child.pid
 
 
 if __name__ == "__main__":

@@ -130,7 +130,7 @@ goes_before a b u v f = step (int_cmp b a) (int_ranks b a) f
 held_pairs : (held : List (Option ℤ)) (row : List ℕ) → ((i j : ℕ) → i < j → j < length row → GoesBefore held (get_or row i 0) (get_or row j 0)) → IsHeldRow held row
 held_pairs held [] pairs = tt
 held_pairs held (u ∷ row) pairs = (
-  (λ h. All-from_get_or (IsBelow held u) row 0 (λ j l k. pairs 0 (suc j) (omega arith) (omega (arith, l)))),
+  (λ h. All-from_get_or (IsBelow held u) row (0) (λ j l k. pairs 0 (suc j) (omega arith) (omega (arith, l)))),
   held_pairs held row (λ i j l h. pairs (suc i) (suc j) (omega (arith, l)) (omega (arith, h))),
 )
 

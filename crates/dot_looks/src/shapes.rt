@@ -42,7 +42,8 @@ fn named(name: &str) -> Shape {
         "ellipse" | "oval" => shape_with(Form::Ellipse, false, true),
         "circle" => shape_with(Form::Ellipse, true, true),
         "egg" => shape_with(Form::Ellipse, false, false),
-        "doublecircle" | "Mcircle" => shape_with(Form::Ellipse, true, false),
+        "doublecircle" => shape_with(Form::Ellipse, true, true),
+        "Mcircle" => shape_with(Form::Ellipse, true, false),
         "diamond" => shape_with(Form::Diamond, false, true),
         "Mdiamond" => shape_with(Form::Diamond, false, false),
         "point" => shape_with(Form::Point, true, true),
@@ -64,6 +65,19 @@ pub fn shape_of(given: Given<'_>) -> Shape {
         shape.is_regular = true;
     }
     shape
+}
+
+// More outlines are as many as these.
+const MOST_OUTLINES: f64 = 4.0;
+
+/// How many outlines a node has, one within the other.
+pub(crate) fn outlines_of(given: Given<'_>) -> f64 {
+    let default = match given.text("shape") {
+        Some("doublecircle") => 2.0,
+        _ => 1.0,
+    };
+    let asked = given.number("peripheries").unwrap_or(default);
+    asked.max(0.0).min(MOST_OUTLINES).floor()
 }
 
 /// The name that a picture has for a form.

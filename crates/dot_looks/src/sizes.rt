@@ -1,7 +1,7 @@
 //! The sizes of nodes.
 
 use crate::given::Given;
-use crate::shapes::{Form, Shape};
+use crate::shapes::{Form, Shape, outlines_of};
 use dot_records::Extent;
 use std::f64::consts::SQRT_2;
 
@@ -89,6 +89,17 @@ fn needed(form: Form, text: Extent, least: Extent) -> Extent {
     }
 }
 
+// The space between an outline and the next one, at both sides together.
+const GAPS: f64 = 8.0;
+
+// The room that outlines need around the innermost one.
+fn room_of(given: Given<'_>, form: Form) -> f64 {
+    match form {
+        Form::Point | Form::Plain | Form::Record => 0.0,
+        _ => (outlines_of(given) - 1.0).max(0.0) * GAPS,
+    }
+}
+
 /// The size of a node whose text has a size, in whole points.
 pub fn node_extent(given: Given<'_>, shape: Shape, text: Extent) -> Extent {
     let least = least_extent(given, shape);
@@ -111,8 +122,9 @@ pub fn node_extent(given: Given<'_>, shape: Shape, text: Extent) -> Extent {
             height: side,
         };
     }
+    let room = room_of(given, shape.form);
     Extent {
-        width: whole(size.width),
-        height: whole(size.height),
+        width: whole(size.width + room),
+        height: whole(size.height + room),
     }
 }

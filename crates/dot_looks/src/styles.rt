@@ -5,7 +5,7 @@ use crate::lines::Line;
 use crate::members::{Members, put_number, put_text};
 use crate::notes::Notes;
 use crate::paints::{colour_at, first_colour};
-use crate::shapes::{Form, picture_name};
+use crate::shapes::{Form, outlines_of, picture_name};
 use dot_records::{Names, plain_text};
 use serde_json::value::Map;
 use std::alloc::{AllocError, Global};
@@ -140,6 +140,12 @@ pub fn style_of(
     put_colour(&mut style, alloc, "color", ink)?;
     if kind != Kind::Graph {
         put_line(&mut style, alloc, line)?;
+    }
+    if matches!(kind, Kind::Node(Form::Box | Form::Ellipse | Form::Diamond)) {
+        let outlines = outlines_of(given);
+        if outlines > 1.0 {
+            put_number(&mut style, alloc, "outlines", outlines)?;
+        }
     }
     if let Some(class) = given.text("class") {
         put_text(&mut style, alloc, "class", class)?;

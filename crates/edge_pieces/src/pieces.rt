@@ -2,7 +2,7 @@
 
 use crate::leaves::Leaf;
 use edge_stages::copied_options;
-use graph_draft::{Draft, Mark};
+use graph_draft::{Draft, Element, Mark};
 use std::alloc::{AllocError, Global};
 
 /// An edge that is led through leaves.
@@ -46,7 +46,11 @@ pub fn lead_through(
                 None => target,
             };
             let options = copied_options(alloc, draft, edge)?;
-            pieces.push(draft.add_edge(alloc, home, leaf.exit, next, options)?)?;
+            let piece = draft.add_edge(alloc, home, leaf.exit, next, options)?;
+            for made in [Element::Node(leaf.node), Element::Edge(piece)] {
+                draft.set_owner(made, Element::Edge(edge));
+            }
+            pieces.push(piece)?;
         }
     }
     Ok(Led {

@@ -2,7 +2,7 @@
 //! answer it is one edge again, with a tree of sections.
 
 use crate::trees::sections_of;
-use graph_draft::{Draft, End, Kind, Mark, Options};
+use graph_draft::{Draft, Element, End, Kind, Mark, Options};
 use std::alloc::{AllocError, Global};
 
 // An edge of several ends that was split: it has the first pair, and each edge that was made for it one of the others.
@@ -77,7 +77,9 @@ fn split_edge(
             draft.change_ends(alloc, edge, source, target)?;
         } else {
             let options = copied_options(alloc, draft, edge)?;
-            made.push(draft.add_edge(alloc, home, source, target, options)?)?;
+            let pair = draft.add_edge(alloc, home, source, target, options)?;
+            draft.set_owner(Element::Edge(pair), Element::Edge(edge));
+            made.push(pair)?;
         }
     }
     if let Some(level) = draft.parent_of(end.node) {

@@ -14,8 +14,6 @@ struct Inset {
     node: usize,
     side: Side,
     depth: f64,
-    // Its coordinate across the side.
-    back: f64,
 }
 
 /// The ports that were moved to the borders of their nodes.
@@ -63,12 +61,7 @@ fn move_inset(draft: &mut Draft, node: usize, port: usize) -> Option<Inset> {
     }
     let border = side.place_at(size, 0.0, -side.outward(size), around);
     draft.put(element, side.with_back(place, side.back(border)));
-    Some(Inset {
-        node,
-        side,
-        depth,
-        back: side.back(place),
-    })
+    Some(Inset { node, side, depth })
 }
 
 /// Moves pinned ports that lie a little inside their nodes to the borders.
@@ -85,6 +78,17 @@ pub fn move_insets(alloc: Global, draft: &mut Draft) -> Result<Insets, AllocErro
     }
     let mark = draft.mark();
     Ok(Insets { mark, moved })
+}
+
+impl Insets {
+    /// How far inside its node each of the ports lies that were moved to the border, by their numbers.
+    pub fn depths(&self, alloc: Global) -> Result<BTreeMap<usize, f64>, AllocError> {
+        let mut depths = BTreeMap::new(alloc);
+        for (port, inset) in self.moved.iter() {
+            depths.insert(*port, inset.depth)?;
+        }
+        Ok(depths)
+    }
 }
 
 // Draws an edge on to the port at one of its ends, if that was moved.
@@ -106,12 +110,17 @@ fn draw_end(
     }
 }
 
-/// Puts ports back inside their nodes, and draws the edges on to them.
-pub fn draw_insets(alloc: Global, draft: &mut Draft, insets: Insets) -> Result<(), AllocError> {
+/// Moves ports back inside their nodes, and draws the edges on to them. It answers these ports and how far each is moved.
+pub fn draw_insets(
+    alloc: Global,
+    draft: &mut Draft,
+    insets: Insets,
+) -> Result<Vec<(usize, Point)>, AllocError> {
     let Insets { mark, moved } = insets;
     draft.undo_to(mark)?;
+    let mut moves = Vec::new(alloc);
     if moved.is_empty() {
-        return Ok(());
+        return Ok(moves);
     }
     for joined in joined_edges(alloc, draft)? {
         draw_end(
@@ -133,8 +142,11 @@ pub fn draw_insets(alloc: Global, draft: &mut Draft, insets: Insets) -> Result<(
     }
     for (port, inset) in moved.iter() {
         let element = Element::Port(*port);
-        let place = draft.place_of(element);
-        draft.put(element, inset.side.with_back(place, inset.back));
+        let by = inset
+            .side
+            .place_at(Size::NONE, 0.0, -inset.depth, Size::NONE);
+        draft.put(element, draft.place_of(element).moved(by));
+        moves.push((*port, by))?;
     }
-    Ok(())
+    Ok(moves)
 }

@@ -2,7 +2,7 @@
 #![tactic(auto)]
 
 use elk_outer::{StdSink, StdSource, write_whole};
-use elk_shell::{refuse_words, run};
+use elk_shell::{is_for_engine, refuse_words, run};
 use std::alloc::Global;
 use std::process::ExitCode;
 use std::{env, io};
@@ -33,5 +33,8 @@ fn main(rt: HostRuntime) -> ExitCode {
         }
         Err(_) => return ExitCode::from(refuse_words(&mut notes)),
     };
+    if is_for_engine(words.as_slice()) {
+        return ExitCode::from(elk_engine::run(alloc, &words, &mut source, &mut out, &mut notes));
+    }
     ExitCode::from(run(alloc, words.as_slice(), &mut source, &mut out, &mut notes))
 }

@@ -1,14 +1,16 @@
 //! The whole picture.
 
 use crate::decimal::Decimal;
-use crate::edges::{Pen, write_edge, write_edge_texts};
+use crate::edge_texts::write_edge_texts;
+use crate::edges::{Pen, write_edge};
 use crate::frame::page_of;
 use crate::geometry::{Point, Rect, write_rectangle};
 use crate::headroom::headrooms;
 use crate::junctions::junctions_of;
 use crate::levels::{Levels, levels_of};
 use crate::look::{FONT, LINE, Paints};
-use crate::nodes::{write_node, write_node_texts};
+use crate::node_texts::write_node_texts;
+use crate::nodes::write_node;
 use crate::path::{PointKey, point_key};
 use crate::ports::{write_ports, write_texts_of_ports};
 use crate::theme::{Theme, paints_of, write_style};
@@ -41,7 +43,7 @@ fn write_nodes(
 ) -> Result<(), AllocError> {
     out.push_str("<g class=\"nodes\">\n")?;
     for node in levels.nodes.iter() {
-        write_node(alloc, out, node, paints)?;
+        write_node(alloc, out, node, levels.is_on_fill(node), paints)?;
         out.push('\n')?;
     }
     out.push_str("</g>\n")
@@ -54,10 +56,10 @@ fn write_edges(
     junctions: &[Vec<Point>],
     pen: Pen<'_>,
 ) -> Result<(), AllocError> {
-    let ink = pen.paints.ink;
+    let (ink, width) = (pen.paints.ink, Decimal(LINE));
     write!(
         out,
-        "<g class=\"edges\" fill=\"none\" stroke=\"{ink}\" stroke-width=\"{LINE}\" stroke-linejoin=\"round\">\n"
+        "<g class=\"edges\" fill=\"none\" stroke=\"{ink}\" stroke-width=\"{width}\" stroke-linejoin=\"round\">\n"
     )?;
     for (edge, points) in levels.edges.iter().zip(junctions) {
         write_edge(alloc, out, edge, points.as_slice(), levels, pen)?;

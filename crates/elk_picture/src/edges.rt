@@ -1,14 +1,17 @@
-//! Edges and their texts.
+//! Edges, without their texts.
 
-use crate::element::{box_at, box_of, elements_of, has_items, id_of, labels_of};
+use crate::arrows::{Arrows, arrows_of};
+use crate::element::{has_items, id_of};
 use crate::geometry::Point;
+use crate::heads::Stroke;
 use crate::ids::{End, end_ids};
 use crate::ink::ink_on;
 use crate::levels::{Edge, Levels};
-use crate::look::Paints;
-use crate::nodes::write_placed;
-use crate::path::{PointKey, is_curve, passes, write_curve, write_dot, write_route};
-use crate::routes::points_of;
+use crate::lines::write_line;
+use crate::links::{close_link, link_of, open_link, title_of};
+use crate::look::{LINE, Paints};
+use crate::path::{PointKey, is_curve, write_curve, write_dot, write_route};
+use crate::routes::Section;
 use crate::shapes::outline_point;
 use crate::style::Shape;
 use crate::words::{Escaped, words_of};
@@ -16,7 +19,7 @@ use serde_json::Value;
 use std::alloc::{AllocError, Global};
 use std::collections::BTreeSet;
 
-// How edges are drawn: with heads at their targets or without, and with sharp bends where they part.
+// How edges are drawn: with heads or without, and with sharp bends where they part.
 #[derive(Clone, Copy, Drop)]
 pub(crate) struct Pen<'a> {
     pub(crate) paints: &'a Paints,
@@ -27,12 +30,7 @@ pub(crate) struct Pen<'a> {
 fn met(point: Point, from: Point, node: Option<usize>, levels: &Levels<'_>) -> Point {
     match node.and_then(|node| levels.nodes.get(node)) {
         Some(node) if !node.compound && node.style.shape != Shape::Box => {
-            outline_point(
-                point,
-                from,
-                node.style.shape,
-                box_of(node.value, node.origin),
-            )
+            outline_point(point, from, node.style.shape, node.at)
         }
         _ => point,
     }
@@ -41,26 +39,23 @@ fn met(point: Point, from: Point, node: Option<usize>, levels: &Levels<'_>) -> P
 // The points of a section in the whole drawing. Its ends are moved on to the outlines of the nodes there.
 fn route_of<'a>(
     alloc: Global,
-    section: &'a Value,
+    section: &Section<'a>,
     edge: &Edge<'a>,
     levels: &Levels<'a>,
     is_only: bool,
 ) -> Result<Vec<Point>, AllocError> {
     let origin = levels.origin_of(edge.home);
-    let mut points = points_of(alloc, section)?;
-    for point in points.iter_mut() {
-        *point = point.moved(origin);
+    let mut points = Vec::new(alloc);
+    for point in section.points.iter() {
+        points.push(point.moved(origin))?;
     }
     // If there are several sections, each one names its own ends.
     let (source, target) = if is_only {
-        (
-            levels.ids.node_at(edge.value, End::Source),
-            levels.ids.node_at(edge.value, End::Target),
-        )
+        (edge.source, edge.target)
     } else {
         (
-            levels.ids.node_of(section.get("incomingShape")),
-            levels.ids.node_of(section.get("outgoingShape")),
+            levels.ids.node_of(section.value.get("incomingShape")),
+            levels.ids.node_of(section.value.get("outgoingShape")),
         )
     };
     let last = points.len().saturating_sub(1);
@@ -84,11 +79,17 @@ fn is_curved(edge: &Value) -> bool {
     }
 }
 
-fn is_directed(edge: &Value) -> bool {
-    !matches!(edge.get("directed"), Some(Value::Bool(false)))
+// How a section is drawn. It has no head where another section goes on.
+fn stroke_of<'a>(section: &Value, arrows: Arrows, width: f64, ink: &'a str) -> Stroke<'a> {
+    Stroke {
+        ink,
+        width,
+        at_start: arrows.at_tail() && !has_items(section, "incomingSections"),
+        at_end: arrows.at_head() && !has_items(section, "outgoingSections"),
+    }
 }
 
-// The lines of an edge's sections. A section has no head if others follow it, or if the edge has no direction.
+// The lines of an edge's sections.
 fn write_lines<'a>(
     alloc: Global,
     out: &mut String,
@@ -97,16 +98,20 @@ fn write_lines<'a>(
     pen: Pen<'_>,
     ink: &str,
 ) -> Result<(), AllocError> {
-    let sections = elements_of(alloc, edge.value, "sections")?;
-    for section in sections.iter() {
-        let points = route_of(alloc, *section, edge, levels, sections.len() == 1)?;
-        let has_head = pen.arrows
-            && is_directed(edge.value)
-            && !has_items(*section, "outgoingSections");
+    let arrows = if pen.arrows {
+        arrows_of(edge.value)
+    } else {
+        Arrows::Neither
+    };
+    let width = edge.style.line.width_or(LINE);
+    let sections = edge.sections.as_slice();
+    for section in sections {
+        let points = route_of(alloc, section, edge, levels, sections.len() == 1)?;
+        let stroke = stroke_of(section.value, arrows, width, ink);
         if is_curved(edge.value) && is_curve(points.as_slice()) {
-            write_curve(out, points.as_slice(), has_head, ink)?;
+            write_curve(out, points.as_slice(), stroke)?;
         } else {
-            write_route(out, points.as_slice(), pen.sharp, has_head, ink)?;
+            write_route(out, points.as_slice(), pen.sharp, stroke)?;
         }
     }
     Ok(())
@@ -132,9 +137,13 @@ fn write_title(
     edge: &Value,
     id: Escaped<'_>,
 ) -> Result<(), AllocError> {
+    if let Some(title) = title_of(edge) {
+        let title = Escaped(title);
+        return write!(out, "<title>{title}</title>");
+    }
     write!(out, "<title>{id}: ")?;
     write_ids(alloc, out, edge, End::Source)?;
-    out.push_str(if is_directed(edge) { " → " } else { " — " })?;
+    out.push_str(arrows_of(edge).sign())?;
     write_ids(alloc, out, edge, End::Target)?;
     out.push_str("</title>")
 }
@@ -164,60 +173,20 @@ pub(crate) fn write_edge<'a>(
     let id = id_of(alloc, edge.value)?;
     let id = Escaped(id.as_str());
     let classes = edge.style.classes.as_str();
+    let link = link_of(edge.value);
+    open_link(out, link)?;
     write!(out, "<g class=\"edge{classes}\" data-id=\"{id}\"")?;
     if ink != pen.paints.ink {
         write!(out, " stroke=\"{ink}\"")?;
     }
+    write_line(out, edge.style.line, LINE)?;
     out.push('>')?;
     write_title(alloc, out, edge.value, id)?;
     out.push_str(lines.as_str())?;
     for junction in junctions {
-        write_dot(out, *junction, ink)?;
+        write_dot(out, *junction, edge.style.line.width_or(LINE), ink)?;
     }
-    out.push_str("</g>\n")
-}
-
-// The labels of an edge that have a place. A label has a halo if a line of its own edge passes through it.
-pub(crate) fn write_edge_texts(
-    alloc: Global,
-    out: &mut String,
-    edge: &Edge<'_>,
-    levels: &Levels<'_>,
-    paints: &Paints,
-) -> Result<(), AllocError> {
-    let origin = levels.origin_of(edge.home);
-    let background = levels.background_of(edge.home);
-    let halo = background.unwrap_or(paints.paper);
-    let ink = match edge.style.colour() {
-        Some(colour) => Some(colour),
-        None => ink_on(background),
-    };
-    for label in labels_of(alloc, edge.value)? {
-        if label.placed {
-            let before = out.len();
-            let is_crossed = is_crossed(alloc, edge.value, label.value)?;
-            if is_crossed {
-                write!(
-                    out,
-                    "<g stroke=\"{halo}\" stroke-width=\"5\" stroke-linejoin=\"round\" paint-order=\"stroke\">"
-                )?;
-            }
-            write_placed(alloc, out, &label, origin, ink)?;
-            out.push_str(if is_crossed { "</g>" } else { "" })?;
-            if out.len() > before {
-                out.push('\n')?;
-            }
-        }
-    }
-    Ok(())
-}
-
-fn is_crossed(alloc: Global, edge: &Value, label: &Value) -> Result<bool, AllocError> {
-    let at = box_at(label, Point { x: 0.0, y: 0.0 });
-    for section in elements_of(alloc, edge, "sections")? {
-        if passes(points_of(alloc, section)?.as_slice(), at) {
-            return Ok(true);
-        }
-    }
-    Ok(false)
+    out.push_str("</g>")?;
+    close_link(out, link)?;
+    out.push('\n')
 }

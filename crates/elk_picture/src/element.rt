@@ -81,19 +81,40 @@ fn is_placed(label: &Value) -> bool {
 }
 
 // The labels of an element that have a text.
+fn has_text(label: &Value) -> bool {
+    match label.get("text") {
+        Some(Value::String(text)) => !text.is_empty(),
+        Some(_) => true,
+        None => false,
+    }
+}
+
+// The labels of an element that have a text and a place.
+pub(crate) fn placed_labels<'a>(
+    alloc: Global,
+    element: &'a Value,
+) -> Result<Vec<&'a Value>, AllocError> {
+    let mut labels = Vec::new(alloc);
+    for label in elements_of(alloc, element, "labels")? {
+        if has_text(label) && is_placed(label) {
+            labels.push(label)?;
+        }
+    }
+    Ok(labels)
+}
+
+// The labels of an element that have a text.
 pub(crate) fn labels_of<'a>(
     alloc: Global,
     element: &'a Value,
 ) -> Result<Vec<Label<'a>>, AllocError> {
     let mut labels = Vec::new(alloc);
     for value in elements_of(alloc, element, "labels")? {
-        let text = words_of(alloc, value.get("text"))?;
-        if !text.is_empty() {
-            let placed = is_placed(value);
+        if has_text(value) {
             labels.push(Label {
                 value,
-                text,
-                placed,
+                text: words_of(alloc, value.get("text"))?,
+                placed: is_placed(value),
             })?;
         }
     }

@@ -1,10 +1,9 @@
 //! The page: the frame of the drawing, widened by all that reaches beyond it.
 
-use crate::element::{box_at, box_of, elements_of, labels_of};
+use crate::element::{box_at, elements_of, placed_labels};
 use crate::geometry::{Point, Rect};
 use crate::levels::Levels;
 use crate::look::MARGIN;
-use crate::routes::points_of;
 use serde_json::Value;
 use std::alloc::{AllocError, Global};
 
@@ -30,17 +29,15 @@ impl Frame {
         element: &Value,
         origin: Point,
     ) -> Result<(), AllocError> {
-        for label in labels_of(alloc, element)? {
-            if label.placed {
-                self.widen(box_at(label.value, origin));
-            }
+        for label in placed_labels(alloc, element)? {
+            self.widen(box_at(label, origin));
         }
         Ok(())
     }
 
     fn widen_by_nodes(&mut self, alloc: Global, levels: &Levels<'_>) -> Result<(), AllocError> {
         for node in levels.nodes.iter() {
-            self.widen(box_of(node.value, node.origin));
+            self.widen(node.at);
             self.widen_by_labels(alloc, node.value, node.origin)?;
             for port in elements_of(alloc, node.value, "ports")? {
                 let at = box_at(port, node.origin);
@@ -54,8 +51,8 @@ impl Frame {
     fn widen_by_edges(&mut self, alloc: Global, levels: &Levels<'_>) -> Result<(), AllocError> {
         for edge in levels.edges.iter() {
             let origin = levels.origin_of(edge.home);
-            for section in elements_of(alloc, edge.value, "sections")? {
-                for point in points_of(alloc, section)? {
+            for section in edge.sections.iter() {
+                for point in section.points.iter() {
                     let Point { x: left, y: top } = point.moved(origin);
                     self.widen(Rect {
                         left,

@@ -55,6 +55,34 @@ impl Rect {
         }
     }
 
+    // The part of a box that lies within another one.
+    pub(crate) fn within(self, other: Rect) -> Rect {
+        let left = self.left.max(other.left);
+        let top = self.top.max(other.top);
+        Rect {
+            left,
+            top,
+            width: self.right().min(other.right()) - left,
+            height: self.bottom().min(other.bottom()) - top,
+        }
+    }
+
+    // The box at a distance within; nothing if there is no room for it.
+    pub(crate) fn shrunk(self, by: f64) -> Option<Rect> {
+        let width = self.width - 2.0 * by;
+        let height = self.height - 2.0 * by;
+        if width > 0.0 && height > 0.0 {
+            Some(Rect {
+                left: self.left + by,
+                top: self.top + by,
+                width,
+                height,
+            })
+        } else {
+            None
+        }
+    }
+
     pub(crate) fn holds(self, point: Point) -> bool {
         self.left <= point.x
             && point.x <= self.right()
@@ -68,6 +96,29 @@ impl fmt::Display for Point {
         let x = Decimal(self.x);
         let y = Decimal(self.y);
         write!(f, "{x} {y}")
+    }
+}
+
+// The length of a line, rounded as JavaScript does.
+pub(crate) fn length_of(from: Point, to: Point) -> f64 {
+    let (across, along) = ((to.x - from.x).abs(), (to.y - from.y).abs());
+    let most = across.max(along);
+    if most == 0.0 {
+        return 0.0;
+    }
+    let first = across / most * (across / most);
+    let share = along / most;
+    let second = share * share;
+    (first + second).sqrt() * most
+}
+
+// The point at a distance from one point towards another.
+pub(crate) fn towards(from: Point, to: Point, distance: f64) -> Point {
+    let length = length_of(from, to);
+    let length = if length == 0.0 { 1.0 } else { length };
+    Point {
+        x: from.x + (to.x - from.x) * distance / length,
+        y: from.y + (to.y - from.y) * distance / length,
     }
 }
 

@@ -1,8 +1,7 @@
 //! How far below the top of each level its content begins.
 
-use crate::element::{elements_of, labels_of, number_at};
+use crate::element::{elements_of, number_at, placed_labels};
 use crate::levels::Levels;
-use crate::routes::points_of;
 use std::alloc::{AllocError, Global};
 
 fn narrow(rooms: &mut [f64], level: usize, top: f64) {
@@ -20,10 +19,8 @@ fn narrow_by_nodes(
         if let Some(parent) = node.parent {
             let top = number_at(node.value, "y");
             narrow(rooms, parent, top);
-            for label in labels_of(alloc, node.value)? {
-                if label.placed {
-                    narrow(rooms, parent, top + number_at(label.value, "y"));
-                }
+            for label in placed_labels(alloc, node.value)? {
+                narrow(rooms, parent, top + number_at(label, "y"));
             }
             for port in elements_of(alloc, node.value, "ports")? {
                 narrow(rooms, parent, top + number_at(port, "y"));
@@ -39,15 +36,13 @@ fn narrow_by_edges(
     rooms: &mut [f64],
 ) -> Result<(), AllocError> {
     for edge in levels.edges.iter() {
-        for section in elements_of(alloc, edge.value, "sections")? {
-            for point in points_of(alloc, section)? {
+        for section in edge.sections.iter() {
+            for point in section.points.iter() {
                 narrow(rooms, edge.home, point.y);
             }
         }
-        for label in labels_of(alloc, edge.value)? {
-            if label.placed {
-                narrow(rooms, edge.home, number_at(label.value, "y"));
-            }
+        for label in placed_labels(alloc, edge.value)? {
+            narrow(rooms, edge.home, number_at(label, "y"));
         }
     }
     Ok(())

@@ -1,7 +1,7 @@
 //! Which nodes the ids of a document name.
 
 use crate::element::elements_of;
-use serde_json::Value;
+use serde_json::{Number, Value};
 use std::alloc::{AllocError, Global};
 use std::cmp::OrderedFloat;
 use std::collections::BTreeMap;
@@ -15,10 +15,12 @@ pub(crate) enum End {
 
 // An id that can be looked up.
 #[derive(Clone, Copy, Drop, PartialEq, Eq, PartialOrd, Ord)]
-enum Key<'a> {
+pub(crate) enum Key<'a> {
     Null,
     Flag(bool),
     Number(OrderedFloat<f64>),
+    // Beyond 2^53 several whole numbers share a float.
+    Whole(i128),
     Text(&'a str),
 }
 
@@ -29,14 +31,20 @@ pub(crate) struct Ids<'a> {
     ports: BTreeMap<Key<'a>, usize>,
 }
 
-fn key_of(id: Option<&Value>) -> Option<Key<'_>> {
+const MOST_EXACT: i128 = 9007199254740992;
+
+fn number_key<'a>(number: &Number) -> Option<Key<'a>> {
+    match number.as_i128() {
+        Some(whole) if whole > MOST_EXACT || whole < -MOST_EXACT => Some(Key::Whole(whole)),
+        _ => Some(Key::Number(OrderedFloat(number.as_f64()?))),
+    }
+}
+
+pub(crate) fn key_of(id: Option<&Value>) -> Option<Key<'_>> {
     match id {
         Some(Value::Null) => Some(Key::Null),
         Some(Value::Bool(flag)) => Some(Key::Flag(*flag)),
-        Some(Value::Number(number)) => match number.as_f64() {
-            Some(number) => Some(Key::Number(OrderedFloat(number))),
-            None => None,
-        },
+        Some(Value::Number(number)) => number_key(number),
         Some(Value::String(text)) => Some(Key::Text(text.as_str())),
         _ => None,
     }

@@ -1,132 +1,154 @@
 //! Junction points: where routes with a common dock part or join. Circuit drawings mark these points with a dot.
 
+use crate::docks::{Dock, docks_of};
 use crate::element::{elements_of, place_of};
 use crate::geometry::Point;
 use crate::levels::{Levels, levels_of};
 use crate::path::{PointKey, point_key};
 use crate::routes::{Route, add_routes};
-use crate::ways::{Passes, passes_of, turns_of};
+use crate::ways::{Passes, passes_of};
 use serde_json::Value;
 use std::alloc::{AllocError, Global};
+use std::cmp::OrderedFloat;
 use std::collections::{BTreeMap, BTreeSet};
 
-// The routes that have an end at one anchor of a node, by their numbers, in document order.
-#[derive(Drop)]
-struct Dock {
-    // The rank of its node, in the order in which routes reach nodes.
-    rank: usize,
-    routes: Vec<usize>,
+// A line without ends, along which segments lie.
+#[derive(Clone, Copy, Drop, PartialEq, Eq, PartialOrd, Ord)]
+enum Axis {
+    Level(OrderedFloat<f64>),
+    Upright(OrderedFloat<f64>),
 }
 
-// The docks in the order in which routes come to them, and where to find each.
-#[derive(Drop)]
-struct Docks {
-    list: Vec<Dock>,
-    ranks: BTreeMap<usize, usize>,
-    places: BTreeMap<(usize, PointKey), usize>,
-}
+// The routes of a dock that have a segment along a line, by their numbers.
+type Axes = BTreeMap<Axis, Vec<usize>>;
 
-impl Docks {
-    fn rank_of(&mut self, node: usize) -> Result<usize, AllocError> {
-        let next = self.ranks.len();
-        Ok(*self.ranks.entry(node)?.or_insert(next))
+fn axis_of(from: Point, to: Point) -> Axis {
+    if from.y == to.y {
+        Axis::Level(OrderedFloat(to.y))
+    } else {
+        Axis::Upright(OrderedFloat(to.x))
     }
+}
 
-    fn add(
-        &mut self,
-        alloc: Global,
-        node: usize,
-        anchor: Point,
-        route: usize,
-    ) -> Result<(), AllocError> {
-        let rank = self.rank_of(node)?;
-        let next = self.list.len();
-        let place = *self
-            .places
-            .entry((node, point_key(anchor)))?
-            .or_insert(next);
-        if place == next {
-            let routes = Vec::new(alloc);
-            self.list.push(Dock { rank, routes })?;
+fn add_axes(alloc: Global, axes: &mut Axes, at: usize, turns: &[Point]) -> Result<(), AllocError> {
+    for k in 1..turns.len() {
+        let axis = axis_of(turns[k - 1], turns[k]);
+        let routes = axes.entry(axis)?.or_insert(Vec::new(alloc));
+        if routes.last() != Some(&at) {
+            routes.push(at)?;
         }
-        if let Some(dock) = self.list.get_mut(place) {
-            // A route may begin where it ends.
-            if dock.routes.last() != Some(&route) {
-                dock.routes.push(route)?;
+    }
+    Ok(())
+}
+
+fn axes_of(alloc: Global, dock: &Dock, routes: &[Route]) -> Result<Axes, AllocError> {
+    let mut axes = BTreeMap::new(alloc);
+    for at in dock.routes.iter() {
+        if let Some(route) = routes.get(*at) {
+            add_axes(alloc, &mut axes, *at, route.turns.as_slice())?;
+        }
+    }
+    Ok(axes)
+}
+
+// Adds the ways that routes take at a point.
+fn add_passing(
+    passing: &mut Vec<(usize, Passes)>,
+    near: Option<&Vec<usize>>,
+    routes: &[Route],
+    point: Point,
+) -> Result<(), AllocError> {
+    if let Some(near) = near {
+        for at in near.iter() {
+            if let Some(route) = routes.get(*at) {
+                passing.push((*at, passes_of(route.turns.as_slice(), point)))?;
             }
+        }
+    }
+    Ok(())
+}
+
+fn earlier(one: Option<usize>, other: usize) -> Option<usize> {
+    match one {
+        Some(one) if one < other => Some(one),
+        _ => Some(other),
+    }
+}
+
+// The first route that parts from another at a point, or joins it there.
+fn first_parting(
+    alloc: Global,
+    point: Point,
+    axes: &Axes,
+    routes: &[Route],
+) -> Result<Option<usize>, AllocError> {
+    let mut passing = Vec::new(alloc);
+    let level = axes.get(&Axis::Level(OrderedFloat(point.y)));
+    let upright = axes.get(&Axis::Upright(OrderedFloat(point.x)));
+    add_passing(&mut passing, level, routes, point)?;
+    add_passing(&mut passing, upright, routes, point)?;
+    let mut all = Passes::NONE;
+    for (_, passes) in passing.iter() {
+        all = all.and(*passes);
+    }
+    let parting = all.parting();
+    let mut first = None;
+    for (at, passes) in passing.iter() {
+        if passes.meets(parting) {
+            first = earlier(first, *at);
+        }
+    }
+    Ok(first)
+}
+
+// The junction points in the whole drawing.
+#[derive(Drop)]
+struct Found {
+    by_edge: Vec<Vec<Point>>,
+    told: BTreeSet<PointKey>,
+}
+
+impl Found {
+    fn tell(&mut self, edge: usize, point: Point) -> Result<(), AllocError> {
+        if let Some(points) = self.by_edge.get_mut(edge) {
+            points.push(point)?;
+            self.told.insert(point_key(point))?;
         }
         Ok(())
     }
 }
 
-fn docks_of(alloc: Global, routes: &[Route]) -> Result<Vec<Dock>, AllocError> {
-    let mut docks = Docks {
-        list: Vec::new(alloc),
-        ranks: BTreeMap::new(alloc),
-        places: BTreeMap::new(alloc),
-    };
-    for (at, route) in routes.iter().enumerate() {
-        if let (Some(node), Some(anchor)) = (route.source, route.points.first()) {
-            docks.add(alloc, node, *anchor, at)?;
-        }
-        if let (Some(node), Some(anchor)) = (route.target, route.points.last()) {
-            docks.add(alloc, node, *anchor, at)?;
-        }
-    }
-    let Docks { mut list, .. } = docks;
-    list.sort_by_key(|dock| dock.rank)?;
-    Ok(list)
-}
-
-// Which of a dock's routes is the first that parts from another at a point, or joins it there.
-fn first_parting(
+fn join_at(
     alloc: Global,
     point: Point,
-    turns: &[Vec<Point>],
-) -> Result<Option<usize>, AllocError> {
-    let mut passing = Vec::with_capacity(alloc, turns.len())?;
-    let mut all = Passes::NONE;
-    for route in turns {
-        let passes = passes_of(route.as_slice(), point);
-        all = all.and(passes);
-        passing.push(passes)?;
+    axes: &Axes,
+    routes: &[Route],
+    found: &mut Found,
+) -> Result<(), AllocError> {
+    if found.told.contains(&point_key(point)) {
+        return Ok(());
     }
-    Ok(passing.iter().position(|passes| passes.parts_from(all)))
-}
-
-// Adds a point to those of an edge, unless it is among them.
-fn tell(found: &mut [Vec<Point>], edge: usize, point: Point) -> Result<(), AllocError> {
-    if let Some(points) = found.get_mut(edge) {
-        if !points.iter().any(|told| told.is_at(point)) {
-            points.push(point)?;
-        }
+    let first = first_parting(alloc, point, axes, routes)?;
+    match first.and_then(|at| routes.get(at)) {
+        Some(route) => found.tell(route.edge, point),
+        None => Ok(()),
     }
-    Ok(())
 }
 
 fn join_dock(
     alloc: Global,
     dock: &Dock,
     routes: &[Route],
-    found: &mut [Vec<Point>],
+    found: &mut Found,
 ) -> Result<(), AllocError> {
-    let mut turns = Vec::new(alloc);
-    for at in dock.routes.iter() {
-        if let Some(route) = routes.get(*at) {
-            turns.push(turns_of(alloc, route.points.as_slice())?)?;
-        }
-    }
+    let axes = axes_of(alloc, dock, routes)?;
     let mut seen = BTreeSet::new(alloc);
     for at in dock.routes.iter() {
         if let Some(route) = routes.get(*at) {
             let points = route.points.as_slice();
             for k in 1..points.len().saturating_sub(1) {
                 if seen.insert(point_key(points[k]))? {
-                    if let Some(first) = first_parting(alloc, points[k], turns.as_slice())? {
-                        if let Some(edge) = edge_of(dock, routes, first) {
-                            tell(found, edge, points[k])?;
-                        }
-                    }
+                    join_at(alloc, points[k], &axes, routes, found)?;
                 }
             }
         }
@@ -134,39 +156,40 @@ fn join_dock(
     Ok(())
 }
 
-fn edge_of(dock: &Dock, routes: &[Route], at: usize) -> Option<usize> {
-    let route = routes.get(*dock.routes.get(at)?)?;
-    Some(route.edge)
-}
-
-// The junction points of each edge, relative to what its points are relative to.
+// The junction points of each edge in the whole drawing. Each is told once, with the first edge of its dock that passes it.
 fn found_junctions(alloc: Global, levels: &Levels<'_>) -> Result<Vec<Vec<Point>>, AllocError> {
     let mut routes = Vec::new(alloc);
-    let mut found = Vec::new(alloc);
+    let mut found = Found {
+        by_edge: Vec::new(alloc),
+        told: BTreeSet::new(alloc),
+    };
     for (at, edge) in levels.edges.iter().enumerate() {
         // Slanted and curved routes part by degrees.
         if edge.value.get("routing").is_none() {
-            add_routes(alloc, (at, edge.value), &levels.ids, &mut routes)?;
+            add_routes(alloc, (at, edge), levels, &mut routes)?;
         }
-        found.push(Vec::new(alloc))?;
+        found.by_edge.push(Vec::new(alloc))?;
     }
     for dock in docks_of(alloc, routes.as_slice())? {
         if dock.routes.len() > 1 {
-            join_dock(alloc, &dock, routes.as_slice(), found.as_mut_slice())?;
+            join_dock(alloc, &dock, routes.as_slice(), &mut found)?;
         }
     }
-    Ok(found)
+    Ok(found.by_edge)
 }
 
 /// Where routes with a common dock part or join: for each edge of a placed graph, in document order, its points as pairs of x and y,
-/// relative to what its route is relative to. Each point is told once, with the first edge of its dock that passes it.
+/// relative to what its route is relative to. Each point is told once in the whole drawing, with the first edge of its dock that
+/// passes it.
 pub fn junction_points(alloc: Global, placed: &Value) -> Result<Vec<Vec<(f64, f64)>>, AllocError> {
     let levels = levels_of(alloc, placed)?;
     let mut told = Vec::new(alloc);
-    for points in found_junctions(alloc, &levels)? {
+    let found = found_junctions(alloc, &levels)?;
+    for (edge, points) in levels.edges.iter().zip(found.as_slice()) {
+        let origin = levels.origin_of(edge.home);
         let mut pairs = Vec::new(alloc);
         for point in points.iter() {
-            pairs.push((point.x, point.y))?;
+            pairs.push((point.x - origin.x, point.y - origin.y))?;
         }
         told.push(pairs)?;
     }
@@ -180,16 +203,13 @@ pub(crate) fn junctions_of(
 ) -> Result<Vec<Vec<Point>>, AllocError> {
     let mut junctions = found_junctions(alloc, levels)?;
     for (at, edge) in levels.edges.iter().enumerate() {
-        let origin = levels.origin_of(edge.home);
-        if let Some(points) = junctions.get_mut(at) {
-            if tells_junctions(edge.value.get("junctionPoints")) {
+        if tells_junctions(edge.value.get("junctionPoints")) {
+            if let Some(points) = junctions.get_mut(at) {
+                let origin = levels.origin_of(edge.home);
                 points.clear();
                 for point in elements_of(alloc, edge.value, "junctionPoints")? {
-                    points.push(place_of(point))?;
+                    points.push(place_of(point).moved(origin))?;
                 }
-            }
-            for point in points.iter_mut() {
-                *point = point.moved(origin);
             }
         }
     }

@@ -1,30 +1,34 @@
 //! Where each node stands, and at which level an edge lies. The coordinates of a document are relative to the parent.
 
-use crate::element::{elements_of, place_of};
-use crate::geometry::Point;
+use crate::element::{box_of, elements_of, place_of};
+use crate::geometry::{Point, Rect};
 use crate::ids::{End, Ids};
-use crate::ink::opaque;
+use crate::routes::{Section, sections_of};
 use crate::style::{Style, style_of};
 use serde_json::Value;
 use serde_json::value::Map;
 use std::alloc::{AllocError, Global};
 
-// A node, with the number of its parent and its place in the whole drawing.
+// A node, with the number of its parent, and its place and its box in the whole drawing.
 #[derive(Drop)]
 pub(crate) struct Node<'a> {
     pub(crate) value: &'a Value,
     pub(crate) parent: Option<usize>,
     pub(crate) depth: usize,
     pub(crate) origin: Point,
+    pub(crate) at: Rect,
     pub(crate) compound: bool,
     pub(crate) style: Style,
 }
 
-// An edge, and the number of the node to whose content its points are relative.
+// An edge, the number of the node to whose content its points are relative, and those of the nodes at its ends.
 #[derive(Drop)]
 pub(crate) struct Edge<'a> {
     pub(crate) value: &'a Value,
     pub(crate) home: usize,
+    pub(crate) source: Option<usize>,
+    pub(crate) target: Option<usize>,
+    pub(crate) sections: Vec<Section<'a>>,
     pub(crate) style: Style,
 }
 
@@ -140,6 +144,7 @@ fn enter_own<'a>(
         parent: spot.parent,
         depth: spot.depth,
         origin: spot.origin,
+        at: box_of(value, spot.origin),
         compound: !elements_of(alloc, value, "children")?.is_empty(),
         style: style_of(alloc, value)?,
     })?;
@@ -148,30 +153,56 @@ fn enter_own<'a>(
         levels.edges.push(Edge {
             value: edge,
             home: at,
+            source: None,
+            target: None,
+            sections: sections_of(alloc, edge)?,
             style: style_of(alloc, edge)?,
         })?;
     }
     Ok(())
 }
 
-// Gives each edge its home. Until then its home is the node that declares it.
+// The ends of an edge and its home.
+#[derive(Clone, Copy, Drop)]
+struct Ends {
+    home: usize,
+    source: Option<usize>,
+    target: Option<usize>,
+}
+
+fn ends_of(levels: &Levels<'_>, at: usize) -> Option<Ends> {
+    let edge = levels.edges.get(at)?;
+    let source = levels.ids.node_at(edge.value, End::Source);
+    let target = levels.ids.node_at(edge.value, End::Target);
+    Some(Ends {
+        home: home_of(levels, edge, source, target),
+        source,
+        target,
+    })
+}
+
+// Gives each edge its ends and its home. Until then its home is the node that declares it.
 fn settle_edges(levels: &mut Levels<'_>) {
     for at in 0..levels.edges.len() {
-        if let Some(edge) = levels.edges.get(at) {
-            let home = home_of(levels, edge);
+        if let Some(ends) = ends_of(levels, at) {
             if let Some(edge) = levels.edges.get_mut(at) {
-                edge.home = home;
+                edge.home = ends.home;
+                edge.source = ends.source;
+                edge.target = ends.target;
             }
         }
     }
 }
 
-fn home_of<'a>(levels: &Levels<'a>, edge: &Edge<'a>) -> usize {
+fn home_of<'a>(
+    levels: &Levels<'a>,
+    edge: &Edge<'a>,
+    source: Option<usize>,
+    target: Option<usize>,
+) -> usize {
     if let Some(container) = levels.ids.container(edge.value) {
         return container;
     }
-    let source = levels.ids.node_at(edge.value, End::Source);
-    let target = levels.ids.node_at(edge.value, End::Target);
     match (source, target) {
         (Some(source), Some(target)) => {
             let above = levels.parent_of(source);
@@ -183,7 +214,7 @@ fn home_of<'a>(levels: &Levels<'a>, edge: &Edge<'a>) -> usize {
 }
 
 impl<'a> Levels<'a> {
-    fn parent_of(&self, node: usize) -> Option<usize> {
+    pub(crate) fn parent_of(&self, node: usize) -> Option<usize> {
         match self.nodes.get(node) {
             Some(node) => node.parent,
             None => None,
@@ -220,32 +251,5 @@ impl<'a> Levels<'a> {
             Some(node) => node.origin,
             None => Point { x: 0.0, y: 0.0 },
         }
-    }
-
-    fn opaque_fill_of(&self, node: usize) -> Option<&str> {
-        match self.nodes.get(node) {
-            Some(node) => opaque(node.style.fill()),
-            None => None,
-        }
-    }
-
-    // The fill on which the texts within a node stand, where the document asks for one.
-    pub(crate) fn fill_within(&self, at: usize) -> Option<&str> {
-        match self.nodes.get(at) {
-            Some(node) if !node.compound => node.style.fill(),
-            _ => self.background_of(at),
-        }
-    }
-
-    // The fill on which the content of a node is drawn, where the document asks for one: the node's own, or one around it.
-    pub(crate) fn background_of(&self, node: usize) -> Option<&str> {
-        let mut at = node;
-        for _ in 0..self.nodes.len() {
-            match self.opaque_fill_of(at) {
-                Some(fill) => return Some(fill),
-                None => at = self.parent_of(at)?,
-            }
-        }
-        None
     }
 }

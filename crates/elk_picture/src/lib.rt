@@ -2,19 +2,29 @@
 //! is that every JSON value has one, unless memory runs out.
 #![tactic(auto)]
 
+mod arrows;
 mod colour;
 mod decimal;
+mod docks;
 mod drawing;
+mod edge_texts;
 mod edges;
 mod element;
+mod fields;
+mod fills;
 mod frame;
 mod geometry;
 mod headroom;
+mod heads;
 mod ids;
 mod ink;
 mod junctions;
+mod labels;
 mod levels;
+mod lines;
+mod links;
 mod look;
+mod node_texts;
 mod nodes;
 mod path;
 mod ports;
@@ -29,3 +39,6 @@ mod words;
 pub use drawing::picture;
 pub use junctions::junction_points;
 pub use theme::Theme;
+
+#[cfg(test)]
+mod tests;

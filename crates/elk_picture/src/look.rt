@@ -38,7 +38,7 @@ pub(crate) const FONT: &str = "Helvetica, Arial, sans-serif";
 pub(crate) const MARGIN: f64 = 8.0;
 
 // The width of lines.
-pub(crate) const LINE: &str = "1.4";
+pub(crate) const LINE: f64 = 1.4;
 
 // The radius of the corners of boxes.
 pub(crate) const CORNER: f64 = 5.0;
@@ -50,7 +50,7 @@ pub(crate) const ROUND: f64 = 15.0;
 pub(crate) const BEND: f64 = 6.0;
 
 // The radius of the dots of junctions.
-pub(crate) const DOT: &str = "2.6";
+pub(crate) const DOT: f64 = 2.6;
 
 pub(crate) const ARROW_LENGTH: f64 = 8.0;
 

@@ -1,8 +1,9 @@
-//! The lines of edges: rounded bends, arrow heads that fit the last piece, and dots.
+//! The lines of edges, with rounded bends, and dots.
 
 use crate::decimal::Decimal;
-use crate::geometry::{Point, Rect};
-use crate::look::{ARROW_LENGTH, ARROW_SHORTEST, ARROW_WIDTH, BEND, DOT};
+use crate::geometry::{Point, Rect, length_of, towards};
+use crate::heads::{COVERED, Head, Stroke, heads_of_curve, heads_of_route, write_heads};
+use crate::look::{BEND, DOT};
 use std::alloc::AllocError;
 use std::cmp::OrderedFloat;
 use std::collections::BTreeSet;
@@ -21,36 +22,34 @@ pub(crate) fn point_key(point: Point) -> PointKey {
     }
 }
 
-// The length of a line, rounded as JavaScript does.
-fn length_of(from: Point, to: Point) -> f64 {
-    let (across, along) = ((to.x - from.x).abs(), (to.y - from.y).abs());
-    let most = across.max(along);
-    if most == 0.0 {
-        return 0.0;
-    }
-    let first = across / most * (across / most);
-    let share = along / most;
-    let second = share * share;
-    (first + second).sqrt() * most
+// A point of a line, and how much of the line there a head covers.
+#[derive(Clone, Copy, Drop)]
+struct Stop {
+    at: Point,
+    covered: f64,
 }
 
-// The point at a distance from one point towards another.
-fn towards(from: Point, to: Point, distance: f64) -> Point {
-    let length = length_of(from, to);
-    let length = if length == 0.0 { 1.0 } else { length };
-    Point {
-        x: from.x + (to.x - from.x) * distance / length,
-        y: from.y + (to.y - from.y) * distance / length,
+fn bare(at: Point) -> Stop {
+    Stop { at, covered: 0.0 }
+}
+
+// The end of a line that has a head or none.
+fn stop_at(head: Option<Head>, point: Point) -> Stop {
+    match head {
+        Some(head) => Stop {
+            at: head.end,
+            covered: COVERED,
+        },
+        None => bare(point),
     }
 }
 
-// A line ends this far within its head, so that neither its end nor a bend shows at the tip.
-const COVERED: f64 = 1.0;
-
-// How much of the piece between two points a bend may take. Two bends share each piece, except the first and the last one.
-fn share_of(from: Point, to: Point, is_outer: bool) -> f64 {
-    let length = length_of(from, to);
-    if is_outer { length } else { length / 2.0 }
+// How much of the piece between a bend and a point a bend may take. Two bends share each piece, except the first and the last
+// one, and no bend reaches into a head.
+fn share_of(bend: Point, stop: Stop, is_outer: bool) -> f64 {
+    let length = length_of(bend, stop.at);
+    let share = if is_outer { length } else { length / 2.0 };
+    share - stop.covered
 }
 
 fn write_bend(
@@ -68,96 +67,53 @@ fn write_bend(
     write!(out, "L{start}Q{bend} {end}")
 }
 
-// A route from its start over its bends to an end, as the steps of a path. Bends at `junctions` stay sharp, and no bend reaches
-// into the head, which covers the given length of the line.
+// A route from a start over its bends to an end, as the steps of a path. Bends at `junctions` stay sharp.
 fn write_path(
     out: &mut String,
     points: &[Point],
-    end: Point,
-    covered: f64,
+    start: Stop,
+    end: Stop,
     junctions: &BTreeSet<PointKey>,
 ) -> Result<(), AllocError> {
-    let first = points.first().copied().unwrap_or(end);
+    let (first, tip) = (start.at, end.at);
     write!(out, "M{first}")?;
     let last = points.len().saturating_sub(1);
     for k in 1..last {
-        let (before, bend) = (points[k - 1], points[k]);
-        let after = if k + 1 == last { end } else { points[k + 1] };
+        let bend = points[k];
+        let before = if k == 1 { start } else { bare(points[k - 1]) };
+        let after = if k + 1 == last {
+            end
+        } else {
+            bare(points[k + 1])
+        };
         let radius = if junctions.contains(&point_key(bend)) {
             0.0
         } else {
-            let near = share_of(before, bend, k == 1);
+            let near = share_of(bend, before, k == 1);
             let far = share_of(bend, after, k + 1 == last);
-            let far = if k + 1 == last { far - covered } else { far };
             near.min(far).min(BEND).max(0.0)
         };
-        write_bend(out, before, bend, after, radius)?;
+        write_bend(out, before.at, bend, after.at, radius)?;
     }
-    write!(out, "L{end}")
+    write!(out, "L{tip}")
 }
 
-fn write_head(
-    out: &mut String,
-    from: Point,
-    tip: Point,
-    length: f64,
-    ink: &str,
-) -> Result<(), AllocError> {
-    let back = towards(tip, from, length);
-    let half = ARROW_WIDTH / ARROW_LENGTH / 2.0;
-    let across = Point {
-        x: (tip.y - back.y) * half,
-        y: (back.x - tip.x) * half,
-    };
-    let one = back.moved(across);
-    let other = Point {
-        x: back.x - across.x,
-        y: back.y - across.y,
-    };
-    write!(
-        out,
-        "<path d=\"M{tip}L{one}L{other}Z\" fill=\"{ink}\" stroke=\"none\"/>"
-    )
-}
-
-fn write_line(
-    out: &mut String,
-    points: &[Point],
-    end: Point,
-    covered: f64,
-    junctions: &BTreeSet<PointKey>,
-) -> Result<(), AllocError> {
-    out.push_str("<path d=\"")?;
-    write_path(out, points, end, covered, junctions)?;
-    out.push_str("\"/>")
-}
-
-// The line of a route, with a head at its end where it has one.
+// The line of a route, with its heads.
 pub(crate) fn write_route(
     out: &mut String,
     points: &[Point],
     junctions: &BTreeSet<PointKey>,
-    has_head: bool,
-    ink: &str,
+    stroke: Stroke<'_>,
 ) -> Result<(), AllocError> {
-    match points {
-        [] => Ok(()),
-        [.., from, tip] if has_head => {
-            let piece = length_of(*from, *tip);
-            // A head is no longer than the piece that it ends, unless it could not be seen.
-            let length = piece.max(ARROW_SHORTEST).min(ARROW_LENGTH);
-            let end = towards(*tip, *from, (length - COVERED).min(piece));
-            write_line(out, points, end, COVERED, junctions)?;
-            write_head(out, *from, *tip, length, ink)
-        }
-        [.., last] => write_line(out, points, *last, 0.0, junctions),
-    }
-}
-
-fn is_straight(start: Point, from: Point, tip: Point) -> bool {
-    let is_upright = start.x == from.x && from.x == tip.x;
-    let is_level = start.y == from.y && from.y == tip.y;
-    is_upright || is_level
+    let (Some(first), Some(last)) = (points.first(), points.last()) else {
+        return Ok(());
+    };
+    let heads = heads_of_route(points, stroke);
+    let (start, end) = (stop_at(heads.start, *first), stop_at(heads.end, *last));
+    out.push_str("<path d=\"")?;
+    write_path(out, points, start, end, junctions)?;
+    out.push_str("\"/>")?;
+    write_heads(out, heads, stroke.ink)
 }
 
 // Whether points are those of a curve: a start, and two control points and an end for each piece of it.
@@ -165,47 +121,37 @@ pub(crate) fn is_curve(points: &[Point]) -> bool {
     points.len() > 2 && points.len() % 3 == 1
 }
 
-fn write_curve_path(out: &mut String, points: &[Point], end: Point) -> Result<(), AllocError> {
-    out.push_str("<path d=\"")?;
+fn write_curve_path(
+    out: &mut String,
+    points: &[Point],
+    start: Point,
+    end: Point,
+) -> Result<(), AllocError> {
     let last = points.len().saturating_sub(1);
-    for (k, point) in points.iter().enumerate() {
-        let place = if k == last { end } else { *point };
-        if k == 0 {
-            out.push('M')?;
-        } else if k % 3 == 1 {
-            out.push('C')?;
-        } else {
-            out.push(' ')?;
-        }
+    write!(out, "M{start}")?;
+    for k in 1..points.len() {
+        let place = if k == last { end } else { points[k] };
+        out.push(if k % 3 == 1 { 'C' } else { ' ' })?;
         write!(out, "{place}")?;
     }
-    out.push_str("\"/>")
+    Ok(())
 }
 
-// The line of a curve, with a head at its end where it has one.
+// The line of a curve, with its heads.
 pub(crate) fn write_curve(
     out: &mut String,
     points: &[Point],
-    has_head: bool,
-    ink: &str,
+    stroke: Stroke<'_>,
 ) -> Result<(), AllocError> {
-    match points {
-        [.., start, _, from, tip] if has_head => {
-            // A last piece that runs straight has room for the head along all of it.
-            let begin = if is_straight(*start, *from, *tip) {
-                *start
-            } else {
-                *from
-            };
-            let length = length_of(begin, *tip).max(ARROW_SHORTEST).min(ARROW_LENGTH);
-            let piece = length_of(*from, *tip);
-            let end = towards(*tip, *from, (length - COVERED).min(piece));
-            write_curve_path(out, points, end)?;
-            write_head(out, *from, *tip, length, ink)
-        }
-        [.., last] => write_curve_path(out, points, *last),
-        [] => Ok(()),
-    }
+    let (Some(first), Some(last)) = (points.first(), points.last()) else {
+        return Ok(());
+    };
+    let heads = heads_of_curve(points, stroke);
+    let (start, end) = (stop_at(heads.start, *first), stop_at(heads.end, *last));
+    out.push_str("<path d=\"")?;
+    write_curve_path(out, points, start.at, end.at)?;
+    out.push_str("\"/>")?;
+    write_heads(out, heads, stroke.ink)
 }
 
 fn is_overlap(from: Point, to: Point, at: Rect) -> bool {
@@ -225,10 +171,17 @@ pub(crate) fn passes(points: &[Point], at: Rect) -> bool {
     false
 }
 
-pub(crate) fn write_dot(out: &mut String, at: Point, ink: &str) -> Result<(), AllocError> {
+// A dot, which is never narrower than it takes to be seen on its line.
+pub(crate) fn write_dot(
+    out: &mut String,
+    at: Point,
+    width: f64,
+    ink: &str,
+) -> Result<(), AllocError> {
     let (x, y) = (Decimal(at.x), Decimal(at.y));
+    let radius = Decimal(DOT.max(width));
     write!(
         out,
-        "<circle cx=\"{x}\" cy=\"{y}\" r=\"{DOT}\" fill=\"{ink}\" stroke=\"none\"/>"
+        "<circle cx=\"{x}\" cy=\"{y}\" r=\"{radius}\" fill=\"{ink}\" stroke=\"none\"/>"
     )
 }

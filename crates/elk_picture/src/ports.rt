@@ -1,11 +1,13 @@
 //! Ports and their texts.
 
-use crate::element::{Label, box_at, box_of, elements_of, id_of, labels_of, number_at};
+use crate::decimal::Decimal;
+use crate::element::{Label, box_at, elements_of, id_of, labels_of, number_at};
 use crate::geometry::{Point, Rect, write_rectangle};
 use crate::ink::ink_on;
+use crate::labels::write_placed;
 use crate::levels::Node;
+use crate::links::{close_link, link_of, open_link, title_of};
 use crate::look::{LINE, Paints};
-use crate::nodes::write_placed;
 use crate::shapes::outline_point;
 use crate::style::Shape;
 use crate::texts::{Anchor, fitted, write_text};
@@ -75,7 +77,7 @@ fn write_own_text(
     paints: &Paints,
 ) -> Result<(), AllocError> {
     let side = side_of(port, node.value);
-    let room = box_of(node.value, node.origin);
+    let room = node.at;
     // Ports that face one another share the width of their node.
     let is_facing = side == Side::Left || side == Side::Right;
     let width = if is_facing {
@@ -180,14 +182,14 @@ fn write_stem(
     if shape == Shape::Box || node.compound {
         return Ok(());
     }
-    let room = box_of(node.value, node.origin);
+    let room = node.at;
     let middle = box_at(port, node.origin).middle();
     let (from, at) = ends_of(side_of(port, node.value), middle, room);
     let met = outline_point(at, from, shape, room);
-    let ink = paints.ink;
+    let (ink, width) = (paints.ink, Decimal(LINE));
     write!(
         out,
-        "<path d=\"M{at}L{met}\" stroke=\"{ink}\" stroke-width=\"{LINE}\"/>"
+        "<path d=\"M{at}L{met}\" stroke=\"{ink}\" stroke-width=\"{width}\"/>"
     )
 }
 
@@ -199,11 +201,18 @@ fn write_port(
     paints: &Paints,
 ) -> Result<(), AllocError> {
     let id = id_of(alloc, port)?;
-    let id = Escaped(id.as_str());
+    let title = Escaped(title_of(port).unwrap_or(id.as_str()));
     let ink = paints.ink;
+    let link = link_of(port);
     write_stem(out, port, node, paints)?;
+    open_link(out, link)?;
     write_rectangle(out, box_at(port, node.origin))?;
-    write!(out, " rx=\"1\" fill=\"{ink}\"><title>{id}</title></rect>\n")
+    write!(
+        out,
+        " rx=\"1\" fill=\"{ink}\"><title>{title}</title></rect>"
+    )?;
+    close_link(out, link)?;
+    out.push('\n')
 }
 
 // The ports of a node, a line for each.

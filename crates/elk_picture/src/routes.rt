@@ -2,18 +2,29 @@
 
 use crate::element::{elements_of, has_items, place_of};
 use crate::geometry::Point;
-use crate::ids::{End, Ids};
+use crate::ids::{Key, key_of};
+use crate::levels::{Edge, Levels};
+use crate::ways::turns_of;
 use serde_json::Value;
 use std::alloc::{AllocError, Global};
+use std::collections::BTreeMap;
 
 // The most steps from section to section of one edge. No drawing has more, unless its sections branch again and again.
 const MOST_STEPS: usize = 65536;
 
-// A route of an edge from one node to another.
+// A section, with its points from its start to its end.
+#[derive(Drop)]
+pub(crate) struct Section<'a> {
+    pub(crate) value: &'a Value,
+    pub(crate) points: Vec<Point>,
+}
+
+// A route of an edge from one node to another, in the whole drawing.
 #[derive(Drop)]
 pub(crate) struct Route {
     pub(crate) edge: usize,
     pub(crate) points: Vec<Point>,
+    pub(crate) turns: Vec<Point>,
     pub(crate) source: Option<usize>,
     pub(crate) target: Option<usize>,
 }
@@ -49,18 +60,55 @@ fn add_points(alloc: Global, section: &Value, points: &mut Vec<Point>) -> Result
     }
 }
 
-pub(crate) fn points_of(alloc: Global, section: &Value) -> Result<Vec<Point>, AllocError> {
+fn points_of(alloc: Global, section: &Value) -> Result<Vec<Point>, AllocError> {
     let mut points = Vec::new(alloc);
     add_points(alloc, section, &mut points)?;
     Ok(points)
 }
 
+// The sections of an edge, in document order.
+pub(crate) fn sections_of(alloc: Global, edge: &Value) -> Result<Vec<Section<'_>>, AllocError> {
+    let mut sections = Vec::new(alloc);
+    for value in elements_of(alloc, edge, "sections")? {
+        let points = points_of(alloc, value)?;
+        sections.push(Section { value, points })?;
+    }
+    Ok(sections)
+}
+
+// The numbers of sections by their ids. The last one of an id counts. A section alone is never looked for.
+fn numbers_of<'a>(
+    alloc: Global,
+    sections: &[Section<'a>],
+) -> Result<BTreeMap<Key<'a>, usize>, AllocError> {
+    let mut numbers = BTreeMap::new(alloc);
+    if sections.len() > 1 {
+        for (at, section) in sections.iter().enumerate() {
+            if let Some(key) = key_of(section.value.get("id")) {
+                numbers.insert(key, at)?;
+            }
+        }
+    }
+    Ok(numbers)
+}
+
+fn number_of<'a>(numbers: &BTreeMap<Key<'a>, usize>, id: &'a Value) -> Option<usize> {
+    match key_of(Some(id)) {
+        Some(key) => numbers.get(&key).copied(),
+        None => None,
+    }
+}
+
 // The sections that follow one, by their numbers.
-fn next_of(alloc: Global, sections: &[&Value], section: &Value) -> Result<Vec<usize>, AllocError> {
+fn next_of<'a>(
+    alloc: Global,
+    numbers: &BTreeMap<Key<'a>, usize>,
+    section: &'a Value,
+) -> Result<Vec<usize>, AllocError> {
     let mut next = Vec::new(alloc);
     if let Some(ids) = section.get("outgoingSections").and_then(Value::as_array) {
         for id in ids {
-            if let Some(at) = section_named(sections, id) {
+            if let Some(at) = number_of(numbers, id) {
                 next.push(at)?;
             }
         }
@@ -68,58 +116,61 @@ fn next_of(alloc: Global, sections: &[&Value], section: &Value) -> Result<Vec<us
     Ok(next)
 }
 
-// The last section with an id.
-fn section_named(sections: &[&Value], id: &Value) -> Option<usize> {
-    let mut found = None;
-    for (at, section) in sections.iter().enumerate() {
-        if section.get("id") == Some(id) {
-            found = Some(at);
+fn points_along(
+    alloc: Global,
+    sections: &[Section<'_>],
+    chain: &[Link],
+    origin: Point,
+) -> Result<Vec<Point>, AllocError> {
+    let mut points = Vec::new(alloc);
+    for link in chain {
+        if let Some(section) = sections.get(link.section) {
+            for point in section.points.iter() {
+                push_point(&mut points, *point)?;
+            }
         }
     }
-    found
+    for point in points.iter_mut() {
+        *point = point.moved(origin);
+    }
+    Ok(points)
 }
 
 fn route_along<'a>(
     alloc: Global,
-    edge: (usize, &'a Value),
-    sections: &[&'a Value],
+    (number, edge): (usize, &Edge<'a>),
     chain: &[Link],
-    ids: &Ids<'a>,
+    levels: &Levels<'a>,
 ) -> Result<Route, AllocError> {
-    let mut points = Vec::new(alloc);
-    for link in chain {
-        if let Some(section) = sections.get(link.section) {
-            add_points(alloc, *section, &mut points)?;
-        }
-    }
+    let sections = edge.sections.as_slice();
+    let points = points_along(alloc, sections, chain, levels.origin_of(edge.home))?;
+    let turns = turns_of(alloc, points.as_slice())?;
     // If there are several sections, each one names its own ends.
     let (source, target) = if sections.len() == 1 {
-        (
-            ids.node_at(edge.1, End::Source),
-            ids.node_at(edge.1, End::Target),
-        )
+        (edge.source, edge.target)
     } else {
         (
-            shape_at(sections, chain.first(), "incomingShape", ids),
-            shape_at(sections, chain.last(), "outgoingShape", ids),
+            shape_at(sections, chain.first(), "incomingShape", levels),
+            shape_at(sections, chain.last(), "outgoingShape", levels),
         )
     };
     Ok(Route {
-        edge: edge.0,
+        edge: number,
         points,
+        turns,
         source,
         target,
     })
 }
 
 fn shape_at<'a>(
-    sections: &[&'a Value],
+    sections: &[Section<'a>],
     link: Option<&Link>,
     key: &str,
-    ids: &Ids<'a>,
+    levels: &Levels<'a>,
 ) -> Option<usize> {
     let section = sections.get(link?.section)?;
-    ids.node_of(section.get(key))
+    levels.ids.node_of(section.value.get(key))
 }
 
 fn is_on(chain: &[Link], section: usize) -> bool {
@@ -144,10 +195,9 @@ fn step_from(chain: &[Link], next: &[Vec<usize>]) -> Option<Link> {
 fn chains_from<'a>(
     alloc: Global,
     first: usize,
-    edge: (usize, &'a Value),
-    sections: &[&'a Value],
+    edge: (usize, &Edge<'a>),
     next: &[Vec<usize>],
-    ids: &Ids<'a>,
+    levels: &Levels<'a>,
     routes: &mut Vec<Route>,
 ) -> Result<(), AllocError> {
     let mut chain = Vec::new(alloc);
@@ -172,7 +222,7 @@ fn chains_from<'a>(
                     None => return Ok(()),
                 };
                 if is_end {
-                    routes.push(route_along(alloc, edge, sections, chain.as_slice(), ids)?)?;
+                    routes.push(route_along(alloc, edge, chain.as_slice(), levels)?)?;
                 }
                 chain.pop();
             }
@@ -184,26 +234,19 @@ fn chains_from<'a>(
 // Adds the routes of an edge, from each section without one before it to each without one after it.
 pub(crate) fn add_routes<'a>(
     alloc: Global,
-    edge: (usize, &'a Value),
-    ids: &Ids<'a>,
+    edge: (usize, &Edge<'a>),
+    levels: &Levels<'a>,
     routes: &mut Vec<Route>,
 ) -> Result<(), AllocError> {
-    let sections = elements_of(alloc, edge.1, "sections")?;
+    let sections = edge.1.sections.as_slice();
+    let numbers = numbers_of(alloc, sections)?;
     let mut next = Vec::new(alloc);
     for section in sections.iter() {
-        next.push(next_of(alloc, sections.as_slice(), *section)?)?;
+        next.push(next_of(alloc, &numbers, section.value)?)?;
     }
     for at in 0..sections.len() {
-        if !has_items(sections[at], "incomingSections") {
-            chains_from(
-                alloc,
-                at,
-                edge,
-                sections.as_slice(),
-                next.as_slice(),
-                ids,
-                routes,
-            )?;
+        if !has_items(sections[at].value, "incomingSections") {
+            chains_from(alloc, at, edge, next.as_slice(), levels, routes)?;
         }
     }
     Ok(())

@@ -1,8 +1,10 @@
 //! The member `style` of a node or an edge. Values that are not known are ignored.
 
 use crate::colour::colour_in;
+use crate::lines::{Line, line_in};
 use serde_json::Value;
 use std::alloc::{AllocError, Global};
+use std::num::saturating_f64_to_u32;
 
 #[derive(Clone, Copy, Drop, PartialEq, Eq)]
 pub(crate) enum Shape {
@@ -18,6 +20,9 @@ pub(crate) struct Style {
     fill: Option<String>,
     stroke: Option<String>,
     colour: Option<String>,
+    pub(crate) line: Line,
+    // How many outlines lie within the outermost one.
+    pub(crate) inner_outlines: u32,
     // The classes, each after a space.
     pub(crate) classes: String,
 }
@@ -60,6 +65,18 @@ fn colour_at(alloc: Global, style: &Value, key: &str) -> Result<Option<String>, 
     }
 }
 
+// More outlines are as many as these.
+const MOST_OUTLINES: f64 = 4.0;
+
+fn inner_outlines_in(value: Option<&Value>) -> u32 {
+    match value.and_then(Value::as_f64) {
+        Some(count) if count >= 1.0 => {
+            saturating_f64_to_u32(count.min(MOST_OUTLINES)).saturating_sub(1)
+        }
+        _ => 0,
+    }
+}
+
 fn is_class(name: &str) -> bool {
     let bytes = name.as_bytes();
     match bytes.first() {
@@ -99,6 +116,8 @@ fn style_in(alloc: Global, style: &Value) -> Result<Style, AllocError> {
         fill: colour_at(alloc, style, "fill")?,
         stroke: colour_at(alloc, style, "stroke")?,
         colour: colour_at(alloc, style, "color")?,
+        line: line_in(style),
+        inner_outlines: inner_outlines_in(style.get("outlines")),
         classes: classes_in(alloc, style.get("class"))?,
     })
 }

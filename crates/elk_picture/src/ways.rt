@@ -64,18 +64,31 @@ impl Passes {
         Passes(self.0 | other.0)
     }
 
-    // Two routes that pass a point part there where they have one way in common: with two they run along together, with none
-    // they cross.
-    pub(crate) fn parts_from(self, other: Passes) -> bool {
+    // The pairs that part from some of these. Two routes that pass a point part there where they have one way in common: with two
+    // they run along together, with none they cross.
+    pub(crate) fn parting(self) -> Passes {
+        let mut parting = Passes::NONE;
         for one in 0..16u8 {
-            for two in 0..16u8 {
-                if self.has(one) && other.has(two) && (one & two).count_ones() == 1 {
-                    return true;
-                }
+            if self.has(one) {
+                parting = parting.and(parting_from(one));
             }
         }
-        false
+        parting
     }
+
+    pub(crate) fn meets(self, other: Passes) -> bool {
+        self.0 & other.0 != 0
+    }
+}
+
+fn parting_from(one: u8) -> Passes {
+    let mut parting = Passes::NONE;
+    for two in 0..16u8 {
+        if (one & two).count_ones() == 1 {
+            parting = parting.with(two);
+        }
+    }
+    parting
 }
 
 // The ways that a route takes at a point, for each time that it passes it.

@@ -17,8 +17,16 @@ fn is_unfit(letter: char) -> bool {
     matches!(letter, '\0'..='\u{8}' | '\u{b}' | '\u{c}' | '\u{e}'..='\u{1f}' | '\u{fffe}' | '\u{ffff}')
 }
 
+// Whether a byte may belong to a character that isn't written as it is.
+fn may_need_escape(byte: u8) -> bool {
+    matches!(byte, b'&' | b'<' | b'>' | b'"' | b'\'' | 0..=0x1f | 0xef)
+}
+
 impl fmt::Display for Escaped<'_> {
     fn fmt<W: fmt::Write>(&self, f: &mut fmt::Formatter<W>) -> fmt::Result {
+        if !self.0.bytes().any(may_need_escape) {
+            return f.write_str(self.0);
+        }
         for letter in self.0.chars() {
             match letter {
                 '&' => f.write_str("&amp;")?,

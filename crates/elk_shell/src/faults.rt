@@ -1,15 +1,16 @@
 //! What is wrong with a graph, as replies tell it.
 
 use crate::settings::Settings;
+use border_levels::{Reach, reaches_of};
 use elk_doc::document::Id;
 use elk_json::{Refusal, Rule, rule_name, rule_number};
+use graph_draft::{Draft, read};
 use graph_faults::{Fault, fault_value, faults_of_call, nested_fault, text_fault};
-use graph_layout::bare_document;
+use graph_layout::{Sent, bare_document, lowered_document};
 use json_places::{Lines, Spot, Unread, letters_of, read_places};
 use serde_json::value::Map;
 use serde_json::{Number, Value, put};
 use std::alloc::{AllocError, Global};
-use std::collections::BTreeMap;
 
 // The most characters of an id that a sentence has.
 const MOST_CHARACTERS: usize = 60;
@@ -109,8 +110,8 @@ fn text(alloc: Global, text: &str) -> Result<Value, AllocError> {
     Ok(Value::String(String::from_str(alloc, text)?))
 }
 
-// A fault as replies have it.
-fn value_of(
+/// A fault as replies have it.
+pub(crate) fn value_of(
     alloc: Global,
     rule: Value,
     name: &str,
@@ -132,15 +133,20 @@ fn rule_value(number: u32) -> Value {
     }
 }
 
-/// The fault that the engine tells by a rule and a place.
-pub(crate) fn bare_fault(alloc: Global, refusal: &Refusal) -> Result<Value, AllocError> {
-    let number = rule_number(refusal.rule);
-    let name = rule_name(refusal.rule);
-    let id = id_value(alloc, refusal.place.as_ref())?;
+// What is known of an element at which a rule is broken.
+fn fault_at(alloc: Global, rule: Rule, id: Value) -> Result<Value, AllocError> {
+    let number = rule_number(rule);
+    let name = rule_name(rule);
     let it = told_id(alloc, &id)?;
-    let words = words_of(alloc, refusal.rule, it.as_str())?;
+    let words = words_of(alloc, rule, it.as_str())?;
     let message = format!(in alloc; "{words} (rule {number}, {name})")?;
     value_of(alloc, rule_value(number), name, id, message)
+}
+
+/// The fault that the engine tells by a rule and a place.
+pub(crate) fn bare_fault(alloc: Global, refusal: &Refusal) -> Result<Value, AllocError> {
+    let id = id_value(alloc, refusal.place.as_ref())?;
+    fault_at(alloc, refusal.rule, id)
 }
 
 /// The fault of an input that is longer than it may be.
@@ -156,8 +162,8 @@ pub(crate) fn request_fault(alloc: Global, message: &str) -> Result<Value, Alloc
 }
 
 // Whether a fault is the one that the engine tells.
-fn is_told(fault: &Fault, refusal: &Refusal, id: &Value) -> bool {
-    fault.rule == rule_number(refusal.rule)
+fn is_told(fault: &Fault, rule: Rule, id: &Value) -> bool {
+    fault.rule == rule_number(rule)
         && match fault.id.as_ref() {
             Some(own) => own == id,
             None => id.is_null(),
@@ -165,16 +171,24 @@ fn is_told(fault: &Fault, refusal: &Refusal, id: &Value) -> bool {
 }
 
 // The faults as values, that which the engine tells first.
-fn ordered(alloc: Global, faults: &[Fault], refusal: &Refusal) -> Result<Vec<Value>, AllocError> {
-    let id = id_value(alloc, refusal.place.as_ref())?;
-    let first = faults.iter().position(|fault| is_told(fault, refusal, &id));
+fn ordered(
+    alloc: Global,
+    faults: &[Fault],
+    rule: Rule,
+    id: Value,
+) -> Result<Vec<Value>, AllocError> {
+    let number = rule_number(rule);
+    let first = match faults.iter().position(|fault| is_told(fault, rule, &id)) {
+        Some(at) => Some(at),
+        None => faults.iter().position(|fault| fault.rule == number),
+    };
     let mut all = Vec::new(alloc);
     all.push(match first {
         Some(at) => match faults.get(at) {
             Some(fault) => fault_value(alloc, fault)?,
             None => Value::Null,
         },
-        None => bare_fault(alloc, refusal)?,
+        None => fault_at(alloc, rule, id)?,
     })?;
     for (at, fault) in faults.iter().enumerate() {
         if Some(at) != first {
@@ -184,26 +198,107 @@ fn ordered(alloc: Global, faults: &[Fault], refusal: &Refusal) -> Result<Vec<Val
     Ok(all)
 }
 
-/// All faults of a graph that the engine refuses, the one that it tells first.
+// The faults of a graph in a document of it.
+fn faults_in(
+    alloc: Global,
+    sent: &Sent,
+    graph: &Value,
+    settings: &Settings,
+) -> Result<Vec<Fault>, AllocError> {
+    faults_of_call(
+        alloc,
+        &sent.document,
+        graph,
+        &sent.owners,
+        &settings.general,
+    )
+}
+
+// The id of the graph's element at which the engine found something.
+fn given_id(alloc: Global, refusal: &Refusal, sent: &Sent) -> Result<Value, AllocError> {
+    let id = id_value(alloc, refusal.place.as_ref())?;
+    let owner = match &id {
+        Value::String(text) => sent.owners.get(text.as_str()),
+        _ => None,
+    };
+    match owner {
+        Some(owner) => owner.clone(),
+        None => Ok(id),
+    }
+}
+
+/// All faults of a graph that the engine refuses, the one that it tells first. What only stages bring about, as too many nodes with those
+/// for labels, is looked for if nothing else breaks the rule.
 pub(crate) fn faults_of_graph(
     alloc: Global,
     graph: &Value,
     settings: &Settings,
     refusal: &Refusal,
 ) -> Result<Vec<Value>, AllocError> {
-    let faults = known_faults(alloc, graph, settings)?;
-    ordered(alloc, faults.as_slice(), refusal)
+    let sent = lowered_document(alloc, graph, &settings.how)?;
+    let number = rule_number(refusal.rule);
+    let mut faults = plain_faults(alloc, graph, settings)?;
+    if !faults.iter().any(|fault| fault.rule == number) {
+        faults = faults_in(alloc, &sent, graph, settings)?;
+    }
+    let id = given_id(alloc, refusal, &sent)?;
+    ordered(alloc, faults.as_slice(), refusal.rule, id)
 }
 
-/// All faults of a graph that can be found without a layout.
+/// The faults of a graph before stages rewrite it.
+pub(crate) fn plain_faults(
+    alloc: Global,
+    graph: &Value,
+    settings: &Settings,
+) -> Result<Vec<Fault>, AllocError> {
+    let sent = bare_document(alloc, graph, &settings.how)?;
+    faults_in(alloc, &sent, graph, settings)
+}
+
+const CROSS_LEVEL: u32 = 10;
+
+/// All faults of a graph that can be found without a layout. If edges cross borders, each level is sent by itself, so what stages make of
+/// the whole tells no more than which other edges can't be drawn.
 pub(crate) fn known_faults(
     alloc: Global,
     graph: &Value,
     settings: &Settings,
 ) -> Result<Vec<Fault>, AllocError> {
-    let document = bare_document(alloc, graph, &settings.how)?;
-    let owners = BTreeMap::new(alloc);
-    faults_of_call(alloc, &document, graph, &owners, &settings.general)
+    let faults = plain_faults(alloc, graph, settings)?;
+    if !faults.is_empty() {
+        return Ok(faults);
+    }
+    let sent = lowered_document(alloc, graph, &settings.how)?;
+    let mut faults = faults_in(alloc, &sent, graph, settings)?;
+    let draft = read(alloc, graph, &settings.how)?;
+    if has_edge_across(alloc, draft.as_ref())? {
+        faults.retain(|fault| fault.rule == CROSS_LEVEL);
+    }
+    Ok(faults)
+}
+
+/// Whether an edge of a draft crosses borders of levels and may be drawn.
+pub(crate) fn has_edge_across(alloc: Global, draft: Option<&Draft>) -> Result<bool, AllocError> {
+    match draft {
+        Some(draft) => {
+            let reaches = reaches_of(alloc, draft)?;
+            Ok(reaches.iter().any(|reach| matches!(reach, Reach::Across)))
+        }
+        None => Ok(false),
+    }
+}
+
+/// The faults of a graph before stages rewrite it, as replies have them.
+pub(crate) fn plain_values(
+    alloc: Global,
+    graph: &Value,
+    settings: &Settings,
+) -> Result<Vec<Value>, AllocError> {
+    let mut values = Vec::new(alloc);
+    for fault in plain_faults(alloc, graph, settings)?.iter() {
+        values.push(fault_value(alloc, fault)?)?;
+    }
+    Ok(values)
 }
 
 /// The fault of bytes that are no JSON, with its place in them.

@@ -4,17 +4,22 @@
 //! With `--plain` a document gets the engine's answer, byte for byte. Each reply to a request is one line.
 #![tactic(auto)]
 
+mod dot;
 mod failure;
 mod faults;
+mod findings;
 mod line;
 mod lint;
+mod located;
 mod making;
+mod members;
 mod notes;
 mod once;
 mod replies;
 mod requests;
 mod serving;
 mod settings;
+mod subject;
 mod top;
 mod words;
 
@@ -27,4 +32,4 @@ pub use replies::reply_line;
 pub use serving::serve;
 pub use settings::Settings;
 pub use top::{refuse_words, run};
-pub use words::{Asked, Look, Task, asked_by};
+pub use words::{Asked, Look, Task, asked_by, is_for_engine};

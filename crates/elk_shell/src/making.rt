@@ -3,14 +3,17 @@ ghost use Rattle.std.specs.Prelude.{IfOk, IfErr};
 ghost use Rattle.elk_json.specs.Refused.{MatchFault};
 ghost use Rattle.elk_answer.specs.Answer.{IsAnswer, Refuses};
 
+use crate::dot::graph_in;
 use crate::failure::Failure;
-use crate::faults::{faults_of_graph, faults_of_text};
+use crate::faults::{faults_of_graph, faults_of_text, has_edge_across, plain_values};
 use crate::settings::Settings;
 use crate::words::Look;
+use border_layout::draw_across;
 use elk_answer::answer;
-use elk_json::{DocFault, parse};
+use elk_json::{DocFault, Refusal, parse};
 use elk_picture::picture;
-use graph_layout::{Laid, laid_out};
+use graph_draft::{Draft, read};
+use graph_layout::{Laid, laid_out_as_it_is, placed_draft, told, with_plain_numbers};
 use serde_json::Value;
 use std::alloc::{AllocError, Global};
 
@@ -30,8 +33,8 @@ fn line_of(alloc: Global, value: &Value) -> Result<Vec<u8>, AllocError> {
     Ok(line)
 }
 
-// The value of a text.
-fn parsed(alloc: Global, bytes: &[u8]) -> Result<Value, Failure> {
+/// The value of a text in JSON.
+pub(crate) fn parsed(alloc: Global, bytes: &[u8]) -> Result<Value, Failure> {
     match parse(alloc, bytes) {
         Ok(value) => Ok(value),
         Err(DocFault::Memory) => Err(Failure::Memory),
@@ -41,22 +44,98 @@ fn parsed(alloc: Global, bytes: &[u8]) -> Result<Value, Failure> {
     }
 }
 
-/// A graph laid out, or all of its faults.
-pub(crate) fn laid(alloc: Global, graph: &Value, settings: &Settings) -> Result<Laid, Failure> {
-    match laid_out(alloc, graph, &settings.how) {
-        Ok(laid) => Ok(laid),
-        Err(DocFault::Memory) => Err(Failure::Memory),
-        Err(DocFault::Refused(refusal)) => {
+// The graph of a text, in the language of the settings.
+fn graph_of(alloc: Global, bytes: &[u8], settings: &Settings) -> Result<Value, Failure> {
+    if settings.is_dot {
+        Ok(graph_in(alloc, bytes)?.graph)
+    } else {
+        Ok(with_plain_numbers(alloc, parsed(alloc, bytes)?)?)
+    }
+}
+
+// Why a graph isn't laid out: all of its faults, the one that the engine names first.
+fn failure_for(
+    alloc: Global,
+    graph: &Value,
+    settings: &Settings,
+    fault: DocFault,
+) -> Result<Failure, AllocError> {
+    match fault {
+        DocFault::Memory => Ok(Failure::Memory),
+        DocFault::Refused(refusal) => {
             let faults = faults_of_graph(alloc, graph, settings, &refusal)?;
-            Err(Failure::Refused(faults))
+            Ok(Failure::Refused(faults))
         }
+    }
+}
+
+// A graph that lacks the form that stages rely on.
+fn laid_as_it_is(alloc: Global, graph: &Value, settings: &Settings) -> Result<Laid, Failure> {
+    match laid_out_as_it_is(alloc, graph, &settings.how) {
+        Ok(laid) => Ok(laid),
+        Err(fault) => Err(failure_for(alloc, graph, settings, fault)?),
+    }
+}
+
+// A graph laid out at once.
+fn laid_at_once(
+    alloc: Global,
+    graph: Value,
+    draft: Option<Draft>,
+    settings: &Settings,
+) -> Result<Laid, Failure> {
+    let Some(draft) = draft else {
+        return laid_as_it_is(alloc, &graph, settings);
+    };
+    let drawn = placed_draft(alloc, &graph, draft, &settings.how);
+    match drawn {
+        Ok((draft, document)) => Ok(told(alloc, graph, draft, document)?),
+        Err(fault) => Err(failure_for(alloc, &graph, settings, fault)?),
+    }
+}
+
+// A fault of a level by its rule alone. The engine tells it by an id that the graph may not have.
+fn nowhere(fault: DocFault) -> DocFault {
+    match fault {
+        DocFault::Refused(Refusal { rule, .. }) => DocFault::Refused(Refusal { rule, place: None }),
+        fault => fault,
+    }
+}
+
+// A graph with edges that cross borders, laid out level by level. The levels have other ids, so faults are looked for before. If another
+// edge that crosses borders isn't drawn, the engine refuses it.
+fn laid_across(
+    alloc: Global,
+    graph: Value,
+    draft: Option<Draft>,
+    settings: &Settings,
+) -> Result<Laid, Failure> {
+    let faults = plain_values(alloc, &graph, settings)?;
+    if !faults.is_empty() {
+        return Err(Failure::Refused(faults));
+    }
+    let drawn = draw_across(alloc, &graph, &settings.how);
+    match drawn {
+        Ok(Some(drawn)) => Ok(told(alloc, graph, drawn, Value::Null)?),
+        Ok(None) => laid_at_once(alloc, graph, draft, settings),
+        Err(fault) => Err(failure_for(alloc, &graph, settings, nowhere(fault))?),
+    }
+}
+
+/// A graph laid out, or all of its faults.
+pub(crate) fn laid(alloc: Global, graph: Value, settings: &Settings) -> Result<Laid, Failure> {
+    let draft = read(alloc, &graph, &settings.how)?;
+    if has_edge_across(alloc, draft.as_ref())? {
+        laid_across(alloc, graph, draft, settings)
+    } else {
+        laid_at_once(alloc, graph, draft, settings)
     }
 }
 
 /// A graph with its places, as a line of JSON.
 pub fn placed_of(alloc: Global, bytes: &[u8], settings: &Settings) -> Result<Vec<u8>, Failure> {
-    let graph = parsed(alloc, bytes)?;
-    let laid = laid(alloc, &graph, settings)?;
+    let graph = graph_of(alloc, bytes, settings)?;
+    let laid = laid(alloc, graph, settings)?;
     let line = line_of(alloc, &laid.placed)?;
     Ok(line)
 }
@@ -68,8 +147,8 @@ pub fn drawing_of(
     settings: &Settings,
     look: Look,
 ) -> Result<Vec<u8>, Failure> {
-    let graph = parsed(alloc, bytes)?;
-    let laid = laid(alloc, &graph, settings)?;
+    let graph = graph_of(alloc, bytes, settings)?;
+    let laid = laid(alloc, graph, settings)?;
     let svg = picture(alloc, &laid.placed, look.theme, look.arrows)?;
     Ok(svg.into_bytes())
 }

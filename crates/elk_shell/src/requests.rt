@@ -19,9 +19,34 @@ pub(crate) struct Wanted {
     pub(crate) document: bool,
     /// What has no effect in the graph.
     pub(crate) warnings: bool,
+    /// The graph itself, as JSON.
+    pub(crate) graph: bool,
+    /// All that can be said of the graph without a layout.
+    pub(crate) lint: bool,
     /// Whether numbers are made whole.
     pub(crate) whole: bool,
     pub(crate) look: Look,
+}
+
+impl Wanted {
+    /// Whether the graph has to be laid out. The warnings of a graph that is refused are not told, unless it is given or judged.
+    pub(crate) fn needs_layout(self) -> bool {
+        self.is_drawn() || (self.warnings && !self.graph && !self.lint)
+    }
+
+    /// Whether the faults and the warnings alone are wanted, so that a text may be no graph.
+    pub(crate) fn is_lint_alone(self) -> bool {
+        self.lint && !self.is_drawn() && !self.warnings && !self.graph
+    }
+
+    /// Whether the picture alone is wanted, for which a graph that has places needs no layout.
+    pub(crate) fn is_svg_alone(self) -> bool {
+        self.svg && !self.placed && !self.document && !self.warnings && !self.graph && !self.lint
+    }
+
+    fn is_drawn(self) -> bool {
+        self.placed || self.svg || self.document
+    }
 }
 
 /// Why a line is no request.
@@ -31,9 +56,13 @@ pub(crate) enum Misfit {
     NotJson,
     #[error("a request is an object")]
     NotObject,
-    #[error("a request has a member \"graph\", which is an object")]
+    #[error("a request has a member \"graph\" or \"placed\", which is an object, or \"text\" or \"dot\", which is a text")]
     NoGraph,
-    #[error("\"give\" is an array of \"placed\", \"svg\", \"document\" and \"warnings\", and has at least one of them")]
+    #[error("a request has one of \"graph\", \"text\", \"dot\" and \"placed\", and not several")]
+    TwoGraphs,
+    #[error("a graph in \"placed\" is drawn as it is, so \"give\" has \"svg\" alone")]
+    Placed,
+    #[error("\"give\" is an array of \"placed\", \"svg\", \"document\", \"graph\", \"warnings\" and \"lint\", and has at least one of them")]
     Give,
     #[error("\"options\" is an object of options")]
     Options,
@@ -43,7 +72,7 @@ pub(crate) enum Misfit {
     Theme,
     #[error("\"arrows\" is true or false")]
     Arrows,
-    #[error("a request has no other members than \"graph\", \"options\", \"numbers\", \"give\", \"theme\" and \"arrows\"")]
+    #[error("a request has no other members than \"graph\", \"text\", \"dot\", \"placed\", \"options\", \"numbers\", \"give\", \"theme\" and \"arrows\"")]
     Member,
 }
 
@@ -62,8 +91,16 @@ fn with_item(wanted: Wanted, item: &Value) -> Result<Wanted, Misfit> {
             document: true,
             ..wanted
         }),
+        Some("graph") => Ok(Wanted {
+            graph: true,
+            ..wanted
+        }),
         Some("warnings") => Ok(Wanted {
             warnings: true,
+            ..wanted
+        }),
+        Some("lint") => Ok(Wanted {
+            lint: true,
             ..wanted
         }),
         _ => Err(Misfit::Give),
@@ -135,7 +172,7 @@ fn refuse_options(options: Option<&Value>) -> Result<(), Misfit> {
 fn is_known(key: &str) -> bool {
     matches!(
         key,
-        "graph" | "options" | "numbers" | "give" | "theme" | "arrows"
+        "graph" | "text" | "dot" | "placed" | "options" | "numbers" | "give" | "theme" | "arrows"
     )
 }
 
@@ -149,7 +186,7 @@ fn refuse_unknown(members: &Map<String, Value>) -> Result<(), Misfit> {
     Ok(())
 }
 
-/// What a request wants. Its graph is the member `graph`, its options are the member `options`.
+/// What a request wants. Its options are the member `options`.
 pub(crate) fn wanted_by(request: &Value) -> Result<Wanted, Misfit> {
     match request {
         Value::Object(members) => {
@@ -160,6 +197,8 @@ pub(crate) fn wanted_by(request: &Value) -> Result<Wanted, Misfit> {
                 svg: false,
                 document: false,
                 warnings: false,
+                graph: false,
+                lint: false,
                 whole: whole_asked(request.get("numbers"))?,
                 look: Look {
                     theme: theme_named(request.get("theme"))?,

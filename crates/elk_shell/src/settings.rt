@@ -1,6 +1,7 @@
-//! How graphs are read: the options of a call, and whether its numbers are made whole.
+//! How graphs are read: the options of a call, whether its numbers are made whole, and whether texts are DOT.
 
 use graph_draft::{How, Options};
+use graph_layout::whole_options;
 use serde_json::value::Map;
 use serde_json::{Value, put};
 use std::alloc::{AllocError, Global};
@@ -11,6 +12,8 @@ pub struct Settings {
     pub(crate) how: How,
     /// The options of the call as they were given: an object of names and values, or null.
     pub(crate) general: Value,
+    /// Whether a text is DOT, and not JSON.
+    pub(crate) is_dot: bool,
 }
 
 /// Why a text is no option.
@@ -26,7 +29,12 @@ impl Settings {
     ) -> Result<Settings, AllocError> {
         let general = general.unwrap_or(Value::Null);
         let mut members = Map::new(alloc);
-        put(&mut members, alloc, "layoutOptions", general.clone()?)?;
+        let sent = if whole {
+            whole_options(alloc, &general)?
+        } else {
+            general.clone()?
+        };
+        put(&mut members, alloc, "layoutOptions", sent)?;
         let options = Options::carried_by(alloc, &Value::Object(members))?;
         Ok(Settings {
             how: How {
@@ -34,6 +42,7 @@ impl Settings {
                 general: options,
             },
             general,
+            is_dot: false,
         })
     }
 

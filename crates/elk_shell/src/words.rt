@@ -11,9 +11,12 @@ use serde_json::value::Map;
 use std::alloc::{AllocError, Global};
 
 const ABOUT: &str =
-    "Lays out a block diagram and draws it.\n\nReads a graph as JSON from stdin and writes its picture, as SVG, to stdout.";
+    "Lays out a block diagram and draws it.\n\nReads a graph from stdin, as JSON or as DOT, and writes its picture, as SVG, to stdout. With layout, check, batch or demo as its first argument, it does what `elk` does.";
 
-const VERSION: &str = "0.6.0";
+const VERSION: &str = "0.8.0";
+
+// The commands of `elk`.
+const COMMANDS: [&str; 4] = ["layout", "check", "batch", "demo"];
 
 /// How pictures are drawn.
 #[derive(Clone, Copy, Debug, Drop, PartialEq, Eq)]
@@ -48,6 +51,14 @@ pub enum Asked {
     Text(String),
     /// Nothing, since they are invalid: what is wrong, and the usage.
     Wrong(String),
+}
+
+/// Whether the arguments after the program's name are for `elk`: the first of them is one of its commands.
+pub fn is_for_engine(words: &[String]) -> bool {
+    match words.first() {
+        Some(word) => COMMANDS.iter().any(|command| word.as_str() == *command),
+        None => false,
+    }
 }
 
 /// What the arguments after the program's name ask for.
@@ -99,7 +110,8 @@ fn options_of<'a>(
 fn asked_run(alloc: Global, matches: &ArgMatches<'_>) -> Result<Asked, AllocError> {
     match options_of(alloc, matches)? {
         Ok(options) => {
-            let settings = Settings::of(alloc, Some(options), !matches.get_flag("exact"))?;
+            let mut settings = Settings::of(alloc, Some(options), !matches.get_flag("exact"))?;
+            settings.is_dot = matches.get_flag("dot");
             Ok(Asked::Run(task_of(matches), settings))
         }
         Err(text) => Ok(Asked::Wrong(format!(in alloc;
@@ -187,13 +199,20 @@ fn with_settings<'a>(alloc: Global, command: Command<'a>) -> Result<Command<'a>,
     )
     .conflicts_with("lines")?
     .conflicts_with("placed")?;
+    let dot = flag(
+        alloc,
+        "dot",
+        "Read the graph as DOT, the language of Graphviz",
+    )
+    .conflicts_with("lines")?
+    .conflicts_with("placed")?;
     let plain = flag(
         alloc,
         "plain",
         "Write what `elk layout` writes; alone, with no other option",
     )
     .exclusive(true);
-    command.arg(option)?.arg(exact)?.arg(plain)
+    command.arg(option)?.arg(exact)?.arg(dot)?.arg(plain)
 }
 
 // A look of pictures, which only a run that draws one has.

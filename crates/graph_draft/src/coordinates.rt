@@ -80,8 +80,8 @@ fn point_at(points: &[Point], at: usize) -> Point {
     points.get(at).copied().unwrap_or(ORIGIN)
 }
 
-// For each node its place in the whole drawing.
-fn places_of(alloc: Global, draft: &Draft) -> Result<Vec<Point>, AllocError> {
+/// For each node of the graph its place in the whole drawing.
+pub fn absolute_places(alloc: Global, draft: &Draft) -> Result<Vec<Point>, AllocError> {
     let mut places: Vec<Point> = Vec::new(alloc);
     for at in 0..draft.given_nodes {
         let around = match draft.parent_of(at) {
@@ -200,7 +200,7 @@ pub fn tell_coordinates(alloc: Global, draft: &mut Draft) -> Result<bool, AllocE
     if are_plain(modes.as_slice()) {
         return Ok(false);
     }
-    let places = places_of(alloc, draft)?;
+    let places = absolute_places(alloc, draft)?;
     move_edges(alloc, draft, modes.as_slice(), places.as_slice())?;
     move_nodes(alloc, draft, modes.as_slice(), places.as_slice())?;
     Ok(true)

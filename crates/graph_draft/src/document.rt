@@ -21,8 +21,8 @@ fn tildes_in(id: Option<&Value>) -> usize {
     }
 }
 
-// How the ids of made elements begin. No id of the graph begins so.
-fn stem_of(alloc: Global, draft: &Draft) -> Result<String, AllocError> {
+/// How the ids of made elements begin. No id of the graph begins so.
+pub(crate) fn stem_of(alloc: Global, draft: &Draft) -> Result<String, AllocError> {
     let mut most: usize = 0;
     for node in draft.nodes.iter() {
         most = most.max(tildes_in(node.id.as_ref()));
@@ -137,10 +137,20 @@ fn put_options(
     Ok(())
 }
 
+/// The id with which an element is sent that has none of its own.
+pub(crate) fn made_id(
+    alloc: Global,
+    stem: &str,
+    kind: &str,
+    at: usize,
+) -> Result<String, AllocError> {
+    format!(in alloc; "{stem}{kind}{at}")
+}
+
 impl Writing<'_> {
     fn made_id(&self, alloc: Global, kind: &str, at: usize) -> Result<Value, AllocError> {
-        let stem = self.stem.as_str();
-        Ok(Value::String(format!(in alloc; "{stem}{kind}{at}")?))
+        let id = made_id(alloc, self.stem.as_str(), kind, at)?;
+        Ok(Value::String(id))
     }
 
     fn port_id(&self, alloc: Global, at: usize) -> Result<Value, AllocError> {

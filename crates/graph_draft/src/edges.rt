@@ -76,12 +76,29 @@ impl Draft {
         None
     }
 
-    /// The node to whose content the points of an edge are relative: the nearest one that holds both its ends.
+    // The node to whose content an edge between two nodes belongs: the nearest one that holds both. One that holds the other is that
+    // node itself.
+    fn level_between(&self, one: usize, other: usize) -> Option<usize> {
+        if one == other {
+            self.parent_of(one)
+        } else {
+            self.common_holder(one, other)
+        }
+    }
+
+    /// The node to whose content the points of an edge are relative: the nearest one that holds all its ends. A node that holds the
+    /// others is that node itself, but a loop is relative to the node around it.
     pub fn container_of(&self, edge: usize) -> Option<usize> {
         let (source, target) = self.ends_of(edge)?;
-        let above = self.parent_of(source.node)?;
-        let beside = self.parent_of(target.node)?;
-        self.common_holder(above, beside)
+        let found = self.edges.get(edge)?;
+        let mut around = self.level_between(source.node, target.node)?;
+        for end in found.targets.iter() {
+            around = self.common_holder(around, self.level_between(source.node, end.node)?)?;
+        }
+        for end in found.sources.iter() {
+            around = self.common_holder(around, self.level_between(end.node, target.node)?)?;
+        }
+        Some(around)
     }
 }
 

@@ -39,6 +39,8 @@ pub struct Node {
     pub has_place: bool,
     /// The graph's own size and place, before numbers are made whole.
     pub given: Given,
+    /// The element for which a stage made it, if that isn't the node around it.
+    pub owner: Option<Element>,
     pub options: Options,
     /// The certificate of its level in the engine's answer.
     pub layering: Option<Value>,
@@ -77,6 +79,8 @@ pub struct Edge {
     pub sources: Vec<End>,
     pub targets: Vec<End>,
     pub labels: Vec<usize>,
+    /// The element for which a stage made it, if that isn't the node that declares it.
+    pub owner: Option<Element>,
     pub options: Options,
     /// Its route. An edge of several ends has a tree of sections.
     pub sections: Vec<Section>,

@@ -1,24 +1,29 @@
 //! Which elements the ids of a graph name.
 
 use crate::element::End;
-use serde_json::Value;
+use serde_json::{Number, Value};
 use std::alloc::{AllocError, Global};
 use std::cmp::OrderedFloat;
 use std::collections::BTreeMap;
 
-// An id that can be looked up.
+// An id that can be looked up. Whole numbers are exact: beyond 2^53 several of them share a float.
 #[derive(Clone, Copy, Drop, PartialEq, Eq, PartialOrd, Ord)]
 pub(crate) enum Key<'a> {
-    Number(OrderedFloat<f64>),
+    Whole(i128),
+    Float(OrderedFloat<f64>),
     Text(&'a str),
+}
+
+fn number_key<'a>(number: &Number) -> Option<Key<'a>> {
+    match number.as_i128() {
+        Some(whole) => Some(Key::Whole(whole)),
+        None => Some(Key::Float(OrderedFloat(number.as_f64()?))),
+    }
 }
 
 pub(crate) fn key_of(id: Option<&Value>) -> Option<Key<'_>> {
     match id {
-        Some(Value::Number(number)) => match number.as_f64() {
-            Some(number) => Some(Key::Number(OrderedFloat(number))),
-            None => None,
-        },
+        Some(Value::Number(number)) => number_key(number),
         Some(Value::String(text)) => Some(Key::Text(text.as_str())),
         _ => None,
     }
@@ -56,6 +61,14 @@ impl<'a> Ids<'a> {
     pub(crate) fn is_node(&self, id: Option<&'a Value>) -> bool {
         match key_of(id) {
             Some(key) => self.nodes.get(&key).is_some(),
+            None => false,
+        }
+    }
+
+    // Whether an id is that of this node.
+    pub(crate) fn is_node_at(&self, id: Option<&'a Value>, at: usize) -> bool {
+        match key_of(id) {
+            Some(key) => self.nodes.get(&key).copied() == Some(at),
             None => false,
         }
     }

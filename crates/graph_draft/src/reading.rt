@@ -11,7 +11,7 @@ use serde_json::Value;
 use serde_json::value::Map;
 use std::alloc::{AllocError, Global};
 
-// A member that only the engine can judge: a size, a place, a list or an object of options of another kind than it should be.
+// A member that only the engine can judge: a size, a port's place, a list or an object of options of another kind than it should be.
 fn is_number_or_none(value: &Value, key: &str) -> bool {
     value.get(key).is_none() || finite_at(value, key).is_some()
 }
@@ -31,9 +31,10 @@ fn is_object_or_none(value: &Value, key: &str) -> bool {
     }
 }
 
-// Whether an element has the form that stages rely on. What else is wrong with it is for the engine to refuse.
+// Whether an element has the form that stages rely on. What else is wrong with it is for the engine to refuse. A place that is no number
+// counts as none.
 fn has_form(value: &Value) -> bool {
-    for key in ["width", "height", "x", "y"] {
+    for key in ["width", "height"] {
         if !is_number_or_none(value, key) {
             return false;
         }
@@ -44,6 +45,11 @@ fn has_form(value: &Value) -> bool {
         }
     }
     is_object_or_none(value, "layoutOptions")
+}
+
+// Whether what a port says of its place is a number. It may be pinned there.
+fn has_port_place(value: &Value) -> bool {
+    is_number_or_none(value, "x") && is_number_or_none(value, "y")
 }
 
 fn has_id(value: &Value) -> bool {
@@ -148,6 +154,7 @@ impl<'a> Reading<'a> {
                 x: place.x,
                 y: place.y,
             },
+            owner: None,
             options: Options::carried_by(alloc, value)?,
             layering: None,
             altered: false,
@@ -198,6 +205,7 @@ impl<'a> Reading<'a> {
             sources: Vec::new(alloc),
             targets: Vec::new(alloc),
             labels,
+            owner: None,
             options: Options::carried_by(alloc, value)?,
             sections: Vec::new(alloc),
             routing: None,
@@ -215,7 +223,7 @@ impl<'a> Reading<'a> {
         };
         let mut ports = Vec::new(alloc);
         for port in items_of(alloc, value, "ports")? {
-            if !has_form(port) || !has_id(port) {
+            if !has_form(port) || !has_port_place(port) || !has_id(port) {
                 return Ok(false);
             }
             ports.push(self.port(alloc, port, node)?)?;
@@ -330,7 +338,14 @@ fn plain_end<'a>(edge: &'a Value, names: Names, ids: &Ids<'a>) -> Option<End> {
     let (_, node, port) = names;
     match edge.get(port) {
         None | Some(Value::Null) => ids.end_named(edge.get(node)),
-        named => ids.port_named(named),
+        named => {
+            let end = ids.port_named(named)?;
+            if ids.is_node_at(edge.get(node), end.node) {
+                Some(end)
+            } else {
+                None
+            }
+        }
     }
 }
 

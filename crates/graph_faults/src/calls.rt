@@ -7,10 +7,10 @@ use crate::origin::{Origin, own_id};
 use crate::rules::rule_words;
 use crate::texts::{bare_fault, count_value, grouped};
 use graph_rules::{Case, Context, Find, context_of, finds_in};
-use json_places::{Kind, Step, steps_to};
+use json_places::{Kind, Step, elements_of, steps_to};
 use serde_json::Value;
 use std::alloc::{AllocError, Global};
-use std::collections::BTreeMap;
+use std::collections::{BTreeMap, BTreeSet};
 
 const MOST_BYTES: usize = 16777216;
 
@@ -61,7 +61,8 @@ fn as_found<'a>(
 /// very many the first 10,000.
 pub fn faults_of_document(alloc: Global, document: &Value) -> Result<Vec<Fault>, AllocError> {
     let context = context_of(alloc, document)?;
-    let mut teller = Teller::new(alloc, &context, false);
+    let owners = BTreeMap::new(alloc);
+    let mut teller = Teller::new(alloc, &context, &owners, false);
     let mut faults = Vec::new(alloc);
     for find in finds_in(alloc, &context, document)? {
         if faults.len() == MOST_FAULTS {
@@ -93,44 +94,84 @@ fn is_crossing(find: &Find) -> bool {
     matches!(find.case, Case::Cross(..) | Case::Whole(_))
 }
 
-/// All faults of a graph, found in the document that is sent for it and told of the graph: options have any clear name, an edge may have
-/// several ends at one side, and it may cross borders. `owners` has the id of the graph's element for the id of each element that is
-/// made for it, null where that has none; what is made stands behind what is given. `general` are the options of the call. Of very many
-/// faults it gives the first 10,000.
-pub fn faults_of_call(
+// Whether elements are sent that the graph doesn't have.
+fn has_made(
     alloc: Global,
-    document: &Value,
+    context: &Context,
     graph: &Value,
     owners: &BTreeMap<String, Value>,
-    general: &Value,
-) -> Result<Vec<Fault>, AllocError> {
+) -> Result<bool, AllocError> {
+    if owners.is_empty() {
+        return Ok(false);
+    }
+    Ok(elements_of(alloc, graph)?.len() < context.elements.len())
+}
+
+// The faults that are told. Each is told once: an edge that is sent in pieces has those of its options at all of them.
+#[derive(Drop)]
+struct Told {
+    faults: Vec<Fault>,
+    seen: BTreeSet<String>,
+    has_made: bool,
+}
+
+impl Told {
+    fn is_new(&mut self, alloc: Global, fault: &Fault) -> Result<bool, AllocError> {
+        if !self.has_made {
+            return Ok(true);
+        }
+        let (path, message) = (fault.path.as_str(), fault.message.as_str());
+        Ok(self.seen.insert(format!(in alloc; "{path} {message}")?)?)
+    }
+
+    fn tell(&mut self, alloc: Global, fault: Fault) -> Result<(), AllocError> {
+        if self.is_new(alloc, &fault)? {
+            self.faults.push(fault)?;
+        }
+        Ok(())
+    }
+}
+
+fn alone(alloc: Global, fault: Fault) -> Result<Vec<Fault>, AllocError> {
     let mut faults = Vec::new(alloc);
+    faults.push(fault)?;
+    Ok(faults)
+}
+
+/// All faults of a graph, found in the document that is sent for it and told of the graph: options have any clear name, an edge may have
+/// several ends at one side, and it may cross borders. For each id that stands in the document alone, `owners` has that of the graph's
+/// element: of the same element if it is sent under another id, or else of that for which it is made, null where that has none. What is
+/// made stands behind what is given. `general` are the options of the call. Of very many faults it gives the first 10,000.
+pub fn faults_of_call<'a>(
+    alloc: Global,
+    document: &'a Value,
+    graph: &'a Value,
+    owners: &'a BTreeMap<String, Value>,
+    general: &'a Value,
+) -> Result<Vec<Fault>, AllocError> {
     if let Some(fault) = length_fault(alloc, document)? {
-        faults.push(fault)?;
-        return Ok(faults);
+        return alone(alloc, fault);
     }
     let context = context_of(alloc, document)?;
     let finds = finds_in(alloc, &context, document)?;
-    let levels = if finds.iter().any(is_crossing) {
-        Some(levels_of(alloc, graph, general)?)
-    } else {
-        None
+    let mut told = Told {
+        faults: Vec::new(alloc),
+        seen: BTreeSet::new(alloc),
+        has_made: has_made(alloc, &context, graph, owners)?,
     };
-    let origin = Origin {
-        graph,
-        owners,
-        general,
-        levels,
-    };
-    let mut teller = Teller::new(alloc, &context, !owners.is_empty());
+    let mut teller = Teller::new(alloc, &context, owners, told.has_made);
+    let mut origin = Origin::of(alloc, graph, owners, general);
+    if finds.iter().any(is_crossing) {
+        origin.levels = Some(levels_of(alloc, graph, general)?);
+    }
     for find in finds {
-        if faults.len() == MOST_FAULTS {
+        if told.faults.len() == MOST_FAULTS {
             break;
         }
         let kind = kind_of(&context, find.element);
         if let Some(turned) = origin.turned(alloc, &context, find)? {
-            faults.push(teller.fault(turned, kind)?)?;
+            told.tell(alloc, teller.fault(turned, kind)?)?;
         }
     }
-    Ok(faults)
+    Ok(told.faults)
 }

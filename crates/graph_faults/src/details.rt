@@ -2,6 +2,7 @@
 
 use crate::fault::Fault;
 use crate::near::Near;
+use crate::origin::owner_in;
 use crate::rules::{rule_name, rule_words};
 use crate::texts::{count_value, grouped, id_text, number_text, number_value, sentence};
 use graph_rules::{Case, Context, Outline, Plenty, Side};
@@ -9,6 +10,7 @@ use json_places::{Kind, Step, path_text, steps_to, told_path, value_text};
 use option_names::{Description, near_value};
 use serde_json::Value;
 use std::alloc::{AllocError, Global};
+use std::collections::BTreeMap;
 
 // What a rule found, told of the graph.
 #[derive(Drop)]
@@ -249,26 +251,35 @@ fn tell_inside(alloc: Global, port: Outline, node: Outline) -> Result<Told, Allo
 pub(crate) struct Teller<'a, 'b> {
     alloc: Global,
     context: &'b Context<'a>,
+    owners: &'b BTreeMap<String, Value>,
     // Whether elements are sent that the graph doesn't have.
     has_made: bool,
     near: Near,
 }
 
 impl<'a, 'b> Teller<'a, 'b> {
-    pub(crate) fn new(alloc: Global, context: &'b Context<'a>, has_made: bool) -> Teller<'a, 'b> {
+    pub(crate) fn new(
+        alloc: Global,
+        context: &'b Context<'a>,
+        owners: &'b BTreeMap<String, Value>,
+        has_made: bool,
+    ) -> Teller<'a, 'b> {
         Teller {
             alloc,
             context,
+            owners,
             has_made,
             near: Near::new(),
         }
     }
 
+    // The id of an element, as the graph has it.
     fn id_of(&self, number: usize) -> Option<&Value> {
-        match self.context.element(number) {
+        let id = match self.context.element(number) {
             Some(element) => element.value.get("id"),
             None => None,
-        }
+        };
+        owner_in(self.owners, id).or(id)
     }
 
     fn id_text(&self, number: Option<usize>) -> Result<String, AllocError> {

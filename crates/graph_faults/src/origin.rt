@@ -2,8 +2,8 @@
 
 use crate::across::Levels;
 use crate::details::Turned;
-use graph_rules::{Case, Context, End, Find, is_same};
-use json_places::{Step, carried_key, copied, general_key, steps_to, value_at};
+use graph_rules::{Case, Context, End, Find, is_same, key_of};
+use json_places::{Kind, Step, carried_key, copied, general_key, steps_to, value_at};
 use serde_json::Value;
 use std::alloc::{AllocError, Global};
 use std::collections::BTreeMap;
@@ -16,6 +16,8 @@ pub(crate) struct Origin<'g> {
     pub(crate) general: &'g Value,
     // The levels of the graph, if edges cross any.
     pub(crate) levels: Option<Levels<'g>>,
+    // Whether edges that cross borders are drawn, by their numbers in what is sent.
+    across: BTreeMap<usize, bool>,
 }
 
 // Where a find stands: the steps, those to the element of the graph to which it belongs, and its id if it is made.
@@ -23,6 +25,7 @@ pub(crate) struct Origin<'g> {
 struct Place<'g> {
     steps: Vec<Step>,
     owner: Vec<Step>,
+    number: usize,
     made_of: Option<&'g Value>,
 }
 
@@ -31,6 +34,7 @@ impl Place<'_> {
         let Place {
             steps,
             owner,
+            number: _,
             made_of: _,
         } = self;
         drop(owner);
@@ -59,31 +63,29 @@ pub(crate) fn own_id(context: &Context, find: &Find) -> Result<Option<Value>, Al
     }
 }
 
-fn is_owner(id: Option<&Value>, owner: &Value) -> bool {
-    match id {
-        Some(id) => is_same(id, owner),
-        None => owner.is_null(),
-    }
+// The element for which another was made, by its id: one of the same kind if there is one. The root alone may have no id.
+fn owner_of<'a>(context: &Context<'a>, number: usize, owner: &'a Value) -> usize {
+    let (Some(element), Some(key)) = (context.element(number), key_of(Some(owner))) else {
+        return 0;
+    };
+    let (end, edge) = (
+        context.ends.get(&key).copied(),
+        context.edges.get(&key).copied(),
+    );
+    let found = if element.kind == Kind::Edge {
+        edge.or(end)
+    } else {
+        end.or(edge)
+    };
+    found.unwrap_or(number)
 }
 
-// The element in whose name another was made: one of the same kind if there is one.
-fn owner_of(context: &Context, number: usize, owner: &Value) -> usize {
-    let kind = match context.element(number) {
-        Some(element) => element.kind,
-        None => return number,
-    };
-    let mut other = None;
-    for (at, element) in context.elements.iter().enumerate() {
-        if is_owner(element.value.get("id"), owner) {
-            if element.kind == kind {
-                return at;
-            }
-            if other.is_none() {
-                other = Some(at);
-            }
-        }
+// Whether the graph has an element of an id where one stands in what is sent. Then that was sent under another id.
+fn is_same_at(graph: &Value, steps: &[Step], id: &Value) -> bool {
+    match value_at(graph, steps).and_then(|element| element.get("id")) {
+        Some(own) => is_same(own, id),
+        None => false,
     }
-    other.unwrap_or(number)
 }
 
 // How many ids an edge has at an end.
@@ -128,6 +130,7 @@ fn nowhere<'g>(alloc: Global, names: Vec<Step>) -> Place<'g> {
     Place {
         steps: names,
         owner: Vec::new(alloc),
+        number: 0,
         made_of: None,
     }
 }
@@ -159,34 +162,72 @@ fn told_id(made_of: Option<&Value>, own: Option<Value>) -> Result<Option<Value>,
     Ok(Some(owner.clone()?))
 }
 
+// The id of the graph that stands for that of a sent element; nothing if the graph has the same id there.
+pub(crate) fn owner_in<'g>(
+    owners: &'g BTreeMap<String, Value>,
+    id: Option<&Value>,
+) -> Option<&'g Value> {
+    match id {
+        Some(Value::String(id)) => owners.get(id.as_str()),
+        _ => None,
+    }
+}
+
 impl<'g> Origin<'g> {
+    pub(crate) fn of(
+        alloc: Global,
+        graph: &'g Value,
+        owners: &'g BTreeMap<String, Value>,
+        general: &'g Value,
+    ) -> Origin<'g> {
+        Origin {
+            graph,
+            owners,
+            general,
+            levels: None,
+            across: BTreeMap::new(alloc),
+        }
+    }
+
     fn made_of(&self, context: &Context, number: usize) -> Option<&'g Value> {
-        let id = match id_at(context, number) {
-            Some(Value::String(id)) => id.as_str(),
-            _ => return None,
-        };
-        self.owners.get(id)
+        owner_in(self.owners, id_at(context, number))
+    }
+
+    // The element to which an id of the graph belongs that stands for that of a sent element: the same one, or that for which it was made.
+    fn owner(
+        &self,
+        alloc: Global,
+        context: &Context<'g>,
+        number: usize,
+        id: &'g Value,
+    ) -> Result<usize, AllocError> {
+        let own = steps_to(alloc, context.elements.as_slice(), number)?;
+        Ok(if is_same_at(self.graph, own.as_slice(), id) {
+            number
+        } else {
+            owner_of(context, number, id)
+        })
     }
 
     // What is made stands behind what is given, so that steps in what was sent are steps in the graph.
     fn place(
         &self,
         alloc: Global,
-        context: &Context,
+        context: &Context<'g>,
         number: usize,
         names: Vec<Step>,
     ) -> Result<Place<'g>, AllocError> {
         let made_of = self.made_of(context, number);
         let owner = match made_of {
-            Some(id) => owner_of(context, number, id),
+            Some(id) => self.owner(alloc, context, number, id)?,
             None => number,
         };
-        let elements = context.elements.as_slice();
-        let to_owner = steps_to(alloc, elements, owner)?;
+        let to_owner = steps_to(alloc, context.elements.as_slice(), owner)?;
         let is_same = same_kind(context, owner, number);
         Ok(Place {
             steps: behind(alloc, to_owner.as_slice(), names, is_same)?,
             owner: to_owner,
+            number: owner,
             made_of,
         })
     }
@@ -207,8 +248,9 @@ impl<'g> Origin<'g> {
         place: Place<'g>,
     ) -> Result<(Vec<Step>, bool), AllocError> {
         let Place {
-            mut steps,
-            owner,
+            steps,
+            mut owner,
+            number: _,
             made_of: _,
         } = place;
         let carried = match value_at(self.graph, owner.as_slice()) {
@@ -216,11 +258,9 @@ impl<'g> Origin<'g> {
             None => None,
         };
         if let Some(carried) = carried {
-            steps.pop();
-            steps.pop();
-            steps.push(Step::named(alloc, carried.holder)?)?;
-            steps.push(Step::named(alloc, carried.key)?)?;
-            return Ok((steps, false));
+            owner.push(Step::named(alloc, carried.holder)?)?;
+            owner.push(Step::named(alloc, carried.key)?)?;
+            return Ok((owner, false));
         }
         let key = self.asked_step(alloc, name, steps.as_slice())?;
         let mut asked = Vec::new(alloc);
@@ -238,6 +278,7 @@ impl<'g> Origin<'g> {
         let Place {
             steps,
             mut owner,
+            number: _,
             made_of: _,
         } = place;
         let end = match value_at(self.graph, owner.as_slice()) {
@@ -252,21 +293,27 @@ impl<'g> Origin<'g> {
         Ok(owner)
     }
 
-    fn is_drawn_across(&self, alloc: Global, place: &Place<'g>) -> Result<bool, AllocError> {
-        let edge = value_at(self.graph, place.owner.as_slice());
-        match (edge, self.levels.as_ref()) {
-            (Some(edge), Some(levels)) => levels.is_drawn_across(alloc, edge),
-            _ => Ok(false),
+    // An edge that is sent in pieces is looked at once.
+    fn is_drawn_across(&mut self, alloc: Global, place: &Place<'g>) -> Result<bool, AllocError> {
+        if let Some(known) = self.across.get(&place.number) {
+            return Ok(*known);
         }
+        let edge = value_at(self.graph, place.owner.as_slice());
+        let is_drawn = match (edge, self.levels.as_ref()) {
+            (Some(edge), Some(levels)) => levels.is_drawn_across(alloc, edge)?,
+            _ => false,
+        };
+        self.across.insert(place.number, is_drawn)?;
+        Ok(is_drawn)
     }
 
     // What a rule finds, as it is told of the graph; nothing where the graph has no such fault.
-    pub(crate) fn turned<'a>(
-        &self,
+    pub(crate) fn turned(
+        &mut self,
         alloc: Global,
-        context: &Context<'a>,
-        find: Find<'a>,
-    ) -> Result<Option<Turned<'a>>, AllocError> {
+        context: &Context<'g>,
+        find: Find<'g>,
+    ) -> Result<Option<Turned<'g>>, AllocError> {
         let id = own_id(context, &find)?;
         let Find {
             rule,

@@ -1,14 +1,60 @@
-//! The document of a graph without stages, in which the engine's rules can be looked for: options stand under the engine's names, and
-//! numbers are made whole if the call asks for it. Whatever else is wrong with the graph is wrong with the document.
+//! Documents of a graph in which the engine's rules can be looked for, with and without stages. They have what the engine reads: options
+//! stand under the engine's names, and numbers are made whole if the call asks for it. Whatever else is wrong with the graph is wrong
+//! with them.
 
-use graph_draft::{How, Options, Point, Size, number_value, whole_port, whole_size};
-use option_names::{PREFIX, Role, is_read_by, is_spelling, number_in, prefix_in};
+use crate::lengths::read_whole;
+use crate::pipeline::OneLevel;
+use crate::renaming::rename_options;
+use crate::stages::lower;
+use edge_stages::{keep_places, move_insets, share_options};
+use graph_draft::{
+    Draft, How, Point, Size, document_of, number_value, owners_of, whole_port, whole_size,
+};
+use option_names::{Role, number_in};
+use route_curves::ask_for_curves;
 use serde_json::value::Map;
 use serde_json::{Value, put};
 use std::alloc::{AllocError, Global};
+use std::collections::BTreeMap;
 use std::mem;
 
 type Members = Map<String, Value>;
+
+// The members that the engine reads. A fraction in another one, as in a label, is no fault.
+const OF_NODES: [&str; 7] = [
+    "id",
+    "width",
+    "height",
+    "layoutOptions",
+    "ports",
+    "edges",
+    "children",
+];
+
+const OF_PORTS: [&str; 6] = ["id", "width", "height", "x", "y", "layoutOptions"];
+
+const OF_EDGES: [&str; 8] = [
+    "id",
+    "sources",
+    "targets",
+    "source",
+    "target",
+    "sourcePort",
+    "targetPort",
+    "layoutOptions",
+];
+
+// Leaves an element the members that have these names.
+fn keep(members: &mut Members, alloc: Global, names: &[&'static str]) -> Result<(), AllocError> {
+    let mut kept = Map::new(alloc);
+    for name in names {
+        if let Some(value) = members.remove(*name) {
+            put(&mut kept, alloc, *name, value)?;
+        }
+    }
+    *members = kept;
+    Ok(())
+}
 
 fn number_at(members: &Members, key: &str) -> Option<f64> {
     match members.get(key) {
@@ -50,67 +96,6 @@ fn round_port(members: &mut Members, alloc: Global, node: Size) -> Result<(), Al
     replace(members, alloc, "y", whole.y)
 }
 
-// The options of an element under the engine's names, and those of the call that it reads and doesn't have itself.
-fn rename_options(
-    members: &mut Members,
-    alloc: Global,
-    how: &How,
-    role: Role,
-) -> Result<(), AllocError> {
-    let mut given = Map::new(alloc);
-    for key in ["layoutOptions", "properties"] {
-        if let Some(value) = members.remove(key) {
-            put(&mut given, alloc, key, value)?;
-        }
-    }
-    let given = Value::Object(given);
-    let own = Options::carried_by(alloc, &given)?;
-    let mut sent = Map::new(alloc);
-    for name in how.general.names(alloc)? {
-        if own.get(name).is_none() && is_read_by(name, role) {
-            put_option(&mut sent, alloc, PREFIX, name, how.general.get(name))?;
-        }
-    }
-    for name in own.names(alloc)? {
-        put_option(
-            &mut sent,
-            alloc,
-            prefix_of(&given, name),
-            name,
-            own.get(name),
-        )?;
-    }
-    put(members, alloc, "layoutOptions", Value::Object(sent))
-}
-
-// What stands before the name of an option in the key under which an element has it, if the engine finds it by that key.
-fn prefix_of(given: &Value, name: &str) -> &'static str {
-    for holder in ["layoutOptions", "properties"] {
-        if let Some(Value::Object(members)) = given.get(holder) {
-            for (key, _) in members.iter() {
-                if is_spelling(key.as_str(), name) {
-                    return prefix_in(key.as_str());
-                }
-            }
-        }
-    }
-    PREFIX
-}
-
-fn put_option(
-    sent: &mut Members,
-    alloc: Global,
-    prefix: &str,
-    name: &str,
-    value: Option<&Value>,
-) -> Result<(), AllocError> {
-    if let Some(value) = value {
-        let key = format!(in alloc; "{prefix}{name}")?;
-        sent.insert(key, value.clone()?)?;
-    }
-    Ok(())
-}
-
 fn rewrite_ports(
     members: &mut Members,
     alloc: Global,
@@ -123,7 +108,8 @@ fn rewrite_ports(
                 if how.whole {
                     round_port(port, alloc, node)?;
                 }
-                rename_options(port, alloc, how, Role::Port)?;
+                rename_options(port, alloc, how, Role::Port, 0)?;
+                keep(port, alloc, &OF_PORTS)?;
             }
         }
     }
@@ -134,19 +120,21 @@ fn rewrite_edges(members: &mut Members, alloc: Global, how: &How) -> Result<(), 
     if let Some(Value::Array(items)) = members.get_mut("edges") {
         for item in items.iter_mut() {
             if let Value::Object(edge) = item {
-                rename_options(edge, alloc, how, Role::Edge)?;
+                rename_options(edge, alloc, how, Role::Edge, 0)?;
+                keep(edge, alloc, &OF_EDGES)?;
             }
         }
     }
     Ok(())
 }
 
-// Rewrites a node, of which the children were taken out.
+// Rewrites a node, of which so many children were taken out.
 fn rewrite_node(
     members: &mut Members,
     alloc: Global,
     how: &How,
-    is_level: bool,
+    role: Role,
+    children: usize,
 ) -> Result<(), AllocError> {
     let size = size_in(members);
     rewrite_ports(members, alloc, how, size)?;
@@ -154,8 +142,8 @@ fn rewrite_node(
     if how.whole {
         round_size(members, alloc)?;
     }
-    let role = if is_level { Role::Level } else { Role::Node };
-    rename_options(members, alloc, how, role)
+    rename_options(members, alloc, how, role, children)?;
+    keep(members, alloc, &OF_NODES)
 }
 
 fn children_in(node: &mut Value) -> Option<&mut Vec<Value>> {
@@ -173,6 +161,16 @@ fn children_in(node: &mut Value) -> Option<&mut Vec<Value>> {
 struct Spread {
     nodes: Vec<Value>,
     firsts: Vec<usize>,
+}
+
+impl Spread {
+    // How many children a node has.
+    fn children_at(&self, at: usize) -> usize {
+        let count = self.nodes.len();
+        let first = self.firsts.get(at).copied().unwrap_or(count);
+        let next = self.firsts.get(at.saturating_add(1)).copied();
+        next.unwrap_or(count).saturating_sub(first)
+    }
 }
 
 fn taken_apart(alloc: Global, graph: Value) -> Result<Spread, AllocError> {
@@ -213,16 +211,72 @@ fn put_together(alloc: Global, spread: Spread) -> Result<Value, AllocError> {
     Ok(nodes.pop().unwrap_or(Value::Null))
 }
 
-/// The document of a graph without stages.
-pub fn bare_document(alloc: Global, graph: &Value, how: &How) -> Result<Value, AllocError> {
+// The document of a graph that lacks the form that stages rely on.
+fn rewritten(alloc: Global, graph: &Value, how: &How) -> Result<Value, AllocError> {
     let mut spread = taken_apart(alloc, graph.clone()?)?;
     let count = spread.nodes.len();
     for at in 0..count {
-        let next = spread.firsts.get(at.saturating_add(1)).copied();
-        let has_children = spread.firsts.get(at).copied() < Some(next.unwrap_or(count));
+        let children = spread.children_at(at);
+        let role = if at == 0 || children > 0 {
+            Role::Level
+        } else {
+            Role::Node
+        };
         if let Some(Value::Object(members)) = spread.nodes.get_mut(at) {
-            rewrite_node(members, alloc, how, at == 0 || has_children)?;
+            rewrite_node(members, alloc, how, role, children)?;
         }
     }
     put_together(alloc, spread)
+}
+
+/// A document of a graph.
+#[derive(Drop)]
+pub struct Sent {
+    pub document: Value,
+    /// For each id that stands in the document alone, the id of the graph's element for which it stands.
+    pub owners: BTreeMap<String, Value>,
+}
+
+impl Sent {
+    fn of(alloc: Global, draft: &Draft) -> Result<Sent, AllocError> {
+        Ok(Sent {
+            document: document_of(alloc, draft)?,
+            owners: owners_of(alloc, draft)?,
+        })
+    }
+
+    fn as_it_is(alloc: Global, graph: &Value, how: &How) -> Result<Sent, AllocError> {
+        Ok(Sent {
+            document: rewritten(alloc, graph, how)?,
+            owners: BTreeMap::new(alloc),
+        })
+    }
+}
+
+/// The document of a graph without most stages. Options that stages obey are as they are sent, and pinned ports a little inside their
+/// nodes stand at the borders.
+pub fn bare_document(alloc: Global, graph: &Value, how: &How) -> Result<Sent, AllocError> {
+    match read_whole(alloc, graph, how)? {
+        Some(mut draft) => {
+            share_options(alloc, &mut draft)?;
+            keep_places(alloc, &mut draft)?;
+            let _ = ask_for_curves(alloc, &mut draft)?;
+            let _ = move_insets(alloc, &mut draft)?;
+            Sent::of(alloc, &draft)
+        }
+        None => Sent::as_it_is(alloc, graph, how),
+    }
+}
+
+/// The document of a graph with all that stages make, as the engine is sent it first: edges of several ends are edges for each pair,
+/// and labels have the room that they take.
+pub fn lowered_document(alloc: Global, graph: &Value, how: &How) -> Result<Sent, AllocError> {
+    match read_whole(alloc, graph, how)? {
+        Some(mut draft) => {
+            let one = OneLevel::none(alloc);
+            let _ = lower(alloc, &mut draft, &BTreeMap::new(alloc), &one)?;
+            Sent::of(alloc, &draft)
+        }
+        None => Sent::as_it_is(alloc, graph, how),
+    }
 }

@@ -1,6 +1,7 @@
 //! The stages that give labels and nodes their room.
 
 use edge_labels::{EdgeLabels, Known, place_edge_labels, raise_edge_labels};
+use edge_stages::Insets;
 use graph_draft::{Draft, Element, Size};
 use label_room::{GrownPorts, Strips, grow_ports, raise_ports, sides_of};
 use loop_labels::{LoopLabels, place_loop_labels, raise_loop_labels};
@@ -45,24 +46,36 @@ pub(crate) fn needs_room(draft: &Draft) -> bool {
     (0..draft.given_nodes).any(|node| is_labelled(draft, node))
 }
 
-/// Gives labels and nodes their room. `turned` are the edges that were turned round, `curved` the levels whose routes are slanted or
-/// curved. It answers the least sizes that levels ask for too, by their nodes' numbers.
+// Edges, levels and ports whose labels are treated by themselves.
+#[derive(Clone, Copy, Drop)]
+pub(crate) struct Kinds<'a> {
+    // The edges that were turned round.
+    pub(crate) turned: &'a BTreeSet<usize>,
+    // The levels whose routes are slanted or curved.
+    pub(crate) curved: &'a BTreeSet<usize>,
+    // The edges whose labels stay in their layers.
+    pub(crate) still: &'a BTreeSet<usize>,
+    // The ports that were moved to the borders of their nodes.
+    pub(crate) insets: &'a Insets,
+}
+
+/// Gives labels and nodes their room. It answers the least sizes that levels ask for too, by their nodes' numbers.
 pub(crate) fn make_room(
     alloc: Global,
     draft: &mut Draft,
     lacks: &Lacks,
-    (turned, curved): (&BTreeSet<usize>, &BTreeSet<usize>),
+    kinds: Kinds,
 ) -> Result<(Labels, BTreeMap<usize, Size>), AllocError> {
     let mut strips = Strips::none(alloc);
-    let of_ports = port_labels_of(alloc, draft)?;
+    let of_ports = port_labels_of(alloc, draft)?.with_depths(kinds.insets.depths(alloc)?);
     let of_nodes = node_labels_of(alloc, draft)?;
     let given = sides_of(alloc, draft)?;
     let inner = place_port_labels(alloc, draft, &mut strips, &given, &of_ports)?;
     let known = Known {
         sides: &given,
-        turned,
-        curved,
-        still: &BTreeSet::new(alloc),
+        turned: kinds.turned,
+        curved: kinds.curved,
+        still: kinds.still,
     };
     let of_edges = place_edge_labels(alloc, draft, &mut strips, known)?;
     let of_loops = place_loop_labels(alloc, draft, &mut strips)?;

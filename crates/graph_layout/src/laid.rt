@@ -1,9 +1,11 @@
 //! The whole drawing.
 
-use crate::pipeline::{answer_to, placed_draft};
+use crate::bare::bare_document;
+use crate::floats::with_plain_values;
+use crate::junctions::{find_junctions, tell_junctions};
+use crate::pipeline::answer_to;
 use elk_json::DocFault;
-use elk_picture::junction_points;
-use graph_draft::{Draft, How, Point, tell, tell_coordinates};
+use graph_draft::{Draft, How, tell, tell_coordinates};
 use serde_json::Value;
 use std::alloc::{AllocError, Global};
 
@@ -15,34 +17,30 @@ pub struct Laid {
     pub document: Value,
 }
 
-// Gives edges the points where their routes part from others.
-fn add_junctions(alloc: Global, draft: &mut Draft, placed: &Value) -> Result<bool, AllocError> {
-    let mut has_any = false;
-    for (at, pairs) in junction_points(alloc, placed)?.iter().enumerate() {
-        if let Some(edge) = draft.edges.get_mut(at) {
-            edge.junctions.clear();
-            for (x, y) in pairs.iter() {
-                edge.junctions.push(Point { x: *x, y: *y })?;
-                has_any = true;
-            }
-        }
+/// A graph with the drawing that stands in its draft. Edges get their junctions, and coordinates are told as the graph asks.
+pub fn told(
+    alloc: Global,
+    graph: Value,
+    mut draft: Draft,
+    document: Value,
+) -> Result<Laid, AllocError> {
+    let mut placed = graph;
+    tell(alloc, &mut placed, &draft)?;
+    let has_junctions = find_junctions(alloc, &mut draft, &placed)?;
+    if tell_coordinates(alloc, &mut draft)? {
+        tell(alloc, &mut placed, &draft)?;
+    } else if has_junctions {
+        tell_junctions(alloc, &mut placed, &draft)?;
     }
-    Ok(has_any)
+    Ok(Laid { placed, document })
 }
 
-/// Lays out a graph as elkjs takes it. A graph that can't be drawn is refused by the rule that the engine names.
-pub fn laid_out(alloc: Global, graph: &Value, how: &How) -> Result<Laid, DocFault> {
-    let Some((mut draft, document)) = placed_draft(alloc, graph, how)? else {
-        let document = graph.clone()?;
-        let placed = answer_to(alloc, &document)?;
-        return Ok(Laid { placed, document });
-    };
-    let mut placed = graph.clone()?;
-    tell(alloc, &mut placed, &draft)?;
-    let has_junctions = add_junctions(alloc, &mut draft, &placed)?;
-    let is_moved = tell_coordinates(alloc, &mut draft)?;
-    if has_junctions || is_moved {
-        tell(alloc, &mut placed, &draft)?;
-    }
+/// Lays out a graph that lacks the form that stages rely on, as the engine takes it. It is refused for what is wrong with it, rather than
+/// for a fraction that the engine wouldn't read.
+pub fn laid_out_as_it_is(alloc: Global, graph: &Value, how: &How) -> Result<Laid, DocFault> {
+    let sent = bare_document(alloc, graph, how)?;
+    answer_to(alloc, &sent.document)?;
+    let document = with_plain_values(alloc, graph.clone()?)?;
+    let placed = answer_to(alloc, &document)?;
     Ok(Laid { placed, document })
 }

@@ -1,20 +1,21 @@
 //! The stages of a layout, in their order.
 
-use crate::labels::{Labels, make_room, needs_room, place_labels};
+use crate::labels::{Kinds, Labels, make_room, needs_room, place_labels};
+use crate::pipeline::OneLevel;
 use edge_stages::{
     Hyperedges, Insets, Turns, draw_insets, join_hyperedges, keep_places, levels_of, merge_ends,
     merging_levels, move_insets, share_options, split_hyperedges, turn_again, turn_edges,
 };
 use graph_draft::{Draft, Size};
 use layer_stages::{
-    AskedRanks, BoundLayers, SoughtLayers, ask_for_layers, bind_layers, edges_against, seek_layers,
-    unbind_layers,
+    AskedRanks, Border, BoundLayers, SoughtLayers, ask_for_layers, bind_layers, edges_against,
+    seek_layers, unbind_layers,
 };
-use node_labels::Lacks;
+use node_labels::{Lacks, keep_outside};
 use route_curves::{Curves, ask_for_curves, draw_curves, measure_gaps};
 use serde_json::Value;
 use std::alloc::{AllocError, Global};
-use std::collections::BTreeMap;
+use std::collections::{BTreeMap, BTreeSet};
 
 /// What the stages did.
 #[derive(Drop)]
@@ -54,19 +55,60 @@ fn order_edges(
     Ok(turns)
 }
 
+const ROOT: usize = 0;
+
+// The leaves that stand for the border of the outermost level, by their numbers.
+fn ends_in(
+    alloc: Global,
+    draft: &Draft,
+    one: &OneLevel,
+) -> Result<BTreeMap<usize, Border>, AllocError> {
+    let mut ends = BTreeMap::new(alloc);
+    for (at, border) in one.ends.iter() {
+        if let Some(child) = draft.children_of(ROOT).get(*at) {
+            ends.insert(*child, *border)?;
+        }
+    }
+    Ok(ends)
+}
+
+// The edges of the outermost level whose labels stay in their layers, by their numbers.
+fn still_in(alloc: Global, draft: &Draft, one: &OneLevel) -> Result<BTreeSet<usize>, AllocError> {
+    let mut still = BTreeSet::new(alloc);
+    for at in one.still.iter() {
+        if let Some(edge) = draft.edges_of(ROOT).get(*at) {
+            still.insert(*edge)?;
+        }
+    }
+    Ok(still)
+}
+
 /// Rewrites a draft for the engine. `lacks` tells what nodes lacked when they were laid out before.
-pub(crate) fn lower(alloc: Global, draft: &mut Draft, lacks: &Lacks) -> Result<Deeds, AllocError> {
+pub(crate) fn lower(
+    alloc: Global,
+    draft: &mut Draft,
+    lacks: &Lacks,
+    one: &OneLevel,
+) -> Result<Deeds, AllocError> {
+    let ends = ends_in(alloc, draft, one)?;
+    let still = still_in(alloc, draft, one)?;
     share_options(alloc, draft)?;
     keep_places(alloc, draft)?;
     let curves = ask_for_curves(alloc, draft)?;
     let hyperedges = split_hyperedges(alloc, draft)?;
     let insets = move_insets(alloc, draft)?;
     let has_labels = needs_room(draft);
-    let ranks = ask_for_layers(alloc, draft, &BTreeMap::new(alloc))?;
+    let ranks = ask_for_layers(alloc, draft, &ends)?;
     let turns = order_edges(alloc, draft, &ranks, has_labels)?;
     let (labels, leasts) = if has_labels {
         let curved = curves.levels(alloc)?;
-        let (labels, leasts) = make_room(alloc, draft, lacks, (turns.turned(), &curved))?;
+        let kinds = Kinds {
+            turned: turns.turned(),
+            curved: &curved,
+            still: &still,
+            insets: &insets,
+        };
+        let (labels, leasts) = make_room(alloc, draft, lacks, kinds)?;
         (Some(labels), leasts)
     } else {
         (None, BTreeMap::new(alloc))
@@ -121,7 +163,8 @@ pub(crate) fn raise(alloc: Global, draft: &mut Draft, deeds: Deeds) -> Result<()
         place_labels(alloc, draft, labels)?;
     }
     turn_again(alloc, draft, turns)?;
-    draw_insets(alloc, draft, insets)?;
+    let moves = draw_insets(alloc, draft, insets)?;
+    keep_outside(alloc, draft, moves)?;
     join_hyperedges(alloc, draft, hyperedges)?;
     draw_curves(alloc, draft, curves)
 }

@@ -1,22 +1,27 @@
 //! Ids that can be looked up.
 
-use serde_json::Value;
+use serde_json::{Number, Value};
 use std::cmp::OrderedFloat;
 
-/// A number and a text of the same digits are two ids.
+/// A number and a text of the same digits are two ids. Whole numbers are exact: beyond 2^53 several of them share a float.
 #[derive(Clone, Copy, Drop, PartialEq, Eq, PartialOrd, Ord)]
 pub enum Key<'a> {
-    Number(OrderedFloat<f64>),
+    Whole(i128),
+    Float(OrderedFloat<f64>),
     Text(&'a str),
+}
+
+fn number_key<'a>(number: &Number) -> Option<Key<'a>> {
+    match number.as_i128() {
+        Some(whole) => Some(Key::Whole(whole)),
+        // Zero has one sign.
+        None => Some(Key::Float(OrderedFloat(number.as_f64()? + 0.0))),
+    }
 }
 
 pub fn key_of(id: Option<&Value>) -> Option<Key<'_>> {
     match id {
-        Some(Value::Number(number)) => match number.as_f64() {
-            // Zero has one sign.
-            Some(number) => Some(Key::Number(OrderedFloat(number + 0.0))),
-            None => None,
-        },
+        Some(Value::Number(number)) => number_key(number),
         Some(Value::String(text)) => Some(Key::Text(text.as_str())),
         _ => None,
     }

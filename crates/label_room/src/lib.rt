@@ -23,4 +23,4 @@ pub use lines::{axis_of, lines_at, spots_at};
 pub use shrinking::raise_ports;
 pub use sides::borders;
 pub use strips::{Reach, Strips};
-pub use values::{Padding, has_name, has_names, padding_in, size_in};
+pub use values::{Padding, has_name, has_names, inside_asked, padding_in, size_in};

@@ -87,7 +87,7 @@ fn deepen(
 ) -> Result<(), AllocError> {
     match port_at(alloc, draft, docks)? {
         Some(port) => {
-            let more = wanted.depth - strips.reach_of(draft, port, wanted.side).out;
+            let more = wanted.depth - strips.end_of(draft, port, wanted.side);
             let room = wanted.side.box_at(0.0, more);
             strips.add(alloc, port, Block::of_room(alloc, room))
         }
@@ -99,7 +99,7 @@ fn deepest(draft: &Draft, strips: &Strips, docks: &[Dock], side: Side) -> f64 {
     let mut reach: f64 = 0.0;
     for dock in docks {
         if let Dock::Port(port) = dock {
-            reach = reach.max(strips.reach_of(draft, *port, side).out);
+            reach = reach.max(strips.end_of(draft, *port, side));
         }
     }
     reach

@@ -71,7 +71,12 @@ impl Strips {
         }
     }
 
-    /// How far a port with all of it reaches out from a side, and how far along it to either hand.
+    /// How far from a side of its node a port with all of it reaches. Pinned ports may stand within their node, or away from it.
+    pub fn end_of(&self, draft: &Draft, port: usize, side: Side) -> f64 {
+        self.reach_of(draft, port, side).out + face_of(draft, port, side)
+    }
+
+    /// How far out a port reaches with all of it, and how far along a side to either hand.
     pub fn reach_of(&self, draft: &Draft, port: usize, side: Side) -> Reach {
         let mut blocks: f64 = 0.0;
         let mut aside: f64 = 0.0;
@@ -83,5 +88,24 @@ impl Strips {
             out: side.outward(draft.size_of(Element::Port(port))) + blocks,
             aside,
         }
+    }
+}
+
+// How far outward from a side of its node a pinned port begins.
+fn face_of(draft: &Draft, port: usize, side: Side) -> f64 {
+    let node = match draft.ports.get(port) {
+        Some(port) if draft.is_pinned(port.node) => Element::Node(port.node),
+        _ => return 0.0,
+    };
+    let room = draft.size_of(node);
+    let (place, size) = (
+        draft.place_of(Element::Port(port)),
+        draft.size_of(Element::Port(port)),
+    );
+    match side {
+        Side::North => -(place.y + size.height),
+        Side::East => place.x - room.width,
+        Side::South => place.y - room.height,
+        Side::West => -(place.x + size.width),
     }
 }

@@ -1,6 +1,6 @@
 //! What the values of options say: names, numbers, and lengths at the four sides.
 
-use graph_draft::{Size, rounded_up};
+use graph_draft::{Draft, Element, Size, rounded_up};
 use serde_json::Value;
 use std::alloc::{AllocError, Global};
 
@@ -26,6 +26,16 @@ pub fn has_name(value: Option<&Value>, name: &str) -> bool {
         Some(Value::String(text)) => is_in_text(text.as_str(), name),
         Some(Value::Array(items)) => items.iter().any(|item| is_item(item, name)),
         _ => false,
+    }
+}
+
+/// Whether the labels of a node's ports stand inside the node. Nothing if they aren't placed.
+pub fn inside_asked(draft: &Draft, node: usize) -> Option<bool> {
+    match draft.option(Element::Node(node), "portLabels.placement") {
+        None | Some(Value::Null) => Some(false),
+        asked if has_name(asked, "INSIDE") => Some(true),
+        asked if has_name(asked, "OUTSIDE") => Some(false),
+        _ => None,
     }
 }
 

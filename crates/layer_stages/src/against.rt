@@ -106,8 +106,9 @@ fn edges_back(
     Ok(back)
 }
 
-// The edges of a level to turn round. Without ranks all children are of one.
-fn edges_in(
+/// The edges of a level to turn round, by the numbers in its arcs: those that run against the ranks, and those that close cycles within
+/// one rank. `count` is the number of its children. Without ranks all children are of one.
+pub fn arcs_against(
     alloc: Global,
     count: usize,
     arcs: &[LevelArc],
@@ -138,7 +139,7 @@ pub fn edges_against(
     let mut against = BTreeMap::new(alloc);
     for (level, arcs) in arcs_in(alloc, draft, levels)?.iter() {
         let count = draft.children_of(*level).len();
-        let edges = edges_in(alloc, count, arcs.as_slice(), ranks.get(level))?;
+        let edges = arcs_against(alloc, count, arcs.as_slice(), ranks.get(level))?;
         against.insert(*level, edges)?;
     }
     Ok(against)

@@ -4,12 +4,13 @@ use graph_draft::{Draft, joined_edges};
 use std::alloc::{AllocError, Global};
 use std::collections::{BTreeMap, BTreeSet};
 
-// An edge from one child of a level to another, by their places among the children.
+/// An edge from one child of a level to another, by their places among the children.
 #[derive(Clone, Copy, Debug, Drop)]
-pub(crate) struct LevelArc {
-    pub(crate) edge: usize,
-    pub(crate) tail: usize,
-    pub(crate) head: usize,
+pub struct LevelArc {
+    /// The number of the edge.
+    pub edge: usize,
+    pub tail: usize,
+    pub head: usize,
 }
 
 // The arcs of some levels, in the order of the document.

@@ -18,8 +18,9 @@ mod parts;
 mod ranks;
 mod seeking;
 
-pub use against::edges_against;
+pub use against::{arcs_against, edges_against};
+pub use arcs::LevelArc;
 pub use asking::ask_for_layers;
 pub use binding::{BoundLayers, bind_layers, unbind_layers};
-pub use ranks::{AskedRanks, Border, Ranks};
+pub use ranks::{AskedRanks, Border, Ranks, ranks_of};
 pub use seeking::{SoughtLayers, seek_layers};

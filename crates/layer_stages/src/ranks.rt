@@ -122,8 +122,8 @@ fn rank_of_constraint(constraint: Constraint, last: usize) -> usize {
     }
 }
 
-// The ranks of the children of a level; nothing where it asks for none. `borders` tells which leaves stand for its border.
-pub(crate) fn ranks_of(
+/// The ranks of the children of a level; nothing where it asks for none. `borders` tells which leaves stand for its border.
+pub fn ranks_of(
     alloc: Global,
     draft: &Draft,
     level: usize,

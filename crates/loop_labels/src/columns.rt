@@ -10,12 +10,7 @@ use std::collections::BTreeMap;
 pub(crate) struct LoopLabel {
     pub(crate) edge: usize,
     pub(crate) labels: Vec<usize>,
-    pub(crate) gap: f64,
     pub(crate) size: Size,
-    // How far from the node the loop runs.
-    pub(crate) depth: f64,
-    // The room that the labels keep to lines.
-    pub(crate) beside: f64,
     // What else stands at the side.
     pub(crate) foreign: Vec<Dock>,
 }
@@ -26,8 +21,17 @@ pub(crate) struct Column {
     pub(crate) node: usize,
     pub(crate) side: Side,
     pub(crate) labels: Vec<LoopLabel>,
-    // The loops without labels, which run as far from the node as the first with one.
-    pub(crate) bare: Vec<usize>,
+    // All loops, with labels or without.
+    pub(crate) loops: Vec<usize>,
+    // How far from the node the first lane of loops is, and how far the others are from one another.
+    pub(crate) depth: f64,
+    pub(crate) between: f64,
+    // How far from the node the labels begin.
+    pub(crate) away: f64,
+    // The room between two labels of a loop.
+    pub(crate) gap: f64,
+    // The room that the labels keep to lines.
+    pub(crate) beside: f64,
     // How long the labels are together, each with the room behind it.
     pub(crate) length: f64,
 }
@@ -49,33 +53,20 @@ impl LoopLabels {
         }
     }
 
-    // How long the labels at a side are together; none where there are no labels yet.
-    pub(crate) fn length_at(&self, node: usize, side: Side) -> Option<f64> {
-        let at = self.places.get(&(node, side))?;
-        match self.columns.get(*at) {
-            Some(column) => Some(column.length),
-            None => None,
-        }
+    // Whether there are labels at a side yet.
+    pub(crate) fn has(&self, node: usize, side: Side) -> bool {
+        self.places.get(&(node, side)).is_some()
+    }
+
+    pub(crate) fn column_at(&mut self, node: usize, side: Side) -> Option<&mut Column> {
+        let at = self.places.get(&(node, side)).copied();
+        self.columns.get_mut(at.unwrap_or(usize::MAX))
     }
 
     pub(crate) fn add_column(&mut self, column: Column) -> Result<(), AllocError> {
         let key = (column.node, column.side);
         self.places.insert(key, self.columns.len())?;
         self.columns.push(column)?;
-        Ok(())
-    }
-
-    pub(crate) fn add_label(
-        &mut self,
-        node: usize,
-        side: Side,
-        label: LoopLabel,
-    ) -> Result<(), AllocError> {
-        let at = self.places.get(&(node, side)).copied();
-        if let Some(column) = self.columns.get_mut(at.unwrap_or(usize::MAX)) {
-            column.length += side.along(label.size) + label.beside;
-            column.labels.push(label)?;
-        }
         Ok(())
     }
 }

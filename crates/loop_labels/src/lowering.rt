@@ -7,6 +7,7 @@ use label_room::{
     Beside, Block, Dock, Owner, Strips, beside_edge, borders, measured_labels, spots_at, stack_of,
 };
 use std::alloc::{AllocError, Global};
+use std::num::nearest_usize_to_f64;
 
 // The self-loops with labels that are placed, each with these.
 fn labelled_loops(
@@ -30,21 +31,73 @@ fn reach_at(draft: &Draft, strips: &Strips, docks: &[Dock], side: Side) -> f64 {
     let mut reach: f64 = 0.0;
     for dock in docks {
         if let Some(port) = dock.port() {
-            reach = reach.max(strips.reach_of(draft, port, side).out);
+            reach = reach.max(strips.end_of(draft, port, side));
         }
     }
     reach
+}
+
+// The most lanes that loops of a side take: those at the node itself stand beside one another.
+fn most_lanes(loops: &[Joined]) -> usize {
+    let mut lanes: usize = 0;
+    let mut is_at_node = false;
+    for found in loops {
+        if found.source.port.is_some() || found.target.port.is_some() {
+            lanes = lanes.saturating_add(1);
+        } else {
+            is_at_node = true;
+        }
+    }
+    if is_at_node {
+        lanes.saturating_add(1)
+    } else {
+        lanes
+    }
+}
+
+// The side at which a loop lies, with all loops there and without labels yet.
+fn column_of(
+    alloc: Global,
+    draft: &Draft,
+    strips: &Strips,
+    loops: &Loops,
+    found: &Joined,
+    side: Side,
+) -> Result<Column, AllocError> {
+    let (node, level) = (found.source.node, Element::Node(found.level));
+    let Beside { gap, out, .. } = beside_edge(draft, found.level);
+    let here = loops.at(alloc, node, side)?;
+    let reach = reach_at(draft, strips, loops.sides.at(node, side), side);
+    let depth = reach + draft.number(level, "spacing.edgeNode", 10.0).max(1.0);
+    let between = draft.number(level, "spacing.edgeEdge", 10.0).max(1.0);
+    let more = nearest_usize_to_f64(most_lanes(here.as_slice()).saturating_sub(1));
+    let mut edges = Vec::new(alloc);
+    for found in here.iter() {
+        edges.push(found.edge)?;
+    }
+    Ok(Column {
+        node,
+        side,
+        labels: Vec::new(alloc),
+        loops: edges,
+        depth,
+        between,
+        away: depth + more * between + out,
+        gap,
+        beside: out,
+        length: 0.0,
+    })
 }
 
 // How far the labels of a loop may reach beyond the two ends of a side: in its middle, or beyond its last line.
 fn overhangs(
     alloc: Global,
     draft: &Draft,
-    at: (usize, Side),
     docks: &[Dock],
+    column: &Column,
     label: &LoopLabel,
 ) -> Result<(f64, f64), AllocError> {
-    let (node, side) = at;
+    let (node, side) = (column.node, column.side);
     let length = side.along(label.size);
     let is_alone = label.foreign.is_empty();
     if draft.is_level(node) {
@@ -52,7 +105,7 @@ fn overhangs(
         return Ok(if is_alone {
             (half, half)
         } else {
-            (0.0, length + label.beside)
+            (0.0, length + column.beside)
         });
     }
     let spots = spots_at(alloc, draft, node, side, docks)?;
@@ -61,34 +114,10 @@ fn overhangs(
     let from = if is_alone {
         ((first + last - length) / 2.0).floor()
     } else {
-        last + label.beside
+        last + column.beside
     };
     let room = side.along(draft.size_of(Element::Node(node)));
     Ok((-from, from + length - room))
-}
-
-// The labels of a loop as they stand beyond a side.
-fn label_at(
-    alloc: Global,
-    draft: &Draft,
-    strips: &Strips,
-    loops: &Loops,
-    found: &Joined,
-    side: Side,
-    labels: Vec<usize>,
-) -> Result<LoopLabel, AllocError> {
-    let docks = loops.sides.at(found.source.node, side);
-    let Beside { gap, out, .. } = beside_edge(draft, found.level);
-    let clear = draft.number(Element::Node(found.level), "spacing.edgeNode", 10.0);
-    Ok(LoopLabel {
-        edge: found.edge,
-        size: stack_of(draft, labels.as_slice(), gap),
-        labels,
-        gap,
-        depth: reach_at(draft, strips, docks, side) + clear,
-        beside: out,
-        foreign: loops.foreign(alloc, found, side)?,
-    })
 }
 
 // Asks for the room of a loop's labels beyond a side, behind those that stand there already.
@@ -96,18 +125,16 @@ fn reserve(
     alloc: Global,
     draft: &Draft,
     strips: &mut Strips,
-    at: (usize, Side),
     docks: &[Dock],
+    column: &Column,
     label: &LoopLabel,
-    length: f64,
 ) -> Result<(), AllocError> {
-    let (node, side) = at;
-    let (before, behind) = overhangs(alloc, draft, at, docks, label)?;
+    let (node, side) = (column.node, column.side);
+    let (before, behind) = overhangs(alloc, draft, docks, column, label)?;
     let (first, last) = borders(side);
-    let depth = label.depth + label.beside + side.outward(label.size);
-    strips.reserve(alloc, node, side, depth)?;
+    strips.reserve(alloc, node, side, column.away + side.outward(label.size))?;
     strips.reserve(alloc, node, first, before)?;
-    strips.reserve(alloc, node, last, behind + length)
+    strips.reserve(alloc, node, last, behind + column.length)
 }
 
 fn place_beyond(
@@ -116,42 +143,34 @@ fn place_beyond(
     strips: &mut Strips,
     loops: &Loops,
     placed: &mut LoopLabels,
-    at: (usize, Side),
-    label: LoopLabel,
+    (found, side, labels): (Joined, Side, Vec<usize>),
 ) -> Result<(), AllocError> {
-    let (node, side) = at;
-    let length = match placed.length_at(node, side) {
-        Some(length) => length,
-        None => {
-            placed.add_column(Column {
-                node,
-                side,
-                labels: Vec::new(alloc),
-                bare: loops.bare_at(alloc, draft, node, side)?,
-                length: 0.0,
-            })?;
-            0.0
-        }
-    };
-    let docks = loops.sides.at(node, side);
-    reserve(alloc, draft, strips, at, docks, &label, length)?;
-    placed.add_label(node, side, label)
+    let node = found.source.node;
+    if !placed.has(node, side) {
+        placed.add_column(column_of(alloc, draft, strips, loops, &found, side)?)?;
+    }
+    if let Some(column) = placed.column_at(node, side) {
+        let label = LoopLabel {
+            edge: found.edge,
+            size: stack_of(draft, labels.as_slice(), column.gap),
+            labels,
+            foreign: loops.foreign(alloc, &found, side)?,
+        };
+        let docks = loops.sides.at(node, side);
+        reserve(alloc, draft, strips, docks, column, &label)?;
+        column.length += side.along(label.size) + column.beside;
+        column.labels.push(label)?;
+    }
+    Ok(())
 }
 
-fn place_loop(
+fn place_at_port(
     alloc: Global,
     draft: &Draft,
     strips: &mut Strips,
-    loops: &Loops,
-    placed: &mut LoopLabels,
     found: &Joined,
     labels: Vec<usize>,
 ) -> Result<(), AllocError> {
-    if let Some(side) = side_of_loop(&loops.sides, found) {
-        let label = label_at(alloc, draft, strips, loops, found, side, labels)?;
-        let at = (found.source.node, side);
-        return place_beyond(alloc, draft, strips, loops, placed, at, label);
-    }
     if let Some(port) = found.source.port.or(found.target.port) {
         let beside = beside_edge(draft, found.level);
         let block = Block::of_labels(draft, labels, beside, Owner::Level);
@@ -173,8 +192,16 @@ pub fn place_loop_labels(
         return Ok(placed);
     }
     let loops = Loops::of(alloc, draft)?;
+    let mut beyond = Vec::new(alloc);
     for (found, labels) in labelled {
-        place_loop(alloc, draft, strips, &loops, &mut placed, &found, labels)?;
+        match side_of_loop(&loops.sides, &found) {
+            Some(side) => beyond.push((found, side, labels))?,
+            None => place_at_port(alloc, draft, strips, &found, labels)?,
+        }
+    }
+    // Loops are drawn beyond what stands at the ports.
+    for it in beyond {
+        place_beyond(alloc, draft, strips, &loops, &mut placed, it)?;
     }
     Ok(placed)
 }

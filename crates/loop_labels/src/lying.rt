@@ -1,6 +1,6 @@
 //! Self-loops, and where they lie.
 
-use graph_draft::{Draft, Element, Joined, Kind, Side, joined_edges};
+use graph_draft::{Draft, Joined, Kind, Side, joined_edges};
 use label_room::{Dock, Sides, sides_of};
 use std::alloc::{AllocError, Global};
 use std::collections::BTreeMap;
@@ -91,23 +91,21 @@ impl Loops {
         Ok(foreign)
     }
 
-    // The loops without labels at a side of a node.
-    pub(crate) fn bare_at(
+    // The loops at a side of a node, in document order.
+    pub(crate) fn at(
         &self,
         alloc: Global,
-        draft: &Draft,
         node: usize,
         side: Side,
-    ) -> Result<Vec<usize>, AllocError> {
-        let mut bare = Vec::new(alloc);
+    ) -> Result<Vec<Joined>, AllocError> {
+        let mut here = Vec::new(alloc);
         if let Some(loops) = self.by_node.get(&node) {
             for found in loops.iter() {
-                let is_bare = draft.labels_of(Element::Edge(found.edge)).is_empty();
-                if is_bare && side_of_loop(&self.sides, found) == Some(side) {
-                    bare.push(found.edge)?;
+                if side_of_loop(&self.sides, found) == Some(side) {
+                    here.push(*found)?;
                 }
             }
         }
-        Ok(bare)
+        Ok(here)
     }
 }

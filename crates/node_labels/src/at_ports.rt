@@ -2,10 +2,9 @@
 
 use graph_draft::{Draft, Element, Mark, Point, Side, Size};
 use label_room::{
-    Align, Beside, Block, Owner, Sides, Stack, Strips, has_name, measured_labels, place_stack,
+    Align, Beside, Block, Owner, Sides, Stack, Strips, inside_asked, measured_labels, place_stack,
     stack_of,
 };
-use serde_json::Value;
 use std::alloc::{AllocError, Global};
 use std::collections::BTreeMap;
 
@@ -22,11 +21,39 @@ pub(crate) struct PortLabel {
 #[derive(Drop)]
 pub struct PortLabels {
     ports: BTreeMap<usize, PortLabel>,
+    // How far inside its node each of some ports will be moved.
+    depths: BTreeMap<usize, f64>,
 }
 
 impl PortLabels {
     pub(crate) fn is_empty(&self) -> bool {
         self.ports.is_empty()
+    }
+
+    /// Tells how far inside its node each of some ports will be moved from the border, with its labels.
+    pub fn with_depths(self, depths: BTreeMap<usize, f64>) -> PortLabels {
+        let PortLabels { ports, .. } = self;
+        PortLabels { ports, depths }
+    }
+
+    // How far a pinned port will reach into its node from a side.
+    pub(crate) fn reach_of(&self, draft: &Draft, port: usize, side: Side) -> f64 {
+        let node = match draft.ports.get(port) {
+            Some(port) if draft.is_pinned(port.node) => port.node,
+            _ => return 0.0,
+        };
+        let room = draft.size_of(Element::Node(node));
+        let (place, size) = (
+            draft.place_of(Element::Port(port)),
+            draft.size_of(Element::Port(port)),
+        );
+        let reach = match side {
+            Side::North => place.y + size.height,
+            Side::East => room.width - place.x,
+            Side::South => room.height - place.y,
+            Side::West => place.x + size.width,
+        };
+        reach.max(0.0) + self.depths.get(&port).copied().unwrap_or(0.0)
     }
 
     // The size of the labels of a port that stand inside its node.
@@ -35,16 +62,6 @@ impl PortLabels {
             Some(label) if label.is_inside => Some(label.size),
             _ => None,
         }
-    }
-}
-
-// Whether labels of a node's ports stand inside; none where they aren't placed.
-fn inside_asked(draft: &Draft, node: usize) -> Option<bool> {
-    match draft.option(Element::Node(node), "portLabels.placement") {
-        None | Some(Value::Null) => Some(false),
-        asked if has_name(asked, "INSIDE") => Some(true),
-        asked if has_name(asked, "OUTSIDE") => Some(false),
-        _ => None,
     }
 }
 
@@ -77,6 +94,7 @@ fn add_labels(
 pub fn port_labels_of(alloc: Global, draft: &mut Draft) -> Result<PortLabels, AllocError> {
     let mut found = PortLabels {
         ports: BTreeMap::new(alloc),
+        depths: BTreeMap::new(alloc),
     };
     for node in 0..draft.given_nodes {
         if let Some(is_inside) = inside_asked(draft, node) {
@@ -194,11 +212,13 @@ fn stack_in(draft: &Draft, it: &InnerLabel) -> Stack {
     let Size { width, height } = it.port_size;
     let x = within(room.width, it.size.width, port.x + width / 2.0) - port.x;
     let y = within(room.height, it.size.height, port.y + height / 2.0) - port.y;
+    // A pinned port may stand away from its node.
+    let (right, low) = (room.width - port.x, room.height - port.y);
     let (x, y, align) = match it.side {
-        Side::North => (x, height + it.out, Align::Center),
-        Side::East => (-it.out - it.size.width, y, Align::Right),
-        Side::South => (x, -it.out - it.size.height, Align::Center),
-        Side::West => (width + it.out, y, Align::Left),
+        Side::North => (x, height.max(-port.y) + it.out, Align::Center),
+        Side::East => (right.min(0.0) - it.out - it.size.width, y, Align::Right),
+        Side::South => (x, low.min(0.0) - it.out - it.size.height, Align::Center),
+        Side::West => (width.max(-port.x) + it.out, y, Align::Left),
     };
     Stack {
         place: Point { x, y },

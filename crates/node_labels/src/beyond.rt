@@ -62,7 +62,7 @@ fn base_of(draft: &Draft, strips: &Strips, node: usize, side: Side, docks: &[Doc
     let mut base = strips.reserved_at(node, side);
     for dock in docks {
         base = base.max(match dock {
-            Dock::Port(port) => strips.reach_of(draft, *port, side).out,
+            Dock::Port(port) => strips.end_of(draft, *port, side),
             Dock::End(_, _) => 0.0,
         });
     }

@@ -1,4 +1,4 @@
-//! The cells in which labels stand inside of nodes: three rows of three, of which the middle one stays in the middle.
+//! The cells in which labels stand inside of nodes: three rows of three.
 
 use crate::groups::Group;
 use graph_draft::Size;
@@ -16,22 +16,25 @@ fn width_at(groups: &[Group], row: usize, column: usize) -> f64 {
     0.0
 }
 
-fn width_of_row(groups: &[Group], row: usize) -> f64 {
-    let (left, middle, right) = (
-        width_at(groups, row, 0),
-        width_at(groups, row, 1),
-        width_at(groups, row, 2),
-    );
-    let aside = left.max(right);
-    if middle > 0.0 && aside > 0.0 {
-        middle + 2.0 * (aside + BETWEEN_CELLS)
-    } else if middle > 0.0 {
-        middle
-    } else if left > 0.0 && right > 0.0 {
-        left + BETWEEN_CELLS + right
-    } else {
-        left + right
+// How long a node has to be for three lengths along it, of which the middle one stays in the middle.
+fn length_for(lengths: (f64, f64, f64), pads: (f64, f64), between: f64) -> f64 {
+    let (first, middle, last) = lengths;
+    let (before, behind) = pads;
+    if middle == 0.0 {
+        let gap = if first > 0.0 && last > 0.0 {
+            between
+        } else {
+            0.0
+        };
+        return before + first + gap + last + behind;
     }
+    let mut length = middle + before + behind;
+    for (outer, pad) in [(first, before), (last, behind)] {
+        if outer > 0.0 {
+            length = length.max(middle + 2.0 * (pad + outer + between));
+        }
+    }
+    length
 }
 
 // The height of a row in which labels inside stand.
@@ -55,13 +58,15 @@ pub(crate) fn room_of_cells(groups: &[Group], pad: Padding) -> Size {
         return Size::NONE;
     }
     let mut width: f64 = 0.0;
-    let mut height: f64 = 0.0;
     for row in 0..3 {
-        width = width.max(width_of_row(groups, row));
-        height += height_of_row(groups, row);
+        let at = |column: usize| width_at(groups, row, column);
+        let widths = (at(0), at(1), at(2));
+        width = width.max(length_for(widths, (pad.left, pad.right), BETWEEN_CELLS));
     }
+    let high = |row: usize| height_of_row(groups, row);
+    let heights = (high(0), high(1), high(2));
     Size {
-        width: width + pad.left + pad.right,
-        height: height + pad.top + pad.bottom,
+        width,
+        height: length_for(heights, (pad.top, pad.bottom), 0.0),
     }
 }

@@ -26,7 +26,7 @@ impl Frame {
     }
 }
 
-// How many labels of ports at docks stand inside the node, and how long and how deep the largest are.
+// Whether labels of ports at docks stand inside the node, how long the longest are, and how deep they reach.
 #[derive(Clone, Copy, Drop)]
 pub(crate) struct Inner {
     pub(crate) is_there: bool,
@@ -34,7 +34,7 @@ pub(crate) struct Inner {
     pub(crate) deepest: f64,
 }
 
-pub(crate) fn inner_at(side: Side, docks: &[Dock], labels: &PortLabels) -> Inner {
+pub(crate) fn inner_at(draft: &Draft, side: Side, docks: &[Dock], labels: &PortLabels) -> Inner {
     let mut inner = Inner {
         is_there: false,
         longest: 0.0,
@@ -45,7 +45,8 @@ pub(crate) fn inner_at(side: Side, docks: &[Dock], labels: &PortLabels) -> Inner
             if let Some(size) = labels.inside_of(*port) {
                 inner.is_there = true;
                 inner.longest = inner.longest.max(side.along(size));
-                inner.deepest = inner.deepest.max(side.outward(size));
+                let depth = side.outward(size) + labels.reach_of(draft, *port, side);
+                inner.deepest = inner.deepest.max(depth);
             }
         }
     }
@@ -53,7 +54,7 @@ pub(crate) fn inner_at(side: Side, docks: &[Dock], labels: &PortLabels) -> Inner
 }
 
 fn depth_at(draft: &Draft, node: usize, side: Side, sides: &Sides, labels: &PortLabels) -> f64 {
-    let inner = inner_at(side, sides.at(node, side), labels);
+    let inner = inner_at(draft, side, sides.at(node, side), labels);
     let room = if inner.is_there {
         2.0 * beside_port(draft, node, side).out
     } else {

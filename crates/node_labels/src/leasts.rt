@@ -114,7 +114,7 @@ fn end_of_ports(draft: &Draft, docks: &[Dock]) -> f64 {
 // How high a node has to be so that labels of ports inside it at a side keep clear of what stands above and below them.
 fn height_at_corners(draft: &Draft, standing: Standing<'_>, within: Within<'_>, side: Side) -> f64 {
     let docks = standing.sides.at(within.node, side);
-    let inner = inner_at(side, docks, standing.port_labels);
+    let inner = inner_at(draft, side, docks, standing.port_labels);
     if !inner.is_there {
         return 0.0;
     }
@@ -126,7 +126,8 @@ fn height_at_corners(draft: &Draft, standing: Standing<'_>, within: Within<'_>, 
     let below = beyond(2, within.frame.south, within.pad.bottom);
     let half = (inner.longest / 2.0).ceil() + 1.0;
     if draft.has_rule(within.node, "FIXED_POS") {
-        return end_of_ports(draft, docks) + half + below;
+        let lowest = end_of_ports(draft, docks) + half + below;
+        return lowest.max(above + inner.longest.ceil() + below);
     }
     (nearest_usize_to_f64(docks.len()) + 1.0) * (above.max(below) + half)
 }
@@ -135,6 +136,7 @@ fn height_at_corners(draft: &Draft, standing: Standing<'_>, within: Within<'_>, 
 fn room_at_corners(draft: &Draft, standing: Standing<'_>, within: Within<'_>) -> Size {
     let length = |side: Side| {
         inner_at(
+            draft,
             side,
             standing.sides.at(within.node, side),
             standing.port_labels,

@@ -9,7 +9,12 @@ use std::alloc::{AllocError, Global};
 use std::test::Fail;
 
 // The order that the search of an effort finds, of which nothing more is known.
-fn found(alloc: Global, layered: &Layered, start: Order, effort: u32) -> Result<Order, AllocError>
+pub(crate) fn found(
+    alloc: Global,
+    layered: &Layered,
+    start: Order,
+    effort: u32,
+) -> Result<Order, AllocError>
     requires sound { IsSound (plain layered.now) }
     requires rows { AreRows (plain layered.now) (rows_of start) }
 {

@@ -4,7 +4,7 @@ use std::alloc::{AllocError, Global};
 
 const LAYERS: u32 = 8;
 
-fn small(number: u64) -> u32 {
+pub(crate) fn small(number: u64) -> u32 {
     match u32::try_from(number) {
         Ok(number) => number,
         Err(_) => 0,

@@ -10,7 +10,7 @@ use std::alloc::{AllocError, Global};
 use std::test::Fail;
 
 // The order in which the units with keys are held, of which nothing more is known.
-fn held(
+pub(crate) fn held(
     alloc: Global,
     layered: &Layered,
     start: Order,

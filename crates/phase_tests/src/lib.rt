@@ -45,6 +45,8 @@ mod plain;
 #[cfg(test)]
 mod ports;
 #[cfg(test)]
+mod row_searches;
+#[cfg(test)]
 mod slots;
 #[cfg(test)]
 mod solutions;

@@ -1,1 +1,0 @@
-"""What a picture is made of: marks, colours, shapes, lines and texts, as in the adapter for JavaScript."""
