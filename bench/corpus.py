@@ -1,6 +1,6 @@
 """The documents on which quality and time are measured: made from seeds, and the same on every machine.
 
-Each family is a kind of graph. `documents()` gives all, `document(family, nodes, seed)` one of them.
+Each family is a kind of graph. `documents()` yields all, `document(family, nodes, seed)` returns one of them.
 """
 import hashlib
 import json
@@ -19,7 +19,7 @@ WORDS = ("mode", "rate", "gain", "delay", "offset", "limit", "source", "target",
 
 
 class Draws:
-    """Numbers that look like chance. Of the standard generator only `random` gives the same numbers in every version."""
+    """Pseudo-random numbers. Of the standard generator only `random` returns the same numbers in every version."""
 
     def __init__(self, seed):
         self.chance = random.Random(seed).random
@@ -244,7 +244,7 @@ def nested(size, draws):
 
 
 def level(name, budget, names, draws):
-    """A node with so many nodes within it, at all levels together."""
+    """A node with this many nodes within it, at all levels together."""
     count = min(draws.between(4, 8), budget)
     children = []
     for share in shares(budget - count, count, draws):
@@ -318,6 +318,6 @@ def documents():
 
 
 def checksum():
-    """What tells whether two corpora are the same."""
+    """A checksum of the corpus."""
     texts = (json.dumps(document, sort_keys=True) for *_, document in documents())
     return hashlib.sha256("\n".join(texts).encode()).hexdigest()[:16]

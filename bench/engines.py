@@ -30,7 +30,7 @@ class Drawing:
 
 @dataclasses.dataclass
 class Engine:
-    """`write` makes the input of a list of documents, `read` gives the drawings of an output."""
+    """`write` makes the input of a list of documents, `read` returns the drawings of an output."""
 
     name: str
     what: str

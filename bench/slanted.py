@@ -59,7 +59,7 @@ def turn(a, b, c):
 
 
 def meets(one, other):
-    """1 where the pieces cross, or where their routes cross in the bend at the end of one of them or of both."""
+    """1 if the pieces cross, or if their routes cross in the bend at the end of one of them or of both."""
     _, a, b, after = one
     _, c, d, beyond = other
     c_side, d_side = turn(a, b, c), turn(a, b, d)

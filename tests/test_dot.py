@@ -124,7 +124,7 @@ class Dot(unittest.TestCase):
                 wanted = json.loads(path.with_suffix(".json").read_text())
                 self.assertEqual(list(differences(wanted["graph"], graph_of(text_of(path)))), [])
 
-    def test_what_has_no_effect_is_told_with_its_place(self):
+    def test_what_has_no_effect_is_reported_with_its_place(self):
         for path in TEXTS:
             with self.subTest(path.name):
                 wanted = json.loads(path.with_suffix(".json").read_text())["warnings"]

@@ -1,4 +1,4 @@
-"""Tries the program `elk-draw`: pictures, placed graphs, requests, faults in words, statuses.
+"""Tests the program `elk-draw`: pictures, placed graphs, requests, messages, statuses.
 
 The program is the one that ELK_DRAW names, or crates/elk_draw/out/elk_draw. Without one all tests are skipped.
 """
@@ -24,7 +24,7 @@ EDGE = {"id": "e", "sources": ["a"], "targets": ["b"]}
 GRAPH = {"id": "r", "children": NODES, "edges": [EDGE]}
 INNER = {"id": "a", "children": [{"id": "i"}]}
 
-# An edge crosses a border, and fractions stand where the engine reads nothing.
+# An edge crosses a border, and there are fractions in members that the engine doesn't read.
 LABELLED_NODE = {"id": "i", "width": 30, "height": 30, "x": 1.5, "y": 2.25, "labels": [{"text": "i", "width": 10.5, "height": 8.5}]}
 ACROSS = {
     "id": "r",
@@ -94,7 +94,7 @@ BROKEN = [
 
 
 def run(*words, given=b"", **how):
-    """The status of a run, what it wrote, and what it said."""
+    """The status of a run, its stdout, and its stderr."""
     given = given.encode() if isinstance(given, str) else given
     done = subprocess.run([PROGRAM, *words], input=given, stderr=subprocess.PIPE, stdout=how.pop("stdout", subprocess.PIPE), timeout=SECONDS, **how)
     return done.returncode, done.stdout, done.stderr.decode()
@@ -105,7 +105,7 @@ def rule_name(rule):
 
 
 def sentence(rule, id):
-    """What the packages say of a rule, without what they know besides."""
+    """The message of the packages about a rule, without details."""
     told = next(it for it in FAULTS["rules"] if it["rule"] == rule)
     name = FAULTS["withoutId"] if id is None else json.dumps(id)
     words = told["words"].replace("{it}", name)
@@ -227,7 +227,7 @@ class Drawing(unittest.TestCase):
                     status, out, _ = run("--lint", *words, given=given)
                     self.assertEqual((status, [line for line in out.decode().splitlines() if "(rule" in line]), (0, []))
 
-    def test_what_is_sent_otherwise_is_told_of_the_graph(self):
+    def test_what_is_sent_otherwise_is_reported_of_the_graph(self):
         for what, rule, id, words, graph in SENT_OTHERWISE:
             with self.subTest(what):
                 (reply,) = replies_to(json.dumps({"graph": graph, "give": ["lint", "placed"]}))
@@ -268,7 +268,7 @@ class Drawing(unittest.TestCase):
                 self.assertEqual(run("--svg", *words, given=given), wanted)
                 self.assertTrue(wanted[1].startswith(b"<svg "), wanted)
 
-    def test_a_refused_graph_is_told_in_a_sentence(self):
+    def test_a_refused_graph_is_reported_in_a_sentence(self):
         for rule, id, text in REFUSED:
             with self.subTest(rule=rule):
                 self.assertEqual(run("--plain", given=text), (2, b"", f"elk-draw: {sentence(rule, id)}\n"))
@@ -278,7 +278,7 @@ class Drawing(unittest.TestCase):
                     self.assertEqual((status, out), (2, b""))
                     self.assertRegex(notes.splitlines()[0], rf"^elk-draw: .+: .+ \(rule {rule}, {rule_name(rule)}\)$")
 
-    def test_each_mistake_is_told_as_on_the_page(self):
+    def test_each_mistake_is_reported_as_on_the_page(self):
         rows = re.findall(r"^\| ([^|]+) \| (.+) \|$", (TOP / "docs/EDITORS.md").read_text(), re.M)
         messages = dict(rows[[it[0] for it in rows].index("mistake") + 1 :])
         for case in MISTAKES:

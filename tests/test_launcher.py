@@ -168,11 +168,11 @@ class Launcher(unittest.TestCase):
 
     def test_a_release_of_other_sources_is_not_unpacked(self):
         self.copy.edit()
-        self.ends("not of the sources here")
+        self.ends("made from these sources")
 
-    def test_a_missing_release_is_told_without_the_kit(self):
+    def test_a_missing_release_is_reported_without_the_kit(self):
         shutil.rmtree(self.copy.top / "release")
-        self.ends("not of the sources here")
+        self.ends("made from these sources")
 
     def test_a_missing_release_is_built_where_the_kit_is_there(self):
         shutil.rmtree(self.copy.top / "release")
@@ -196,7 +196,7 @@ class Launcher(unittest.TestCase):
         self.copy.release({"elk-x86_64-linux": TOO_OLD, "elk-aarch64-linux-static": self.real})
         self.answers()
 
-    def test_another_system_is_told_what_to_take(self):
+    def test_another_system_is_reported_what_to_take(self):
         self.copy.command("uname", "echo Darwin arm64\n")
         self.ends("Darwin arm64", "adapters/js/bin/elk", "Node 18")
 
@@ -222,7 +222,7 @@ class Launcher(unittest.TestCase):
         self.copy.kit()
         self.copy.edit()
         before, files = self.read_only(), self.copy.files()
-        self.ends("not of the sources here", before=before)
+        self.ends("made from these sources", before=before)
         self.assertFalse(self.copy.has_called_kit)
         self.assertEqual(self.copy.files(), files)
 

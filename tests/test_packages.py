@@ -166,7 +166,7 @@ class Version(unittest.TestCase):
 
 @unittest.skipUnless(PACKER.tomllib, "this Python is older than 3.11")
 class Checked(unittest.TestCase):
-    def test_packages_of_other_sources_are_told(self):
+    def test_packages_of_other_sources_are_reported(self):
         made = dict(PACKER.wheels())
         name = next(iter(made))
         with tempfile.TemporaryDirectory() as folder:

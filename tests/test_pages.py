@@ -13,7 +13,7 @@ ELSEWHERE = re.compile(r"ssh|dask-|npm |npx |tools/")
 
 
 def commands_of(text):
-    """Gives each command of the indented blocks and the lines that the page shows below it."""
+    """Yields each command of the indented blocks and the lines that the page shows below it."""
     for block in re.findall(r"(?:^    .*\n)+", text, re.M):
         lines = [line[4:] for line in block.splitlines()]
         starts = [number for number, line in enumerate(lines) if line.startswith("$ ")]
@@ -55,7 +55,7 @@ class Pages(unittest.TestCase):
             for command, lines in shown:
                 with self.subTest(command):
                     ran = self.run_in_room(command)
-                    # Faults are told by a status, and so is that none is found.
+                    # The status says whether there are faults, or whether grep found a line.
                     self.assertEqual(ran.returncode, 2 if lines else command.startswith("grep"), ran.stdout)
                     if lines:
                         self.assertEqual(ran.stdout.splitlines(), lines)

@@ -22,7 +22,7 @@ declare class ELK {
   ): Promise<{ placed: ELK.Placed<T>; svg: string }>;
   draw<T extends ELK.ElkNode>(graph: T, look?: ELK.DrawArguments): Promise<{ placed: ELK.PlacedElkNode<T>; svg: string }>;
 
-  /** Lays out a graph and draws it, and gives the picture alone. */
+  /** Lays out a graph and returns its picture alone. */
   svg(graph: ELK.AnyNode, look?: ELK.DrawArguments): Promise<string>;
 
   /** Draws a graph that has places, from any program. */
@@ -31,10 +31,10 @@ declare class ELK {
   /** All faults and warnings of the text of a graph, without a layout: first the faults, in the order of the rules. */
   lint(text: string, given?: { layoutOptions?: ELK.AnyOptions }): Promise<ELK.Lint[]>;
 
-  /** All options that anything reads. */
+  /** All options that the program reads. */
   knownLayoutOptions(): Promise<ELK.ElkLayoutOptionDescription[]>;
 
-  /** All algorithms that there are. */
+  /** All algorithms that the program has. */
   knownLayoutAlgorithms(): Promise<ELK.ElkLayoutAlgorithmDescription[]>;
 
   /** The kinds of drawing that the algorithms make. */

@@ -70,8 +70,8 @@ class ELK {
    * @param {object} [given]
    * @param {Record<string, unknown>} [given.layoutOptions] options of every element that has none of its own, instead of the
    *   constructor's
-   * @param {boolean} [given.logging] whether `logging` of the result tells which program answered, and what had no effect
-   * @param {boolean} [given.measureExecutionTime] whether it tells how many seconds that took
+   * @param {boolean} [given.logging] whether the result has `logging`: which program answered, and what had no effect
+   * @param {boolean} [given.measureExecutionTime] whether `logging` has the time in seconds
    * @returns {Promise<object>} the placed graph; a Refusal if the graph can't be drawn, a ProgramError if the program fails
    */
   async layout(graph, { layoutOptions, logging = false, measureExecutionTime = false } = {}) {
@@ -101,7 +101,7 @@ class ELK {
     return { placed, svg };
   }
 
-  /** Lays out a graph, as `draw` does, and gives the picture alone. */
+  /** Lays out a graph, as `draw` does, and returns the picture alone. */
   async svg(graph, { layoutOptions, theme, arrows } = {}) {
     const { svg } = await this.#drawn(graph, layoutOptions, { give: ['svg'], theme, arrows });
     return svg;
@@ -152,12 +152,12 @@ class ELK {
     return { ...rest, warnings, placed: placed && restored(kept, placed) };
   }
 
-  /** All options that anything reads. */
+  /** All options that the program reads. */
   async knownLayoutOptions() {
     return structuredClone(LAYOUT_OPTIONS);
   }
 
-  /** All algorithms that there are. */
+  /** All algorithms that the program has. */
   async knownLayoutAlgorithms() {
     return structuredClone(LAYOUT_ALGORITHMS);
   }

@@ -2,7 +2,7 @@
 
 /** A graph that isn't drawn. */
 class Refusal extends Error {
-  /** @param {object} fault with its members as the program tells them; `faults` lists all faults of the graph */
+  /** @param {object} fault with its members as the program writes them; `faults` lists all faults of the graph */
   constructor({ message, faults, ...fault }) {
     super(message);
     Object.assign(this, fault);

@@ -199,7 +199,7 @@ test('a group without a direction takes that of the level around it under INCLUD
   assert.deepEqual([isBelow(placed), placed.children[1].layoutOptions], [true, {}]);
 });
 
-test('what is wrong with a graph is told as ever', WITH_PROGRAM, async () => {
+test('what is wrong with a graph is reported as ever', WITH_PROGRAM, async () => {
   const wrong = (more) => ({ ...pair(), ...more });
   const rows = [
     [wrong({ edges: [edge('ab', 'a', 'b'), edge('no', 'a', 'nobody')] }), { rule: 8, id: 'no', path: 'edges[1].targets[0]' }],
@@ -259,7 +259,7 @@ test('levels that no such edge touches keep their certificates', WITH_PROGRAM, a
   assert.equal(run(['check'], JSON.stringify({ ...closed, x: 0, y: 0 })).stdout, 'yes\n');
 });
 
-test('general options hold for all levels, and a limit that a level breaks is told of the graph', WITH_PROGRAM, async () => {
+test('general options hold for all levels, and a limit that a level breaks is reported of the graph', WITH_PROGRAM, async () => {
   const call = { layoutOptions: { 'elk.direction': 'DOWN', 'elk.nodeSize.constraints': 'PORTS MINIMUM_SIZE' } };
   const graph = pair();
   const placed = await layout(graph, { call });

@@ -188,7 +188,7 @@ test('a page refuses in the words of the adapter', WITH_BOTH, async () => {
   await assert.rejects(page.evaluate(`new ELK({ program: 'elk' })`), /a page starts no program/);
 });
 
-test('a page takes the class as a module, and a worker from a file, also where no other script may run', WITH_BOTH, async () => {
+test('a page takes the class as a module, and a worker from a file, even if no other script may run', WITH_BOTH, async () => {
   for (const name of ['module.html', 'url.html', 'api.html', 'factory.html', 'strict.html']) {
     const page = await pageOfServer(name);
     assert.deepEqual(await page.evaluate(drawn('elk')), DRAWN, name);
@@ -197,7 +197,7 @@ test('a page takes the class as a module, and a worker from a file, also where n
   }
 });
 
-test('a page tells why it has no worker', WITH_BOTH, async () => {
+test('a page says why it has no worker', WITH_BOTH, async () => {
   const page = await pageOfServer('none.html');
   const said = await page.evaluate(`elk.layout(pair()).catch(({ name, message }) => [name, message])`);
   assert.deepEqual(said, ['ProgramError', "the worker ended: its script can't be loaded"]);

@@ -32,7 +32,7 @@ test('input that is not there yet is waited for', WITH_MODULE, async (t) => {
   t.after(() => rmSync(room, { recursive: true }));
   const pipe = path.join(room, 'pipe');
   spawnSync('mkfifo', [pipe]);
-  // Whoever reads this end is told that there is nothing yet, instead of being kept waiting.
+  // A read from this end says that there is nothing yet, instead of waiting.
   const end = openSync(pipe, constants.O_RDWR | constants.O_NONBLOCK);
   const child = spawn(COMMAND, ['batch'], { stdio: [end, 'pipe', 'inherit'] });
   t.after(() => child.kill());

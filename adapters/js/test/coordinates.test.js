@@ -37,7 +37,7 @@ function placesIn({ children: [, { x, y, children: [a, b], edges: [ab] }], edges
 
 const plus = (...places) => [0, 1].map((axis) => places.reduce((sum, place) => sum + place[axis], 0));
 
-test('shapes and edges are told relative to what json.shapeCoords and json.edgeCoords ask for', WITH_PROGRAM, async () => {
+test('shapes and edges are relative to what json.shapeCoords and json.edgeCoords ask for', WITH_PROGRAM, async () => {
   const parent = placesIn(await layout(graph()));
   const { group, a, label: ofNode, port, portLabel, ab, edgeLabel, ba } = parent;
   const b = (await layout(graph())).children[1].children[1];

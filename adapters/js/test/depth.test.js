@@ -13,7 +13,7 @@ const COUNTS = [3_000, 100_000];
 
 const BIN = path.join(__dirname, '..', 'bin');
 
-/** What stands in so many nodes, one in the other. */
+/** Something inside this many nested nodes. */
 function nested(count, more = {}) {
   let node = { id: 'in', width: 10, height: 10, ...more };
   for (let at = count; at > 0; at -= 1) {
@@ -58,7 +58,7 @@ test('a call refuses nodes in any number that stand in one another', async () =>
   }
 });
 
-test('a call tells the same rule from 51 levels on, and takes 50', WITH_PROGRAM, async () => {
+test('a call reports the same rule from 51 levels on, and takes 50', WITH_PROGRAM, async () => {
   const elk = new ELK({ program: PROGRAM });
   await elk.layout(nested(50));
   for (const count of [51, 55, 62, 63, 64, 70, 499, 501, 3_000]) {
@@ -116,7 +116,7 @@ test('many labels, lines and letters at one element fill no stack', WITH_PROGRAM
   assert.deepEqual([refusal.rule, refusal.near], [8, undefined]);
 });
 
-test('elk-lint tells where nodes stand too deep', () => {
+test('elk-lint reports where nodes stand too deep', () => {
   for (const count of [64, 300, ...COUNTS]) {
     const faults = lint(nestedText(count)).filter(({ severity }) => severity === 'fault');
     assert.deepEqual(faults.map(({ rule, path: at, line, column }) => ({ rule, at, line, column })), [

@@ -1,5 +1,5 @@
 'use strict';
-// What editors write and read goes through as it stands.
+// What editors write and read stays unchanged.
 
 const assert = require('node:assert/strict');
 const test = require('node:test');
@@ -8,7 +8,7 @@ const { WITH_PROGRAM } = require('./helpers/program');
 
 const byId = (list) => Object.fromEntries(list.map((it) => [it.id, it]));
 
-test('React Flow: nodes and edges as they stand, horizontal and vertical', WITH_PROGRAM, async () => {
+test('React Flow: its nodes and edges unchanged, horizontal and vertical', WITH_PROGRAM, async () => {
   const nodes = ['1', '2', '2a', '2b', '3'].map((id) => ({
     id,
     type: 'default',
@@ -162,7 +162,7 @@ test('netlistsvg: a gate whose pins lie inside', WITH_PROGRAM, async () => {
     ],
   });
   const { gate } = byId(placed.children);
-  // The lines lead on to the pins, which stay where they are given.
+  // The lines lead on to the pins, which stay at their given places.
   const ends = placed.edges.slice(0, 2).map(({ sections: [{ endPoint }] }) => [endPoint.x - gate.x, endPoint.y - gate.y]);
   assert.deepEqual(ends, [[3, 5], [3, 20]]);
   assert.deepEqual(gate.ports.map(({ x, y }) => [x, y]), [[3, 5], [3, 20], [30, 13]]);

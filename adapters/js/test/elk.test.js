@@ -62,7 +62,7 @@ test('the class is had in every way in which elkjs is', async () => {
   assert.throws(() => new ELK({ numbers: 'round' }), /'ceil' or 'exact', not "round"/);
 });
 
-test('what is known is told without a program', async () => {
+test('what is known needs no program', async () => {
   const elk = new ELK({ program: '/no/such/program' });
   const [options, algorithms, categories] = await Promise.all([
     elk.knownLayoutOptions(),
@@ -184,7 +184,7 @@ drawn('options of a call stand in place of the constructor\'s, and below an elem
   assert.deepEqual((await elk.layout(pair())).layoutOptions, {});
 });
 
-drawn('the time and the program are told where they are asked for', async (made) => {
+drawn('the time and the program are reported if they are asked for', async (made) => {
   const elk = made();
   assert.equal('logging' in (await elk.layout(pair())), false);
   const { logging } = await elk.layout(pair(), { measureExecutionTime: true, logging: true });
@@ -192,14 +192,14 @@ drawn('the time and the program are told where they are asked for', async (made)
   assert.deepEqual({ ...logging, executionTime: 0 }, { name: 'elk-draw', executionTime: 0, logs: [], children: [] });
 });
 
-drawn('junction points are told where edges of one port part', async (made) => {
+drawn('the result has junction points where edges of one port part', async (made) => {
   const { edges } = await made().layout(example('circuit'));
   const told = edges.filter((edge) => edge.junctionPoints).map(({ id, junctionPoints }) => [id, junctionPoints.length]);
   // Four nets of the circuit have two ends each.
   assert.deepEqual(Object.fromEntries(told), { n1: 1, n3: 1, n5: 1, n7: 1 });
 });
 
-drawn('fractions are rounded by default and refused where they are to be exact', async (made) => {
+drawn('fractions are rounded by default, and refused if numbers are to be exact', async (made) => {
   const graph = pair();
   Object.assign(graph.children[0], { width: 30.2, x: 7.25 });
   const placed = await made().layout(graph);

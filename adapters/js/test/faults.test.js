@@ -1,5 +1,5 @@
 'use strict';
-// The faults that are told of texts and by calls.
+// The faults of texts, and those that calls report.
 
 const assert = require('node:assert/strict');
 const test = require('node:test');
@@ -22,7 +22,7 @@ test('a text is no JSON if the program says so', WITH_PROGRAM, () => {
   assert.ok(isRefused.includes(true) && isRefused.includes(false));
 });
 
-test('all faults are told, in the order of the rules', () => {
+test('all faults are reported, in the order of the rules', () => {
   const graph = {
     id: 'r',
     layoutOptions: { 'elk.direction': 'RIHGT' },
@@ -54,7 +54,7 @@ test('all faults are told, in the order of the rules', () => {
   ]);
 });
 
-test('a call refuses what is told of it before, and for the same', WITH_PROGRAM, async () => {
+test('a call refuses a graph for the fault that is found without a layout', WITH_PROGRAM, async () => {
   const elk = new ELK({ program: PROGRAM, onWarning: () => {} });
   for (let seed = 0; seed < COUNT / 2; seed += 1) {
     const text = damagedDocument(seed);

@@ -1,5 +1,5 @@
 'use strict';
-// The options that the package tells, against the page of the format.
+// The options that the package knows, against the page of the format.
 
 const assert = require('node:assert/strict');
 const { readFileSync } = require('node:fs');
@@ -22,7 +22,7 @@ function rows() {
 
 const plain = (cell) => cell.replaceAll('`', '');
 
-test('the options of the format are told with its texts', async () => {
+test('the options of the format are known with its texts', async () => {
   const known = new Map((await new ELK({ program: '/none' }).knownLayoutOptions()).map((option) => [option.id, option]));
   const told = rows().flatMap(([cell, at, values, byDefault]) => [...cell.matchAll(/`([^`]+)`/g)].map(([, name]) => ({ name, at, values, byDefault })));
   assert.equal(told.length, options.length);
@@ -32,7 +32,7 @@ test('the options of the format are told with its texts', async () => {
   }
 });
 
-test('options of labels, layers and parts are told too, and none twice', async () => {
+test('options of labels, layers and parts are known too, and none twice', async () => {
   const known = await new ELK({ program: '/none' }).knownLayoutOptions();
   const ids = known.map(({ id }) => id);
   assert.deepEqual(adapter.filter(({ name }) => !ids.includes(`org.eclipse.elk.${name}`)), []);

@@ -213,7 +213,7 @@ test('where a level keeps the order of the document, labels stand where their ed
   elk.terminateWorker();
 });
 
-test('a fault beside such a label is told where it stands in the graph', WITH_PROGRAM, async () => {
+test('a fault beside such a label is reported where it stands in the graph', WITH_PROGRAM, async () => {
   const elk = new ELK({ program: PROGRAM });
   const level = { id: 'in', layoutOptions: { 'elk.layered.order': 'DOCUMENT' }, edges: [step('e', 'a', 'b', 'one')] };
   const inner = (more, edges = []) => ({

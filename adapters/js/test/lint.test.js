@@ -57,7 +57,7 @@ function judged(text, how) {
   return ['fault', 'warning'].map((kind) => all.filter(({ severity }) => severity === kind));
 }
 
-test('a text that is no JSON is told with its place and its reason', () => {
+test('a text that is no JSON is reported with its place and its reason', () => {
   for (const [text, said] of NO_JSON) {
     const [[fault, ...others], warnings] = judged(text);
     const { rule, line, column, detail } = fault;
@@ -87,7 +87,7 @@ test('of a long line a piece is shown', () => {
   assert.equal(source.slice(mark, mark + 3), '0.5');
 });
 
-test('a member that stands twice is told, and the last one counts', () => {
+test('a member that stands twice is reported, and the last one counts', () => {
   const [faults, warnings] = judged('{"id":"r","width":0.5,"width":1}', { numbers: 'exact' });
   assert.deepEqual([faults, warnings.map(({ message }) => message)], [[], ['width is there twice, and the last one counts']]);
 });
@@ -98,7 +98,7 @@ test('whole ids may be as large as those of the engine', () => {
   assert.deepEqual(lint(ids('9007199254740993', '9007199254740993')).map(({ rule }) => rule), [7]);
 });
 
-test('the command tells faults and warnings of files, and ends with its status', (t) => {
+test('the command reports faults and warnings of files, and ends with its status', (t) => {
   const folder = mkdtempSync(path.join(tmpdir(), 'elk-lint-'));
   t.after(() => rmSync(folder, { recursive: true }));
   const file = (name, content) => {

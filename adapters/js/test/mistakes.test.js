@@ -21,7 +21,7 @@ test('the page has the message of each mistake', () => {
   assert.deepEqual(rows, MISTAKES.map(([mistake, document]) => `${mistake} | ${told(document)[0]}`));
 });
 
-test('each mistake is told once', () => {
+test('each mistake is reported once', () => {
   for (const [mistake, document] of MISTAKES) {
     const messages = told(document);
     // Who misspells a member or an end has the right one missing, too.
@@ -29,7 +29,7 @@ test('each mistake is told once', () => {
   }
 });
 
-test('a call tells the same', WITH_PROGRAM, async () => {
+test('a call reports the same', WITH_PROGRAM, async () => {
   for (const [mistake, document] of MISTAKES.filter(([, it]) => typeof it !== 'string')) {
     const messages = [];
     const elk = new ELK({ program: PROGRAM, onWarning: ({ message }) => messages.push(message) });

@@ -64,7 +64,7 @@ test('a host that fails within a call ends the instance', () => {
   assert.equal(run(program, 'N').status, 1);
 });
 
-test('streams that fail are told to the module', () => {
+test('streams that fail are reported to the module', () => {
   const program = programOf(PUPPET);
   assert.equal(program.run([], { read: () => -1, write: ({ length }) => length }), 3);
   assert.equal(program.run([], { read: (room) => room.fill(65).length, write: (_, stream) => (stream === 1 ? -1 : 1) }), 4);

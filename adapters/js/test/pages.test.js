@@ -57,7 +57,7 @@ test('the labels of the page are in its picture', WITH_PROGRAM, () => {
   }
 });
 
-test('the circuit of the page tells its junctions', WITH_PROGRAM, () => {
+test('the circuit of the page has its junctions', WITH_PROGRAM, () => {
   assert.equal(scriptBelow('A circuit').match(/x: \d+, y: \d+/g).length, 4);
 });
 

@@ -135,7 +135,7 @@ const VERDICTS = [
   ['out of memory\n', false, /^out of memory$/],
 ];
 
-test('verdicts are told in words', () => {
+test('verdicts are reported in words', () => {
   for (const [line, isGood, words] of VERDICTS) {
     const verdict = verdictOf(line);
     assert.equal(verdict.isGood, isGood, line);
@@ -177,7 +177,7 @@ const FORMED = [
   ['graph -> plan', 'lines'],
 ];
 
-test('the form of a text is told by its beginning', () => {
+test('the form of a text is reported by its beginning', () => {
   for (const [text, form] of FORMED) {
     assert.equal(formOf(text), form, text);
   }
@@ -231,7 +231,7 @@ test('nodes and edges of a drawing are found in DOT and in lines', WITH_MODULE, 
   ]);
 });
 
-test('faults and warnings of DOT and of lines are told with their places', WITH_MODULE, async () => {
+test('faults and warnings of DOT and of lines are reported with their places', WITH_MODULE, async () => {
   const placesOf = (list) => list.map(({ line, column, message }) => [line, column, message.slice(0, 24)]);
   const broken = await toldOf({ text: 'digraph {\n  a -> ;\n}' });
   assert.deepEqual([placesOf(broken.faults), broken.drawing], [[[2, 8, 'expected a node or a sub']], undefined]);
@@ -285,7 +285,7 @@ const COMPLETED = [
   ['{ "edges": [{ "id": "|" }] }', [], /^$/],
 ];
 
-test('what can be written at a place is told', () => {
+test('what can be written at a place is reported', () => {
   for (const [given, words, help] of COMPLETED) {
     const [before, after] = given.split('|');
     const { from, to, list } = completionAt(before + after, before.length, ['a', 'b']);
@@ -362,7 +362,7 @@ test('undoing leads back to what was done with a text', () => {
   assert.equal(ways.after(3, false), 'layout');
 });
 
-test('nodes without a size are drawn with that of their text, which is told', WITH_MODULE, async () => {
+test('nodes without a size are drawn with that of their text, which is reported', WITH_MODULE, async () => {
   const text = '{ "id": "r",\n "children": [{ "id": "a node of many letters" }, { "id": "b", "height": 50 }, { "id": "c", "width": 9, "height": 9 }] }';
   const { drawing, notes, verdict } = await toldOf({ text });
   const [a, b, c] = JSON.parse(drawing.placed).children;

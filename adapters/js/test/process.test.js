@@ -85,7 +85,7 @@ test('a killed program fails all waiting calls and is started again at the next'
     assert.notEqual(await ask('pid'), before);
   }));
 
-test('a program that ends tells its status and its last words', (t) =>
+test('the error of a program that ends has its status and its last words', (t) =>
   withLines(t, async (ask) => {
     await assert.rejects(ask('exit 6'), failsBy(6, /ended with the status 6: the notes of the end/));
     await assert.rejects(ask('exit 5'), failsBy(5, /does not know --lines: name the program elk-draw/));

@@ -15,7 +15,7 @@ const PROGRAMS = path.join(__dirname, 'helpers', 'programs');
 
 const WITH_COMPILER = { skip: WITH_NPM.skip || needs('tsc'), timeout: 300_000 };
 
-/** What each run tells, in Node and in each page. */
+/** What each run prints, in Node and in each page. */
 const TOLD = {
   'absolute-places': [true, 2, 1],
   'dynamic-import': [12, 62],

@@ -65,7 +65,7 @@ test('pictures with hostile ids and texts are well-formed and of known elements'
   }
 });
 
-test('a text with half of a surrogate pair is told', () => {
+test('a text with half of a surrogate pair is reported', () => {
   assert.throws(() => toSvg(documentWith('\ud800 alone')), { name: 'ProgramError', message: /half of a surrogate pair/ });
 });
 
@@ -320,7 +320,7 @@ test('colours are those of light or dark pages, or follow the setting of the rea
 const command = (words, input) =>
   spawnSync(path.join(TOP, 'adapters', 'js', 'bin', 'elk-svg'), words, { input, encoding: 'utf8' });
 
-test('elk-svg draws a placed graph and tells what it does not take', () => {
+test('elk-svg draws a placed graph and reports what it does not take', () => {
   const placed = { id: 'r', width: 10, height: 10 };
   const drawn = command([], JSON.stringify(placed));
   assert.deepEqual([drawn.status, drawn.stdout, drawn.stderr], [0, toSvg(placed), '']);

@@ -74,7 +74,7 @@ test('an idle worker lets node end, a waiting call does not', WITH_MODULE, () =>
 });
 
 test('a trap fails its call, and the next one is answered', () => {
-  // The puppet gives back what it reads, which is no reply, and traps at a piece of 16 bytes that begins with T.
+  // The puppet returns what it reads, which is no reply, and traps at a piece of 16 bytes that begins with T.
   const ended = script(
     `const elk = new ELK();
      elk.layout({ id: 'T' }).catch(({ name, message }) => console.log(name, message));

@@ -9,7 +9,7 @@ const messages = (graph, { options = {} } = {}) => replyOf({ graph, options, giv
 
 const withOption = (key) => ({ id: 'r', layoutOptions: { [key]: '1' } });
 
-test('an option without effect is told, with the name that was meant', WITH_PROGRAM, () => {
+test('an option without effect is reported, with the name that was meant', WITH_PROGRAM, () => {
   for (const [key, message] of [
     ['elk.direction', undefined],
     ['org.eclipse.elk.direction', undefined],
@@ -36,7 +36,7 @@ test('an option without effect is told, with the name that was meant', WITH_PROG
   }
 });
 
-test('very many unknown options are told in little time, each with what was meant', WITH_PROGRAM, () => {
+test('very many unknown options are reported in little time, each with what was meant', WITH_PROGRAM, () => {
   const names = Array.from({ length: 5000 }, (_, at) => `elk.directon${at % 2 ? '' : 'x'.repeat(4 + (at % 90))}${at}`);
   const begun = performance.now();
   const found = messages({ id: 'r', layoutOptions: Object.fromEntries(names.map((name) => [name, '1'])) });
@@ -59,7 +59,7 @@ test('options of every element are looked at, and those of a call', WITH_PROGRAM
   ]);
 });
 
-test('a value that the adapter does not know is told', WITH_PROGRAM, () => {
+test('a value that the adapter does not know is reported', WITH_PROGRAM, () => {
   const label = { text: 'a', layoutOptions: { 'elk.edgeLabels.placement': 'HAED' } };
   const options = {
     'elk.nodeLabels.placement': 'INSIDE, H_CENTRE V_TOP',
@@ -78,7 +78,7 @@ test('a value that the adapter does not know is told', WITH_PROGRAM, () => {
   ]);
 });
 
-test('what is done in place of an option of ELK is told with it', WITH_PROGRAM, () => {
+test('the warning about an option of ELK says what is done instead', WITH_PROGRAM, () => {
   const document = { id: 'r', layoutOptions: { 'elk.randomSeed': 1, 'elk.debugMode': true } };
   assert.deepEqual(messages(document).sort(), [
     'layoutOptions["elk.debugMode"] has no effect, since this engine does not have this option of ELK',
@@ -87,7 +87,7 @@ test('what is done in place of an option of ELK is told with it', WITH_PROGRAM, 
   ]);
 });
 
-test('a label within a node that is too narrow for it is told', WITH_PROGRAM, () => {
+test('a label within a node that is too narrow for it is reported', WITH_PROGRAM, () => {
   const labels = [{ text: 'far too long for it', width: 90, height: 12 }, { text: 'a', width: 8, height: 12 }];
   const layoutOptions = { 'elk.nodeLabels.placement': 'INSIDE V_CENTER H_CENTER' };
   const node = { id: 'a', width: 40, height: 30, labels, layoutOptions };
@@ -98,7 +98,7 @@ test('a label within a node that is too narrow for it is told', WITH_PROGRAM, ()
   ]);
 });
 
-test('members that are written nearly as others are told, and an editor\'s own are not', WITH_PROGRAM, () => {
+test('members that are written nearly as others are reported, and an editor\'s own are not', WITH_PROGRAM, () => {
   const node = { id: 'a', widht: 30, Height: 20, data: {}, type: 'x', position: {}, style: {}, selected: true, label: 'a' };
   const flow = { id: 'e', from: 'a', animated: true, markerEnd: {}, source: 'a', target: 'a', sourceHandle: 'h', targetHandle: null };
   const edges = [flow, { id: 'f', from: 'a', to: 'a' }];
@@ -112,7 +112,7 @@ test('members that are written nearly as others are told, and an editor\'s own a
   ]);
 });
 
-test('a call tells its warnings, to the callback and in its log', WITH_PROGRAM, async () => {
+test('a call reports its warnings, to the callback and in its log', WITH_PROGRAM, async () => {
   const told = [];
   const elk = new ELK({ program: PROGRAM, onWarning: (warning) => told.push(warning) });
   const graph = { id: 'r', layoutOptions: { 'elk.directon': 'UP' }, children: [{ id: 'a', heigth: 5 }] };
@@ -125,7 +125,7 @@ test('a call tells its warnings, to the callback and in its log', WITH_PROGRAM, 
   assert.deepEqual(logging.logs, told.map(({ message }) => message));
 });
 
-test('without a callback the console tells each name once', WITH_PROGRAM, async (t) => {
+test('without a callback the console reports each name once', WITH_PROGRAM, async (t) => {
   const lines = [];
   t.mock.method(console, 'warn', (line) => lines.push(line));
   const elk = new ELK({ program: PROGRAM });
@@ -136,10 +136,10 @@ test('without a callback the console tells each name once', WITH_PROGRAM, async 
   assert.deepEqual(lines, ['elk: layoutOptions["elk.paddding"] is not an option of ELK; did you mean "elk.padding"?']);
 });
 
-// What only counts beside another option that is told, and what nobody draws by.
+// Options that only count beside another one that gives a warning, and options that nobody uses for drawing.
 const BESIDE_OTHERS = /^layered\.(considerModelOrder\.groupModelOrder|highDegreeNodes|layerUnzipping|layering\.(coffmanGraham|minWidth|nodePromotion)|nodePlacement\.linearSegments|wrapping)\./;
 
-test('options of layered drawings that this engine lacks are told with what is done instead', WITH_PROGRAM, () => {
+test('options of layered drawings that this engine lacks are reported with what is done instead', WITH_PROGRAM, () => {
   const { adapter, elk, instead, options } = require('../data/options.json');
   const read = new Set([...adapter, ...options].map(({ name }) => name));
   const silent = elk.filter((name) => name.startsWith('layered.') && !read.has(name) && !(name in instead));

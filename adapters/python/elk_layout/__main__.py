@@ -77,7 +77,7 @@ def main(words: Optional[List[str]] = None) -> int:
 
 
 def _checked(file: str, given: argparse.Namespace) -> int:
-    """Prints the verdict on a file, and gives the status."""
+    """Prints the verdict on a file, and returns the status."""
     try:
         verdict = check(_text_of(file), options=given.options, numbers=given.numbers, program=given.program)
     except (Refusal, OSError) as error:
@@ -88,7 +88,7 @@ def _checked(file: str, given: argparse.Namespace) -> int:
 
 
 def _laid_out(given: argparse.Namespace) -> int:
-    """Lays files out into a folder, or one to stdout, and tells which weren't."""
+    """Lays files out into a folder, or one to stdout, and reports which failed."""
     folder, count = given.output, len(given.files)
     if given.jobs < 1:
         raise ValueError(f"--jobs is at least 1, not {given.jobs}")
@@ -113,7 +113,7 @@ def _laid_out(given: argparse.Namespace) -> int:
 def _targets_of(files: List[str], folder: str) -> Sequence[Optional[Path]]:
     """What is written for each file: in the folder they lie as the files lie to one another."""
     if STDIN in files:
-        raise ValueError("stdin, as -, is laid out to stdout: leave -o/--output away")
+        raise ValueError("stdin, as -, is laid out to stdout: leave out -o/--output")
     paths = [Path(os.path.abspath(it)) for it in files]
     top = os.path.commonpath([it.parent for it in paths])
     targets = [(Path(folder) / it.relative_to(top)).with_suffix(".json") for it in paths]
@@ -121,7 +121,7 @@ def _targets_of(files: List[str], folder: str) -> Sequence[Optional[Path]]:
     seen: Dict[Path, str] = {}
     for file, target in zip(files, targets):
         if target.resolve() in given:
-            raise ValueError(f"{target} is one of the given files: take another folder")
+            raise ValueError(f"{target} is one of the given files: choose another folder")
         if seen.setdefault(target, file) != file:
             raise ValueError(f"{file} and {seen[target]} would both be written to {target}")
     Path(folder).mkdir(parents=True, exist_ok=True)
@@ -129,7 +129,7 @@ def _targets_of(files: List[str], folder: str) -> Sequence[Optional[Path]]:
 
 
 def _errors(given: argparse.Namespace, targets: Sequence[Optional[Path]]) -> Iterator[Optional[ElkError]]:
-    """Lays files out, some at once, and tells for each in order nothing, or what was wrong with it."""
+    """Lays files out, some at once, and yields the error of each in order, or None."""
     give = "placed warnings svg" if given.svg else "placed warnings"
     how = {"options": given.options, "numbers": given.numbers, "arrows": not given.no_arrows}
     kinds = ["dot" if file.endswith(DOT_ENDINGS) else "graph" for file in given.files]
@@ -172,7 +172,7 @@ def _write(reply: Dict[str, Any], target: Optional[Path], has_picture: bool) -> 
     target.parent.mkdir(parents=True, exist_ok=True)
     for ending, text in ((".json", placed), (".svg", reply.get("svg"))):
         if text is not None:
-            # Whoever looks meanwhile finds no half of a file.
+            # No reader finds half of a file.
             part = target.with_name(f".{target.name}.{os.getpid()}")
             try:
                 part.write_text(text, encoding="utf-8")
@@ -189,11 +189,11 @@ def _kind_of(error: ElkError) -> str:
     """What went wrong with a file, in short."""
     if isinstance(error, Refusal):
         return f"refused: {error.name}" if error.rule is None else f"refused by rule {error.rule}, {error.name}"
-    return "left by the program" if isinstance(error, ProgramError) else "not read or not written"
+    return "not answered by the program" if isinstance(error, ProgramError) else "not read or not written"
 
 
 def _told_of(file: str, error: ElkError) -> Dict[str, Any]:
-    """What a report tells about a file that wasn't laid out."""
+    """The line of the report about a file that wasn't laid out."""
     more = ("rule", "name", "id", "path", "line", "column") if isinstance(error, Refusal) else ()
     return {"file": file, "reason": str(error), **{name: getattr(error, name) for name in more}}
 

@@ -35,7 +35,7 @@ def layout(
     `options` apply to all elements that read them and have none of their own. With `numbers` as `ceil`, sizes are
     rounded up and places of ports to the nearest whole number; with `exact`, fractions are refused. `errors` is `raise`,
     or `return` if a Refusal is to be the result. `on_warning` gets each warning about what has no effect; without it,
-    Python's module `warnings` tells each name once. `program` is the path of the program.
+    Python's module `warnings` shows each name once. `program` is the path of the program.
     """
     query = layout_query(options, numbers, errors, on_warning, program)
     try:
@@ -90,7 +90,7 @@ def to_svg(placed: Any, *, theme: Theme = "auto", arrows: bool = True, program: 
 
 
 def draw(graph: Any, ax: Any = None, *, arrows: bool = True, program: Program = None, **reading: Any) -> Any:
-    """Draws a graph of networkx, or a placed graph, into axes of matplotlib, and gives the axes.
+    """Draws a graph of networkx, or a placed graph, into axes of matplotlib, and returns the axes.
 
     Without `ax` a figure is made in which a unit of the drawing is a point of print. `reading` are members of `Reading`.
     Places in the axes are those of `positions` and `routes`.
@@ -125,7 +125,7 @@ class Placed(Dict[str, Any]):
         Path(path).write_bytes(picture if kind == ".svg" else _converted(picture, kind[1:], scale))
 
     def _repr_mimebundle_(self, include: Any = None, exclude: Any = None) -> Dict[str, str]:
-        # Pages that nbconvert makes lack pictures in SVG, and those that LaTeX prints have no elements of HTML.
+        # Pages made by nbconvert don't show SVG, and what LaTeX prints has no HTML, so both get the form that they can show.
         picture = self.to_svg()
         return {"image/svg+xml": picture, "text/html": IMAGE.format(base64.b64encode(picture.encode()).decode())}
 

@@ -10,7 +10,7 @@ Step = Union[str, int]
 
 
 class Fault(SimpleNamespace):
-    """One thing that is wrong in a graph, or has no effect there. Members that the program doesn't tell are None."""
+    """One thing that is wrong in a graph, or has no effect there. Members that the program leaves out are None."""
 
     def __getattr__(self, name: str) -> Any:
         if name.startswith("_"):
@@ -19,7 +19,7 @@ class Fault(SimpleNamespace):
 
 
 class ElkError(Exception):
-    """What all errors of this package are. `index` is the place of the graph in its stream, counted from 0."""
+    """The base of all errors of this package. `index` is the place of the graph in its stream, counted from 0."""
 
     index: Optional[int] = None
 
@@ -47,7 +47,7 @@ class Refusal(ElkError):
 
 
 def refusal_of(told: Mapping[str, Any]) -> Refusal:
-    """The refusal that the member `fault` of a reply tells."""
+    """The refusal in the member `fault` of a reply."""
     first = Fault(**{name: it for name, it in told.items() if name != "faults"})
     others = (Fault(**it) for it in told.get("faults", ()))
     return Refusal([first, *(it for it in others if it != first)])

@@ -82,7 +82,7 @@ def from_edges(
 ) -> Element:
     """The document of a data frame of pandas with one row for each edge.
 
-    `source` and `target` are the columns of its ends, and `key` that of what tells edges with the same ends apart. All
+    `source` and `target` are the columns of its ends, and `key` that of what distinguishes edges with the same ends. All
     others are attributes, as `from_networkx` reads them. `nodes` is a frame of the nodes' attributes, by its index; nodes
     that are there come first, and all others in the order of the rows.
     """
@@ -116,7 +116,7 @@ def _is_missing(value: Any) -> bool:
 
 
 def _value(of: Any, ends: Tuple[Any, ...], data: Data) -> Any:
-    """What a function tells, or else the attribute of a name; None if it is missing."""
+    """The result of a function, or the attribute of a name; None if it is missing."""
     value = of(*ends, data) if callable(of) else data.get(of)
     return None if _is_missing(value) else value
 

@@ -20,7 +20,7 @@ from .program import Command
 
 # What a pipe is asked to hold, so that a process seldom waits; what one write hands on at once, and what one read takes.
 PIPE_BYTES, WRITE_BYTES, READ_BYTES = 2**20, 2**13, 2**17
-# How much an error tells of what the program said besides its replies.
+# How much of the program's stderr an error contains.
 MOST_NOTES = 4096
 # Statuses if the program doesn't take its arguments, and if the launcher has no program: no other line fares better.
 HOPELESS = {5: ", because it does not know --lines", 70: ", because there is no program to start"}
@@ -92,7 +92,7 @@ class Process:
         except BlockingIOError:
             pass
         except BrokenPipeError:
-            # The end of its output tells more.
+            # The end of its output says more.
             self.unsent.clear()
 
     def read(self) -> None:
@@ -115,7 +115,7 @@ class Process:
         self.has_ended = bool(is_odd) or not piece
 
     def end(self) -> ProgramError:
-        """Waits for a process whose output is at its end, and tells how it ended."""
+        """Waits for a process whose output is at its end, and returns how it ended."""
         status = self.child.wait()
         how = f"was ended by signal {-status}" if status < 0 else f"ended with the status {status}"
         self._notes.seek(0)

@@ -21,7 +21,7 @@ Numbers = Literal["ceil", "exact"]
 _kept: Dict[Command, Pool] = {}
 os.register_at_fork(after_in_child=_kept.clear)
 
-# The names of warnings that were told by Python's own module.
+# The names of warnings that Python's own module has shown.
 _told: Set[Any] = set()
 # How many calls stand between a warning and the call of a user.
 CALLS = 5
@@ -30,7 +30,7 @@ CALLS = 5
 class Query:
     """What is asked about each graph, by the members of requests that docs/DRAWING.md describes.
 
-    `give` are the names of what the program gives, and `kind` is the member that has the graph. A graph may be a text.
+    `give` are the names of what the program returns, and `kind` is the member that has the graph. A graph may be a text.
     """
 
     def __init__(self, give: str, program: Program, kind: str, on_warning: OnWarning = None, **members: Any) -> None:
@@ -51,7 +51,7 @@ class Query:
             return Request(b"", error=too_deep(graph) or ProgramError(str(error)))
 
     def ask(self, graph: Any) -> Dict[str, Any]:
-        """Asks about one graph, and gives the reply."""
+        """Asks about one graph, and returns the reply."""
         request = self.request(graph)
         # A process that is closed meanwhile answers no more, and another is kept then.
         while not request.is_done:
@@ -85,7 +85,7 @@ def _warn(warning: Fault) -> None:
 
 def close() -> None:
     """Ends the kept processes, once they have answered. A later call starts them again."""
-    # Threads that go on calling keep others meanwhile, which are theirs to close.
+    # Threads that go on calling start others meanwhile, and have to close those themselves.
     pools = [_kept.pop(command, None) for command in list(_kept)]
     for pool in filter(None, pools):
         pool.close()

@@ -101,7 +101,7 @@ class _Stream:
         self._bytes += len(request.line)
 
     def done(self, seconds: float) -> Iterator[Request]:
-        """Gives what is done, before more is read. If the source took long for its last item, a share of that is waited:
+        """Yields what is done, before more is read. If the source took long for its last item, a share of that is waited:
         else it would hold each result back until its next item comes.
         """
         now = time.monotonic()
@@ -132,7 +132,7 @@ class _Stream:
 
 
 def answered(source: Iterable[Given], request_of: Callable[[Given], Request], pool: Pool, held: int) -> Iterator[Request]:
-    """Makes a request of each item of a source, and gives the requests back in order, each with its reply or its error.
+    """Makes a request of each item of a source, and yields the requests in order, each with its reply or its error.
 
     `held` is how many are at the processes, or wait for one before them, at once. If the source raises, or an item is
     none of which a request can be made, what was read before is given first.

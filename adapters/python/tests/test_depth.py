@@ -14,7 +14,7 @@ COUNTS = (3_000, 100_000)
 
 
 def nested(count):
-    """What stands in so many nodes, one in the other."""
+    """Something inside this many nested nodes."""
     node = {"id": "in", "width": 10, "height": 10, "x": 0, "y": 0}
     for at in range(count):
         node = {"id": at, "x": 1, "y": 1, "width": 10, "height": 10, "children": [node]}
@@ -30,7 +30,7 @@ def lists(count):
 
 
 def emptied(value):
-    """Takes a value apart, since Python itself may end where it lets go of one that is so deep."""
+    """Takes a value apart, because Python may crash when it frees one that is nested so deep."""
     waiting = [value]
     while waiting:
         inner = waiting.pop()

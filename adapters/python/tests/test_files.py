@@ -109,7 +109,7 @@ class Command(unittest.TestCase):
         self.assertEqual(ended.stderr, "-: the id 1 is used twice: children[0].id is 1, as id is (rule 7, DoubleId)\n")
 
     @with_program
-    def test_files_in_dot_are_laid_out_and_warnings_are_told(self):
+    def test_files_in_dot_are_laid_out_and_warnings_are_reported(self):
         self.file("a.dot", "digraph { a -> b [minlen=2] }")
         self.file("b.json", {**chain(1), "widht": 5})
         ended = self.run_command("layout", "a.dot", "b.json", "-o", "out")
@@ -140,17 +140,17 @@ class Command(unittest.TestCase):
         self.assertEqual((ended.returncode, ended.stdout), (2, ""))
         self.assertIn("-: ", ended.stderr)
 
-    def test_the_version_is_told(self):
+    def test_the_version_is_reported(self):
         ended = self.run_command("--version")
         self.assertEqual((ended.returncode, ended.stdout), (0, f"elk-layout {__version__}\n"))
 
-    def test_words_that_are_not_taken_are_told(self):
+    def test_words_that_are_not_taken_are_reported(self):
         self.file("a.json", chain(2))
         self.file("b/a.json", chain(2))
         for words, note in (
             ([], "required"),
             (["layout", "a.json", "b/a.json"], "-o/--output"),
-            (["layout", "-", "-o", "out"], "leave -o/--output away"),
+            (["layout", "-", "-o", "out"], "leave out -o/--output"),
             (["check"], "required"),
             (["draw", "a.json"], "invalid choice"),
             (["layout", "a.json", "-o", "."], "is one of the given files"),
@@ -163,7 +163,7 @@ class Command(unittest.TestCase):
                 self.assertEqual((ended.returncode, ended.stdout), (5, ""))
                 self.assertIn(note, ended.stderr)
 
-    def test_a_program_that_is_not_there_is_told_once(self):
+    def test_a_program_that_is_not_there_is_reported_once(self):
         self.file("a.json", chain(2))
         shutil.copytree(PACKAGE / "elk_layout", self.folder / "elk_layout")
         ended = self.run_command("layout", "a.json", "-o", "out", ELK_DRAW_PROGRAM="", PATH="/nowhere", PYTHONPATH=".")

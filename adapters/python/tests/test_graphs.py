@@ -96,7 +96,7 @@ class Documents(unittest.TestCase):
         graph = networkx.DiGraph([(numpy.int64(1), numpy.int64(2))])
         self.assertEqual([it["id"].__class__ for it in from_networkx(graph)["children"]], [int, int])
 
-    def test_a_port_that_is_not_there_is_told(self):
+    def test_a_port_that_is_not_there_is_reported(self):
         graph = networkx.DiGraph([("a", "b", {"target_port": "in"})])
         with self.assertRaisesRegex(ValueError, "the node 'b' has no port 'in', which the edge \\('a', 'b'\\) names"):
             from_networkx(graph)
@@ -214,7 +214,7 @@ class Drawings(unittest.TestCase):
             self.assertEqual(sorted(map(str, back.edges())), sorted(map(str, ends)))
             self.assertEqual({key: data["pos"] for key, data in back.nodes(data=True)}, positions(graph, program=PROGRAM))
 
-    def test_routes_are_told_by_the_names_of_edges(self):
+    def test_routes_are_reported_by_the_names_of_edges(self):
         multi = networkx.MultiDiGraph([("a", "b", "x"), ("a", "b", "y"), ("b", "a", 0), ("b", "b", 1)])
         single = networkx.Graph([("a", "b"), ("b", "c")])
         nested = networkx.DiGraph([((0, 1), (2, 3))])
@@ -373,7 +373,7 @@ class Frames(unittest.TestCase):
         self.assertEqual([it["labels"][0]["text"] for it in document["children"]], ["one", "2", "alone"])
         self.assertEqual([(it["key"], it["directed"]) for it in document["edges"]], [("x", False), ("y", False)])
 
-    def test_what_is_wrong_is_told_by_name(self):
+    def test_what_is_wrong_is_reported_by_name(self):
         for columns, reading, wanted, words in (
             ({"source": ["a"], "to": ["b"]}, {}, ValueError, "the frame has no column 'target'"),
             ({"source": ["a", None], "target": ["b", "c"]}, {}, ValueError, "the source of the edge in row 1 is missing"),

@@ -173,7 +173,7 @@ class Faults(unittest.TestCase):
         found = pickle.loads(pickle.dumps(refusal))
         self.assertEqual((str(found), found.faults, found.rule, found.index), (str(refusal), refusal.faults, 7, 5))
 
-    def test_faults_and_warnings_are_told_without_a_layout(self):
+    def test_faults_and_warnings_are_reported_without_a_layout(self):
         graph = {"id": "r", "children": [{"id": "a", "height": 3, "widht": 3}, box("a")]}
         for given, line in ((graph, None), (json.dumps(graph, indent=1), 10)):
             fault, warning = lint(given, program=PROGRAM)

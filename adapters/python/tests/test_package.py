@@ -1,4 +1,4 @@
-"""The package works where it is put: copied, in an archive, or as a wheel."""
+"""The package works in any place: copied, in an archive, or as a wheel."""
 
 import os
 import shutil

@@ -1,4 +1,4 @@
-"""The scripts of pages run as they stand there, and say what their comments say."""
+"""The scripts of pages run unchanged, and print what their comments say."""
 
 import json
 import os

@@ -98,7 +98,7 @@ class Saved(unittest.TestCase):
         with unittest.mock.patch.dict(os.environ, {"PATH": "/nowhere"}):
             self.assert_converts()
 
-    def test_what_is_missing_is_told(self):
+    def test_what_is_missing_is_reported(self):
         nothing = unittest.mock.patch.object(calls.importlib.util, "find_spec", return_value=None)
         with nothing, unittest.mock.patch.object(calls.shutil, "which", return_value=None):
             with self.assertRaisesRegex(RuntimeError, "becomes PNG by the command rsvg-convert .* or by the Python package cairosvg"):

@@ -192,7 +192,7 @@ class Streams(unittest.TestCase):
             most = max(most, len(read) - done)
         self.assertLessEqual(most, HELD_BYTES / 2**18)
 
-    def test_a_document_at_which_the_program_dies_twice_is_told_in_its_place(self):
+    def test_a_document_at_which_the_program_dies_twice_is_reported_in_its_place(self):
         results = list(self.many(["a", "kill", "b", "refuse 7 DoubleId 5", "c"], errors="return", processes=2))
         self.assertEqual([it["id"] for it in (results[0], results[2], results[4])], ["a", "b", "c"])
         self.assertIsInstance(results[1], ProgramError)
@@ -226,7 +226,7 @@ class Streams(unittest.TestCase):
     def test_no_document_makes_no_result(self):
         self.assertEqual(list(self.many([])), [])
 
-    def test_progress_is_told(self):
+    def test_progress_is_reported(self):
         told = []
         documents = [{"id": str(at)} for at in range(5)]
         list(layout_many(documents, program=PUPPET, progress=lambda done, total: told.append((done, total))))
@@ -242,7 +242,7 @@ class Streams(unittest.TestCase):
         found = list(replies(lines, program=PUPPET))
         self.assertEqual(found, ['{"placed": {"id": "a"}}', '{"placed": {"id": "b"}}', "no answer"])
 
-    def test_warnings_are_told_once_for_each_name_or_to_a_function(self):
+    def test_warnings_are_reported_once_for_each_name_or_to_a_function(self):
         ids = ["warn elk.directon", "warn elk.directon", "warn widht", "plain"]
         for _ in range(2):
             told = []
@@ -257,7 +257,7 @@ class Streams(unittest.TestCase):
         self.assertEqual({it.category for it in told}, {LayoutWarning})
         self.assertEqual(told[2].filename, __file__)
 
-    def test_wrong_words_are_told_at_once(self):
+    def test_wrong_words_are_reported_at_once(self):
         for wrong in ({"processes": 0}, {"errors": "ignore"}, {"numbers": "floor"}):
             with self.subTest(wrong), self.assertRaises(ValueError):
                 self.many([], **wrong)

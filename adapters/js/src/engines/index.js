@@ -16,7 +16,7 @@ function engineOf({ program, workerUrl, workerFactory }) {
   }
   if (workerFactory || workerUrl) {
     const make = workerFactory ?? workerAt;
-    // Made at once, as in elkjs, so that a caller who gives no worker is told.
+    // Made at once, as in elkjs, so that a factory that returns no worker fails here.
     return new WorkerQueue(() => make(workerUrl)).start().client();
   }
   return defaultEngine();

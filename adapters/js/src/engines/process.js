@@ -67,7 +67,7 @@ class Run {
       this.#end(new ProgramError(`the program ${program} can't be started: ${cause.message}`, { cause }));
     });
     this.#child.on('close', (status, signal) => this.#end(this.#endOf(program, status, signal)));
-    // If the program is gone, its end is told as well, and says more.
+    // If the program has ended, its 'close' event says more.
     stdin?.on('error', () => {});
     stdout?.on('data', (piece) => cutter.take(piece).forEach((line) => this.#tell(line)));
     stderr?.on('data', (piece) => this.#note(piece.toString('utf8')));
@@ -80,7 +80,7 @@ class Run {
     }
   }
 
-  // The launcher says that it builds the program, which takes hours.
+  // Shows the launcher's message that it builds the program, which takes hours.
   #note(text) {
     this.#notes = (this.#notes + text).slice(-MOST_NOTES);
     if (/^elk(-draw)?: /.test(text) && !this.#hasEnded) {
@@ -106,7 +106,7 @@ class Run {
     }
   }
 
-  /** Whether a line of so many bytes can still be sent. */
+  /** Whether a line of this many bytes can still be sent. */
   hasRoom(bytes, most) {
     return this.#sent + bytes <= most;
   }

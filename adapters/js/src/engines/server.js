@@ -20,7 +20,7 @@ async function started(moduleBytes) {
   try {
     replyTo(program, FIRST);
   } catch {
-    // The next call is told if it happens again.
+    // If it happens again, the next call fails.
   }
   return program;
 }
@@ -32,7 +32,7 @@ class Server {
   /** @param {() => Uint8Array | Promise<Uint8Array>} moduleBytes reads the module, at once, so that it is ready for the first request */
   constructor(moduleBytes) {
     this.#program = started(moduleBytes);
-    // Each call is told.
+    // Each call that waits for it fails.
     this.#program.catch(() => {});
   }
 

@@ -45,7 +45,7 @@ class WorkerQueue {
     return this;
   }
 
-  /** Makes the worker before the first call, which is told if that fails. */
+  /** Makes the worker before the first call. If that fails, the call fails. */
   prepare() {
     try {
       return this.start();

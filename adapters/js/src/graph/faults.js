@@ -3,7 +3,7 @@
 
 const { Refusal } = require('../errors');
 
-// So much of either end of a long path stands in a sentence.
+// How many letters of either end of a long path a message has.
 const MOST_OF_PATH = 60;
 
 const LEVELS = 50;

@@ -151,7 +151,7 @@ class Taker {
   }
 }
 
-/** Takes something, and tells where it couldn't be read. */
+/** Takes something. The error says where it couldn't be read. */
 function told(taker, take) {
   try {
     return take(taker);

@@ -1,5 +1,5 @@
 'use strict';
-// The module in a page, where it is a text: packed, in base 64.
+// The module in a page is a text: packed, in base 64.
 
 const { ProgramError } = require('../errors');
 

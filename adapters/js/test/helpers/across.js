@@ -81,7 +81,7 @@ class Maker {
     }
   }
 
-  /** Gives a port its place at a side; false where the side has no room for it. */
+  /** Gives a port its place at a side; false if the side has no room for it. */
   #pin(node, port, { side, cursor, isLevel }) {
     const at = cursor[side];
     cursor[side] += port.width + 6 + this.#draw.below(10);

@@ -20,7 +20,7 @@ const WORDS = [
 /** The browser that the tests start: the one that ELK_BROWSER names, or a Chromium of the path. */
 const browserFile = () => process.env.ELK_BROWSER ?? programOf(NAMES);
 
-/** What a test that asks a browser is given: whether it is left out, and why. */
+/** The options of a test that needs a browser: whether it is skipped, and why. */
 const WITH_BROWSER = { skip: browserFile() ? false : 'no browser stands: ELK_BROWSER names a Chromium, or the path has one' };
 
 /** One page of a browser. */

@@ -77,7 +77,7 @@ function set(holder, name, value) {
 
 const idsIn = (root) => holdersIn(root).map(({ id }) => id).filter((id) => id !== undefined);
 
-/** An edge, where there is one, leads to any element of the document. */
+/** An edge, if there is one, leads to any element of the document. */
 function redirect(random, root) {
   const edge = pick(random, holdersIn(root).filter(({ target, targets }) => target !== undefined || Array.isArray(targets)));
   if (edge) {
@@ -85,7 +85,7 @@ function redirect(random, root) {
   }
 }
 
-/** A size or a place, where there is one, becomes another. */
+/** A size or a place, if there is one, becomes another. */
 function move(random, root) {
   const box = pick(random, holdersIn(root).filter(({ x, width }) => x !== undefined || width !== undefined));
   if (box) {

@@ -23,7 +23,7 @@ function ruleOf({ json }) {
   return rule === 'UNDEFINED' ? 'FREE' : rule;
 }
 
-/** The places of a port at which a line may end: outside, or on the border where it comes from within. */
+/** The places of a port at which a line may end: outside, or on the border if it comes from within. */
 function anchorsOf(port, isFromWithin) {
   const { json, node, box: { x, y, w, h } } = port;
   const [half, middle] = [Math.floor(h / 2), Math.floor(w / 2)];
@@ -267,7 +267,7 @@ function isCrossing(a, b) {
   return isIn(flat.x0, upright.x0, flat.x1) && isIn(upright.y0, flat.y0, upright.y1);
 }
 
-/** Counts crossings, and tells which routes share a piece though they have no dock in common. */
+/** Counts crossings, and reports routes that share a piece without a common dock. */
 function judgePairs(routes) {
   const all = routes.flatMap((route) => piecesOf(route.points).map((piece) => ({ ...piece, route })));
   const pieces = all.filter(({ x0, x1, y0, y1 }) => x0 !== x1 || y0 !== y1).sort((a, b) => a.x0 - b.x0);

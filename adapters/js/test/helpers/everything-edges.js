@@ -90,7 +90,7 @@ class Edges {
     return is(0.5) ? { sources: [stem], targets: twigs } : { sources: twigs, targets: [stem] };
   }
 
-  /** The ends as the primitive form tells them. */
+  /** The ends in the primitive form. */
   #primitive({ sources: [source], targets: [target] }) {
     const told = (end, id) => {
       const owner = this.owners.get(id);

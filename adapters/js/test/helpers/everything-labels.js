@@ -22,7 +22,7 @@ function placementBy({ is, of }) {
   return is(0.3) ? `[${names.join(', ')}]` : names.join(' ');
 }
 
-/** Gives a node labels, which stand where each of them asks for, or all of them where the node does. */
+/** Gives a node labels. Each of them asks for its own place, or the node for that of all. */
 function nodeLabelsFor(maker, node, isRoot) {
   const { draw } = maker;
   const placement = draw.is(0.85) ? placementBy(draw) : undefined;
@@ -38,7 +38,7 @@ function nodeLabelsFor(maker, node, isRoot) {
 
 const PLACES = ['CENTER', 'CENTER', 'HEAD', 'TAIL'];
 
-/** The labels of an edge, which say themselves where they stand, or leave it to the edge. */
+/** The labels of an edge. They ask for their places themselves, or the edge does. */
 function edgeLabelsFor(maker, edge) {
   const { is, of } = maker.draw;
   const isOwn = is(0.7);

@@ -39,7 +39,7 @@ class Maker {
     this.parents = new Map();
   }
 
-  /** A new id: a text that tells the kind of its element, or a number. */
+  /** A new id: a text with the kind of its element, or a number. */
   id(kind) {
     this.#count += 1;
     return this.how.isNumbered ? this.#count : `${kind}${this.#count}`;
@@ -87,7 +87,7 @@ class Maker {
     }
   }
 
-  /** What a node with so many nodes in it has. */
+  /** What a node with this many nodes in it has. */
   #level(depth, budget) {
     const { is, from } = this.draw;
     const level = { layoutOptions: {}, children: [] };

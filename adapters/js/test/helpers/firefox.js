@@ -12,7 +12,7 @@ const NAMES = ['firefox', 'firefox-esr'];
 /** The Firefox that the tests start: the one that ELK_FIREFOX names, or one of the path. */
 const firefoxFile = () => process.env.ELK_FIREFOX ?? programOf(NAMES);
 
-/** What a test that asks a Firefox is given: whether it is left out, and why. */
+/** The options of a test that needs Firefox: whether it is skipped, and why. */
 const WITH_FIREFOX = { skip: firefoxFile() ? false : 'no Firefox stands: ELK_FIREFOX names one, or the path has one' };
 
 const PREFERENCES = {

@@ -70,7 +70,7 @@ function junctionFaults(scene, routes) {
   }
   for (const { key, edges } of found) {
     if (told.get(key).length !== 1) {
-      faults.push(`${[...edges][0].json.id}: its route parts from another at a point that is told ${told.get(key).length} times`);
+      faults.push(`${[...edges][0].json.id}: its route parts from another at a point that is listed ${told.get(key).length} times`);
     }
   }
   return faults;

@@ -1,5 +1,5 @@
 'use strict';
-// What labels of a placed document meet that they should not, apart from the cases that docs/EDITORS.md tells. It shares no
+// What labels of a placed document meet that they should not, apart from the cases that docs/EDITORS.md lists. It shares no
 // code with what draws.
 
 const { isIn, isOutside, overlap, reachesInto, rectOfBox } = require('./lines');

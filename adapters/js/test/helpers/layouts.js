@@ -1,6 +1,6 @@
 'use strict';
 // Who lays out the documents of a judge: the package, or a program that answers requests of a line. Each has a `layout`, which
-// tells the placed graph or the fault for which there is none, and is ended by `stop`.
+// returns the placed graph, or the fault for which there is none, and is ended by `stop`.
 
 const { spawn } = require('node:child_process');
 const { createInterface } = require('node:readline');

@@ -23,7 +23,7 @@ function run(cwd, [command, ...words], { input = '', environment = {} } = {}) {
   return ran.stdout;
 }
 
-/** Packs the package in a folder, and gives the tarball. */
+/** Packs the package in a folder, and returns the tarball. */
 function packed(room) {
   const source = path.join(room, 'source');
   cpSync(PACKAGE, source, { recursive: true, dereference: true });

@@ -34,7 +34,7 @@ function tidy(root) {
   return root;
 }
 
-// Each leaves out a part of a copy by its number, and tells whether there was such a part.
+// Each removes a part of a copy by its number, and returns whether there was such a part.
 const CUTS = [
   (root, number) => {
     const found = [...partsOf(root)][number];
