@@ -13,7 +13,7 @@ MOST_EDGES = 2048
 WIDTHS = (40, 60, 80, 100)
 HEIGHTS = (30, 40, 50)
 ROOM_PER_EDGE = 10
-# Engines that draw slanted lines cut corners of nodes where layers stand nearer.
+# Engines that draw slanted lines cut corners of nodes if layers stand nearer.
 OPTIONS = {"elk.spacing.nodeNode": 20, "elk.layered.spacing.nodeNodeBetweenLayers": 50}
 WORDS = ("mode", "rate", "gain", "delay", "offset", "limit", "source", "target", "channel", "pressure", "temperature", "is valid")
 
@@ -257,7 +257,7 @@ def level(name, budget, names, draws):
 
 
 def shares(whole, count, draws):
-    """A number as a sum of so many: some nothing, none of them 1 or 2 but where the whole is, the greatest the rest."""
+    """A number as a sum of this many. Some are 0, none is 1 or 2 unless the whole is, and the greatest is the rest."""
     weights = [draws.chance() ** 3 for _ in range(count)]
     parts = [int(weight / sum(weights) * whole) for weight in weights]
     parts = [part if part >= 3 else 0 for part in parts]

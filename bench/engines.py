@@ -160,7 +160,7 @@ def scripted(name, what, command, **more):
 
 
 def curved_dot():
-    """dot as it draws where nothing is asked of it, for pictures."""
+    """dot with its defaults, for pictures."""
     return dot("dot curved", "Graphviz, its own curves", "true")
 
 

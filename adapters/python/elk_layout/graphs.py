@@ -214,7 +214,7 @@ class _Maker:
         return {**node, **_told(label, options, data, "node", key), "ports": self._ports_of(key, data)}
 
     def _size(self, key: Any, data: Data) -> Iterator[Any]:
-        """The width and the height of a node; None where nothing is said."""
+        """The width and the height of a node; None if it has none."""
         of = self._reading.size
         told, general = (of(key, data), None) if callable(of) else (None, of)
         for at, name in enumerate(("width", "height")):
