@@ -50,7 +50,16 @@ const bootScript = () => `\n${licence()}${scriptOf(bundle('playground/boot.js'))
 /** The policy that lets a browser run these scripts of the page and no other. */
 const sourcesOf = (scripts) => scripts.map((script) => `'sha256-${createHash('sha256').update(script).digest('base64')}'`).join(' ');
 
-const deflated = (bytes) => packed(deflateRawSync(bytes, { level: 9 }));
+const deflated = (bytes) => deflateRawSync(bytes, { level: 9 });
+
+// The module stands in pieces of so many bytes, so that a worker unpacks them while the browser reads the page.
+const PIECE = 2 ** 17;
+
+/** The elements of the page that hold the module. */
+function elementsWith(bytes) {
+  const starts = Array.from({ length: Math.ceil(bytes.length / PIECE) }, (_, at) => at * PIECE);
+  return starts.map((start) => `<script class="module" type="text/plain">${packed(bytes.subarray(start, start + PIECE))}</script>`).join('\n');
+}
 
 let last;
 
@@ -58,7 +67,7 @@ let last;
 function packedModule() {
   const bytes = Buffer.from(moduleBytes());
   if (!last?.bytes.equals(bytes)) {
-    last = { bytes, text: deflated(withoutCopies(bytes)) };
+    last = { bytes, text: elementsWith(deflated(withoutCopies(bytes))) };
   }
   return last.text;
 }
@@ -72,7 +81,7 @@ function playground({ worker = 'playground/worker.js' } = {}) {
   const holes = {
     STYLE: read(SOURCES, 'style.css').trim(),
     SOURCES: sourcesOf([boot, main]),
-    SCRIPT: deflated(main),
+    SCRIPT: packed(deflated(main)),
     MODULE: packedModule(),
     BOOT: boot,
   };

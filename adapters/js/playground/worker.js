@@ -3,20 +3,24 @@
 
 const { Program } = require('../src/module');
 const { withCopies } = require('./copies');
-const { inflated } = require('./inflated');
+const { Inflation } = require('./inflated');
 const { documentIn } = require('./link');
 const { Studio } = require('./studio');
 
 let studio;
 
-const compiled = async (packed) => WebAssembly.compile(withCopies(new Uint8Array(await inflated(packed).arrayBuffer())));
+let inflation;
 
-/** Takes the module. The first worker hands it on when it is compiled, so that no other one compiles it again. */
-async function begun({ packed, module }) {
-  const own = module ?? (await compiled(packed));
-  if (packed) {
-    self.postMessage({ module: own });
+const compiled = async (packed) => WebAssembly.compile(withCopies(new Uint8Array(await packed.arrayBuffer())));
+
+/** Takes the module, which comes compiled or in pieces. A worker that has compiled it hands it on to all others. */
+async function begun({ module }) {
+  if (module) {
+    return new Studio(new Program(module));
   }
+  inflation = new Inflation();
+  const own = await compiled(inflation.response);
+  self.postMessage({ module: own });
   return new Studio(new Program(own));
 }
 
@@ -37,12 +41,14 @@ async function answerTo({ id, kind, ...asked }) {
   }
 }
 
-self.onmessage = ({ data }) => {
-  if (data.kind === 'begin') {
-    studio = begun(data);
+const HEARD = {
+  begin: (given) => {
+    studio = begun(given);
     // Whoever asks is told.
     studio.catch(() => {});
-  } else {
-    answerTo(data);
-  }
+  },
+  piece: ({ packed }) => inflation.take(packed),
+  end: () => inflation.end(),
 };
+
+self.onmessage = ({ data }) => (HEARD[data.kind] ?? answerTo)(data);

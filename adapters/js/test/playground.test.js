@@ -77,7 +77,7 @@ test('the page needs no network', WITH_MODULE, () => {
 
 test('the page runs no script but its own two: one that stands there, and one that it unpacks', WITH_MODULE, () => {
   const page = playground();
-  const [, boot] = /<script>(.*)<\/script>/s.exec(page);
+  const [, boot] = /<script>(.*?)<\/script>/s.exec(page);
   const [, main] = /<script id="script" [^>]*>(.*?)<\/script>/s.exec(page);
   const [, sources] = /script-src ([^;]*);/.exec(page);
   const sums = [boot, inflateRawSync(unpacked(main))].map((script) => createHash('sha256').update(script).digest('base64'));
