@@ -29,9 +29,8 @@ const { Tour } = require('./tour');
 const { View } = require('./view');
 const { Writing } = require('./writing');
 
-// A layout begins when the keys have rested so long, in milliseconds. Of a large text the page needs longer to show the last one.
+// A change is drawn at once. Those that follow sooner than this, in milliseconds, are drawn together when the keys rest.
 const REST = 20;
-const LONG_REST = 80;
 
 const EXAMPLES = JSON.parse(require('examples-text'));
 
@@ -44,7 +43,7 @@ const style = document.createElement('style');
 style.textContent = require('editor-style');
 document.head.prepend(style);
 
-let pause;
+let [pause, lastChange] = [undefined, -Infinity];
 
 /** Leads to the text of an element of the drawing. */
 function seek({ kind, id }) {
@@ -151,8 +150,10 @@ function changed(isUndone) {
   drawer.outdate();
   board.age();
   links.forget();
+  const now = performance.now();
   clearTimeout(pause);
-  pause = setTimeout(draw, writing.isLong ? LONG_REST : REST);
+  pause = setTimeout(draw, now - lastChange < REST ? REST : 0);
+  lastChange = now;
 }
 
 function draw() {

@@ -19,10 +19,8 @@ const STYLE = `
   @media print { svg { position: static; height: auto; max-height: 100vh; } svg[data-far] text { display: inline; } }
 `;
 
-// What a document can choose, such as a class or a shape, doesn't say which elements are edges.
-const EDGES = new WeakSet();
-
-const isEdge = (element) => EDGES.has(element);
+// Only the group of all edges has this class alone: a document can add classes to elements, but not replace theirs.
+const isEdge = (element) => element.closest('[class=edges]') !== null;
 
 const kindOf = (element) => (isEdge(element) ? 'edge' : 'node');
 
@@ -30,21 +28,33 @@ const chosenOf = (element) => ({ kind: kindOf(element), id: element.dataset.id }
 
 const wordsOf = (element) => element?.querySelector('title')?.textContent ?? '';
 
-// A picture of more letters is read part by part, so that the page is never long at work.
+// A picture of more letters isn't drawn anew while it moves, and its edges aren't made wider for pointers.
 const LARGE = 250_000;
-
-// Groups of elements, such as all edges, begin with these words. An edge has another class before its own.
-const GROUP = /\n(?=<g class="[a-z]+s"[ >])/;
 
 const isLarge = (svg) => svg.length > LARGE;
 
-/** The parts in which a picture is read: the first one has all nodes. */
+// A picture of more letters is read part by part, so that the page is never long at work.
+const PART = 128_000;
+
+// The first tag of a group, such as that of all edges. An edge has another class before its own.
+const GROUP = /^<g class="[a-z]+s"[^>]*>/gm;
+
+// Where an element of a group begins.
+const ELEMENT = /\n(?=<[a-z])(?!<g class="[a-z]+s"[ >])/g;
+
+/** The parts in which a picture is read, of about one length. Each later one begins with the tag of the group that goes on in it. */
 function partsOf(svg) {
-  if (!isLarge(svg)) {
-    return [svg];
+  const length = svg.length / Math.ceil(svg.length / PART);
+  const parts = [];
+  let [start, group] = [0, ''];
+  while (start < svg.length) {
+    ELEMENT.lastIndex = start + length;
+    const end = ELEMENT.test(svg) ? ELEMENT.lastIndex : svg.length;
+    const part = group + svg.slice(start, end);
+    parts.push(part);
+    [start, group] = [end, part.match(GROUP)?.at(-1) ?? ''];
   }
-  const [head, nodes = '', ...later] = svg.split(GROUP);
-  return [head + nodes, ...later];
+  return parts;
 }
 
 function firstIn(text) {
@@ -78,38 +88,10 @@ function widen(edge) {
 /** The size of the largest letters. */
 const largestText = (svg) => Math.max(0, ...new Set(Array.from(svg.matchAll(/ font-size="([\d.]+)"/g), ([, size]) => Number(size))));
 
-/** The nodes and edges of a picture. */
-class Elements {
-  // In the order of the drawing, without its outermost level.
-  nodes = [];
-  edges = [];
-  #byId = new Map();
-
-  /** Takes the elements of groups. */
-  add(groups) {
-    for (const group of groups) {
-      const list = [...group.querySelectorAll('[data-id]')];
-      const name = group.getAttribute('class');
-      if (name === 'edges') {
-        list.forEach((it) => EDGES.add(it));
-        this.#take(this.edges, list);
-      } else if (name === 'nodes') {
-        this.#take(this.nodes, list.slice(1));
-      }
-    }
-  }
-
-  #take(taken, list) {
-    for (const element of list) {
-      taken.push(element);
-      this.#byId.set(`${kindOf(element)} ${element.dataset.id}`, element);
-    }
-  }
-
-  /** The element of a kind and an id. */
-  find({ kind, id }) {
-    return this.#byId.get(`${kind} ${id}`);
-  }
+/** The nodes or the edges of a picture, in the order of the drawing, without its outermost level. */
+function elementsIn(picture, kind) {
+  const all = [...picture.querySelectorAll(`:scope > [class=${kind}s] [data-id]`)];
+  return kind === 'node' ? all.slice(1) : all;
 }
 
-module.exports = { Elements, LIT, MARKED, STYLE, chosenOf, groupsIn, isEdge, isLarge, largestText, partsOf, pictureIn, widen, wordsOf };
+module.exports = { LIT, MARKED, STYLE, chosenOf, elementsIn, groupsIn, isEdge, isLarge, largestText, partsOf, pictureIn, widen, wordsOf };

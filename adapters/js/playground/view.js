@@ -3,7 +3,7 @@
 
 const { hearKeys } = require('./keys');
 const { closeTo, fitted, moved, resized, zoomed } = require('./part');
-const { Elements, LIT, MARKED, STYLE, chosenOf, groupsIn, isEdge, isLarge, largestText, partsOf, pictureIn, widen, wordsOf } = require('./picture');
+const { LIT, MARKED, STYLE, chosenOf, elementsIn, groupsIn, isEdge, isLarge, largestText, partsOf, pictureIn, widen, wordsOf } = require('./picture');
 const { Pointers } = require('./pointers');
 
 // A large picture is drawn anew only when it has come to rest, so long after it was moved, in milliseconds.
@@ -28,7 +28,6 @@ class View {
   #picture;
   // The text from which the picture was made.
   #svg;
-  #elements = new Elements();
   #whole;
   // The part of it that the stage shows, and the one for which it was drawn.
   #part;
@@ -73,7 +72,7 @@ class View {
       zoom: (by, at) => this.zoom(by, at),
       fit: () => this.fit(),
       light: (element) => this.#light(element),
-      lightNext: (kind, by) => this.#lightNext(this.#elements[kind], by),
+      lightNext: (kind, by) => this.#lightNext(kind, by),
       choose: (element) => this.#onChoice(chosenOf(element)),
       chooseLit: () => this.#lit && this.#onChoice(chosenOf(this.#lit)),
     };
@@ -127,8 +126,7 @@ class View {
       this.#isFitted = true;
     }
     this.#drawPart();
-    this.#elements = new Elements();
-    this.#take([...picture.children]);
+    this.#takeOver();
     if (former) {
       former.replaceWith(picture);
     } else {
@@ -136,32 +134,37 @@ class View {
     }
   }
 
-  /** Adds the later parts of a large picture one after the other. */
+  /** Adds the later parts of a picture one after the other, and then what only pointers meet. */
   #addInTurn(picture, parts) {
     const addNext = () => {
-      if (this.#picture === picture && parts.length > 0) {
-        const groups = groupsIn(parts.shift());
-        picture.append(...groups);
-        this.#take(groups);
+      if (this.#picture !== picture) {
+        return;
+      }
+      if (parts.length > 0) {
+        picture.append(...groupsIn(parts.shift()));
+        this.#takeOver();
         afterFrame(addNext);
+      } else if (!this.#isLarge) {
+        elementsIn(picture, 'edge').forEach(widen);
       }
     };
     afterFrame(addNext);
   }
 
-  /** Takes the elements of groups. What was lit or marked in the last picture is so in this one. */
-  #take(groups) {
-    this.#elements.add(groups);
-    if (!this.#isLarge) {
-      this.#elements.edges.forEach(widen);
-    }
+  /** What was lit or marked in the last picture is so in this one. */
+  #takeOver() {
     const { lit, marked } = this.#wanted;
     if (lit && !this.#lit) {
-      this.#light(this.#elements.find(lit));
+      this.#light(this.#find(lit));
     }
     if (marked && !this.#marked) {
-      this.#mark(this.#elements.find(marked));
+      this.#mark(this.#find(marked));
     }
+  }
+
+  /** The element of a kind and an id. */
+  #find({ kind, id }) {
+    return this.#picture && elementsIn(this.#picture, kind).find(({ dataset }) => dataset.id === id);
   }
 
   /** The picture follows the theme of the page, and not that of the system. */
@@ -177,14 +180,13 @@ class View {
     this.#picture?.remove();
     [this.#picture, this.#svg, this.#marked] = [];
     this.#wanted = {};
-    this.#elements = new Elements();
     this.#isFitted = true;
   }
 
   /** Marks the element in whose text the caret stands; nothing where none is given. */
   point(chosen) {
     this.#wanted.marked = chosen;
-    this.#mark(chosen && this.#elements.find(chosen));
+    this.#mark(chosen && this.#find(chosen));
   }
 
   #mark(element) {
@@ -195,7 +197,7 @@ class View {
 
   /** Lights an element and moves the drawing so that it stands in the middle, large enough to be read. */
   reveal(chosen) {
-    const element = this.#elements.find(chosen);
+    const element = this.#find(chosen);
     if (element) {
       this.#drawnPart = undefined;
       this.#showPart(closeTo(element.getBBox(), this.#size));
@@ -231,7 +233,8 @@ class View {
   }
 
   /** Lights the next of the nodes or edges, or the one before. */
-  #lightNext(list, by) {
+  #lightNext(kind, by) {
+    const list = this.isEmpty ? [] : elementsIn(this.#picture, kind);
     const count = list.length;
     if (count > 0) {
       const from = list.indexOf(this.#lit);

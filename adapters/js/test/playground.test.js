@@ -20,8 +20,10 @@ const { withOption } = require('../playground/json/choices');
 const { completionAt, helpAt } = require('../playground/json/completion');
 const { formatted } = require('../playground/json/format');
 const { placesIn } = require('../playground/json/places');
+const { largeText } = require('../playground/large');
 const { documentIn, hashOf } = require('../playground/link');
 const { packed: packedBytes, unpacked } = require('../playground/packing');
+const { partsOf } = require('../playground/picture');
 const { Studio } = require('../playground/studio');
 const { STEPS } = require('../playground/tour');
 const { verdictOf } = require('../playground/verdict');
@@ -258,6 +260,15 @@ test('bytes survive their text, and a page that is read again', () => {
     assert.doesNotMatch(text, /[\0\r<]/);
     assert.deepEqual([...unpacked(Buffer.from(text).toString())], bytes);
   }
+});
+
+test('a large picture is read in parts, each of which is a picture with the elements of its groups', WITH_MODULE, async () => {
+  const { drawing: { svg } } = await toldOf({ text: largeText(1000) });
+  const [first, ...later] = partsOf(svg);
+  assert.equal(first + later.map((part) => part.slice(part.indexOf('>') + 1)).join(''), svg);
+  assert.ok(later.length > 1 && later.every((part) => /^<g class="(?:nodes|edges|labels)".*>\n?<(?!g class="[a-z]+s")/.test(part)));
+  const lengths = [first, ...later].map((part) => part.length);
+  assert.ok(Math.max(...lengths) < 130_000 && Math.min(...lengths) > 50_000, lengths.join());
 });
 
 test('a text that is formatted keeps each value as it was written', () => {
@@ -688,8 +699,7 @@ const CASES = {
   'what is told of a text goes with it': async (page) => {
     await putIn(page, pair());
     await until(page, isDrawn('a'));
-    await page.evaluate(`${mirror}.replaceRange(' ', { line: 0, ch: 1 })`);
-    assert.equal(await page.evaluate(isHidden('verdict')), true);
+    assert.equal(await page.evaluate(`(${mirror}.replaceRange(' ', { line: 0, ch: 1 }), ${isHidden('verdict')})`), true);
     await putIn(page, pair({ 'elk.direction': 'ASIDE' }));
     await until(page, `!${isHidden('told')}`);
     await putIn(page, slow());

@@ -27,8 +27,8 @@ const FIRST = `addEventListener('DOMContentLoaded', () => {
   seen();
 });`;
 
-/** Changes the width of the first node, and tells how long the drawing took, and the longest stop until all is done. */
-const change = (digit) => `new Promise((done) => {
+/** Changes the width of the first node, and tells how long the whole drawing took, and the longest stop until all is done. */
+const change = (digit, nodes) => `new Promise((done) => {
   const former = ${PICTURE}.querySelector('svg');
   let [most, last, drawn] = [0, performance.now(), undefined];
   const since = last;
@@ -46,7 +46,9 @@ const change = (digit) => `new Promise((done) => {
   const at = ${MIRROR}.posFromIndex(${MIRROR}.getValue().indexOf('"width":') + 9);
   ${MIRROR}.replaceRange('${digit}', at, { line: at.line, ch: at.ch + 1 }, '+input');
   const seen = () => {
-    if (${PICTURE}.querySelector('svg') === former) {
+    const svg = ${PICTURE}.querySelector('svg');
+    // The texts of the nodes come last.
+    if (svg === former || svg.querySelectorAll('text').length < ${nodes}) {
       requestAnimationFrame(seen);
     } else {
       setTimeout(() => {
@@ -83,7 +85,7 @@ async function changes(page, nodes) {
   await until(page, `document.getElementById('status').innerText.startsWith('${count}')`);
   const told = [];
   for (let run = 1; run <= TIMES; run += 1) {
-    told.push(await page.evaluate(change(run)));
+    told.push(await page.evaluate(change(run, nodes)));
   }
   const [drawn, stop] = [0, 1].map((at) => median(told.map((it) => it[at])));
   return `${count}: ${drawn} ms from a key to the drawing, longest stop ${stop} ms`;
