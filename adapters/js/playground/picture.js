@@ -34,7 +34,7 @@ const LARGE = 250_000;
 const isLarge = (svg) => svg.length > LARGE;
 
 // A picture of more letters is read part by part, so that the page is never long at work.
-const PART = 128_000;
+const PART = 250_000;
 
 // The first tag of a group, such as that of all edges. An edge has another class before its own.
 const GROUP = /^<g class="[a-z]+s"[^>]*>/gm;

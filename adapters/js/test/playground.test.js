@@ -263,12 +263,12 @@ test('bytes survive their text, and a page that is read again', () => {
 });
 
 test('a large picture is read in parts, each of which is a picture with the elements of its groups', WITH_MODULE, async () => {
-  const { drawing: { svg } } = await toldOf({ text: largeText(1000) });
+  const { drawing: { svg } } = await toldOf({ text: largeText(2000) });
   const [first, ...later] = partsOf(svg);
   assert.equal(first + later.map((part) => part.slice(part.indexOf('>') + 1)).join(''), svg);
   assert.ok(later.length > 1 && later.every((part) => /^<g class="(?:nodes|edges|labels)".*>\n?<(?!g class="[a-z]+s")/.test(part)));
   const lengths = [first, ...later].map((part) => part.length);
-  assert.ok(Math.max(...lengths) < 130_000 && Math.min(...lengths) > 50_000, lengths.join());
+  assert.ok(Math.max(...lengths) < 255_000 && Math.min(...lengths) > 100_000, lengths.join());
 });
 
 test('a text that is formatted keeps each value as it was written', () => {
