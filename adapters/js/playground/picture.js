@@ -9,6 +9,7 @@ const STYLE = `
   svg { position: absolute; inset: 0; width: 100%; height: 100%; transform-origin: 0 0; }
   svg[data-moving] { will-change: transform; overflow: visible; }
   svg[data-far] text { display: none; }
+  svg[data-far] :is(path, rect, ellipse, polygon):not([stroke="none"], [${TARGET}]) { stroke-width: .7px; vector-effect: non-scaling-stroke; }
   [${TARGET}] { stroke: transparent !important; stroke-width: 10 !important; fill: none !important; pointer-events: stroke; }
   g[${LIT}] path:not([${TARGET}]) { stroke: var(--accent) !important; stroke-width: 2.6 !important; }
   g[${LIT}] path[stroke="none"]:not([${TARGET}]), g[${LIT}] circle { fill: var(--accent) !important; stroke: none !important; }

@@ -8,7 +8,7 @@ const MOST_TOLD = 100;
 const MENDED = new Set([undefined, 'unknownOption', 'shortOption', 'unknownMember']);
 
 /** The place is told apart from the sentence. */
-const withoutPlace = (message) => message.replace(/^line \d+, column \d+: /, '');
+const withoutPlace = (message) => message.replace(/^([^:]*: )?line \d+, column \d+: /, '$1');
 
 /** What the page tells of a fault or a warning, with what was meant, as it is to be written instead. */
 const briefly = ({ message, line, column, near, kind }) => ({
