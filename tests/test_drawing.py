@@ -214,6 +214,22 @@ class Drawing(unittest.TestCase):
         (reply,) = replies_to(request(negative))
         self.assertEqual((reply["fault"]["rule"], "faults" in reply["fault"]), (4, False))
 
+    def test_a_label_without_a_size_has_room_for_the_letters_that_it_asks_for(self):
+        def size_in(graph, size):
+            label = {"text": "wide\nword", "style": {"fontSize": size}}
+            (reply,) = replies_to(request({**graph, "edges": [{**graph["edges"][0], "labels": [label]}]}, give=["placed"]))
+            placed = reply["placed"]["edges"][0]["labels"][0]
+            self.assertEqual(placed["style"], label["style"])
+            return placed["width"], placed["height"]
+
+        for graph in [GRAPH, ACROSS]:
+            width, height = size_in(graph, 12)
+            self.assertEqual(height, 30)
+            self.assertEqual(size_in(graph, 24)[1], 60)
+            self.assertIn(size_in(graph, 24)[0], [2 * width - 1, 2 * width])
+            for size in [0, -3, 1001, 1e300, "24", None, [24]]:
+                self.assertEqual(size_in(graph, size), (width, height), size)
+
     def test_a_graph_is_refused_for_what_is_wrong_with_it(self):
         status, out, notes = run("--json", given='{"children":[{"id":"a","width":30.5},{"width":3}]}')
         self.assertEqual((status, out), (2, b""))

@@ -9,7 +9,7 @@ export interface Look {
   arrows?: boolean;
 }
 
-/** The member `style` of a node or an edge. Invalid values are ignored. */
+/** The member `style` of a node, an edge or a label. Invalid values are ignored. */
 export interface Style {
   /** The shape of a node within its box; a group is a box or round. */
   shape?: 'box' | 'round' | 'ellipse' | 'circle' | 'diamond';
@@ -27,6 +27,8 @@ export interface Style {
   width?: number;
   /** How many outlines a node has, one within the other, from 1 to 4. */
   outlines?: number;
+  /** The size of a label's letters, from 1 to 1000, if there is room for them. */
+  fontSize?: number;
   /** At which ends of an edge arrow heads stand; without it, at the target. */
   arrows?: 'tail' | 'both';
 }

@@ -115,6 +115,21 @@ const CASES = {
     ],
     edges: [edge(1, 'd', 'p'), edge(2, 'q', 'a'), edge(3, 'a', 'b'), edge(4, 'b', 'd'), edge(5, 'x', 'a'), edge(6, 'b', 'o')],
   },
+  ...Object.fromEntries(
+    [['RIGHT', 'NORTH'], ['LEFT', 'SOUTH'], ['DOWN', 'EAST'], ['UP', 'WEST']].map(([direction, side]) => [
+      `ports in a fixed order, reached from where a level begins that leads ${direction}`,
+      {
+        layoutOptions: { 'elk.direction': direction },
+        children: [
+          group('c', [leaf('a'), leaf('b')], {
+            layoutOptions: { 'elk.direction': direction, 'elk.portConstraints': 'FIXED_ORDER' },
+            ports: [port('p', side, { 'elk.port.index': 1 }), port('q', side, { 'elk.port.index': 2 })],
+          }),
+        ],
+        edges: [edge(1, 'p', 'a'), edge(2, 'q', 'b')],
+      },
+    ]),
+  ),
   'labels at both ends, in groups without room': {
     children: [group('c', [leaf('a')], { layoutOptions: noPadding }), group('d', [leaf('u')])],
     edges: [

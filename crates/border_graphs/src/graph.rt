@@ -6,7 +6,7 @@ use crate::edges::{has_dock, helper_edge, sent_pieces};
 use crate::known::{Known, Mode};
 use crate::members::{Members, ask, ask_word, labels_in, options_in, put_list, put_options};
 use crate::ports::{PortKey, SentPort};
-use crate::rooms::padding_within;
+use crate::rooms::{padding_for_labels, padding_within};
 use crate::spots::{PinnedSpot, dock_key};
 use crate::ties::break_ties;
 use border_levels::{Model, PieceEnd};
@@ -205,6 +205,8 @@ fn level_options(
         ask(&mut options, alloc, "padding", padding)?;
         let whole = Value::Bool(false);
         ask(&mut options, alloc, "separateConnectedComponents", whole)?;
+    } else if let Some(padding) = padding_for_labels(alloc, model, level)? {
+        ask(&mut options, alloc, "padding", Value::String(padding))?;
     }
     if has_pieces && is_of_boxes(model, level) {
         ask_word(&mut options, alloc, "algorithm", "layered")?;

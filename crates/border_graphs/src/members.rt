@@ -95,6 +95,11 @@ fn label_value(alloc: Global, label: &Label, spot: Option<Spot>) -> Result<Value
         "text",
         text_value(alloc, label.text.as_str())?,
     )?;
+    if let Some(size) = label.letters {
+        let mut style = Map::new(alloc);
+        put_number(&mut style, alloc, "fontSize", size)?;
+        put(&mut members, alloc, "style", Value::Object(style))?;
+    }
     let (width, height) = (label.width, label.height);
     put_size(&mut members, alloc, Size { width, height })?;
     if label.has_place {

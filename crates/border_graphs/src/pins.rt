@@ -190,15 +190,17 @@ fn gaps_for(
     Ok(gaps)
 }
 
-// The gaps of a stretch in which something has its room and leaves others theirs; if there is none, those between the lines alone.
+// The gaps of a stretch of a side in which something has its room and leaves others theirs; if there is none, those between the lines
+// alone, as far as its labels don't reach beyond the side.
 fn gaps_in(
     alloc: Global,
     stretch: Stretch,
+    length: f64,
     here: &[Standing],
     own: f64,
 ) -> Result<Vec<Stretch>, AllocError> {
-    let least = 2.0 * NEAREST;
-    for with_others in [true, false] {
+    let wide = 2.0 * NEAREST;
+    for (with_others, least) in [(true, wide), (false, wide), (false, NEAREST)] {
         let need = Need {
             own,
             with_others,
@@ -213,6 +215,15 @@ fn gaps_in(
         own: 0.0,
         with_others: false,
         least: f64::NEG_INFINITY,
+    };
+    let short = Stretch {
+        to: stretch.to.min(length - own),
+        ..stretch
+    };
+    let stretch = if short.length() >= NEAREST {
+        short
+    } else {
+        stretch
     };
     gaps_for(alloc, stretch, here, need)
 }
@@ -278,7 +289,7 @@ fn place_rest(
                 1.0
             };
             let stretch = stretch_for(it, length, here.as_slice());
-            let gaps = gaps_in(alloc, stretch, here.as_slice(), it.room)?;
+            let gaps = gaps_in(alloc, stretch, length, here.as_slice(), it.room)?;
             let wish = wishes.get(&it.key).copied();
             let line = place_for(gaps.as_slice(), wish, share);
             if let Some(it) = here.get_mut(at) {

@@ -8,7 +8,7 @@ use border_graphs::{
     orders_by, spot_key,
 };
 use border_levels::{Model, line_of};
-use elk_json::{DocFault, read_doc};
+use elk_json::{DocFault, Refusal, Rule, read_doc};
 use graph_draft::How;
 use graph_layout::{DrawnLevel, OneLevel, draw_level};
 use std::alloc::{AllocError, Global};
@@ -178,7 +178,10 @@ impl Layout<'_> {
             None => {
                 // The engine tells what it doesn't take.
                 let _ = read_doc(alloc, &sent.document)?;
-                Err(DocFault::Memory)
+                Err(DocFault::Refused(Refusal {
+                    rule: Rule::BadShape,
+                    place: None,
+                }))
             }
         }
     }

@@ -13,6 +13,7 @@ mod edges;
 mod gaps;
 mod layout;
 mod nodes;
+mod port_rooms;
 mod search;
 mod standing;
 mod titles;

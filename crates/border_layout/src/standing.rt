@@ -2,6 +2,7 @@
 
 use crate::cutting::cut_routes;
 use crate::drawings::{Drawing, ORIGIN, Placement, ROOT, place_of_label};
+use crate::port_rooms::lack_beside_lines;
 use crate::titles::{drawn_titles, shares_of};
 use border_levels::{Model, PortRule, line_of};
 use border_ring::{
@@ -13,6 +14,9 @@ use std::collections::BTreeMap;
 
 // The room between two ports of a node.
 const BETWEEN_PORTS: f64 = 10.0;
+
+// How often a node grows at most for labels that lack room.
+const MOST_GROWTHS: usize = 10;
 
 /// How a level stands, and where each crossing of its border lies along its side.
 #[derive(Drop)]
@@ -166,7 +170,7 @@ struct Leading {
     led: Led,
     routes: Vec<Vec<Point>>,
     titles: Vec<Title>,
-    // How much larger the node has to be for a label that lines leave no room for.
+    // How much larger the node has to be for labels that lines leave no room for.
     lack: Size,
 }
 
@@ -201,12 +205,46 @@ fn lead(
         routes.as_slice(),
         room,
     )?;
+    let lack = if is_framed {
+        let beside = lack_beside_lines(alloc, model, content.level, &led)?;
+        Size {
+            width: lack.width.max(beside.width),
+            height: lack.height.max(beside.height),
+        }
+    } else {
+        Size::NONE
+    };
     Ok(Leading {
         led,
         routes,
         titles,
-        lack: if is_framed { lack } else { Size::NONE },
+        lack,
     })
+}
+
+// A level whose node grows until no label lacks room. A label in the middle moves by half of what the node grows, and may lack room
+// again: each time half as much.
+fn grown(
+    alloc: Global,
+    model: &Model,
+    drawing: &Drawing,
+    content: &Content<'_>,
+    first: Leading,
+) -> Result<Leading, AllocError> {
+    let mut leading = first;
+    for _ in 0..MOST_GROWTHS {
+        let lack = leading.lack;
+        if !(lack.width > 0.0 || lack.height > 0.0) {
+            break;
+        }
+        // A label without room gets it at the end of its row or column.
+        let larger = Size {
+            width: leading.led.size.width + lack.width,
+            height: leading.led.size.height + lack.height,
+        };
+        leading = lead(alloc, model, drawing, content, larger)?;
+    }
+    Ok(leading)
 }
 
 // Whether the certificate of a drawn level holds for the edges of the graph: all of them were sent as they are.
@@ -242,16 +280,8 @@ pub(crate) fn stand(
         padding: drawing.level.padding,
     };
     let least = least_of(model, level, drawing.level.least);
-    let mut leading = lead(alloc, model, drawing, &content, least)?;
-    let lack = leading.lack;
-    if lack.width > 0.0 || lack.height > 0.0 {
-        // A label without room gets it at the end of its row or column.
-        let larger = Size {
-            width: leading.led.size.width + lack.width,
-            height: leading.led.size.height + lack.height,
-        };
-        leading = lead(alloc, model, drawing, &content, larger)?;
-    }
+    let first = lead(alloc, model, drawing, &content, least)?;
+    let leading = grown(alloc, model, drawing, &content, first)?;
     let Leading {
         led,
         routes,

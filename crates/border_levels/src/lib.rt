@@ -25,6 +25,3 @@ pub use pairs::{Dock, Pair, PairEnd, PieceLabel, Step};
 pub use placements::{is_outside, placement_of};
 pub use port_stacks::{PortStack, port_stack_of};
 pub use ways::{Reach, Way, reaches_of, way_of};
-
-#[cfg(test)]
-mod tests;

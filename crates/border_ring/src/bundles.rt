@@ -121,14 +121,13 @@ fn bundle_of(
     } else {
         Some(LevelSide::High)
     };
-    let is_forward = matches!(crossing.exit, Side::East | Side::South);
     let mut bundle = Bundle {
         number,
         crossing: at,
         side: crossing.side,
         end: net.end,
         turn,
-        is_rising: is_forward == (net.end == LevelEnd::Last),
+        is_rising: matches!(crossing.exit, Side::East | Side::South),
         rank: None,
         label_room: 0.0,
         given: None,

@@ -17,6 +17,3 @@ pub use leading::{Ends, Led, led_on};
 pub use rectangles::{Bounds, Reach, whole_box};
 pub use ring::Content;
 pub use titles::{Room, Title, moved_titles, slide_titles};
-
-#[cfg(test)]
-mod tests;

@@ -200,14 +200,70 @@ impl Ring {
         Ok(self.rooms.at(end) + slot)
     }
 
+    // The vertical of a bundle that turns to a side across the direction at its slot, with the room of the labels that stand behind it
+    // in the document; none where there are no labels. The columns begin and end where it is told.
+    fn labelled_slot(&self, bundle: &Bundle, first: f64, end: f64) -> Option<(f64, f64)> {
+        let is_there = bundle.turn.is_some() && !bundle.takes_lane() && bundle.label_room > 0.0;
+        if !is_there {
+            return None;
+        }
+        let slot = match bundle.end {
+            LevelEnd::First => first - bundle.slot,
+            LevelEnd::Last => end + bundle.slot,
+        };
+        Some((slot, bundle.label_room + NEAR))
+    }
+
+    // How far labels of ports at the sides across the direction reach along it.
+    fn end_of_labels(&self, first: f64, end: f64) -> f64 {
+        let mut most: f64 = 0.0;
+        for bundle in self.bundles.iter() {
+            if let Some((slot, room)) = self.labelled_slot(bundle, first, end) {
+                most = most.max(slot + room);
+            }
+        }
+        most
+    }
+
+    // How much further behind the first end the columns have to begin, so that labels of ports at the sides across the direction, which
+    // stand before their verticals where the direction leads to the left or up, lie within the node.
+    fn lack_of_labels(&self, first: f64) -> f64 {
+        let end = first + (self.reach.u1 - self.reach.u0);
+        let mut lack: f64 = 0.0;
+        for bundle in self.bundles.iter() {
+            if let Some((slot, room)) = self.labelled_slot(bundle, first, end) {
+                lack = lack.max(room - slot);
+            }
+        }
+        lack
+    }
+
+    // The room of the longest labels at the ports of some bundles.
+    fn longest_label(&self, list: &[usize]) -> f64 {
+        let mut longest: f64 = 0.0;
+        for at in list {
+            if let Some(bundle) = self.bundles.get(*at) {
+                longest = longest.max(bundle.label_room);
+            }
+        }
+        longest
+    }
+
     // The columns, with room for the slots.
     fn lay_along(&mut self, alloc: Global) -> Result<(), AllocError> {
-        let first = self.lay_slots(alloc, LevelEnd::First)?;
+        let mut first = self.lay_slots(alloc, LevelEnd::First)?;
         let last = self.lay_slots(alloc, LevelEnd::Last)?;
+        if self.is_backward() {
+            first += self.lack_of_labels(first);
+        }
         let end = first + (self.reach.u1 - self.reach.u0);
         let mut needs = self.size.u.max(end + last);
+        if !self.is_backward() {
+            needs = needs.max(self.end_of_labels(first, end));
+        }
         for list in self.out_of_order.iter() {
-            needs = needs.max(STEP * (nearest_usize_to_f64(list.len()) + 1.0));
+            let step = STEP.max(self.longest_label(list.as_slice()));
+            needs = needs.max(step * (nearest_usize_to_f64(list.len()) + 1.0));
         }
         self.size.u = needs;
         self.columns = (first, end);

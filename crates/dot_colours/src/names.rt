@@ -2,11 +2,11 @@
 
 use crate::table::{MORE_NAMES, NAMES, SHADES};
 
-// What SVG calls by names that X11 has for other colours.
+// What SVG calls by names that X11 has for other colours. Names ascend.
 const SVG_NAMES: [(&str, u32); 5] = [
     ("gray", 0x808080),
-    ("grey", 0x808080),
     ("green", 0x008000),
+    ("grey", 0x808080),
     ("maroon", 0x800000),
     ("purple", 0x800080),
 ];

@@ -1,6 +1,6 @@
 //! Attributes that mean something, and what is told of all others.
 
-use dot_looks::{Form, Given, Notes, Shape};
+use dot_looks::{Form, Given, Notes, Shape, asked_font_size};
 use dot_syntax::{Attributes, Graph, Written};
 use std::alloc::{AllocError, Global};
 use std::collections::BTreeSet;
@@ -160,6 +160,9 @@ fn tell_attribute(
     if is_number && given.text(name).is_some() && given.number(name).is_none() {
         let message = format!(in alloc; "the value of {name} is no number, and has no effect")?;
         return notes.add(written.place, message.as_str());
+    }
+    if name == "fontsize" && given.number(name).is_some() && asked_font_size(given).is_none() {
+        return tell_value(alloc, written, name, "from 1 to 1000", notes);
     }
     Ok(())
 }

@@ -3,7 +3,9 @@
 use crate::nodes::blank_label;
 use crate::planned::{FieldArea, Planned};
 use crate::spots::Area;
-use dot_looks::{Form, Given, Members, Shape, font_size, least_extent, put_number, put_text};
+use dot_looks::{
+    Form, Given, Members, Shape, font_size, least_extent, put_letters, put_number, put_text,
+};
 use dot_records::{Cell, Extent, Field, Names, cells_of, extent_of, label_text, record_of};
 use serde_json::Value;
 use serde_json::value::Map;
@@ -13,7 +15,12 @@ use std::alloc::{AllocError, Global};
 // take such a label for one that has no place.
 const INSET: f64 = 2.0;
 
-fn label_of_field(alloc: Global, text: &str, area: Area) -> Result<Value, AllocError> {
+fn label_of_field(
+    alloc: Global,
+    given: Given<'_>,
+    text: &str,
+    area: Area,
+) -> Result<Value, AllocError> {
     let mut label: Members = Map::new(alloc);
     put_text(&mut label, alloc, "text", text)?;
     put_number(&mut label, alloc, "x", area.x + INSET)?;
@@ -21,6 +28,7 @@ fn label_of_field(alloc: Global, text: &str, area: Area) -> Result<Value, AllocE
     let (width, height) = (area.width - 2.0 * INSET, area.height - 2.0 * INSET);
     put_number(&mut label, alloc, "width", width.max(1.0))?;
     put_number(&mut label, alloc, "height", height.max(1.0))?;
+    put_letters(&mut label, alloc, given)?;
     Ok(Value::Object(label))
 }
 
@@ -51,6 +59,7 @@ fn extents_of(
 
 fn labels_of(
     alloc: Global,
+    given: Given<'_>,
     fields: &[Field],
     texts: &[String],
     cells: &[Cell],
@@ -58,7 +67,8 @@ fn labels_of(
     let mut labels = Vec::new(alloc);
     for ((field, text), cell) in fields.iter().zip(texts.iter()).zip(cells.iter()) {
         if field.count == 0 && !text.is_empty() {
-            labels.push(label_of_field(alloc, text.as_str(), Area::of_cell(*cell))?)?;
+            let area = Area::of_cell(*cell);
+            labels.push(label_of_field(alloc, given, text.as_str(), area)?)?;
         }
     }
     if labels.is_empty() {
@@ -119,7 +129,13 @@ pub(crate) fn plan_record(
         },
         None => least,
     };
-    let labels = labels_of(alloc, fields.as_slice(), texts.as_slice(), cells.as_slice())?;
+    let labels = labels_of(
+        alloc,
+        given,
+        fields.as_slice(),
+        texts.as_slice(),
+        cells.as_slice(),
+    )?;
     let areas = areas_of(alloc, fields, cells.as_slice())?;
     Ok(Some(Planned::new(alloc, Form::Record, whole, labels, areas)))
 }

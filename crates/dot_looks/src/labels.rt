@@ -2,8 +2,9 @@
 
 use crate::given::Given;
 use crate::members::{Members, put_number, put_object, put_text};
-use dot_records::{Names, extent_of, html_text, label_text};
+use dot_records::{Names, html_text, label_text};
 use dot_syntax::Written;
+use letter_widths::asked_size;
 use serde_json::Value;
 use serde_json::value::Map;
 use std::alloc::{AllocError, Global};
@@ -11,18 +12,23 @@ use std::alloc::{AllocError, Global};
 /// The size of letters, if nothing else is said, in points.
 pub const DEFAULT_FONT_SIZE: f64 = 14.0;
 
-// Pictures have no larger letters.
-const LARGEST: f64 = 12.0;
-
-// Larger letters are no larger than that.
-const LARGEST_ASKED: f64 = 1000.0;
+/// The size of letters that an element asks for, in points; nothing if letters can't have it.
+pub fn asked_font_size(given: Given<'_>) -> Option<f64> {
+    asked_size(given.number("fontsize"))
+}
 
 /// The size of an element's letters, in points.
 pub fn font_size(given: Given<'_>) -> f64 {
-    match given.number("fontsize") {
-        Some(size) if size >= 1.0 => size.min(LARGEST_ASKED),
-        _ => DEFAULT_FONT_SIZE,
+    asked_font_size(given).unwrap_or(DEFAULT_FONT_SIZE)
+}
+
+/// Puts the size of letters that an element asks for into a label of it.
+pub fn put_letters(label: &mut Members, alloc: Global, given: Given<'_>) -> Result<(), AllocError> {
+    let mut style: Members = Map::new(alloc);
+    if let Some(size) = asked_font_size(given) {
+        put_number(&mut style, alloc, "fontSize", size)?;
     }
+    put_object(label, alloc, "style", style)
 }
 
 /// The text of a label that an attribute gives. It may be in HTML.
@@ -48,7 +54,7 @@ pub fn label_in(
     Ok(if text.is_empty() { None } else { Some(text) })
 }
 
-/// A label as a value. It has a size if the element asks for a size of its letters. An option may say where it stands.
+/// A label as a value. Its letters have the size that the element asks for. An option may say where it stands.
 pub fn label_value(
     alloc: Global,
     given: Given<'_>,
@@ -57,11 +63,7 @@ pub fn label_value(
 ) -> Result<Value, AllocError> {
     let mut label: Members = Map::new(alloc);
     put_text(&mut label, alloc, "text", text)?;
-    if given.number("fontsize").is_some() {
-        let extent = extent_of(text, font_size(given).min(LARGEST));
-        put_number(&mut label, alloc, "width", extent.width.ceil())?;
-        put_number(&mut label, alloc, "height", extent.height.ceil())?;
-    }
+    put_letters(&mut label, alloc, given)?;
     if let Some((name, value)) = option {
         let mut options: Members = Map::new(alloc);
         put_text(&mut options, alloc, name, value)?;

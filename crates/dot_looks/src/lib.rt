@@ -13,7 +13,9 @@ mod sizes;
 mod styles;
 
 pub use given::Given;
-pub use labels::{DEFAULT_FONT_SIZE, font_size, label_in, label_value, text_in};
+pub use labels::{
+    DEFAULT_FONT_SIZE, asked_font_size, font_size, label_in, label_value, put_letters, text_in,
+};
 pub use lines::{Line, line_of};
 pub use members::{Members, number_value, put_list, put_number, put_object, put_text};
 pub use notes::Notes;

@@ -19,6 +19,8 @@ pub(crate) fn colour_at(
     let colour = colour_of(alloc, text, scheme)?;
     if colour.is_none() {
         notes.add(written.place, "the colour is not known")?;
+    } else if text.split_once(":").is_some() {
+        notes.add(written.place, "only the first colour of the list is drawn")?;
     }
     Ok(colour)
 }

@@ -51,6 +51,24 @@ impl Rect {
         )
     }
 
+    // What it covers on a way along the lines that run out of a side, and a unit more at both ends.
+    fn swept(self, side: Side, way: f64) -> Rect {
+        let (back, ahead) = (way.min(0.0) - 1.0, way.max(0.0) + 1.0);
+        if side.is_upright() {
+            Rect {
+                left: self.left + back,
+                right: self.right + ahead,
+                ..self
+            }
+        } else {
+            Rect {
+                top: self.top + back,
+                bottom: self.bottom + ahead,
+                ..self
+            }
+        }
+    }
+
     /// Whether another rectangle is nearer than so much room.
     pub(crate) fn meets(self, other: Rect, room: f64) -> bool {
         self.left < other.right + room
@@ -181,18 +199,20 @@ impl Bands {
         self.add_labels(alloc, draft, Element::Edge(found.edge), origin)
     }
 
-    /// The rectangles that one might meet if it moved along the axis, by their numbers.
+    /// The rectangles that one might meet on a way along the axis, by their numbers.
     pub(crate) fn near(
         &self,
         found: &mut Vec<usize>,
         rect: Rect,
+        way: f64,
         room: f64,
     ) -> Result<(), AllocError> {
         let (from, to) = self.reach(rect);
+        let covered = rect.swept(self.side, way);
         for band in band_of(from - room)..=band_of(to + room) {
             if let Some(list) = self.bands.get(&band) {
                 for at in list.iter() {
-                    if self.is_beside(*at, (from, to), room) {
+                    if self.is_met(*at, covered, room) {
                         found.push(*at)?;
                     }
                 }
@@ -201,13 +221,10 @@ impl Bands {
         Ok(())
     }
 
-    // Whether a rectangle is nearer than so much room to what lies between two places across the axis.
-    fn is_beside(&self, at: usize, (from, to): (f64, f64), room: f64) -> bool {
+    // Whether a rectangle is nearer than so much room to another one.
+    fn is_met(&self, at: usize, other: Rect, room: f64) -> bool {
         match self.all.get(at) {
-            Some(obstacle) => {
-                let (start, end) = self.reach(obstacle.rect);
-                start < to + room && from < end + room
-            }
+            Some(obstacle) => obstacle.rect.meets(other, room),
             None => false,
         }
     }

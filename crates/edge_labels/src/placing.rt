@@ -76,7 +76,6 @@ fn pass_through(
     stops: Vec<Stop>,
 ) -> Result<Passed, AllocError> {
     let (level, edge) = (found.level, found.edge);
-    keep_document_order(alloc, draft, level)?;
     let side = draft.direction_of(level).ahead();
     let (mut holders, mut leaves) = (Vec::new(alloc), Vec::new(alloc));
     for stop in stops {
@@ -123,7 +122,7 @@ fn stand_beside(
     }
 }
 
-// Makes room for the labels of an edge between two nodes.
+// Lets labels of an edge between two nodes stand beside its line where they can. It answers the edge, and the stops for the others.
 fn place_along(
     alloc: Global,
     draft: &mut Draft,
@@ -131,7 +130,7 @@ fn place_along(
     known: Known<'_>,
     mut found: Joined,
     labels: &[usize],
-) -> Result<Option<Passed>, AllocError> {
+) -> Result<(Joined, Vec<Stop>), AllocError> {
     let mut stops = Vec::new(alloc);
     for (spot, end) in spots_along(known.turned.contains(&found.edge)) {
         let labels = labels_at(alloc, draft, found.edge, labels, spot)?;
@@ -146,10 +145,15 @@ fn place_along(
         }
     }
     draft.change_ends(alloc, found.edge, found.source, found.target)?;
-    if stops.is_empty() {
-        return Ok(None);
+    Ok((found, stops))
+}
+
+// The level of the edge that was led through leaves last.
+fn last_level(passed: &[Passed]) -> Option<usize> {
+    match passed.last() {
+        Some(last) => Some(last.level),
+        None => None,
     }
-    Ok(Some(pass_through(alloc, draft, known, &found, stops)?))
 }
 
 /// Makes room for the labels of edges between different nodes of a level: beside lines at nodes, or in leaves. Labels that lack a
@@ -168,12 +172,17 @@ pub fn place_edge_labels(
             labelled.push((found, labels))?;
         }
     }
-    let mut passed = Vec::new(alloc);
+    let mut passed: Vec<Passed> = Vec::new(alloc);
     for (found, labels) in labelled.iter() {
-        let along = place_along(alloc, draft, strips, known, *found, labels.as_slice())?;
-        if let Some(along) = along {
-            passed.push(along)?;
+        let (found, stops) = place_along(alloc, draft, strips, known, *found, labels.as_slice())?;
+        if stops.is_empty() {
+            continue;
         }
+        // If the edge before is at the same level, the order is kept already.
+        if last_level(passed.as_slice()) != Some(found.level) {
+            keep_document_order(alloc, draft, found.level)?;
+        }
+        passed.push(pass_through(alloc, draft, known, &found, stops)?)?;
     }
     Ok(EdgeLabels { mark, passed })
 }

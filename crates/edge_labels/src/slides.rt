@@ -105,7 +105,7 @@ impl Slide {
         let labels = self.labels.as_slice();
         let mut near = Vec::new(alloc);
         for label in labels {
-            bands.near(&mut near, Rect::of_label(draft, *label), self.room)?;
+            bands.near(&mut near, Rect::of_label(draft, *label), way, self.room)?;
         }
         let others = bands.others(alloc, near.as_slice(), self.edge, labels)?;
         self.place_clear(draft, way, others.as_slice());

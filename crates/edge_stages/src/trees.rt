@@ -87,7 +87,7 @@ struct Walk<'a> {
     reached: Vec<usize>,
 }
 
-// Some of the routes, by their numbers in ascending order, with the point to which all of them go next; no point if they end.
+// Some of the routes, by their numbers in ascending order, with the point to which all of them go next; no point for one that ends.
 #[derive(Drop)]
 struct Way {
     members: Vec<usize>,
@@ -141,7 +141,7 @@ impl Walk<'_> {
 #[derive(Drop)]
 struct Ways {
     list: Vec<Way>,
-    places: BTreeMap<Option<Spot>, usize>,
+    places: BTreeMap<Spot, usize>,
 }
 
 impl Ways {
@@ -152,13 +152,16 @@ impl Ways {
         }
     }
 
+    // Adds a route to those that go to the same point. Each route that ends has a way of its own.
     fn add(&mut self, alloc: Global, route: usize, to: Option<Point>) -> Result<(), AllocError> {
-        let key = match to {
-            Some(point) => Some(spot_at(point.x, point.y)),
-            None => None,
-        };
         let next = self.list.len();
-        let place = *self.places.entry(key)?.or_insert(next);
+        let place = match to {
+            Some(point) => *self
+                .places
+                .entry(spot_at(point.x, point.y))?
+                .or_insert(next),
+            None => next,
+        };
         if place == next {
             let members = Vec::new(alloc);
             self.list.push(Way { members, to })?;
@@ -189,7 +192,7 @@ struct Branch {
 }
 
 impl Walk<'_> {
-    // How far routes run together, and how they part there; no ways if the first of them ends.
+    // How far routes run together, and how they part there; no ways where a single route ends. Several may end at one point.
     fn run(
         &mut self,
         alloc: Global,
@@ -214,7 +217,12 @@ impl Walk<'_> {
             points.push(next)?;
             here = next;
         }
-        Ok((points, Vec::new(alloc)))
+        let ways = if members.len() < 2 {
+            Vec::new(alloc)
+        } else {
+            self.ways(alloc, members, here)?
+        };
+        Ok((points, ways))
     }
 
     // The branches at which routes begin, the last one first.

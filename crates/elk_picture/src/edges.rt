@@ -165,7 +165,8 @@ pub(crate) fn write_edge<'a>(
     pen: Pen<'_>,
 ) -> Result<(), AllocError> {
     let ink = ink_of(edge, levels.background_of(edge.home), pen.paints);
-    let mut lines = String::new(alloc);
+    // Most edges have no more text than that.
+    let mut lines = String::with_capacity(alloc, 256)?;
     write_lines(alloc, &mut lines, edge, levels, pen, ink)?;
     if lines.is_empty() {
         return Ok(());

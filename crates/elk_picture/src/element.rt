@@ -2,14 +2,16 @@
 
 use crate::geometry::{Point, Rect};
 use crate::words::words_of;
+use letter_widths::letter_size;
 use serde_json::Value;
 use std::alloc::{AllocError, Global};
 
-// A label with a text, and whether it has a place.
+// A label with a text, the size of its letters if there is room for them, and whether it has a place.
 #[derive(Drop)]
 pub(crate) struct Label<'a> {
     pub(crate) value: &'a Value,
     pub(crate) text: String,
+    pub(crate) size: f64,
     pub(crate) placed: bool,
 }
 
@@ -80,7 +82,14 @@ fn is_placed(label: &Value) -> bool {
     }
 }
 
-// The labels of an element that have a text.
+// The size of a label's letters, which its style may set.
+fn letters_of(label: &Value) -> f64 {
+    letter_size(match label.get("style") {
+        Some(style) => finite_at(style, "fontSize"),
+        None => None,
+    })
+}
+
 fn has_text(label: &Value) -> bool {
     match label.get("text") {
         Some(Value::String(text)) => !text.is_empty(),
@@ -114,6 +123,7 @@ pub(crate) fn labels_of<'a>(
             labels.push(Label {
                 value,
                 text: words_of(alloc, value.get("text"))?,
+                size: letters_of(value),
                 placed: is_placed(value),
             })?;
         }

@@ -157,6 +157,14 @@ fn first_id(edge: &Value, end: End) -> Option<&Value> {
     }
 }
 
+// The ids in the list of an end in the extended form; none in the primitive form.
+pub(crate) fn listed_ids(edge: &Value, end: End) -> &[Value] {
+    match edge.get(list_name(end)) {
+        Some(Value::Array(ids)) => ids.as_slice(),
+        _ => &[],
+    }
+}
+
 // The ids at one end of an edge, in the extended or in the primitive form.
 pub(crate) fn end_ids<'a>(
     alloc: Global,

@@ -2,7 +2,7 @@
 
 use crate::element::{Label, box_at};
 use crate::geometry::Point;
-use crate::texts::{Anchor, fitted_in, write_text};
+use crate::texts::{Anchor, fitted, write_text};
 use std::alloc::{AllocError, Global};
 
 // A label at its place, which is relative to the origin.
@@ -14,11 +14,12 @@ pub(crate) fn write_placed(
     ink: Option<&str>,
 ) -> Result<(), AllocError> {
     let at = box_at(label.value, origin);
-    let fit = fitted_in(
+    let fit = fitted(
         alloc,
         label.text.as_str(),
         room_or_all(at.width),
         room_or_all(at.height),
+        label.size,
     )?;
     write_text(out, &fit, at.middle(), Anchor::Middle, ink)
 }

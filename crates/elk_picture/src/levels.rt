@@ -2,7 +2,7 @@
 
 use crate::element::{box_of, elements_of, place_of};
 use crate::geometry::{Point, Rect};
-use crate::ids::{End, Ids};
+use crate::ids::{End, Ids, listed_ids};
 use crate::routes::{Section, sections_of};
 use crate::style::{Style, style_of};
 use serde_json::Value;
@@ -207,10 +207,27 @@ fn home_of<'a>(
         (Some(source), Some(target)) => {
             let above = levels.parent_of(source);
             let beside = levels.parent_of(target);
-            levels.common_holder(above, beside).unwrap_or(edge.home)
+            match levels.common_holder(above, beside) {
+                Some(home) => holder_of_ends(levels, edge, home),
+                None => edge.home,
+            }
         }
         _ => edge.home,
     }
+}
+
+// The nearest node that holds all ends of an edge. Its first ends are held by a node that is told.
+fn holder_of_ends<'a>(levels: &Levels<'a>, edge: &Edge<'a>, first: usize) -> usize {
+    let mut home = first;
+    for end in [End::Source, End::Target] {
+        for id in listed_ids(edge.value, end) {
+            if let Some(node) = levels.ids.node_of(Some(id)) {
+                let above = levels.parent_of(node);
+                home = levels.common_holder(Some(home), above).unwrap_or(home);
+            }
+        }
+    }
+    home
 }
 
 impl<'a> Levels<'a> {

@@ -39,6 +39,3 @@ mod words;
 pub use drawing::picture;
 pub use junctions::junction_points;
 pub use theme::Theme;
-
-#[cfg(test)]
-mod tests;

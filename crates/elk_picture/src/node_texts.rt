@@ -7,18 +7,42 @@ use crate::labels::write_placed;
 use crate::levels::Node;
 use crate::look::{Paints, ROUND, TITLE_LEAST, TITLE_LEFT, TITLE_TOP};
 use crate::nodes::is_root;
-use crate::shapes::room_in;
+use crate::shapes::{height_share, room_in};
 use crate::style::Shape;
-use crate::texts::{Anchor, Fit, fitted_in, height_of, heights_of, write_text};
+use crate::texts::{Anchor, Fit, fitted, height_of, heights_of, write_text};
 use letter_widths::{TEXT_LARGEST, TEXT_LINE};
 use std::alloc::{AllocError, Global};
 
-fn fits_of(alloc: Global, texts: &[&str], width: f64, height: f64) -> Result<Vec<Fit>, AllocError> {
+// A text without a place, and the size of its letters if there is room for them.
+#[derive(Clone, Copy, Drop)]
+struct Text<'a> {
+    words: &'a str,
+    size: f64,
+}
+
+fn fits_of(
+    alloc: Global,
+    texts: &[Text<'_>],
+    width: f64,
+    height: f64,
+    largest: f64,
+) -> Result<Vec<Fit>, AllocError> {
     let mut fits = Vec::new(alloc);
     for text in texts {
-        fits.push(fitted_in(alloc, *text, width, height)?)?;
+        let size = text.size.min(largest);
+        fits.push(fitted(alloc, text.words, width, height, size)?)?;
     }
     Ok(fits)
+}
+
+// The size of the largest letters in a leaf. They leave a shape that narrows upwards some width.
+fn largest_in(shape: Shape, at: Rect, texts: &[Text<'_>]) -> f64 {
+    let mut most = TEXT_LARGEST;
+    for text in texts {
+        most = text.size.max(most);
+    }
+    let room = at.height * height_share(shape) / (TEXT_LINE * count_of(texts));
+    most.min(room.max(TEXT_LARGEST))
 }
 
 fn write_fits(
@@ -40,7 +64,7 @@ fn write_fits(
     Ok(())
 }
 
-fn count_of(texts: &[&str]) -> f64 {
+fn count_of(texts: &[Text<'_>]) -> f64 {
     std::num::nearest_usize_to_f64(texts.len())
 }
 
@@ -48,15 +72,16 @@ fn count_of(texts: &[&str]) -> f64 {
 fn write_leaf_texts(
     alloc: Global,
     out: &mut String,
-    texts: &[&str],
+    texts: &[Text<'_>],
     shape: Shape,
     at: Rect,
     ink: Option<&str>,
 ) -> Result<(), AllocError> {
     let count = count_of(texts);
     let height = (at.height - 4.0).max(1.0) / count;
-    let width = (room_in(shape, at, TEXT_LARGEST * TEXT_LINE * count) - 8.0).max(1.0);
-    let fits = fits_of(alloc, texts, width, height)?;
+    let largest = largest_in(shape, at, texts);
+    let width = (room_in(shape, at, largest * TEXT_LINE * count) - 8.0).max(1.0);
+    let fits = fits_of(alloc, texts, width, height, largest)?;
     let middle = at.middle();
     let top = Point {
         x: middle.x,
@@ -69,7 +94,7 @@ fn write_leaf_texts(
 fn write_group_texts(
     alloc: Global,
     out: &mut String,
-    texts: &[&str],
+    texts: &[Text<'_>],
     shape: Shape,
     at: Rect,
     room: f64,
@@ -81,7 +106,8 @@ fn write_group_texts(
         TITLE_LEFT
     };
     let height = (room - 2.0).max(0.0) / TEXT_LINE / count_of(texts);
-    let fits = fits_of(alloc, texts, (at.width - 2.0 * left).max(1.0), height)?;
+    let width = (at.width - 2.0 * left).max(1.0);
+    let fits = fits_of(alloc, texts, width, height, f64::INFINITY)?;
     let all = heights_of(fits.as_slice());
     let top = Point {
         x: at.left + left,
@@ -97,14 +123,20 @@ fn free_texts<'a>(
     labels: &'a [Label<'_>],
     id: &'a str,
     room: f64,
-) -> Result<Vec<&'a str>, AllocError> {
+) -> Result<Vec<Text<'a>>, AllocError> {
     let mut texts = Vec::new(alloc);
     if labels.is_empty() && !id.is_empty() && !is_root(node) && room >= TITLE_LEAST {
-        texts.push(id)?;
+        texts.push(Text {
+            words: id,
+            size: TEXT_LARGEST,
+        })?;
     }
     for label in labels {
         if !label.placed {
-            texts.push(label.text.as_str())?;
+            texts.push(Text {
+                words: label.text.as_str(),
+                size: label.size,
+            })?;
         }
     }
     Ok(texts)

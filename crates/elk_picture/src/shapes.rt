@@ -4,6 +4,7 @@ use crate::decimal::Decimal;
 use crate::geometry::{Point, Rect, write_rectangle};
 use crate::style::Shape;
 use std::alloc::AllocError;
+use std::f64::consts::FRAC_1_SQRT_2;
 
 // Writes the start of a shape's element, and answers the name of the element.
 pub(crate) fn write_shape(
@@ -48,6 +49,15 @@ fn write_rounded(out: &mut String, at: Rect, radius: f64) -> Result<&'static str
     write_rectangle(out, at)?;
     write!(out, " rx=\"{radius}\"")?;
     Ok("rect")
+}
+
+// The part of a shape's height that the largest rectangle within it has.
+pub(crate) fn height_share(shape: Shape) -> f64 {
+    match shape {
+        Shape::Ellipse => FRAC_1_SQRT_2,
+        Shape::Diamond => 0.5,
+        _ => 1.0,
+    }
 }
 
 // The width within a shape for texts of a height.

@@ -77,11 +77,14 @@ fn inner_outlines_in(value: Option<&Value>) -> u32 {
     }
 }
 
+// The bytes of a class at most.
+const LONGEST_CLASS: usize = 64;
+
 fn is_class(name: &str) -> bool {
     let bytes = name.as_bytes();
     match bytes.first() {
         Some(first) if first.is_ascii_alphabetic() => {
-            bytes.len() <= 64
+            bytes.len() <= LONGEST_CLASS
                 && bytes.iter().all(|byte| byte.is_ascii_alphanumeric()
                     || *byte == b'_'
                     || *byte == b'-')

@@ -3,7 +3,7 @@
 use crate::decimal::Decimal;
 use crate::geometry::Point;
 use crate::words::Escaped;
-use letter_widths::{TEXT_DROP, TEXT_LARGEST, TEXT_LINE, TEXT_SMALLEST, begin, width_of};
+use letter_widths::{TEXT_DROP, TEXT_LINE, TEXT_SMALLEST, begin, width_of};
 use std::alloc::{AllocError, Global};
 use std::mem;
 use std::num::{nearest_usize_to_f64, saturating_f64_to_usize};
@@ -39,9 +39,14 @@ fn lines_of(alloc: Global, text: &str) -> Result<Vec<String>, AllocError> {
     Ok(lines)
 }
 
-// A line in the smallest letters, cut off where it is too wide or more follows.
-fn shortened(alloc: Global, line: &str, width: f64, has_more: bool) -> Result<String, AllocError> {
-    let size = TEXT_SMALLEST;
+// A line in letters of a size, cut off where it is too wide or more follows.
+fn shortened(
+    alloc: Global,
+    line: &str,
+    width: f64,
+    size: f64,
+    has_more: bool,
+) -> Result<String, AllocError> {
     if !has_more && width_of(line, size) <= width {
         return String::from_str(alloc, line);
     }
@@ -67,13 +72,14 @@ fn cut(
     lines: &[String],
     width: f64,
     height: f64,
+    size: f64,
 ) -> Result<Vec<String>, AllocError> {
-    let room = ((height / TEXT_SMALLEST - 1.0) / TEXT_LINE).floor() + 1.0;
+    let room = ((height / size - 1.0) / TEXT_LINE).floor() + 1.0;
     let count = saturating_f64_to_usize(room).max(1);
     let mut kept = Vec::new(alloc);
     for line in lines.iter().take(count) {
         let has_more = kept.len().saturating_add(1) == count && count < lines.len();
-        kept.push(shortened(alloc, line.as_str(), width, has_more)?)?;
+        kept.push(shortened(alloc, line.as_str(), width, size, has_more)?)?;
     }
     Ok(kept)
 }
@@ -90,24 +96,16 @@ pub(crate) fn fitted(
     // The room between lines is needed within a text, and not around it.
     let high = height / ((count_of(lines.as_slice()) - 1.0) * TEXT_LINE + 1.0);
     let size = largest.min(width / widest(lines.as_slice())).min(high);
-    if size >= TEXT_SMALLEST {
+    // Letters that are asked to be smaller may be.
+    let smallest = TEXT_SMALLEST.min(largest);
+    if size >= smallest {
         return Ok(Fit { lines, size });
     }
-    let lines = cut(alloc, lines.as_slice(), width, height)?;
+    let lines = cut(alloc, lines.as_slice(), width, height, smallest)?;
     Ok(Fit {
         lines,
-        size: TEXT_SMALLEST,
+        size: smallest,
     })
-}
-
-// The same with the largest letters of a picture.
-pub(crate) fn fitted_in(
-    alloc: Global,
-    text: &str,
-    width: f64,
-    height: f64,
-) -> Result<Fit, AllocError> {
-    fitted(alloc, text, width, height, TEXT_LARGEST)
 }
 
 pub(crate) fn height_of(fit: &Fit) -> f64 {

@@ -20,7 +20,7 @@ fn in_line(byte: u8) -> u8
 fn without_feeds(alloc: Global, bytes: &[u8]) -> Result<Vec<u8>, AllocError>
     ensures { IfOk result (λ line. line.items ≡ map line_byte bytes.now) }
 {
-    let mut line = Vec::new(alloc);
+    let mut line = Vec::with_capacity(alloc, bytes.len().saturating_add(1))?;
     for byte in bytes {
         line.push(in_line(*byte))?;
     }

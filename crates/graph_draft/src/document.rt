@@ -75,7 +75,9 @@ fn put_option(
     name: &str,
     value: Value,
 ) -> Result<(), AllocError> {
-    let key = format!(in alloc; "{prefix}{name}")?;
+    let mut key = String::with_capacity(alloc, prefix.len().saturating_add(name.len()))?;
+    key.push_str(prefix)?;
+    key.push_str(name)?;
     sent.insert(key, value)?;
     Ok(())
 }
@@ -88,6 +90,9 @@ fn sent_options(
     role: Role,
 ) -> Result<Map<String, Value>, AllocError> {
     let mut sent = Map::new(alloc);
+    if own.is_empty() && general.is_empty() {
+        return Ok(sent);
+    }
     for name in general.names(alloc)? {
         if own.get(name).is_none() && is_read_by(name, role) {
             if let Some(value) = general.get(name) {
@@ -144,7 +149,9 @@ pub(crate) fn made_id(
     kind: &str,
     at: usize,
 ) -> Result<String, AllocError> {
-    format!(in alloc; "{stem}{kind}{at}")
+    let mut id = String::with_capacity(alloc, stem.len().saturating_add(12))?;
+    write!(id, "{stem}{kind}{at}")?;
+    Ok(id)
 }
 
 impl Writing<'_> {

@@ -107,6 +107,8 @@ pub struct Section {
 pub struct Label {
     /// Its text; empty if it has none.
     pub text: String,
+    /// The size of letters that its style asks for.
+    pub letters: Option<f64>,
     pub width: f64,
     pub height: f64,
     pub x: f64,

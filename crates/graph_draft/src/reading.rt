@@ -92,6 +92,13 @@ struct Reading<'a> {
     whole: bool,
 }
 
+fn letters_in(label: &Value) -> Option<f64> {
+    match label.get("style") {
+        Some(style) => finite_at(style, "fontSize"),
+        None => None,
+    }
+}
+
 fn label_in(alloc: Global, value: &Value) -> Result<Label, AllocError> {
     let size = size_in(value);
     let place = place_in(value);
@@ -101,6 +108,7 @@ fn label_in(alloc: Global, value: &Value) -> Result<Label, AllocError> {
     };
     Ok(Label {
         text,
+        letters: letters_in(value),
         width: size.width,
         height: size.height,
         x: place.x,
@@ -366,10 +374,12 @@ fn ends_in<'a>(
             None => Ok(None),
         };
     }
-    for id in items_of(alloc, edge, names.0)? {
-        match ids.end_named(Some(id)) {
-            Some(end) => ends.push(end)?,
-            None => return Ok(None),
+    if let Some(Value::Array(list)) = edge.get(names.0) {
+        for id in list {
+            match ids.end_named(Some(id)) {
+                Some(end) => ends.push(end)?,
+                None => return Ok(None),
+            }
         }
     }
     Ok(if ends.is_empty() { None } else { Some(ends) })

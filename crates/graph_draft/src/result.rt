@@ -9,7 +9,7 @@ use option_names::plain_text;
 use serde_json::value::Map;
 use serde_json::{Value, put};
 use std::alloc::{AllocError, Global};
-use std::mem;
+use std::{mem, slice};
 
 // What an earlier drawing may have left at an edge.
 const OUTDATED: [&str; 7] = [
@@ -32,51 +32,41 @@ fn point_value(alloc: Global, point: Point) -> Result<Value, AllocError> {
 }
 
 // The ids at an end of an edge, as the graph names them: in the extended or in the primitive form.
-fn ids_at(
-    alloc: Global,
-    edge: &Members,
-    list: &str,
-    port: &str,
-    node: &str,
-) -> Result<Vec<Value>, AllocError> {
-    let mut ids = Vec::new(alloc);
+fn ids_at<'a>(edge: &'a Members, list: &str, port: &str, node: &str) -> &'a [Value] {
     if let Some(Value::Array(items)) = edge.get(list) {
-        for item in items {
-            ids.push(item.clone()?)?;
-        }
-        return Ok(ids);
+        return items.as_slice();
     }
     let named = match edge.get(port) {
         None | Some(Value::Null) => edge.get(node),
         named => named,
     };
-    if let Some(id) = named {
-        ids.push(id.clone()?)?;
+    match named {
+        Some(id) => slice::from_ref(id),
+        None => &[],
     }
-    Ok(ids)
 }
 
 // The ends of an edge by their ids, and the text with which the ids of its sections begin.
 #[derive(Drop)]
-struct Names {
-    sources: Vec<Value>,
-    targets: Vec<Value>,
+struct Names<'a> {
+    sources: &'a [Value],
+    targets: &'a [Value],
     edge: String,
 }
 
-fn names_of(alloc: Global, edge: &Members) -> Result<Names, AllocError> {
+fn names_of(alloc: Global, edge: &Members) -> Result<Names<'_>, AllocError> {
     let id = match edge.get("id") {
         Some(id) => plain_text(alloc, id)?,
         None => String::new(alloc),
     };
     Ok(Names {
-        sources: ids_at(alloc, edge, "sources", "sourcePort", "source")?,
-        targets: ids_at(alloc, edge, "targets", "targetPort", "target")?,
+        sources: ids_at(edge, "sources", "sourcePort", "source"),
+        targets: ids_at(edge, "targets", "targetPort", "target"),
         edge: id,
     })
 }
 
-fn section_id(alloc: Global, names: &Names, at: usize) -> Result<Value, AllocError> {
+fn section_id(alloc: Global, names: &Names<'_>, at: usize) -> Result<Value, AllocError> {
     let edge = names.edge.as_str();
     Ok(Value::String(format!(in alloc; "{edge}_s{at}")?))
 }
@@ -85,7 +75,7 @@ fn put_sections(
     members: &mut Members,
     alloc: Global,
     key: &str,
-    names: &Names,
+    names: &Names<'_>,
     numbers: &[usize],
 ) -> Result<(), AllocError> {
     let mut ids = Vec::new(alloc);
@@ -143,27 +133,25 @@ fn put_points(members: &mut Members, alloc: Global, points: &[Point]) -> Result<
 
 fn section_value(
     alloc: Global,
-    names: &Names,
+    names: &Names<'_>,
     at: usize,
     section: &Section,
 ) -> Result<Value, AllocError> {
     let mut members = Map::new(alloc);
     put(&mut members, alloc, "id", section_id(alloc, names, at)?)?;
     put_points(&mut members, alloc, section.points.as_slice())?;
-    let sources = names.sources.as_slice();
     put_shape(
         &mut members,
         alloc,
         "incomingShape",
-        sources,
+        names.sources,
         section.source,
     )?;
-    let targets = names.targets.as_slice();
     put_shape(
         &mut members,
         alloc,
         "outgoingShape",
-        targets,
+        names.targets,
         section.target,
     )?;
     let (incoming, outgoing) = (section.incoming.as_slice(), section.outgoing.as_slice());
@@ -189,6 +177,16 @@ fn container_id(draft: &Draft, at: usize) -> Option<&Value> {
     }
 }
 
+// The sections of an edge, whose ends are named as the graph names them.
+fn sections_value(alloc: Global, members: &Members, edge: &Edge) -> Result<Value, AllocError> {
+    let names = names_of(alloc, members)?;
+    let mut sections = Vec::new(alloc);
+    for (k, section) in edge.sections.iter().enumerate() {
+        sections.push(section_value(alloc, &names, k, section)?)?;
+    }
+    Ok(Value::Array(sections))
+}
+
 fn tell_route(
     alloc: Global,
     members: &mut Members,
@@ -196,15 +194,11 @@ fn tell_route(
     at: usize,
     edge: &Edge,
 ) -> Result<(), AllocError> {
-    let names = names_of(alloc, members)?;
+    let sections = sections_value(alloc, members, edge)?;
     for key in OUTDATED {
         members.remove(key);
     }
-    let mut sections = Vec::new(alloc);
-    for (k, section) in edge.sections.iter().enumerate() {
-        sections.push(section_value(alloc, &names, k, section)?)?;
-    }
-    put(members, alloc, "sections", Value::Array(sections))?;
+    put(members, alloc, "sections", sections)?;
     put_list(members, alloc, "junctionPoints", edge.junctions.as_slice())?;
     if let Some(id) = container_id(draft, at) {
         put(members, alloc, "container", id.clone()?)?;
@@ -220,6 +214,20 @@ fn tell_route(
     Ok(())
 }
 
+// Gives a member a value, in place of the one that the graph mostly has there.
+fn replace(
+    members: &mut Members,
+    alloc: Global,
+    key: &str,
+    value: Value,
+) -> Result<(), AllocError> {
+    if let Some(place) = members.get_mut(key) {
+        *place = value;
+        return Ok(());
+    }
+    put(members, alloc, key, value)
+}
+
 fn tell_box(
     members: &mut Members,
     alloc: Global,
@@ -229,8 +237,8 @@ fn tell_box(
     let (place, size) = (draft.place_of(element), draft.size_of(element));
     put(members, alloc, "x", number_value(place.x))?;
     put(members, alloc, "y", number_value(place.y))?;
-    put(members, alloc, "width", number_value(size.width))?;
-    put(members, alloc, "height", number_value(size.height))
+    replace(members, alloc, "width", number_value(size.width))?;
+    replace(members, alloc, "height", number_value(size.height))
 }
 
 // The number of the label that stands at a place of an element's list.

@@ -44,8 +44,11 @@ fn order_edges(
     let mut levels = if has_labels {
         levels_of(alloc, draft)?
     } else {
-        merging_levels(alloc, draft)?
+        BTreeSet::new(alloc)
     };
+    for level in merging.iter() {
+        levels.insert(*level)?;
+    }
     for (level, _) in ranks.iter() {
         levels.insert(*level)?;
     }

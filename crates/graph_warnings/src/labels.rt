@@ -2,7 +2,7 @@
 
 use crate::asked::{asked_at, asked_by, has_name};
 use json_places::{Element, Kind};
-use letter_widths::{TEXT_LARGEST, width_of};
+use letter_widths::{letter_size, width_of};
 use serde_json::{Number, Value};
 use std::alloc::{AllocError, Global};
 
@@ -13,15 +13,24 @@ fn positive_at(value: &Value, name: &str) -> Option<f64> {
     }
 }
 
+// The size of a label's letters, which its style may set.
+fn letters_of(label: &Value) -> f64 {
+    letter_size(match label.get("style") {
+        Some(style) => positive_at(style, "fontSize"),
+        None => None,
+    })
+}
+
 // The width of a label: where none is given, that of its text.
 fn width_of_label(label: &Value) -> f64 {
     if let Some(width) = positive_at(label, "width") {
         return width;
     }
+    let letters = letters_of(label);
     let mut width: f64 = 0.0;
     if let Some(Value::String(text)) = label.get("text") {
         for line in text.as_str().split("\n") {
-            width = width.max(width_of(line, TEXT_LARGEST));
+            width = width.max(width_of(line, letters));
         }
     }
     width.ceil()

@@ -1,7 +1,7 @@
 //! Labels and their sizes.
 
 use graph_draft::{Draft, Element, Point, Size, rounded_up};
-use letter_widths::{TEXT_LARGEST, TEXT_LINE, width_of};
+use letter_widths::{TEXT_LINE, letter_size, width_of};
 use std::alloc::{AllocError, Global};
 use std::num::nearest_usize_to_f64;
 
@@ -9,20 +9,20 @@ fn has_size(size: Size) -> bool {
     size.width > 0.0 && size.height > 0.0
 }
 
-// The size of a text in the largest letters of pictures.
-fn size_of_text(text: &str) -> Size {
+// The size of a text in letters of a size.
+fn size_of_text(text: &str, letters: f64) -> Size {
     if text.is_empty() {
         return Size::NONE;
     }
     let mut width: f64 = 0.0;
     let mut lines: usize = 0;
     for line in text.split("\n") {
-        width = width.max(width_of(line, TEXT_LARGEST));
+        width = width.max(width_of(line, letters));
         lines = lines.saturating_add(1);
     }
     Size {
         width: rounded_up(width),
-        height: rounded_up(nearest_usize_to_f64(lines) * TEXT_LARGEST * TEXT_LINE),
+        height: rounded_up(nearest_usize_to_f64(lines) * letters * TEXT_LINE),
     }
 }
 
@@ -38,7 +38,7 @@ pub fn measure(draft: &mut Draft, label: usize) -> bool {
         return true;
     }
     let of_text = match draft.labels.get(label) {
-        Some(label) => size_of_text(label.text.as_str()),
+        Some(label) => size_of_text(label.text.as_str(), letter_size(label.letters)),
         None => Size::NONE,
     };
     let size = Size {

@@ -5,6 +5,7 @@ use crate::inside::align_of;
 use graph_draft::{Draft, Element, Side};
 use label_room::{Align, Dock, Sides, Stack, Strips, borders, lines_at, place_stack, spots_at};
 use std::alloc::{AllocError, Global};
+use std::num::nearest_usize_to_f64;
 
 // Where labels stand beyond a side of a node.
 #[derive(Drop)]
@@ -55,6 +56,48 @@ fn depth_of(groups: &[Group], side: Side) -> f64 {
         }
     }
     depth
+}
+
+// How far a port whose place is known reaches beyond a side.
+fn pinned_beyond(draft: &Draft, node: usize, side: Side, port: usize) -> f64 {
+    let room = draft.size_of(Element::Node(node));
+    let place = draft.place_of(Element::Port(port));
+    let size = draft.size_of(Element::Port(port));
+    match side {
+        Side::North => -place.y,
+        Side::East => place.x + size.width - room.width,
+        Side::South => place.y + size.height - room.height,
+        Side::West => -place.x,
+    }
+}
+
+// How far ports at a neighbouring side reach beyond a side of a leaf that is shorter than they are. The engine spreads them at equal
+// distances.
+fn corner_beyond(draft: &Draft, sides: &Sides, node: usize, side: Side, beside: Side) -> f64 {
+    let docks = sides.at(node, beside);
+    let length = beside.along(draft.size_of(Element::Node(node)));
+    let first = (length / (nearest_usize_to_f64(docks.len()) + 1.0)).floor();
+    let mut most: f64 = 0.0;
+    for dock in docks {
+        if let Dock::Port(port) = dock {
+            most = most.max(if draft.is_pinned(node) {
+                pinned_beyond(draft, node, side, *port)
+            } else {
+                beside.along(draft.size_of(Element::Port(*port))) / 2.0 - first
+            });
+        }
+    }
+    most.ceil()
+}
+
+// How far ports at the two neighbouring sides reach beyond a side. The size of a level isn't known yet.
+fn corners_beyond(draft: &Draft, sides: &Sides, node: usize, side: Side) -> f64 {
+    if draft.is_level(node) {
+        return 0.0;
+    }
+    let (before, behind) = borders(side);
+    let one = corner_beyond(draft, sides, node, side, before);
+    one.max(corner_beyond(draft, sides, node, side, behind))
 }
 
 // How far a side's ports and the room that is kept there reach.
@@ -116,6 +159,7 @@ pub(crate) fn reserve_beyond(
     let level = Element::Node(draft.level_around(node));
     let docks = sides.at(node, side);
     let base = base_of(draft, strips, node, side, docks);
+    let base = base.max(corners_beyond(draft, sides, node, side));
     let away = draft.number(level, "spacing.labelNode", 5.0);
     let depth = depth_of(groups, side) + away;
     strips.reserve(alloc, node, side, base + depth)?;

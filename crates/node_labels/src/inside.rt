@@ -1,5 +1,6 @@
 //! Labels inside of nodes, in the cells of three rows and three columns.
 
+use crate::cells::room_of_cells;
 use crate::frames::Frame;
 use crate::groups::Group;
 use graph_draft::{Draft, Element, Point, Size};
@@ -14,10 +15,23 @@ pub(crate) fn align_of(column: usize) -> Align {
     }
 }
 
-fn corner_of(group: &Group, room: Size, frame: Frame, pad: Padding) -> Point {
+// Whether a node with pinned ports has room between what is at its borders to the left and right for all labels inside of it.
+fn has_room_between(
+    draft: &Draft,
+    node: usize,
+    groups: &[Group],
+    frame: Frame,
+    pad: Padding,
+) -> bool {
+    let room = draft.size_of(Element::Node(node));
+    let needs = room_of_cells(groups, pad).width + frame.west + frame.east;
+    draft.has_rule(node, "FIXED_POS") && room.width >= needs
+}
+
+fn corner_of(group: &Group, room: Size, frame: Frame, pad: Padding, between: bool) -> Point {
     let size = group.size;
-    // Only labels of the middle row stand beside what is at the borders to the left and right.
-    let (left, right) = if group.spot.row == 1 {
+    // Labels of the middle row stand beside what is at the borders to the left and right. Pinned ports may stand beside the other rows.
+    let (left, right) = if group.spot.row == 1 || between {
         (frame.west, frame.east)
     } else {
         (0.0, 0.0)
@@ -44,10 +58,11 @@ pub(crate) fn place_inside(
     pad: Padding,
 ) {
     let room = draft.size_of(Element::Node(node));
+    let between = has_room_between(draft, node, groups, frame, pad);
     for group in groups {
         if group.spot.side.is_none() {
             let stack = Stack {
-                place: corner_of(group, room, frame, pad),
+                place: corner_of(group, room, frame, pad, between),
                 width: group.size.width,
                 gap: group.gap,
                 align: align_of(group.spot.column),

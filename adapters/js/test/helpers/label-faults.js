@@ -223,13 +223,18 @@ class Judge {
     return this.routes.some((own) => own.id === id && own.docks.some((dock) => docks.includes(dock)));
   }
 
+  /** Whether a route ends at a port that reaches into its leaf, so that it may meet labels there between the border and the port. */
+  #leadsIn(label, { source, target }) {
+    return [source, target].some(({ node, port }) => port && node.children.length === 0 && this.#reachesIn(label, port));
+  }
+
   * #routeFaults(label) {
     for (const route of this.routes) {
       const { id, segments, routing } = route;
       const owners = nodesAt(route);
       const isOwn = label.edge?.id === id;
       const isOnLine = label.isInline && (isOwn || this.#sharesDock(label.edge, route));
-      const isAllowed = this.#mayMeet(label, owners) || this.#liesOver(label, owners) || isOnLine;
+      const isAllowed = this.#mayMeet(label, owners) || this.#liesOver(label, owners) || this.#leadsIn(label, route) || isOnLine;
       const rect = routing === 'SPLINES' ? within(label.rect, GRAZED) : label.rect;
       if (!isAllowed && segments.some((it) => reachesInto(it, rect))) {
         yield `${label.name} meets ${isOwn ? 'its own edge' : 'the edge'} ${id}${routing ? ', slanted or curved' : ''}`;

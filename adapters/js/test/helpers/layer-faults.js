@@ -20,24 +20,34 @@ function spanOf({ x0, x1, y0, y1 }, direction) {
 const toBothHands = (labels, { w, h }) =>
   list(labels).flatMap((label) => [label, { ...label, x: w - label.x - label.width, y: h - label.y - label.height }]);
 
-/** The outlines of nodes with their labels, those of their ports, and those of their edges, which keep room in a node's layer. */
+/** Labels at an end of an edge as they would stand to the other hand of it, where as much room is kept free. */
+const toOtherHand = (edge, word, end, base) =>
+  list(edge.labels)
+    .filter((label) => wordOf(label, 'edgeLabels.placement', wordOf(edge, 'edgeLabels.placement', 'CENTER')) === word)
+    .map((label) => ({ ...label, x: 2 * (end.x - base.x) - label.x - label.width, y: 2 * (end.y - base.y) - label.y - label.height }));
+
+/** The outlines of nodes with their labels, those of their ports, and those of their edges, which keep whole room in a node's layer. */
 function wideOutlines(scene) {
   const wide = new Map([...scene.nodes.values()].map((node) => [node, { ...node.outline }]));
   const widen = (node, labels, { x, y }) => {
     for (const label of list(labels)) {
       for (const outline of [node, ...node.holders].map((it) => wide.get(it))) {
-        outline.x0 = Math.min(outline.x0, x + label.x);
-        outline.x1 = Math.max(outline.x1, x + label.x + label.width);
-        outline.y0 = Math.min(outline.y0, y + label.y);
-        outline.y1 = Math.max(outline.y1, y + label.y + label.height);
+        outline.x0 = Math.min(outline.x0, Math.floor(x + label.x));
+        outline.x1 = Math.max(outline.x1, Math.ceil(x + label.x + label.width));
+        outline.y0 = Math.min(outline.y0, Math.floor(y + label.y));
+        outline.y1 = Math.max(outline.y1, Math.ceil(y + label.y + label.height));
       }
     }
   };
   scene.nodes.forEach((node) => widen(node, node.json.labels, node.box));
   scene.ports.forEach(({ json, node, box }) => widen(node, toBothHands(json.labels, box), box));
   for (const edge of scene.edges) {
-    const ends = scene.routesOf(edge).flatMap(({ source, target }) => [source.node, target.node]);
-    ends.forEach((end) => widen(end, edge.json.labels, scene.containerOf(edge).box));
+    const base = scene.containerOf(edge).box;
+    for (const { source, target, points } of scene.routesOf(edge)) {
+      for (const [{ node }, word, end] of [[source, 'TAIL', points[0]], [target, 'HEAD', points.at(-1)]]) {
+        widen(node, [...list(edge.json.labels), ...toOtherHand(edge.json, word, end, base)], base);
+      }
+    }
   }
   return wide;
 }

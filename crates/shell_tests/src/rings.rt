@@ -1,7 +1,7 @@
 //! Levels of one leaf, whose edges lead to a leaf around the level, and labels within their nodes.
 
-use crate::{Bounds, Content, Led, Room, Title, led_on, moved_titles, slide_titles};
 use border_levels::{Model, model_of};
+use border_ring::{Bounds, Content, Led, Room, Title, led_on, moved_titles, slide_titles};
 use graph_draft::{Direction, How, Options, Point, Size};
 use label_room::Padding;
 use serde_json::Value;

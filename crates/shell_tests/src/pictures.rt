@@ -1,6 +1,6 @@
 //! Members that say how a picture looks, and junctions across levels.
 
-use crate::{Theme, junction_points, picture};
+use elk_picture::{Theme, junction_points, picture};
 use serde_json::Value;
 use std::alloc::Global;
 use std::test::Fail;
@@ -31,6 +31,15 @@ const OUTLINES: &str = r#"{"children":[
     {"id":"a","width":20,"height":20,"style":{"shape":"circle","outlines":2,"stroke":"red","width":2}},
     {"id":"b","x":40,"width":20,"height":6,"style":{"outlines":9}},
     {"id":"c","x":80,"width":40,"height":40,"style":{"outlines":"two"}}]}"#;
+
+// Letters of a size that is asked for, of sizes that no letters have, and of one for which there is no room.
+const LETTERS: &str = r#"{"children":[
+    {"id":"a","width":90,"height":60,"labels":[{"text":"ab\nc","style":{"fontSize":20}}]},
+    {"id":"b","y":80,"width":90,"height":30,"labels":[{"text":"d","x":4,"y":4,"width":9,"height":9,"style":{"fontSize":5}}]},
+    {"id":"c","y":120,"width":90,"height":30,"labels":[{"text":"e","style":{"fontSize":-20}}]},
+    {"id":"d","y":160,"width":90,"height":30,"labels":[{"text":"f","style":{"fontSize":1e300}}]},
+    {"id":"e","y":200,"width":90,"height":30,"labels":[{"text":"g","style":{"fontSize":"20"}}]},
+    {"id":"f","y":240,"width":100,"height":50,"labels":[{"text":"hh","style":{"fontSize":1000}}],"style":{"shape":"ellipse"}}]}"#;
 
 fn drawn(alloc: Global, text: &str) -> Result<String, Fail> {
     let placed = Value::from_str(alloc, text)?;
@@ -82,6 +91,20 @@ fn a_junction_is_told_once(rt: HostRuntime) -> Result<(), Fail> {
     }
     let first = told.first().and_then(|points| points.first());
     assert_eq!(rt; first.copied(), Some((130.0, 140.0)));
+    Ok(())
+}
+
+#[test]
+fn letters_have_the_size_that_labels_ask_for(rt: HostRuntime) -> Result<(), Fail> {
+    let svg = drawn(rt.alloc(), LETTERS)?;
+    let svg = svg.as_str();
+    assert!(rt; svg.contains("y=\"24.5\" font-size=\"20\">ab<"));
+    assert!(rt; svg.contains("y=\"49.5\" font-size=\"20\">c<"));
+    assert!(rt; svg.contains("font-size=\"5\">d<"));
+    assert!(rt; svg.contains("font-size=\"12\">e<"));
+    assert!(rt; svg.contains("font-size=\"12\">f<"));
+    assert!(rt; svg.contains("font-size=\"12\">g<"));
+    assert!(rt; svg.contains("font-size=\"28.28\">hh<"));
     Ok(())
 }
 

@@ -1,9 +1,6 @@
 //! Small graphs and their models.
 
-use crate::building::model_of;
-use crate::crossings::{Crossing, PieceEnd};
-use crate::model::Model;
-use crate::pairs::Dock;
+use border_levels::{Crossing, Dock, Model, PieceEnd, model_of};
 use edge_labels::Spot;
 use graph_draft::{How, Options, Side};
 use serde_json::Value;
