@@ -1,4 +1,4 @@
-"""Tries `elk-draw --dot`: graphs that texts in DOT become, what has no effect in them, faults, and what Graphviz reads of the same texts.
+"""Tries `elk-draw --dot`: graphs that texts in DOT and lines become, what has no effect in them, faults, and what Graphviz reads of the same texts.
 
 Beside each text of tests/dot stands a file with members that its graph has to have, and all warnings.
 """
@@ -14,7 +14,8 @@ import unittest
 
 from test_drawing import PROGRAM, SECONDS, TOP, replies_to, run
 
-TEXTS = sorted((TOP / "tests/dot").glob("*.gv"))
+GRAPHS = sorted((TOP / "tests/dot").glob("*.gv"))
+TEXTS = [*GRAPHS, TOP / "tests/dot/lines.txt"]
 SAMPLES = [pathlib.Path("/usr/share/doc/graphviz/examples/graphs"), pathlib.Path("/usr/share/graphviz/graphs")]
 BLANK = "\u200b"
 
@@ -30,7 +31,32 @@ FAULTS = [
     ("digraph { /* }", 1, 11, "comment"),
     ("digraph { a [label=<b] }", 1, 20, ">"),
     ("table { }", 1, 1, "digraph"),
+    ("digrph G {\n  a -> b\n}", 1, 1, "expected 'graph' or 'digraph', but found 'digrph'"),
+    ("strct digraph G { }", 1, 1, "'strct'"),
+    ("{ a -> b }", 1, 1, "digraph"),
+    ("<a> -> b", 1, 1, "digraph"),
+    ("// a comment alone\n", 2, 1, "digraph"),
+    ("graph {\n  a b -> c d\n}", 2, 7, "'--'"),
+    ("a -> b\nb -> ]", 2, 6, "after the edge operator"),
+    ("a -> b\nb ->", 2, 5, "the end of the text"),
+    ("a b -> c : d\n-> e", 2, 1, "statement"),
+    ("a -> \"b\nc d", 1, 6, "closing quote"),
     ("digraph { a:b:c:d }", 1, 16, ":"),
+]
+
+# Texts without a frame, and one whose frame has many lines: the ids of their nodes.
+FORMS = [
+    ("a -> b : calls\n", ["a", "b"]),
+    ("two words", ["two words"]),
+    ("rankdir=LR\r\na b -> c\r\n", ["a b", "c"]),
+    ("edge [color=red]\na", ["a"]),
+    ("node -> edge", ["node", "edge"]),
+    ("subgraph x { a b }", ["a", "b"]),
+    ("graph theory -> logic", ["graph theory", "logic"]),
+    ("graph [rankdir=LR]\na b", ["a b"]),
+    ("@user -> server", ["@user", "server"]),
+    ("a---b -> 2nd  step", ["a", "-b", "2nd  step"]),
+    ("strict\ndigraph\nG\n{ a }", ["a"]),
 ]
 
 BROKEN = [
@@ -124,6 +150,11 @@ class Dot(unittest.TestCase):
                 wanted = json.loads(path.with_suffix(".json").read_text())
                 self.assertEqual(list(differences(wanted["graph"], graph_of(text_of(path)))), [])
 
+    def test_the_first_words_say_whether_a_text_has_a_frame(self):
+        for text, ids in FORMS:
+            with self.subTest(text):
+                self.assertEqual([it["id"] for it in replied(text, "graph")["graph"]["children"]], ids)
+
     def test_what_has_no_effect_is_reported_with_its_place(self):
         for path in TEXTS:
             with self.subTest(path.name):
@@ -175,7 +206,7 @@ class Dot(unittest.TestCase):
     @unittest.skipUnless(shutil.which("dot"), "dot isn't installed")
     def test_graphviz_reads_the_same(self):
         samples = [path for folder in SAMPLES if folder.is_dir() for path in sorted(folder.rglob("*.gv*"))]
-        for path in [*TEXTS, *samples]:
+        for path in [*GRAPHS, *samples]:
             text = text_of(path)
             with self.subTest(path.name):
                 self.compare(Read(graph_of(text)), read_by_graphviz(text))

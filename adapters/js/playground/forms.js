@@ -3,7 +3,7 @@
 
 const json = { ...require('./json/choices'), ...require('./json/places') };
 const dot = { ...require('./dot/choices'), ...require('./dot/places') };
-const { dotOf, placeInLines, tokensOfLines } = require('./dot/lines');
+const { tokensOfLines } = require('./dot/lines');
 const { tokensOf } = require('./dot/tokens');
 const { OPTIONS } = require('./options');
 
@@ -27,11 +27,11 @@ const inDot = ({ name, ...option }) => ({
   ...(!(name in DOT_DEFAULTS) && { lack: 'DOT has no attribute for this' }),
 });
 
-/** What is done with a text of a form. Lines are DOT without its frame, so that they differ in little. */
-const formOfDot = (form, tokens, asDot) => ({
+/** What is done with a text of a form. The program reads lines as DOT without its frame, so that they differ in little. */
+const formOfDot = (form, tokens) => ({
   title: form === 'dot' ? 'DOT' : 'Lines',
   controls: CHOSEN.map(inDot),
-  request: (text) => ({ dot: asDot(text) }),
+  request: (text) => ({ dot: text }),
   placesIn: (text, placed) => dot.placesIn(text, tokens(text), placed),
   chosenIn: (text) => dot.chosenIn(text, { form, tokens }),
   withOption: (text, name, value) => dot.withAttribute(text, name, value, { form, tokens }),
@@ -45,10 +45,9 @@ const FORMS = {
     placesIn: json.placesIn,
     chosenIn: (text) => json.chosenIn(text, CHOSEN.map(({ name }) => name)),
     withOption: json.withOption,
-    placeOf: (told) => told,
   },
-  dot: { ...formOfDot('dot', tokensOf, (text) => text), placeOf: (told) => told },
-  lines: { ...formOfDot('lines', tokensOfLines, dotOf), placeOf: placeInLines },
+  dot: formOfDot('dot', tokensOf),
+  lines: formOfDot('lines', tokensOfLines),
 };
 
 /**

@@ -61,7 +61,7 @@ class Studio {
   /** All that can be said of a text without a layout. */
   #remarks(text, form) {
     const { lint } = this.#ask({ ...FORMS[form].request(text), give: ['lint'] });
-    return told(lint.map((it) => FORMS[form].placeOf(it, text)));
+    return told(lint);
   }
 
   /** The request for a text, in which every node has a size. */

@@ -185,25 +185,30 @@ test('the form of a text is reported by its beginning', () => {
   }
 });
 
+// Each with the nodes and edges that stand in it.
 const LINES = [
-  ['a -> b', 'a -> b'],
-  ['  a -> b : yes', '  a -> b [label="yes"]'],
-  ['read file -> "x y" -> b2 : say "hi"', '"read file" -> "x y" -> b2 [label="say \\"hi\\""]'],
-  ['a : start here', 'a [label="start here"]'],
-  ['node -> edge', '"node" -> "edge"'],
-  ['a:e -> b:w', 'a:e -> b:w'],
-  ['a -> b [color=red]', 'a -> b [color=red]'],
-  ['rankdir=LR', 'rankdir=LR'],
-  ['// a -> b', '// a -> b'],
-  ['subgraph cluster_x {', 'subgraph cluster_x {'],
-  ['a ->', 'a ->'],
+  ['a -> b', 'a->b, a, b'],
+  ['  a -- b : yes', 'a->b, a, b'],
+  ['read file -> "x y" -> b2: say "hi"', 'read file->x y, read file, x y->b2, x y, b2'],
+  ['"a->b" : start here', 'a->b'],
+  ['a : b -> c\nb -> c', 'a, b->c, b, c'],
+  ['node -> edge', 'node->edge, node, edge'],
+  ['a\\b c -> -5', 'a\\\\b c->-5, a\\\\b c, -5'],
+  ['a:e -> b:w', 'a:e->b:w, a, b'],
+  ['a -> b [color=red]', 'a->b, a, b'],
+  ['rankdir=LR\r\na b -> c\r\n', 'a b->c, a b, c'],
+  ['x\n// a -> b', 'x'],
+  ['subgraph cluster_x {\na b\n}', 'cluster_x, a b'],
 ];
 
-test('lines are statements of DOT, with names that have blanks and labels behind a colon', () => {
-  for (const [line, statement] of LINES) {
-    assert.deepEqual(FORMS.lines.request(line), { dot: `digraph {\n${statement}\n}` }, line);
+test('lines are sent as they are, and their nodes and edges are found', WITH_MODULE, async () => {
+  for (const [text, ids] of LINES) {
+    assert.deepEqual(FORMS.lines.request(text), { dot: text });
+    const { drawing, places } = await toldOf({ text, form: 'lines' });
+    const elements = JSON.parse(drawing.placed);
+    assert.equal(places.slice(1).filter(({ isAgain }) => !isAgain).map(({ id }) => id).join(', '), ids, text);
+    assert.equal(places.filter(({ kind }) => kind === 'edge').length, elements.edges?.length ?? 0, text);
   }
-  assert.match(FORMS.lines.request('a -- b').dot, /^graph \{\na -- b\n\}$/);
 });
 
 const GRAPH = 'digraph G {\n  subgraph cluster_a { a -> b [label="x"]; b }\n  a -> b; "c d":p -> b:e\n}\n';

@@ -307,8 +307,8 @@ all_rows P s [] h = All-nil P
 all_rows P s (row ∷ rs) h =
     All-append P (visited_row s row) (concat (map (visited_row s) rs)) (by_side s (h 0 (omega arith))) (all_rows P s rs (λ i k. h (suc i) (omega (arith, k))))
   where
-    turned : All P row → All P (reverse row)
-    turned all =
+    flipped : All P row → All P (reverse row)
+    flipped all =
         All-from_get_or P (reverse row) 0
         (λ i k. let long = length-reverse row in let hi : i < length row = omega (arith, k, long) in
         subst P (sym (get_or-reverse row i 0 hi)) (All-get_or P row (length row - 1 - i) 0 (omega (arith, hi)) all))
@@ -316,8 +316,8 @@ all_rows P s (row ∷ rs) h =
     by_side : (s : Sweep) → All P row → All P (visited_row s row)
     by_side LeftUp all = all
     by_side RightUp all = all
-    by_side LeftDown all = turned all
-    by_side RightDown all = turned all
+    by_side LeftDown all = flipped all
+    by_side RightDown all = flipped all
 
 pub visits_known : (l : Plain) (rows : List (List ℕ)) (sweep : Sweep) → AreRows l rows → All (λ u. u < length l.units) (visits sweep rows)
 visits_known l rows sweep are = by_side sweep

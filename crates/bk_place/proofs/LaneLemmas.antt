@@ -90,11 +90,11 @@ occurs_reverse xs n h =
     let inside : p < length xs = place_below n xs h in
     let long = length-reverse xs in
     let at : get_or (reverse xs) (length xs - 1 - p) 0 ≡ n =
-    get_or-reverse xs (length xs - 1 - p) 0 (omega (arith, inside)) ∙ ap (λ i. get_or xs i 0) (turned (length xs) p inside) ∙ place_reads n xs h in
+    get_or-reverse xs (length xs - 1 - p) 0 (omega (arith, inside)) ∙ ap (λ i. get_or xs i 0) (flipped (length xs) p inside) ∙ place_reads n xs h in
     subst (λ x. 1 ≤ occurs x (reverse xs)) at (occurs_at (reverse xs) (length xs - 1 - p) (omega (arith, inside, long)))
   where
-    turned : (m p : ℕ) → p < m → m - 1 - (m - 1 - p) ≡ p
-    turned m p h = omega (arith, h)
+    flipped : (m p : ℕ) → p < m → m - 1 - (m - 1 - p) ≡ p
+    flipped m p h = omega (arith, h)
 
 visited_has : (s : Sweep) (xs : List ℕ) (n : ℕ) → 1 ≤ occurs n xs → 1 ≤ occurs n (visited_row s xs)
 visited_has LeftUp xs n h = h

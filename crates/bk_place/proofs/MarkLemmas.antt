@@ -83,11 +83,11 @@ less_in_gap g s t = elim (cases_lt s t) [
   | inr k ↦ le-ltb (g * 2 ^ 64 + s) (g * 2 ^ 64 + t) (omega (arith, k)) ∙ sym (le-ltb s t k)
 ]
 
-or_turned : (a b : Bool) → (a || b) ≡ (b || a)
-or_turned true true = refl
-or_turned true false = refl
-or_turned false true = refl
-or_turned false false = refl
+or_flipped : (a b : Bool) → (a || b) ≡ (b || a)
+or_flipped true true = refl
+or_flipped true false = refl
+or_flipped false true = refl
+or_flipped false false = refl
 
 -- links cross where, counted through all gaps, one begins before the other and ends behind it
 numbers_cross : (ga gb ta tb ha hb : ℕ) → ta < 2 ^ 64 → tb < 2 ^ 64 → ha < 2 ^ 64 → hb < 2 ^ 64
@@ -96,7 +96,7 @@ numbers_cross : (ga gb ta tb ha hb : ℕ) → ta < 2 ^ 64 → tb < 2 ^ 64 → ha
 numbers_cross ga gb ta tb ha hb lta ltb' lha lhb = elim (cases_order ga gb) [
   | inl e ↦
       rw (eq-eqb ga gb e, e, less_in_gap gb tb ta, less_in_gap gb ha hb, less_in_gap gb ta tb, less_in_gap gb hb ha)
-      (or_turned (nat_lt ta tb && nat_lt hb ha) (nat_lt tb ta && nat_lt ha hb))
+      (or_flipped (nat_lt ta tb && nat_lt hb ha) (nat_lt tb ta && nat_lt ha hb))
   | inr (inl l) ↦
       rw (
         ne_eqb ga gb (λ e. omega (arith, l, e)),

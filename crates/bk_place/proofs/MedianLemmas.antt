@@ -13,7 +13,7 @@ use Rattle.bk_place.specs.declared.medians.Median.{Median}
 use Rattle.bk_place.specs.declared.medians.Medians.{Medians}
 use Rattle.bk_place.specs.declared.spokes.Spoke.{Spoke}
 use Rattle.bk_place.specs.Spokes.{numbers_of, spoke_of, is_of}
-use Rattle.bk_place.specs.Visits.{turned}
+use Rattle.bk_place.specs.Visits.{flipped}
 use Rattle.bk_place.specs.Choosing.{is_past, can_choose, as_list, choice, last_at, VisitsTo}
 use Rattle.bk_place.specs.Medians.{median_for, medians_with, medians_for, medians_at, is_open, first_open, taken, number_of, last_after, Takes, no_medians, entry, CanTake, ServesSide}
 
@@ -204,13 +204,13 @@ side_is_served l rows sweep table t = (
   },
 )
   where
-    same : (s : Sweep) → IsPermutation (map (spoke_of l s t.place) (range_with_len 0 (length l.links))) t.spokes → IsPermutation (map (spoke_of l (turned s) t.place) (range_with_len 0 (length l.links))) t.spokes
+    same : (s : Sweep) → IsPermutation (map (spoke_of l s t.place) (range_with_len 0 (length l.links))) t.spokes → IsPermutation (map (spoke_of l (flipped s) t.place) (range_with_len 0 (length l.links))) t.spokes
     same LeftUp h = h
     same LeftDown h = h
     same RightUp h = h
     same RightDown h = h
 
-    same_table : (s : Sweep) → table ≡ map (medians_at l s t.place t.marked t.spokes) (range_with_len 0 (length l.units)) → table ≡ map (medians_at l (turned s) t.place t.marked t.spokes) (range_with_len 0 (length l.units))
+    same_table : (s : Sweep) → table ≡ map (medians_at l s t.place t.marked t.spokes) (range_with_len 0 (length l.units)) → table ≡ map (medians_at l (flipped s) t.place t.marked t.spokes) (range_with_len 0 (length l.units))
     same_table LeftUp h = h
     same_table LeftDown h = h
     same_table RightUp h = h

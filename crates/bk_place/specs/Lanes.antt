@@ -1,4 +1,4 @@
--- Long edges come out straight: where no two links between lanes cross, every sweep makes all of them level.
+-- Long edges come out straight: where no two links between lanes cross, every sweep makes all of them horizontal.
 use Rattle.std.specs.Prelude.{◌≡◌, ℕ, ◌<◌, List, length, slice_index, IsTrue, IsFalse}
 use Rattle.drawing_types.specs.declared.sweep.Sweep.{Sweep}
 use Rattle.elk_layers.specs.Layered.{Plain, IsSound, AreRows, link_at, is_lane}

@@ -10,7 +10,7 @@ use Rattle.bk_place.specs.declared.medians.Median.{Median}
 use Rattle.bk_place.specs.declared.medians.Medians.{Medians}
 use Rattle.bk_place.specs.declared.spokes.Spoke.{Spoke}
 use Rattle.bk_place.specs.Choosing.{as_list, is_past, last_at, CanVisit}
-use Rattle.bk_place.specs.Visits.{turned}
+use Rattle.bk_place.specs.Visits.{flipped}
 use Rattle.bk_place.specs.Spokes.{numbers_of, is_of}
 
 -- a link with the place of its far end, if it isn't marked
@@ -75,4 +75,4 @@ pub record CanTake (l : Plain) (rows : List (List ℕ)) (sweep : Sweep) (table :
 
 -- the same for the other sweep to this side
 abbrev pub ServesSide : Plain → List (List ℕ) → Sweep → List Medians → Type 0
-ServesSide l rows sweep table = CanTake l rows sweep table × CanTake l rows (turned sweep) table
+ServesSide l rows sweep table = CanTake l rows sweep table × CanTake l rows (flipped sweep) table

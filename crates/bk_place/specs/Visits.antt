@@ -8,8 +8,8 @@ abbrev pub rows_in_order : Sweep → List (List ℕ) → List (List ℕ)
 rows_in_order sweep rows = cond (goes_left sweep) (drop 1 rows) (drop 1 (reverse rows))
 
 -- the sweep to the same side that visits rows the other way round
-abbrev pub turned : Sweep → Sweep
-turned LeftUp = LeftDown
-turned LeftDown = LeftUp
-turned RightUp = RightDown
-turned RightDown = RightUp
+abbrev pub flipped : Sweep → Sweep
+flipped LeftUp = LeftDown
+flipped LeftDown = LeftUp
+flipped RightUp = RightDown
+flipped RightDown = RightUp

@@ -128,7 +128,7 @@ pub struct Marked {
     pub marked: Vec<bool>,
 }
 
-/// The places of the units of an order, and the links that no sweep makes level, since they aren't inner and
+/// The places of the units of an order, and the links that no sweep makes horizontal, since they aren't inner and
 /// cross a link between two lanes.
 ///
 /// It is the same for all sweeps, so several of them are cheaper by `align_marked`. The only error is want of
@@ -143,9 +143,9 @@ pub fn marked_order(alloc: Global, layered: &Layered, order: &Order) -> Result<M
     Ok(Marked { place, marked })
 }
 
-/// The links that a sweep makes level, where the medians of the units' links to its side are known.
+/// The links that a sweep makes horizontal, where the medians of the units' links to its side are known.
 ///
-/// They are those of `align`. The only error is want of memory.
+/// They are those of `align`. The only error is out of memory.
 pub fn align_by(
     alloc: Global,
     layered: &Layered,
@@ -162,9 +162,9 @@ pub fn align_by(
     Ok(Alignment { links })
 }
 
-/// The links that a sweep makes level, where the places and the marked links of the order are known.
+/// The links that a sweep makes horizontal, where the places and the marked links of the order are known.
 ///
-/// They are those of `align`. The only error is want of memory.
+/// They are those of `align`. The only error is out of memory.
 pub fn align_marked(
     alloc: Global,
     layered: &Layered,
@@ -182,13 +182,16 @@ pub fn align_marked(
     align_by(alloc, layered, order, table.as_slice(), sweep)
 }
 
-/// The links that a sweep makes level, in the order in which it chooses them.
+/// The links that a sweep makes horizontal, in the order in which it chooses them.
 ///
 /// LEFT visits the layers from the second to the last and looks at the links to the left, RIGHT from the last
 /// but one to the first and looks to the right; UP visits each row from the top, DOWN from the bottom. A
 /// visited unit takes the first of its medians that is not marked and whose far end lies strictly beyond those
-/// taken before in this gap. So no two of these links that lie in one gap cross or meet. The only error is want of memory. (The vertical alignment of Brandes and Köpf
+/// taken before in this gap. So no two of these links that lie in one gap cross or meet. The only error is out of memory. (The vertical alignment of Brandes and Köpf
 /// 2002.)
+///
+/// Proved:
+/// - The links that each of the four sweeps makes horizontal, in the order in which they are chosen. (`align_marked`)
 pub fn align(
     alloc: Global,
     layered: &Layered,

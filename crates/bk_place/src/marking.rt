@@ -125,7 +125,7 @@ pub(crate) fn marks(
     let inner = inner_pins(alloc, layered, place)?;
     let above = reach_of(alloc, inner)?;
     // Sorted pins are in descending order when they are mirrored, which costs a sort one pass.
-    let turned = mirrored_pins(alloc, above.pins.as_slice())?;
-    let below = reach_of(alloc, turned)?;
+    let flipped = mirrored_pins(alloc, above.pins.as_slice())?;
+    let below = reach_of(alloc, flipped)?;
     crossed(alloc, layered, place, &above, &below)
 }

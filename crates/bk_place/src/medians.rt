@@ -113,7 +113,7 @@ fn medians_in(
 
 /// By unit, the medians that the sweeps to the side of this one try.
 ///
-/// The only error is want of memory.
+/// The only error is out of memory.
 pub fn medians_by_unit(
     alloc: Global,
     layered: &Layered,

@@ -23,7 +23,7 @@ struct Placement {
     height: i64,
 }
 
-/// The least lines in which the links of a sweep are level, where the medians to its side are known.
+/// The least lines in which the links of a sweep are horizontal, where the medians to its side are known.
 fn place_by(
     alloc: Global,
     layered: &Layered,
@@ -39,7 +39,7 @@ fn place_by(
     place_links(alloc, layered, order, chosen.links.as_slice())
 }
 
-/// The least lines in which the links of a sweep are level.
+/// The least lines in which the links of a sweep are horizontal.
 fn place_sweep(
     alloc: Global,
     layered: &Layered,
@@ -136,11 +136,14 @@ fn place_lowest(alloc: Global, layered: &Layered, order: &Order) -> Result<Lines
 
 /// The lines of the fixed sweep, or of the first of the four sweeps that needs the least height.
 ///
-/// The links that the sweep chooses are level, all tops are at least 0, neighbours of a row keep their room,
+/// The links that the sweep chooses are horizontal, all tops are at least 0, neighbours of a row keep their room,
 /// and the outlines of consecutive children of a row theirs; no lines that keep all of this have a lesser top
 /// anywhere. No unit ends below the sum of all heights and, per unit, of the greatest of the three spacings.
-/// Among sweeps of one height the order is that of `Sweep`. The only error is want of memory. (Placement by
+/// Among sweeps of one height the order is that of `Sweep`. The only error is out of memory. (Placement by
 /// Brandes and Köpf 2002; the best of the four in place of their median.)
+///
+/// Proved:
+/// - The lines of the fixed sweep, or of the first sweep with the least height, and a bound on their height.
 pub fn place(
     alloc: Global,
     layered: &Layered,

@@ -8,8 +8,9 @@ use crate::members::{
 use crate::pins::{Pins, pinned_places};
 use crate::ports::{PortKey, SentPort, port_value};
 use crate::spots::{PinnedSpot, spots_of};
-use border_levels::{Model, PortRule, is_outside};
+use border_levels::{Model, PortRule};
 use graph_draft::{Draft, Element, Point, Size};
+use node_labels::is_outside;
 use serde_json::value::Map;
 use serde_json::{Value, put};
 use std::alloc::{AllocError, Global};

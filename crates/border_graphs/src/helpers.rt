@@ -1,10 +1,10 @@
 //! Helper edges of the least weight that keep the border of a level in a layer of its own, the first or the last. Each spans one layer
 //! and lies in the gap that is cut off, so that it costs neither lanes nor crossings.
 
-use crate::clusters::Clusters;
 use crate::graph::LevelGraph;
 use crate::known::Helper;
 use border_levels::Model;
+use disjoint_sets::DisjointSets;
 use graph_draft::{Point, Size};
 use route_curves::{Frame, Span};
 use std::alloc::{AllocError, Global};
@@ -24,9 +24,9 @@ fn parts_of(
     model: &Model,
     level: usize,
     pieces: &[usize],
-) -> Result<Clusters, AllocError> {
+) -> Result<DisjointSets, AllocError> {
     let children = model.draft.children_of(level);
-    let mut parts = Clusters::of_one(alloc, children.len())?;
+    let mut parts = DisjointSets::singletons(alloc, children.len())?;
     for at in pieces {
         if let Some(piece) = model.piece(*at) {
             let from = place_in(children, piece.from.node(model));
@@ -42,7 +42,7 @@ fn parts_of(
 // The first of some children in each part of a level, the part of one child left out.
 fn in_other_parts(
     alloc: Global,
-    mut parts: Clusters,
+    mut parts: DisjointSets,
     one: usize,
     children: &[usize],
 ) -> Result<Vec<usize>, AllocError> {

@@ -8,7 +8,6 @@
 
 mod borders;
 mod children;
-mod clusters;
 mod edges;
 mod graph;
 mod helpers;

@@ -1,10 +1,10 @@
 //! The labels of nodes with open levels. Those within the node are placed with its own level, those outside with the level around.
 
 use crate::drawings::{ROOT, place_of_label};
-use border_levels::{is_outside, placement_of};
 use border_ring::Title;
 use graph_draft::{Draft, Element};
 use label_room::has_name;
+use node_labels::{is_outside, placement_of};
 use serde_json::Value;
 use std::alloc::{AllocError, Global};
 

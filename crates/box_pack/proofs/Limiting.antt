@@ -8,7 +8,7 @@ use Rattle.drawing_types.specs.declared.shape.Point.{Point}
 use Rattle.drawing_types.specs.declared.shape.Size.{Size}
 use Rattle.box_pack.specs.declared.walk.Cursor.{Cursor}
 use Rattle.box_pack.specs.Boxes.{size_at, long_side, IsSize, EachSize}
-use Rattle.box_pack.specs.Walk.{reach, row_or, behind, before, spot, greatest_of, spot_right, spot_bottom, sooner, next_to, long_at, strip_of, IsLeastLimit, IsNear, IsStrip}
+use Rattle.box_pack.specs.Walk.{reach, row_or, behind, before, spot, greatest_of, spot_right, spot_bottom, sooner, next_to, long_at, page_of, IsLeastLimit, IsNear, IsPage}
 use Rattle.box_pack.proofs.Filling.{near_row, near_before, lt_yes, lt_no}
 use Rattle.box_pack.specs.declared.packing.Rows.{Rows}
 use Rattle.box_pack.specs.Packed.{AreRows}
@@ -22,12 +22,12 @@ pub record AreBoxes (sizes : List Size) (gap : ℤ) : Type 0 where
   pub gap_low : pos 1 ≤ℤ gap
   pub gap_high : gap ≤ℤ pos (2 ^ 20)
 
-pub strip_is : (sizes : List Size) (gap limit : ℤ) → AreBoxes sizes gap → pos 0 ≤ℤ limit → IsStrip (strip_of gap limit)
-strip_is sizes gap limit boxes low = (boxes.gap_low, boxes.gap_high, low)
+pub page_is : (sizes : List Size) (gap limit : ℤ) → AreBoxes sizes gap → pos 0 ≤ℤ limit → IsPage (page_of gap limit)
+page_is sizes gap limit boxes low = (boxes.gap_low, boxes.gap_high, low)
 
 -- how far box i would reach, and whether it begins a row
 abbrev pub reach_of : List Size → ℤ → ℤ → ℕ → ℤ
-reach_of sizes gap limit i = reach (before sizes (strip_of gap limit) i) (size_at sizes i)
+reach_of sizes gap limit i = reach (before sizes (page_of gap limit) i) (size_at sizes i)
 
 abbrev pub over : List Size → ℤ → ℤ → ℕ → Bool
 over sizes gap limit i = int_lt limit (reach_of sizes gap limit i)
@@ -42,7 +42,7 @@ reach_small c s n few near size =
 reach_below : (sizes : List Size) (gap limit : ℤ) → AreBoxes sizes gap → pos 0 ≤ℤ limit → (i : ℕ) → i < length sizes → reach_of sizes gap limit i <ℤ pos (2 ^ 60)
 reach_below sizes gap limit boxes low i h =
     let few = boxes.count in
-    reach_small (before sizes (strip_of gap limit) i) (size_at sizes i) i (omega arith) (near_before sizes (strip_of gap limit) (strip_is sizes gap limit boxes low) boxes.each i (omega arith)) (boxes.each i h)
+    reach_small (before sizes (page_of gap limit) i) (size_at sizes i) i (omega arith) (near_before sizes (page_of gap limit) (page_is sizes gap limit boxes low) boxes.each i (omega arith)) (boxes.each i h)
 
 -- Rows of two limits agree where no box passes the one and fits the other.
 same_test : (l k z : ℤ) → l ≤ℤ k → (int_lt l z ≡ true → k <ℤ z) → int_lt k z ≡ int_lt l z
@@ -54,22 +54,22 @@ same_test l k z le far =
 abbrev pub Passes : List Size → ℤ → ℤ → ℤ → ℕ → Type 0
 Passes sizes gap l k n = (i : ℕ) → i < n → over sizes gap l i ≡ true → k <ℤ reach_of sizes gap l i
 
-test_agrees : (sizes : List Size) (gap l k : ℤ) (n i : ℕ) → l ≤ℤ k → Passes sizes gap l k n → i < n → before sizes (strip_of gap k) i ≡ before sizes (strip_of gap l) i → over sizes gap k i ≡ over sizes gap l i
+test_agrees : (sizes : List Size) (gap l k : ℤ) (n i : ℕ) → l ≤ℤ k → Passes sizes gap l k n → i < n → before sizes (page_of gap k) i ≡ before sizes (page_of gap l) i → over sizes gap k i ≡ over sizes gap l i
 test_agrees sizes gap l k n i le far h e =
     ap (λ (c : Cursor). int_lt k (reach c (size_at sizes i))) e ∙ same_test l k (reach_of sizes gap l i) le (far i h)
 
-pub agrees : (sizes : List Size) (gap l k : ℤ) (n : ℕ) → l ≤ℤ k → Passes sizes gap l k n → (i : ℕ) → i ≤ n → before sizes (strip_of gap k) i ≡ before sizes (strip_of gap l) i
+pub agrees : (sizes : List Size) (gap l k : ℤ) (n : ℕ) → l ≤ℤ k → Passes sizes gap l k n → (i : ℕ) → i ≤ n → before sizes (page_of gap k) i ≡ before sizes (page_of gap l) i
 unfolding before
 agrees sizes gap l k n le far zero h = refl
 agrees sizes gap l k n le far (suc i) h =
-    let e : before sizes (strip_of gap k) i ≡ before sizes (strip_of gap l) i = agrees sizes gap l k n le far i (omega arith) in
-    ap (λ (b : Bool). behind gap (row_or gap (before sizes (strip_of gap k) i) b) (size_at sizes i)) (test_agrees sizes gap l k n i le far (omega arith) e)
+    let e : before sizes (page_of gap k) i ≡ before sizes (page_of gap l) i = agrees sizes gap l k n le far i (omega arith) in
+    ap (λ (b : Bool). behind gap (row_or gap (before sizes (page_of gap k) i) b) (size_at sizes i)) (test_agrees sizes gap l k n i le far (omega arith) e)
     ∙ ap (λ (c : Cursor). behind gap (row_or gap c (over sizes gap l i)) (size_at sizes i)) e
 
-spot_agrees : (sizes : List Size) (gap l k : ℤ) (n i : ℕ) → l ≤ℤ k → Passes sizes gap l k n → i < n → spot sizes (strip_of gap k) i ≡ spot sizes (strip_of gap l) i
+spot_agrees : (sizes : List Size) (gap l k : ℤ) (n i : ℕ) → l ≤ℤ k → Passes sizes gap l k n → i < n → spot sizes (page_of gap k) i ≡ spot sizes (page_of gap l) i
 spot_agrees sizes gap l k n i le far h =
-    let e : before sizes (strip_of gap k) i ≡ before sizes (strip_of gap l) i = agrees sizes gap l k n le far i (omega arith) in
-    ap (λ (b : Bool). point_in gap (before sizes (strip_of gap k) i) b) (test_agrees sizes gap l k n i le far h e)
+    let e : before sizes (page_of gap k) i ≡ before sizes (page_of gap l) i = agrees sizes gap l k n le far i (omega arith) in
+    ap (λ (b : Bool). point_in gap (before sizes (page_of gap k) i) b) (test_agrees sizes gap l k n i le far h e)
     ∙ ap (λ (c : Cursor). point_in gap c (over sizes gap l i)) e
 
 greatest_same : (f g : ℕ → ℤ) (n : ℕ) → ((i : ℕ) → i < n → f i ≡ g i) → greatest_of f n ≡ greatest_of g n
@@ -81,11 +81,11 @@ greatest_same f g (suc n) same =
 pub long_agrees : (sizes : List Size) (gap l k : ℤ) → l ≤ℤ k → Passes sizes gap l k (length sizes) → long_at sizes gap k ≡ long_at sizes gap l
 long_agrees sizes gap l k le far =
     let n = length sizes in
-    let w : greatest_of (spot_right sizes (strip_of gap k)) n ≡ greatest_of (spot_right sizes (strip_of gap l)) n =
-    greatest_same (spot_right sizes (strip_of gap k)) (spot_right sizes (strip_of gap l)) n (λ i h. ap (λ (p : Point). p.x +ℤ (size_at sizes i).width) (spot_agrees sizes gap l k n i le far h)) in
-    let d : greatest_of (spot_bottom sizes (strip_of gap k)) n ≡ greatest_of (spot_bottom sizes (strip_of gap l)) n =
-    greatest_same (spot_bottom sizes (strip_of gap k)) (spot_bottom sizes (strip_of gap l)) n (λ i h. ap (λ (p : Point). p.y +ℤ (size_at sizes i).height) (spot_agrees sizes gap l k n i le far h)) in
-    ap (λ (z : ℤ). int_max z (greatest_of (spot_bottom sizes (strip_of gap k)) n)) w ∙ ap (λ (z : ℤ). int_max (greatest_of (spot_right sizes (strip_of gap l)) n) z) d
+    let w : greatest_of (spot_right sizes (page_of gap k)) n ≡ greatest_of (spot_right sizes (page_of gap l)) n =
+    greatest_same (spot_right sizes (page_of gap k)) (spot_right sizes (page_of gap l)) n (λ i h. ap (λ (p : Point). p.x +ℤ (size_at sizes i).width) (spot_agrees sizes gap l k n i le far h)) in
+    let d : greatest_of (spot_bottom sizes (page_of gap k)) n ≡ greatest_of (spot_bottom sizes (page_of gap l)) n =
+    greatest_same (spot_bottom sizes (page_of gap k)) (spot_bottom sizes (page_of gap l)) n (λ i h. ap (λ (p : Point). p.y +ℤ (size_at sizes i).height) (spot_agrees sizes gap l k n i le far h)) in
+    ap (λ (z : ℤ). int_max z (greatest_of (spot_bottom sizes (page_of gap k)) n)) w ∙ ap (λ (z : ℤ). int_max (greatest_of (spot_right sizes (page_of gap l)) n) z) d
 
 -- the next limit
 sooner_low : (z m : ℤ) (b : Bool) → sooner z b m ≤ℤ z
@@ -110,7 +110,7 @@ pub lt_le : (a b : ℤ) → a <ℤ b → a ≤ℤ b
 lt_le a b p = omega (arith, ints)
 
 abbrev pub next_at : List Size → ℤ → ℤ → ℕ → ℤ
-next_at sizes gap limit n = next_to sizes (strip_of gap limit) n
+next_at sizes gap limit n = next_to sizes (page_of gap limit) n
 
 next_below : (sizes : List Size) (gap l : ℤ) (n i : ℕ) → i < n → over sizes gap l i ≡ true → next_at sizes gap l n ≤ℤ reach_of sizes gap l i
 unfolding next_to
@@ -147,36 +147,36 @@ next_above sizes gap l n low =
 
 -- a row that changes at a limit reaches it
 abbrev Found : List Size → ℤ → ℤ → Type 0
-Found sizes gap next = (j : ℕ) × (j < length sizes) × (next ≤ℤ spot_right sizes (strip_of gap next) j)
+Found sizes gap next = (j : ℕ) × (j < length sizes) × (next ≤ℤ spot_right sizes (page_of gap next) j)
 
-right_at : (sizes : List Size) (gap l next : ℤ) (i : ℕ) → pos 0 <ℤ next → before sizes (strip_of gap next) i ≡ before sizes (strip_of gap l) i → next ≡ reach_of sizes gap l i → next ≤ℤ spot_right sizes (strip_of gap next) i
+right_at : (sizes : List Size) (gap l next : ℤ) (i : ℕ) → pos 0 <ℤ next → before sizes (page_of gap next) i ≡ before sizes (page_of gap l) i → next ≡ reach_of sizes gap l i → next ≤ℤ spot_right sizes (page_of gap next) i
 right_at sizes gap l next i positive e is =
-    let c = before sizes (strip_of gap next) i in
+    let c = before sizes (page_of gap next) i in
     let same : next ≡ reach c (size_at sizes i) = is ∙ ap (λ (z : Cursor). reach z (size_at sizes i)) (sym e) in
     let under : over sizes gap next i ≡ false = lt_no next (reach c (size_at sizes i)) (omega (arith, ints, same)) in
-    let x : (spot sizes (strip_of gap next) i).x ≡ c.x = ap (λ (b : Bool). (row_or gap c b).x) under in
+    let x : (spot sizes (page_of gap next) i).x ≡ c.x = ap (λ (b : Bool). (row_or gap c b).x) under in
     by_lt_z (pos 0) c.x
     (λ more. let r : reach c (size_at sizes i) ≡ c.x +ℤ (size_at sizes i).width = rw (lt_yes (pos 0) c.x more) refl in omega (arith, ints, same, x, r))
     (λ less. let r : reach c (size_at sizes i) ≡ pos 0 = rw (lt_no (pos 0) c.x less) refl in absurd (omega (arith, ints, same, r, positive)))
 
 found_step : (sizes : List Size) (gap l next : ℤ) (i : ℕ) → i < length sizes → l <ℤ next → pos 0 <ℤ next → (over sizes gap l i ≡ true → next ≤ℤ reach_of sizes gap l i)
-    → before sizes (strip_of gap next) i ≡ before sizes (strip_of gap l) i → Found sizes gap next ⊎ (before sizes (strip_of gap next) (suc i) ≡ before sizes (strip_of gap l) (suc i))
+    → before sizes (page_of gap next) i ≡ before sizes (page_of gap l) i → Found sizes gap next ⊎ (before sizes (page_of gap next) (suc i) ≡ before sizes (page_of gap l) (suc i))
 unfolding before
 found_step sizes gap l next i h low positive least e =
     by_lt_z next (reach_of sizes gap l i)
     (λ beyond. let far : int_lt l (reach_of sizes gap l i) ≡ true → next <ℤ reach_of sizes gap l i = λ so. beyond in
     let t = same_test l next (reach_of sizes gap l i) (omega (arith, ints)) far in
     inr (ap (λ (c : Cursor). behind gap (row_or gap c (int_lt next (reach c (size_at sizes i)))) (size_at sizes i)) e
-    ∙ ap (λ (b : Bool). behind gap (row_or gap (before sizes (strip_of gap l) i) b) (size_at sizes i)) t))
+    ∙ ap (λ (b : Bool). behind gap (row_or gap (before sizes (page_of gap l) i) b) (size_at sizes i)) t))
     (λ within. by_lt_z l (reach_of sizes gap l i)
     (λ more. let le = least (lt_yes l (reach_of sizes gap l i) more) in
     inl (i, h, right_at sizes gap l next i positive e (omega (arith, ints, le, within))))
     (λ fits. let t : int_lt next (reach_of sizes gap l i) ≡ int_lt l (reach_of sizes gap l i) = lt_no next (reach_of sizes gap l i) within ∙ sym (lt_no l (reach_of sizes gap l i) fits) in
     inr (ap (λ (c : Cursor). behind gap (row_or gap c (int_lt next (reach c (size_at sizes i)))) (size_at sizes i)) e
-    ∙ ap (λ (b : Bool). behind gap (row_or gap (before sizes (strip_of gap l) i) b) (size_at sizes i)) t)))
+    ∙ ap (λ (b : Bool). behind gap (row_or gap (before sizes (page_of gap l) i) b) (size_at sizes i)) t)))
 
 found : (sizes : List Size) (gap l next : ℤ) → l <ℤ next → pos 0 <ℤ next → ((i : ℕ) → i < length sizes → over sizes gap l i ≡ true → next ≤ℤ reach_of sizes gap l i)
-    → (i : ℕ) → i ≤ length sizes → Found sizes gap next ⊎ (before sizes (strip_of gap next) i ≡ before sizes (strip_of gap l) i)
+    → (i : ℕ) → i ≤ length sizes → Found sizes gap next ⊎ (before sizes (page_of gap next) i ≡ before sizes (page_of gap l) i)
 unfolding before
 found sizes gap l next low positive least zero h = inr refl
 found sizes gap l next low positive least (suc i) h =
@@ -185,7 +185,7 @@ found sizes gap l next low positive least (suc i) h =
 
 wide_found : (sizes : List Size) (gap next : ℤ) → Found sizes gap next → next ≤ℤ long_at sizes gap next
 wide_found sizes gap next (j, lt, wide) =
-    let le = greatest_all (spot_right sizes (strip_of gap next)) (length sizes) j lt in
+    let le = greatest_all (spot_right sizes (page_of gap next)) (length sizes) j lt in
     le_trans _ _ _ wide (le_trans _ _ _ le (omega (arith, ints, clamps)))
 
 pub wide : (sizes : List Size) (gap l next : ℤ) → pos 0 ≤ℤ l → l <ℤ next → next ≡ next_at sizes gap l (length sizes) → IsReached sizes gap l (length sizes) next → next ≤ℤ long_at sizes gap next
@@ -255,17 +255,17 @@ ends_small : (n : ℕ) (c : Cursor) (s : Size) → n ≤ 2049 → IsNear n c →
 ends_small n c s few near size = (omega (arith, ints, near.near, size.1), omega (arith, ints, near.low, near.tall, size.3))
 
 spot_small : (sizes : List Size) (gap l : ℤ) → AreBoxes sizes gap → pos 0 ≤ℤ l → (i : ℕ) → i < length sizes
-    → (spot_right sizes (strip_of gap l) i <ℤ pos (2 ^ 60)) × (spot_bottom sizes (strip_of gap l) i <ℤ pos (2 ^ 60))
+    → (spot_right sizes (page_of gap l) i <ℤ pos (2 ^ 60)) × (spot_bottom sizes (page_of gap l) i <ℤ pos (2 ^ 60))
 spot_small sizes gap l boxes low i h =
     let few = boxes.count in
-    let strip = strip_is sizes gap l boxes low in
-    ends_small (suc i) (row_or gap (before sizes (strip_of gap l) i) (over sizes gap l i)) (size_at sizes i) (omega arith)
-    (near_row i (strip_of gap l) (before sizes (strip_of gap l) i) (over sizes gap l i) strip (near_before sizes (strip_of gap l) strip boxes.each i (omega arith))) (boxes.each i h)
+    let page = page_is sizes gap l boxes low in
+    ends_small (suc i) (row_or gap (before sizes (page_of gap l) i) (over sizes gap l i)) (size_at sizes i) (omega arith)
+    (near_row i (page_of gap l) (before sizes (page_of gap l) i) (over sizes gap l i) page (near_before sizes (page_of gap l) page boxes.each i (omega arith))) (boxes.each i h)
 
 long_small : (sizes : List Size) (gap l : ℤ) → AreBoxes sizes gap → pos 0 ≤ℤ l → long_at sizes gap l <ℤ pos (2 ^ 60)
 long_small sizes gap l boxes low =
-    let w = greatest_small (spot_right sizes (strip_of gap l)) (length sizes) (pos (2 ^ 60)) (omega (arith, ints)) (λ i h. (spot_small sizes gap l boxes low i h).0) in
-    let d = greatest_small (spot_bottom sizes (strip_of gap l)) (length sizes) (pos (2 ^ 60)) (omega (arith, ints)) (λ i h. (spot_small sizes gap l boxes low i h).1) in
+    let w = greatest_small (spot_right sizes (page_of gap l)) (length sizes) (pos (2 ^ 60)) (omega (arith, ints)) (λ i h. (spot_small sizes gap l boxes low i h).0) in
+    let d = greatest_small (spot_bottom sizes (page_of gap l)) (length sizes) (pos (2 ^ 60)) (omega (arith, ints)) (λ i h. (spot_small sizes gap l boxes low i h).1) in
     omega (arith, ints, clamps, w, d)
 
 -- The walk over the limits that change the rows: `limit` is the best so far, `tried` the last one, and `next` the one behind it.
@@ -384,13 +384,13 @@ lt_by a b c d p q r = omega (arith, ints)
 
 pub least_long : (sizes : List Size) (gap limit : ℤ) (rows : Rows) → AreBoxes sizes gap → IsLeastLimit sizes gap limit → AreRows sizes gap limit rows → IsLeastLong sizes gap limit (long_side rows.extent)
 least_long sizes gap limit rows boxes least are =
-    let mine : long_side rows.extent ≡ long_at sizes gap limit = long_is sizes gap limit rows.at rows.extent (strip_is sizes gap limit boxes least.whole) boxes.each are.places are.extent in
+    let mine : long_side rows.extent ≡ long_at sizes gap limit = long_is sizes gap limit rows.at rows.extent (page_is sizes gap limit boxes least.whole) boxes.each are.places are.extent in
     record {
       whole = least.whole;
       no_smaller = λ k at extent packed has. le_by (long_side rows.extent) (long_at sizes gap limit) (long_side extent) (long_at sizes gap (pos k)) mine
-          (long_is sizes gap (pos k) at extent (strip_is sizes gap (pos k) boxes (omega (arith, ints))) boxes.each packed has) (least.no_smaller (pos k) (omega (arith, ints)));
+          (long_is sizes gap (pos k) at extent (page_is sizes gap (pos k) boxes (omega (arith, ints))) boxes.each packed has) (least.no_smaller (pos k) (omega (arith, ints)));
       least = λ k at extent below packed has. lt_by (long_side rows.extent) (long_at sizes gap limit) (long_side extent) (long_at sizes gap (pos k)) mine
-          (long_is sizes gap (pos k) at extent (strip_is sizes gap (pos k) boxes (omega (arith, ints))) boxes.each packed has) (least.least (pos k) (omega (arith, ints)) below);
+          (long_is sizes gap (pos k) at extent (page_is sizes gap (pos k) boxes (omega (arith, ints))) boxes.each packed has) (least.least (pos k) (omega (arith, ints)) below);
     }
 
 pub not_far : (z same l : ℤ) → z ≡ same → int_lt z l ≡ false → l ≤ℤ same

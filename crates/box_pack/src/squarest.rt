@@ -5,7 +5,7 @@ ghost use Rattle.box_pack.specs.Squareness.{IsSquarest};
 ghost use Rattle.box_pack.specs.Walk.{IsLeastLimit};
 
 use crate::packing::{Rows, pack};
-use crate::walk::{Strip, measure};
+use crate::walk::{Page, measure};
 use drawing_types::shape::Size;
 use std::alloc::{AllocError, Global};
 
@@ -17,6 +17,9 @@ pub struct Squarest {
 }
 
 /// The squarest rows of these boxes. The greater of the extent's width and height is the least that any limit gives.
+///
+/// Proved:
+/// - The rows that come closest to a square, under the least limit that gives them.
 pub fn best(alloc: Global, sizes: &[Size], gap: i64) -> Result<Squarest, AllocError>
     requires count { length sizes.now ≤ 2048 }
     requires sizes { AreSizes sizes.now }
@@ -37,20 +40,20 @@ fn least_limit(sizes: &[Size], gap: i64) -> i64
     requires gap { (pos 1 ≤ℤ gap) × (gap ≤ℤ pos (2 ^ 20)) }
     ensures { IsLeastLimit sizes.now gap result }
 {
-    let mut strip = Strip { gap, limit: 0 };
-    let mut measured = measure(sizes, &strip);
+    let mut page = Page { gap, limit: 0 };
+    let mut measured = measure(sizes, &page);
     let mut least = long_side(&measured.extent);
     let mut limit = 0;
     'limits: while measured.next < least {
-        strip = Strip {
+        page = Page {
             gap,
             limit: measured.next,
         };
-        measured = measure(sizes, &strip);
+        measured = measure(sizes, &page);
         let long = long_side(&measured.extent);
         if long < least {
             least = long;
-            limit = strip.limit;
+            limit = page.limit;
         }
     }
     limit

@@ -1,7 +1,7 @@
 //! How rows are filled, box by box.
 ghost use Rattle.std.specs.Prelude.{◌≡◌, ◌+◌, ◌*◌, ◌^◌, ◌<◌, ◌≤◌, ◌≤ℤ◌, pos, length};
 ghost use Rattle.box_pack.specs.Boxes.{IsSize, EachSize};
-ghost use Rattle.box_pack.specs.Walk.{IsNear, IsStrip, before, behind, below, grown, measured_to, next_with, reach, row_for};
+ghost use Rattle.box_pack.specs.Walk.{IsNear, IsPage, before, behind, below, grown, measured_to, next_with, reach, row_for};
 
 use drawing_types::shape::Size;
 
@@ -10,7 +10,7 @@ const UNREACHED: i64 = 1 << 60;
 
 /// The gap between boxes and between rows, and the limit of a row.
 #[derive(Clone, Copy)]
-pub struct Strip {
+pub struct Page {
     pub gap: i64,
     pub limit: i64,
 }
@@ -42,39 +42,39 @@ pub fn top() -> Cursor
 }
 
 /// The row in which a box stands, before it does: this one, or the next.
-pub fn row_for(strip: &Strip, cursor: &Cursor, size: &Size) -> Cursor
-    requires strip { IsStrip strip.now }
+pub fn row_for(page: &Page, cursor: &Cursor, size: &Size) -> Cursor
+    requires page { IsPage page.now }
     requires near { IsNear 2048 cursor.now }
     requires size { IsSize size.now }
-    ensures { result ≡ row_for strip.now cursor.now size.now }
+    ensures { result ≡ row_for page.now cursor.now size.now }
 {
-    if reach(cursor, size) > strip.limit {
-        below(strip, cursor)
+    if reach(cursor, size) > page.limit {
+        below(page, cursor)
     } else {
         *cursor
     }
 }
 
 /// The row behind a box that stands in it.
-pub fn behind(strip: &Strip, row: &Cursor, size: &Size) -> Cursor
-    requires strip { IsStrip strip.now }
+pub fn behind(page: &Page, row: &Cursor, size: &Size) -> Cursor
+    requires page { IsPage page.now }
     requires near { IsNear 2049 row.now }
     requires size { IsSize size.now }
-    ensures { result ≡ behind strip.now.gap row.now size.now }
+    ensures { result ≡ behind page.now.gap row.now size.now }
 {
     Cursor {
-        x: row.x + size.width + strip.gap,
+        x: row.x + size.width + page.gap,
         y: row.y,
         tall: row.tall.max(size.height),
     }
 }
 
 /// The extent of the rows of these boxes, and the next limit that changes the rows.
-pub fn measure(sizes: &[Size], strip: &Strip) -> Measured
+pub fn measure(sizes: &[Size], page: &Page) -> Measured
     requires count { length sizes.now ≤ 2048 }
     requires sizes { EachSize sizes.now }
-    requires strip { IsStrip strip.now }
-    ensures { result ≡ measured_to sizes.now strip.now (length sizes.now) }
+    requires page { IsPage page.now }
+    ensures { result ≡ measured_to sizes.now page.now (length sizes.now) }
 {
     let mut cursor = top();
     let mut measured = Measured {
@@ -85,12 +85,12 @@ pub fn measure(sizes: &[Size], strip: &Strip) -> Measured
         next: UNREACHED,
     };
     for size in sizes {
-        let row = row_for(strip, &cursor, size);
+        let row = row_for(page, &cursor, size);
         measured = Measured {
             extent: grown(&measured.extent, &row, size),
-            next: sooner(&measured, strip, &cursor, size),
+            next: sooner(&measured, page, &cursor, size),
         };
-        cursor = behind(strip, &row, size);
+        cursor = behind(page, &row, size);
     }
     measured
 }
@@ -109,14 +109,14 @@ fn reach(cursor: &Cursor, size: &Size) -> i64
 }
 
 // The row below.
-fn below(strip: &Strip, cursor: &Cursor) -> Cursor
-    requires strip { IsStrip strip.now }
+fn below(page: &Page, cursor: &Cursor) -> Cursor
+    requires page { IsPage page.now }
     requires near { IsNear 2048 cursor.now }
-    ensures { result ≡ below strip.now.gap cursor.now }
+    ensures { result ≡ below page.now.gap cursor.now }
 {
     Cursor {
         x: 0,
-        y: cursor.y + cursor.tall + strip.gap,
+        y: cursor.y + cursor.tall + page.gap,
         tall: 0,
     }
 }
@@ -134,13 +134,13 @@ fn grown(extent: &Size, row: &Cursor, size: &Size) -> Size
 }
 
 // The next limit with one more box.
-fn sooner(measured: &Measured, strip: &Strip, cursor: &Cursor, size: &Size) -> i64
+fn sooner(measured: &Measured, page: &Page, cursor: &Cursor, size: &Size) -> i64
     requires near { IsNear 2048 cursor.now }
     requires size { IsSize size.now }
-    ensures { result ≡ next_with measured.now.next strip.now cursor.now size.now }
+    ensures { result ≡ next_with measured.now.next page.now cursor.now size.now }
 {
     let reached = reach(cursor, size);
-    if reached > strip.limit {
+    if reached > page.limit {
         measured.next.min(reached)
     } else {
         measured.next

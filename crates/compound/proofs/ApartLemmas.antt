@@ -18,12 +18,12 @@ use Rattle.elk_doc.specs.Drawing.{part_in, point_at, point_count, points_of, sec
 use Rattle.elk_doc.specs.Level.{IsChild, IsEdge, children, edges_of, is_child, place_of_child, place_of_edge, source_node, target_node}
 use Rattle.elk_doc.specs.Paths.{stay, go}
 use Rattle.elk_doc.specs.Places.{outline_of}
-use Rattle.elk_doc.specs.Shapes.{turned}
+use Rattle.elk_doc.specs.Shapes.{rotated}
 use Rattle.drawing_types.specs.Shapes.{Holds, point_rect}
 use Rattle.elk_doc.specs.Sound.{IsSound}
 use Rattle.elk_doc.proofs.NumberLaws.{count_below-le}
-use Rattle.drawing_laws.specs.Turning.{turned_point}
-use Rattle.drawing_laws.proofs.TurningLaws.{boxes}
+use Rattle.drawing_laws.specs.Rotating.{rotated_point}
+use Rattle.drawing_laws.proofs.RotatingLaws.{boxes}
 use Rattle.level_layout.specs.Certificate.{source_of, target_of}
 use Rattle.level_model.specs.FromPlan.{LevelDrawing, section_at}
 use Rattle.level_model.specs.Level.{PlainLevel}
@@ -36,12 +36,12 @@ use Rattle.level_model.specs.Conditions.{IsLevel}
 use Rattle.level_split.specs.declared.layout.PartsOut.{PartsOut}
 use Rattle.level_split.specs.Laws.{IsPartedDrawing}
 use Rattle.level_split.specs.Parts.{whole_drawing}
-use Rattle.working_frame.specs.Drawing.{IsTurnedDrawing, IsTurnedSection, plus}
-use Rattle.working_frame.specs.Turned.{child_number, edge_number, level_edge, level_of}
+use Rattle.working_frame.specs.Drawing.{IsRotatedDrawing, IsRotatedSection, plus}
+use Rattle.working_frame.specs.Rotated.{child_number, edge_number, level_edge, level_of}
 use Rattle.working_frame.proofs.NumberedLemmas.{ends_match, levels_are_listed, numbers_match}
-use Rattle.turned_levels.specs.Outlines.{shifted}
-use Rattle.turned_levels.proofs.OutlineLemmas.{outlines_turn_back}
-use Rattle.turned_levels.proofs.RouteLemmas.{points_turned}
+use Rattle.rotated_levels.specs.Outlines.{shifted}
+use Rattle.rotated_levels.proofs.OutlineLemmas.{outlines_rotate_back}
+use Rattle.rotated_levels.proofs.RouteLemmas.{points_rotated}
 
 -- ---- rectangles that stand clear
 
@@ -64,7 +64,7 @@ above_shifted : (gap : ℤ) (by : Point) (r s : Rect) → IsAboveBy gap r s → 
 above_shifted gap by r s h = omega (arith, ints, h)
 
 module _ (d : Document) (p : Placed) (n : ℕ) (o : LevelOptions) (out : PartsOut) (written : Certificate) (by : Point) (sound : IsSound d) (level : IsLevel (level_of d p n o))
-    (drawn : IsPartedDrawing (level_of d p n o) o.component out) (turned_back : IsTurnedDrawing d p n o.direction (whole_drawing out) by) (parts_are : written.parts ≡ out.parts) (layers_are : written.layers ≡ out.certificate.layers) where
+    (drawn : IsPartedDrawing (level_of d p n o) o.component out) (rotated_back : IsRotatedDrawing d p n o.direction (whole_drawing out) by) (parts_are : written.parts ≡ out.parts) (layers_are : written.layers ≡ out.certificate.layers) where
   abbrev l : PlainLevel
   l = level_of d p n o
 
@@ -172,23 +172,23 @@ module _ (d : Document) (p : Placed) (n : ℕ) (o : LevelOptions) (out : PartsOu
   -- ---- shapes in the rectangles of their parts
 
   abbrev InRect : ℕ → Rect → Type 0
-  InRect i r = (s : Rect) × (turned o.direction r ≡ shifted by s) × Holds (drawn.rect i) s
+  InRect i r = (s : Rect) × (rotated o.direction r ≡ shifted by s) × Holds (drawn.rect i) s
 
-  outline_there : (a : ℕ) → IsChild d n a → turned o.direction (outline_of d p a) ≡ shifted by (drawn_outline l v (place a))
-  outline_there a h = ap (framed d p o) (sym (found a h)) ∙ outlines_turn_back d p n o v by turned_back (place a) ((numbers_match d n).children.place_in a h)
+  outline_there : (a : ℕ) → IsChild d n a → rotated o.direction (outline_of d p a) ≡ shifted by (drawn_outline l v (place a))
+  outline_there a h = ap (framed d p o) (sym (found a h)) ∙ outlines_rotate_back d p n o v by rotated_back (place a) ((numbers_match d n).children.place_in a h)
 
-  point_there : (e i : ℕ) → IsEdge d n e → i < point_count p e → (i < route_count v (place_of_edge d n e)) × (turned o.direction (point_rect (point_at p e i)) ≡ shifted by (point_rect (route_point v (place_of_edge d n e) i)))
+  point_there : (e i : ℕ) → IsEdge d n e → i < point_count p e → (i < route_count v (place_of_edge d n e)) × (rotated o.direction (point_rect (point_at p e i)) ≡ shifted by (point_rect (route_point v (place_of_edge d n e) i)))
   point_there e i h less =
       let m = (numbers_match d n).edges in
       let j = place_of_edge d n e in
-      let section : IsTurnedSection o.direction by (section_of p e) (section_at v j) = subst (λ f. IsTurnedSection o.direction by (section_of p f) (section_at v j)) (m.found e h) (turned_back.sections j (m.place_in e h)) in
-      let all = points_turned o.direction by (section_of p e) (section_at v j) section in
-      let many = sym (length-map (points_of (section_of p e)) (turned_point o.direction)) ∙ ap length all ∙ length-map (points_of (section_at v j)) (plus by) in
+      let section : IsRotatedSection o.direction by (section_of p e) (section_at v j) = subst (λ f. IsRotatedSection o.direction by (section_of p f) (section_at v j)) (m.found e h) (rotated_back.sections j (m.place_in e h)) in
+      let all = points_rotated o.direction by (section_of p e) (section_at v j) section in
+      let many = sym (length-map (points_of (section_of p e)) (rotated_point o.direction)) ∙ ap length all ∙ length-map (points_of (section_at v j)) (plus by) in
       let inside : i < route_count v j = subst (λ n. i < n) many less in (
         inside,
         boxes.point o.direction (point_at p e i)
             ∙ ap point_rect (
-            sym (get_or-map (turned_point o.direction) (points_of (section_of p e)) i origin origin less)
+            sym (get_or-map (rotated_point o.direction) (points_of (section_of p e)) i origin origin less)
             ∙ ap (λ ps. get_or ps i origin) all
             ∙ get_or-map (plus by) (points_of (section_at v j)) i origin origin inside),
       )
@@ -228,14 +228,14 @@ module _ (d : Document) (p : Placed) (n : ℕ) (o : LevelOptions) (out : PartsOu
       }
 
   clear_parts : (i j : ℕ) → StandsClear o.component (drawn.rect i) (drawn.rect j)
-      → (EachShapeOf d p n (λ a. part_in d n written a ≡ i) (λ r. EachShapeOf d p n (λ b. part_in d n written b ≡ j) (λ s. IsLeftBy o.component (turned o.direction r) (turned o.direction s))))
-      ⊎ (EachShapeOf d p n (λ a. part_in d n written a ≡ i) (λ r. EachShapeOf d p n (λ b. part_in d n written b ≡ j) (λ s. IsAboveBy o.component (turned o.direction r) (turned o.direction s))))
+      → (EachShapeOf d p n (λ a. part_in d n written a ≡ i) (λ r. EachShapeOf d p n (λ b. part_in d n written b ≡ j) (λ s. IsLeftBy o.component (rotated o.direction r) (rotated o.direction s))))
+      ⊎ (EachShapeOf d p n (λ a. part_in d n written a ≡ i) (λ r. EachShapeOf d p n (λ b. part_in d n written b ≡ j) (λ s. IsAboveBy o.component (rotated o.direction r) (rotated o.direction s))))
   clear_parts i j clear =
       ⊎_elim
-      (λ (left : IsLeftBy o.component (drawn.rect i) (drawn.rect j)). inl (each_pair i j (λ r s. IsLeftBy o.component (turned o.direction r) (turned o.direction s))
-      (λ r s x y. left_within o.component by (drawn.rect i) (drawn.rect j) x.0 y.0 (turned o.direction r) (turned o.direction s) left x.2 y.2 x.1 y.1)))
-      (λ (above : IsAboveBy o.component (drawn.rect i) (drawn.rect j)). inr (each_pair i j (λ r s. IsAboveBy o.component (turned o.direction r) (turned o.direction s))
-      (λ r s x y. above_within o.component by (drawn.rect i) (drawn.rect j) x.0 y.0 (turned o.direction r) (turned o.direction s) above x.2 y.2 x.1 y.1)))
+      (λ (left : IsLeftBy o.component (drawn.rect i) (drawn.rect j)). inl (each_pair i j (λ r s. IsLeftBy o.component (rotated o.direction r) (rotated o.direction s))
+      (λ r s x y. left_within o.component by (drawn.rect i) (drawn.rect j) x.0 y.0 (rotated o.direction r) (rotated o.direction s) left x.2 y.2 x.1 y.1)))
+      (λ (above : IsAboveBy o.component (drawn.rect i) (drawn.rect j)). inr (each_pair i j (λ r s. IsAboveBy o.component (rotated o.direction r) (rotated o.direction s))
+      (λ r s x y. above_within o.component by (drawn.rect i) (drawn.rect j) x.0 y.0 (rotated o.direction r) (rotated o.direction s) above x.2 y.2 x.1 y.1)))
       clear
 
   pub parts_apart : (a b : ℕ) → IsChild d n a → IsChild d n b → part_in d n written a ≢ part_in d n written b → PartsApart d p n o written (part_in d n written a) (part_in d n written b)

@@ -17,7 +17,7 @@ use Rattle.elk_doc.specs.Fits.{IsSolid, child_count, edge_count}
 use Rattle.elk_doc.specs.Level.{IsChild, children, is_child}
 use Rattle.elk_doc.specs.Numbers.{total_below}
 use Rattle.elk_doc.specs.Places.{outline_of}
-use Rattle.elk_doc.specs.Shapes.{turned}
+use Rattle.elk_doc.specs.Shapes.{rotated}
 use Rattle.drawing_types.specs.Shapes.{hull, moved_by, rect_at}
 use Rattle.elk_doc.specs.Sound.{IsSound}
 use Rattle.elk_doc.proofs.NumberLaws.{length-numbers_below}
@@ -33,19 +33,19 @@ use Rattle.level_model.specs.Level.{PlainLevel, child_at}
 use Rattle.level_model.specs.Apart.{drawn_outline, drawn_outline_from}
 use Rattle.plan_laws.proofs.ApartLemmas.{outlines_are_drawn}
 use Rattle.level_draw.specs.Drawing.{drawn_in}
-use Rattle.turned_levels.proofs.Sums.{over}
-use Rattle.working_frame.specs.Turned.{box_size, child_number, level_of, turned_size}
+use Rattle.rotated_levels.proofs.Sums.{over}
+use Rattle.working_frame.specs.Rotated.{box_size, child_number, level_of, rotated_size}
 use Rattle.working_frame.proofs.NumberedLemmas.{levels_are_listed, numbers_match}
-use Rattle.turned_levels.specs.Outlines.{shifted}
-use Rattle.turned_levels.proofs.HullLemmas.{hull_moved, place_moved}
-use Rattle.turned_levels.proofs.OutlineLemmas.{drawn_port_box, outlines_turn_back}
+use Rattle.rotated_levels.specs.Outlines.{shifted}
+use Rattle.rotated_levels.proofs.HullLemmas.{hull_moved, place_moved}
+use Rattle.rotated_levels.proofs.OutlineLemmas.{drawn_port_box, outlines_rotate_back}
 use Rattle.compound.specs.Boxed.{IsBoxedPlan, outline_sizes, size_of}
 use Rattle.compound.specs.Planned.{IsPlannedLevel}
 use Rattle.compound.proofs.EdgeLemmas.{level_sound}
 use Rattle.compound.proofs.PortLemmas as boxed
 use Rattle.compound.proofs.RowLemmas.{size_count, sizes_solid, spaced}
 use Rattle.compound.proofs.ListLemmas.{over_numbers}
-use Rattle.compound.proofs.NodeLemmas.{content_least, content_most, framed_most, framed_solid, level_short, parted_least, parted_most, size_sum, turned_least, turned_sum}
+use Rattle.compound.proofs.NodeLemmas.{content_least, content_most, framed_most, framed_solid, level_short, parted_least, parted_most, size_sum, rotated_least, rotated_sum}
 use Rattle.compound.proofs.OutlineLemmas.{outline_high, outline_wide}
 use Rattle.compound.proofs.SumLemmas.{cost, room}
 
@@ -72,11 +72,11 @@ outline_elsewhere l v w i same (k ∷ ks) =
 abbrev rect_sum : Rect → ℤ
 rect_sum r = r.width +ℤ r.height
 
-turned_rect_sum : (way : Direction) (r : Rect) → rect_sum (turned way r) ≡ rect_sum r
-turned_rect_sum Right r = refl
-turned_rect_sum Left r = refl
-turned_rect_sum Down r = omega (arith, ints)
-turned_rect_sum Up r = omega (arith, ints)
+rotated_rect_sum : (way : Direction) (r : Rect) → rect_sum (rotated way r) ≡ rect_sum r
+rotated_rect_sum Right r = refl
+rotated_rect_sum Left r = refl
+rotated_rect_sum Down r = omega (arith, ints)
+rotated_rect_sum Up r = omega (arith, ints)
 
 -- ---- sums
 
@@ -115,7 +115,7 @@ greatest_least n value z greatest least =
     (cases_lt 0 n)
 
 -- sides that are not negative in the frame are not in the document
-least_back : (way : Direction) (s : Size) → pos 0 ≤ℤ (turned_size way s).width → pos 0 ≤ℤ (turned_size way s).height → (pos 0 ≤ℤ s.width) × (pos 0 ≤ℤ s.height)
+least_back : (way : Direction) (s : Size) → pos 0 ≤ℤ (rotated_size way s).width → pos 0 ≤ℤ (rotated_size way s).height → (pos 0 ≤ℤ s.width) × (pos 0 ≤ℤ s.height)
 least_back Right s w h = (w, h)
 least_back Left s w h = (w, h)
 least_back Down s w h = (h, w)
@@ -133,12 +133,12 @@ module _ (d : Document) (p : Placed) (n : ℕ) (o : LevelOptions) (s : IsSound d
   in_level : (i : ℕ) → i < length (children d n) → i < length l.children
   in_level i h = subst (λ m. i < m) (sym (levels_are_listed d p n o).child_count) h
 
-  child_is : (i : ℕ) → i < length (children d n) → (child_at l i).size ≡ turned_size o.direction (box_size p (child_number d n i))
+  child_is : (i : ℕ) → i < length (children d n) → (child_at l i).size ≡ rotated_size o.direction (box_size p (child_number d n i))
   child_is i h = ap (λ (c : Child). c.size) ((levels_are_listed d p n o).child i h)
 
   number_solid : (i : ℕ) → i < length (children d n) → IsSolid (box_of p (child_number d n i))
   number_solid i h =
-      let small : IsSmall (turned_size o.direction (box_size p (child_number d n i))) = subst IsSmall (child_is i h) (level.children i (in_level i h)).sound.size in
+      let small : IsSmall (rotated_size o.direction (box_size p (child_number d n i))) = subst IsSmall (child_is i h) (level.children i (in_level i h)).sound.size in
       let sides = least_back o.direction (box_size p (child_number d n i)) small.width.above small.height.above in
       record { width = sides.0; height = sides.1 }
 
@@ -173,15 +173,15 @@ module _ (d : Document) (p : Placed) (n : ℕ) (o : LevelOptions) (s : IsSound d
 
   here_sum : (i : ℕ) → i < length (children d n) → rect_sum (outline_of d p (child_number d n i)) ≡ rect_sum (drawn_outline l made i)
   here_sum i h =
-      sym (turned_rect_sum o.direction (outline_of d p (child_number d n i)))
-      ∙ ap rect_sum (outlines_turn_back d p n o here origin (boxed.turned_back d p n o s within is boxes planned) i h)
+      sym (rotated_rect_sum o.direction (outline_of d p (child_number d n i)))
+      ∙ ap rect_sum (outlines_rotate_back d p n o here origin (boxed.rotated_back d p n o s within is boxes planned) i h)
       ∙ ap rect_sum (outline_elsewhere l here made i refl (range_with_len 0 (length (child_at l i).ports)))
 
   outline_most : (i : ℕ) → i < length (children d n) → rect_sum (outline_of d p (child_number d n i)) ≤ℤ (size_sum p (child_number d n i) +ℤ pos (2 ^ 24))
   outline_most i h =
       let same = here_sum i h in
       let most = made_sum i h in
-      let size = ap (λ (z : Size). z.width +ℤ z.height) (child_is i h) ∙ turned_sum o.direction (box_size p (child_number d n i)) in
+      let size = ap (λ (z : Size). z.width +ℤ z.height) (child_is i h) ∙ rotated_sum o.direction (box_size p (child_number d n i)) in
       joined _ _ ((child_at l i).size.width +ℤ (child_at l i).size.height) (size_sum p (child_number d n i)) same most size
     where
       joined : (a b c e : ℤ) → a ≡ b → b ≤ℤ (c +ℤ pos (2 ^ 24)) → c ≡ e → a ≤ℤ (e +ℤ pos (2 ^ 24))
@@ -216,17 +216,17 @@ module _ (d : Document) (p : Placed) (n : ℕ) (o : LevelOptions) (s : IsSound d
       joined : (a b x y u t : ℤ) (k c e z : ℕ) → a ≤ℤ x → b ≤ℤ y → (x +ℤ y) ≤ℤ (u +ℤ pos (k * (2 ^ 24 + 2 ^ 21))) → u ≡ t → k ≡ c → (a +ℤ b) ≤ℤ (t +ℤ pos (c * 2 ^ 25 + 2 ^ 23 * (c + e + z + 1)))
       joined a b x y u t k c e z p q h m n = omega (arith, ints, p, q, h, m, n)
 
-  turned_extent_most : ((turned_size o.direction extent).width +ℤ (turned_size o.direction extent).height) ≤ℤ (total_below (is_child d n) (size_sum p) (length d.nodes) +ℤ pos (room (child_count d n) (edge_count d n)))
-  turned_extent_most = subst (λ z. z ≤ℤ (total_below (is_child d n) (size_sum p) (length d.nodes) +ℤ pos (room (child_count d n) (edge_count d n)))) (sym (turned_sum o.direction extent)) extent_most
+  rotated_extent_most : ((rotated_size o.direction extent).width +ℤ (rotated_size o.direction extent).height) ≤ℤ (total_below (is_child d n) (size_sum p) (length d.nodes) +ℤ pos (room (child_count d n) (edge_count d n)))
+  rotated_extent_most = subst (λ z. z ≤ℤ (total_below (is_child d n) (size_sum p) (length d.nodes) +ℤ pos (room (child_count d n) (edge_count d n)))) (sym (rotated_sum o.direction extent)) extent_most
 
-  turned_extent_least : (pos 0 ≤ℤ (turned_size o.direction extent).width) × (pos 0 ≤ℤ (turned_size o.direction extent).height)
-  turned_extent_least = turned_least o.direction extent extent_least.0 extent_least.1
+  rotated_extent_least : (pos 0 ≤ℤ (rotated_size o.direction extent).width) × (pos 0 ≤ℤ (rotated_size o.direction extent).height)
+  rotated_extent_least = rotated_least o.direction extent extent_least.0 extent_least.1
 
   boxes_solid : IsSolid (box_of p n)
-  boxes_solid = framed_solid d p n o s within is (turned_size o.direction extent) turned_extent_least.0 turned_extent_least.1 planned.size
+  boxes_solid = framed_solid d p n o s within is (rotated_size o.direction extent) rotated_extent_least.0 rotated_extent_least.1 planned.size
 
   boxes_most : size_sum p n ≤ℤ (total_below (is_child d n) (size_sum p) (length d.nodes) +ℤ pos (cost d n))
-  boxes_most = framed_most d p n o s within is (turned_size o.direction extent) turned_extent_least.0 turned_extent_least.1 planned.size turned_extent_most
+  boxes_most = framed_most d p n o s within is (rotated_size o.direction extent) rotated_extent_least.0 rotated_extent_least.1 planned.size rotated_extent_most
 
 -- ---- all levels
 

@@ -16,7 +16,7 @@ use Rattle.elk_doc.specs.Document.{Document, node_at}
 use Rattle.elk_doc.specs.Drawing.{certificate_of, no_rect}
 use Rattle.elk_doc.specs.Level.{children}
 use Rattle.elk_doc.specs.Places.{outline_of as document_outline}
-use Rattle.elk_doc.specs.Shapes.{turned}
+use Rattle.elk_doc.specs.Shapes.{rotated}
 use Rattle.drawing_types.specs.Shapes.{hull}
 use Rattle.elk_doc.specs.Sound.{IsSound}
 use Rattle.drawing_types.proofs.SameShapes.{same_rect}
@@ -32,13 +32,13 @@ use Rattle.level_model.specs.Apart.{drawn_outline_from}
 use Rattle.level_split.specs.Boxes.{IsBoxesLayout, alone}
 use Rattle.level_split.specs.Outlines.{child_in, outline_from, outline_of, outline_size, port_rect, ports_in, rect_in}
 use Rattle.level_split.specs.Placing.{corner}
-use Rattle.working_frame.specs.Drawing.{IsTurnedDrawing, plus}
-use Rattle.working_frame.specs.Turned.{box_size, child_number, edge_number, level_edge, level_of, turned_place, turned_size}
+use Rattle.working_frame.specs.Drawing.{IsRotatedDrawing, plus}
+use Rattle.working_frame.specs.Rotated.{box_size, child_number, edge_number, level_edge, level_of, rotated_place, rotated_size}
 use Rattle.working_frame.proofs.NumberedLemmas.{levels_are_listed}
-use Rattle.turned_levels.specs.Framed.{start_of}
-use Rattle.turned_levels.specs.Outlines.{shifted}
-use Rattle.turned_levels.proofs.HullLemmas.{hull_moved}
-use Rattle.turned_levels.proofs.OutlineLemmas.{drawn_port_box, outlines_turn_back}
+use Rattle.rotated_levels.specs.Framed.{start_of}
+use Rattle.rotated_levels.specs.Outlines.{shifted}
+use Rattle.rotated_levels.proofs.HullLemmas.{hull_moved}
+use Rattle.rotated_levels.proofs.OutlineLemmas.{drawn_port_box, outlines_rotate_back}
 use Rattle.level_io.specs.declared.figure.LevelFigure.{LevelFigure}
 use Rattle.level_io.specs.Figure.{figure_in}
 use Rattle.level_io.specs.Sizes.{IsSizeRound}
@@ -50,11 +50,11 @@ use Rattle.compound.specs.Figures.{IsBoxed, figure_of_boxes, layers_for}
 -- ---- out of the frame
 
 -- the size of a rectangle by its turn
-size_back : (way : Direction) (r f : Rect) → turned way r ≡ f → size_of r ≡ turned_size way (size_of f)
+size_back : (way : Direction) (r f : Rect) → rotated way r ≡ f → size_of r ≡ rotated_size way (size_of f)
 size_back Right r f e = ap size_of e
 size_back Left r f e = ap size_of e
-size_back Down r f e = ap (λ (q : Rect). turned_size Down (size_of q)) e
-size_back Up r f e = ap (λ (q : Rect). turned_size Up (size_of q)) e
+size_back Down r f e = ap (λ (q : Rect). rotated_size Down (size_of q)) e
+size_back Up r f e = ap (λ (q : Rect). rotated_size Up (size_of q)) e
 
 mirrored : (x w m e p s : ℤ) → neg_ℤ (x +ℤ w) ≡ neg_ℤ (m +ℤ e) +ℤ (e -ℤ (p +ℤ s)) → w ≡ s → x ≡ m +ℤ p
 mirrored x w m e p s h k = omega (arith, ints, h, k)
@@ -63,8 +63,8 @@ same_point : (a b x y : ℤ) → a ≡ x → b ≡ y → (let l : Point = record
 same_point a b x y p q = cc
 
 -- what stands in the frame where the turn of content takes it, stands in the document at its place
-place_back : (way : Direction) (m : Padding) (e s : Size) (place : Point) (r f : Rect) → turned way r ≡ f → size_of r ≡ s
-    → corner f ≡ plus (start_of way m (turned_size way e)) (turned_place way e s place) → corner_of r ≡ plus (inner_corner m) place
+place_back : (way : Direction) (m : Padding) (e s : Size) (place : Point) (r f : Rect) → rotated way r ≡ f → size_of r ≡ s
+    → corner f ≡ plus (start_of way m (rotated_size way e)) (rotated_place way e s place) → corner_of r ≡ plus (inner_corner m) place
 place_back Right m e s place r f t size at = ap corner_of t ∙ at
 place_back Left m e s place r f t size at =
     let x = ap (λ (q : Rect). q.x) t ∙ ap (λ (q : Point). q.x) at in
@@ -116,7 +116,7 @@ alone_is d p n o l sound there options boxes is =
 module _ (d : Document) (p : Placed) (n : ℕ) (o : LevelOptions) (l : LevelIn) (v : LevelFigure)
     (sound : IsSound d) (there : n < length d.nodes) (options : (node_at d n).level ≡ Some o) (boxes : IsTrue o.boxes)
     (is : plain_level l ≡ level_of d p n o) (fixed : l.fixed ≡ o.fixed) (placing : l.placing ≡ o.placing) (h : IsBoxed l o v)
-    (drawn : IsTurnedDrawing d p n o.direction (figure_in v [] [] (pos 0) (pos 0)) (start_of o.direction o.padding v.extent))
+    (drawn : IsRotatedDrawing d p n o.direction (figure_in v [] [] (pos 0) (pos 0)) (start_of o.direction o.padding v.extent))
     (certificate : HasCertificate d n p v.certificate) (size : IsSizeRound d n o v.extent (box_size p n)) where
   abbrev layout : IsBoxesLayout l o.direction h.out
   layout = h.layout
@@ -127,13 +127,13 @@ module _ (d : Document) (p : Placed) (n : ℕ) (o : LevelOptions) (l : LevelIn) 
   abbrev figure : LevelDrawing
   figure = figure_in (figure_of_boxes h.out) [] [] (pos 0) (pos 0)
 
-  extent_is : v.extent ≡ turned_size o.direction extent
+  extent_is : v.extent ≡ rotated_size o.direction extent
   extent_is = ap (λ (f : LevelFigure). f.extent) h.is ∙ layout.extent
 
-  turned_back : IsTurnedDrawing d p n o.direction figure (start_of o.direction o.padding (turned_size o.direction extent))
-  turned_back =
-      subst (λ (f : LevelFigure). IsTurnedDrawing d p n o.direction (figure_in f [] [] (pos 0) (pos 0)) (start_of o.direction o.padding (turned_size o.direction extent))) h.is
-      (subst (λ (e : Size). IsTurnedDrawing d p n o.direction (figure_in v [] [] (pos 0) (pos 0)) (start_of o.direction o.padding e)) extent_is drawn)
+  rotated_back : IsRotatedDrawing d p n o.direction figure (start_of o.direction o.padding (rotated_size o.direction extent))
+  rotated_back =
+      subst (λ (f : LevelFigure). IsRotatedDrawing d p n o.direction (figure_in f [] [] (pos 0) (pos 0)) (start_of o.direction o.padding (rotated_size o.direction extent))) h.is
+      (subst (λ (e : Size). IsRotatedDrawing d p n o.direction (figure_in v [] [] (pos 0) (pos 0)) (start_of o.direction o.padding e)) extent_is drawn)
 
   many : length l.children ≡ length (children d n)
   many = ap (λ (m : PlainLevel). length m.children) is ∙ (levels_are_listed d p n o).child_count
@@ -149,11 +149,11 @@ module _ (d : Document) (p : Placed) (n : ℕ) (o : LevelOptions) (l : LevelIn) 
 
   -- the outline of a child in the frame
   framed_is : (i : ℕ) → i < length (children d n)
-      → turned o.direction (document_outline d p (child_number d n i)) ≡ shifted (start_of o.direction o.padding (turned_size o.direction extent)) (shifted (point_or h.out.boxes i) (outline i))
+      → rotated o.direction (document_outline d p (child_number d n i)) ≡ shifted (start_of o.direction o.padding (rotated_size o.direction extent)) (shifted (point_or h.out.boxes i) (outline i))
   framed_is i k =
-      let by = start_of o.direction o.padding (turned_size o.direction extent) in
+      let by = start_of o.direction o.padding (rotated_size o.direction extent) in
       let c = child_at (level_of d p n o) i in
-      outlines_turn_back d p n o figure by turned_back i k
+      outlines_rotate_back d p n o figure by rotated_back i k
       ∙ ap (shifted by) (drawn_from (level_of d p n o) figure i (range_with_len 0 (length c.ports))
       ∙ ap (shifted (point_or h.out.boxes i)) (sym (layout.are_outlines.each i (in_level i k) ∙ ap (λ (x : Child). outline_of x (ports_in h.out.ports i)) (child_is i))))
 
@@ -166,7 +166,7 @@ module _ (d : Document) (p : Placed) (n : ℕ) (o : LevelOptions) (l : LevelIn) 
   outline_stands i k =
       place_back o.direction o.padding extent (outline_size o.direction (outline i)) (point_at layout.squarest.rows.at i) (document_outline d p (child_number d n i)) _ (framed_is i k)
       (size_back o.direction (document_outline d p (child_number d n i)) _ (framed_is i k))
-      (ap (plus (start_of o.direction o.padding (turned_size o.direction extent))) (layout.boxes i (in_level i k)))
+      (ap (plus (start_of o.direction o.padding (rotated_size o.direction extent))) (layout.boxes i (in_level i k)))
 
   certificate_stands : certificate_of p n ≡ Some (boxes_certificate d n)
   certificate_stands =
@@ -190,7 +190,7 @@ module _ (d : Document) (p : Placed) (n : ℕ) (o : LevelOptions) (l : LevelIn) 
         fixed = fixed;
         placing = placing;
         laid_out = layout.laid_out;
-        ports = λ i j k m. (turned_back.children i k).ports j m ∙ ap (λ ports. point_or (get_or ports i []) j) layout.ports;
+        ports = λ i j k m. (rotated_back.children i k).ports j m ∙ ap (λ ports. point_or (get_or ports i []) j) layout.ports;
         squarest = layout.squarest;
         rows = subst (λ gap. IsSquarest (outline_sizes d p n) gap layout.squarest) (ap (λ (m : PlainLevel). m.spacing.node_node) is)
             (subst (λ sizes. IsSquarest sizes l.spacing.node_node layout.squarest) sizes_are layout.is_squarest);

@@ -14,10 +14,10 @@ use Rattle.elk_doc.specs.Fitted.{IsGreatestOf}
 use Rattle.elk_doc.specs.Level.{IsChild, children, place_of_child}
 use Rattle.elk_doc.specs.Paths.{stay}
 use Rattle.elk_doc.specs.PortsKept.{KeepsPorts}
-use Rattle.working_frame.specs.Turned.{turned_size}
+use Rattle.working_frame.specs.Rotated.{rotated_size}
 use Rattle.level_model.specs.FromPlan.{LevelDrawing}
-use Rattle.turned_levels.specs.Framed.{AsksHeight, AsksWidth, IsFittedBox, IsFramed, start_of}
-use Rattle.turned_levels.specs.Levels.{IsWellDrawn}
+use Rattle.rotated_levels.specs.Framed.{AsksHeight, AsksWidth, IsFittedBox, IsFramed, start_of}
+use Rattle.rotated_levels.specs.Levels.{IsWellDrawn}
 use Rattle.level_io.specs.Sizes.{KeepsPinned}
 use Rattle.level_io.proofs.FramedLemmas.{framed}
 use Rattle.compound.specs.Boxed.{boxes_certificate, lowest}
@@ -31,11 +31,11 @@ clash : {X : Type 0} (b : Bool) → IsTrue b → IsFalse b → X
 clash true t f = absurd (search rules)
 clash false t f = absurd (search rules)
 
-turned_twice : (way : Direction) (s : Size) → turned_size way (turned_size way s) ≡ s
-turned_twice Right s = refl
-turned_twice Left s = refl
-turned_twice Down s = refl
-turned_twice Up s = refl
+rotated_twice : (way : Direction) (s : Size) → rotated_size way (rotated_size way s) ≡ s
+rotated_twice Right s = refl
+rotated_twice Left s = refl
+rotated_twice Down s = refl
+rotated_twice Up s = refl
 
 module _ (d : Document) (p : Placed) (n : ℕ) (o : LevelOptions) (h : IsDrawnAsBoxes d p n o) (solid : (c : ℕ) → IsChild d n c → IsSolid (box_of p c)) (own : KeepsPorts d p n) where
   pinned : KeepsPinned d p n
@@ -49,7 +49,7 @@ module _ (d : Document) (p : Placed) (n : ℕ) (o : LevelOptions) (h : IsDrawnAs
 
   fitted : IsFittedBox d p n o
   fitted =
-      let twice = turned_twice o.direction h.planned.squarest.rows.extent in
+      let twice = rotated_twice o.direction h.planned.squarest.rows.extent in
       fitted_box d p n o (level_sound d n o h.sound h.there h.options).spacing h.planned solid (no_edge d n o h.sound h.there h.options h.boxes)
       (subst (λ (s : Size). IsGreatestOf (AsksWidth d p n o s) (box_of p n).width) twice round.width)
       (subst (λ (s : Size). IsGreatestOf (AsksHeight d p n o s) (box_of p n).height) twice round.height)

@@ -9,7 +9,7 @@ use Rattle.elk_doc.specs.Drawing.{box_of, certificate_of, no_rect, no_section}
 use Rattle.elk_doc.specs.Fits.{KeepsSize}
 use Rattle.elk_doc.specs.Sound.{IsSound}
 use Rattle.working_frame.specs.Kept.{AgreeAt}
-use Rattle.working_frame.specs.Turned.{box_size}
+use Rattle.working_frame.specs.Rotated.{box_size}
 use Rattle.level_io.specs.Back.{size_of}
 use Rattle.compound.proofs.PlanLemmas.{plans_stay}
 use Rattle.compound.proofs.NestedLemmas.{planned_boxes_are_small}

@@ -10,8 +10,8 @@ use Rattle.level_model.specs.Level.{Orders, PlainLevel, PlainPlan, child_at}
 use Rattle.level_model.specs.Apart.{drawn_outline}
 use Rattle.level_model.specs.Ready.{IsReady}
 use Rattle.plan_laws.proofs.ApartLemmas.{outlines_are_drawn}
-use Rattle.turned_levels.specs.Extents.{IsBounded, outline_heights, outline_widths}
-use Rattle.turned_levels.proofs.Sums.{over}
+use Rattle.rotated_levels.specs.Extents.{IsBounded, outline_heights, outline_widths}
+use Rattle.rotated_levels.proofs.Sums.{over}
 use Rattle.compound.proofs.ListLemmas.{sum_most}
 use Rattle.compound.proofs.OutlineLemmas.{HasShortPorts, outline_high, outline_wide}
 use Rattle.compound.proofs.SumLemmas.{room}

@@ -1,4 +1,4 @@
--- Ports of a child that are kept are near enough to be turned back.
+-- Ports of a child that are kept are near enough to be rotated back.
 use Rattle.std.proofs.Common.{◌≡◌, ℕ, ◌<◌, ◌^◌, not, ◌&&◌, Bool, true, false, IsTrue, IsFalse, ⊎_elim, ℤ, pos, ◌+ℤ◌, ◌≤ℤ◌, length, sym, subst, arith, rules}
 use Rattle.std.proofs.lemmas.Bool.{cases_Bool}
 use Rattle.std.proofs.lemmas.Int.{ints}

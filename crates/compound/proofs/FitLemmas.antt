@@ -22,8 +22,8 @@ use Rattle.elk_doc.specs.Sound.{IsSoundSpacing}
 use Rattle.box_pack.specs.Boxes as rows
 use Rattle.box_pack.specs.Boxes.{point_at}
 use Rattle.box_pack.specs.Spaced.{box_at}
-use Rattle.turned_levels.specs.Framed.{AsksHeight, AsksWidth, IsFittedBox}
-use Rattle.working_frame.specs.Turned.{child_number}
+use Rattle.rotated_levels.specs.Framed.{AsksHeight, AsksWidth, IsFittedBox}
+use Rattle.working_frame.specs.Rotated.{child_number}
 use Rattle.working_frame.proofs.NumberedLemmas.{numbers_match}
 use Rattle.compound.specs.Boxed.{IsBoxedPlan, outline_sizes}
 use Rattle.compound.proofs.RowLemmas.{outline_at_place, outline_is, size_count, spaced}

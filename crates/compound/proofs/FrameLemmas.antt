@@ -17,10 +17,10 @@ use Rattle.route_lines.specs.Points.{PlainGap}
 use Rattle.level_model.specs.FromPlan.{PlainTrace}
 use Rattle.level_nets.specs.Held.{plain_gaps}
 use Rattle.level_draw.specs.Traced.{plain_traces}
-use Rattle.working_frame.specs.Drawing.{IsTurnedDrawing}
-use Rattle.working_frame.specs.Turned.{box_size, level_of}
+use Rattle.working_frame.specs.Drawing.{IsRotatedDrawing}
+use Rattle.working_frame.specs.Rotated.{box_size, level_of}
 use Rattle.working_frame.proofs.KeptLemmas.{drawings_read_levels, levels_read_sizes}
-use Rattle.turned_levels.specs.Framed.{start_of}
+use Rattle.rotated_levels.specs.Framed.{start_of}
 use Rattle.level_io.specs.Read.{size_at}
 use Rattle.level_io.specs.declared.figure.LevelFigure.{LevelFigure}
 use Rattle.level_io.specs.Back.{size_of}
@@ -88,10 +88,10 @@ module _ (d : Document) (old now : Placed) (sizes : List Size) (n : ℕ) (o : Le
   level_now : level_of d old n o ≡ level_of d now n o
   level_now = levels_read_sizes d old now n o (λ c h. sym (size_kept c (other_child c h)))
 
-  drawn_now : (gaps : List PlainGap) (traces : List PlainTrace) (left top : ℤ) → IsTurnedDrawing d now n o.direction (figure_in v gaps traces left top) (start_of o.direction o.padding v.extent)
+  drawn_now : (gaps : List PlainGap) (traces : List PlainTrace) (left top : ℤ) → IsRotatedDrawing d now n o.direction (figure_in v gaps traces left top) (start_of o.direction o.padding v.extent)
   drawn_now gaps traces left top =
       drawings_read_levels d between now n o.direction (figure_in v gaps traces left top) (start_of o.direction o.padding v.extent)
-      (round.framed.agree n (λ h. other_child n h refl)) (round.written.turned gaps traces left top)
+      (round.framed.agree n (λ h. other_child n h refl)) (round.written.rotated gaps traces left top)
 
   certificate_is : HasCertificate d n now v.certificate
   certificate_is =
@@ -109,7 +109,7 @@ module _ (d : Document) (old now : Placed) (sizes : List Size) (n : ℕ) (o : Le
         laid_out = h.laid_out;
         certificate = subst (λ (f : LevelFigure). HasCertificate d n now f.certificate) h.is certificate_is;
         drawn = λ left top.
-            subst (λ (f : LevelFigure). IsTurnedDrawing d now n o.direction (figure_in f (plain_gaps h.out.plan.gaps) (plain_traces h.out.plan.traces) left top) (start_of o.direction o.padding f.extent)) h.is
+            subst (λ (f : LevelFigure). IsRotatedDrawing d now n o.direction (figure_in f (plain_gaps h.out.plan.gaps) (plain_traces h.out.plan.traces) left top) (start_of o.direction o.padding f.extent)) h.is
             (drawn_now (plain_gaps h.out.plan.gaps) (plain_traces h.out.plan.traces) left top);
         size = subst (λ (f : LevelFigure). IsSizeRound d n o f.extent (box_size now n)) h.is round.framed.size;
       }
@@ -124,7 +124,7 @@ module _ (d : Document) (old now : Placed) (sizes : List Size) (n : ℕ) (o : Le
         placing = layout.placing;
         laid_out = h.laid_out;
         certificate = subst (λ (f : LevelFigure). HasCertificate d n now f.certificate) h.is certificate_is;
-        drawn = subst (λ (f : LevelFigure). IsTurnedDrawing d now n o.direction (figure_in f [] [] (pos 0) (pos 0)) (start_of o.direction o.padding f.extent)) h.is (drawn_now [] [] (pos 0) (pos 0));
+        drawn = subst (λ (f : LevelFigure). IsRotatedDrawing d now n o.direction (figure_in f [] [] (pos 0) (pos 0)) (start_of o.direction o.padding f.extent)) h.is (drawn_now [] [] (pos 0) (pos 0));
         size = subst (λ (f : LevelFigure). IsSizeRound d n o f.extent (box_size now n)) h.is round.framed.size;
       }
 

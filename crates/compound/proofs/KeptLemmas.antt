@@ -15,7 +15,7 @@ use Rattle.elk_doc.specs.Drawing.{box_of, port_place}
 use Rattle.elk_doc.specs.Fits.{LeavesKept}
 use Rattle.elk_doc.specs.Level.{IsChild}
 use Rattle.elk_doc.specs.PortsKept.{KeepsPorts}
-use Rattle.elk_doc.specs.Shapes.{turned}
+use Rattle.elk_doc.specs.Shapes.{rotated}
 use Rattle.drawing_types.specs.Shapes.{rect_at}
 use Rattle.elk_doc.specs.Sound.{IsSound}
 use Rattle.level_model.specs.declared.level.LevelIn.{LevelIn}
@@ -27,12 +27,12 @@ use Rattle.level_model.specs.Ready.{IsReady}
 use Rattle.level_draw.specs.declared.drawing.LevelOut.{LevelOut}
 use Rattle.level_draw.specs.Drawing.{IsDrawing, drawn_in, plan_from}
 use Rattle.level_layout.specs.Layout.{IsLaidOut}
-use Rattle.working_frame.specs.Drawing.{IsTurnedChild, IsTurnedDrawing, plus}
-use Rattle.working_frame.specs.Turned.{box_size, edge_number, port_number, ports_of, turned_place, turned_size}
+use Rattle.working_frame.specs.Drawing.{IsRotatedChild, IsRotatedDrawing, plus}
+use Rattle.working_frame.specs.Rotated.{box_size, edge_number, port_number, ports_of, rotated_place, rotated_size}
 use Rattle.working_frame.proofs.NumberedLemmas.{numbers_match}
-use Rattle.turned_levels.specs.DockLaws.{IsAnchored, IsFromLevel}
-use Rattle.turned_levels.specs.PortLaws.{AllKeepPorts}
-use Rattle.turned_levels.proofs.SpreadLemmas.{ports_turn_back}
+use Rattle.rotated_levels.specs.DockLaws.{IsAnchored, IsFromLevel}
+use Rattle.rotated_levels.specs.PortLaws.{AllKeepPorts}
+use Rattle.rotated_levels.proofs.SpreadLemmas.{ports_rotate_back}
 use Rattle.compound.specs.Planned.{root_level}
 use Rattle.compound.specs.Rooted.{RootPortsAreKept}
 use Rattle.compound.proofs.LoweredLemmas.{lowered, lowered_sound, root_port_at}
@@ -43,12 +43,12 @@ use Rattle.drawing_types.proofs.SameShapes.{same_rect}
 
 -- how far a point is moved to the corner of a rectangle in the frame
 abbrev shift : Direction → Rect → Point → Point
-shift way r a = record { x = (turned way r).x -ℤ a.x; y = (turned way r).y -ℤ a.y }
+shift way r a = record { x = (rotated way r).x -ℤ a.x; y = (rotated way r).y -ℤ a.y }
 
 there : (z a : ℤ) → z ≡ (z -ℤ a) +ℤ a
 there z a = omega (arith, ints)
 
-box_there : (way : Direction) (r : Rect) (a : Point) → turned way r ≡ rect_at (plus (shift way r a) a) (turned_size way (record { width = r.width; height = r.height }))
+box_there : (way : Direction) (r : Rect) (a : Point) → rotated way r ≡ rect_at (plus (shift way r a) a) (rotated_size way (record { width = r.width; height = r.height }))
 box_there Right r a = same_rect _ _ (there _ _) (there _ _) refl refl
 box_there Left r a = same_rect _ _ (there _ _) (there _ _) refl refl
 box_there Down r a = same_rect _ _ (there _ _) (there _ _) refl refl
@@ -62,9 +62,9 @@ module _ (d : Document) (p : Placed) (o : LevelOptions) (plan : PlainPlan) (orde
     (sound : IsSound d) (level : (node_at d 0).level ≡ Some o)
     (drawn : IsDrawnFrom (root_level d p o) plan orders v)
     (kept : AllKeepPorts (root_level d p o) plan orders v)
-    (unturned : (i : ℕ) → IsTrue (holds plan.reversed i) → ⊥)
+    (unrotated : (i : ℕ) → IsTrue (holds plan.reversed i) → ⊥)
     (stand : (j : ℕ) → j < length (ports_of d 0)
-    → turned_place o.direction (box_size p 0) (port_at d (port_number d 0 j)).size (port_place p (port_number d 0 j)) ≡ drawn_port v 0 j) where
+    → rotated_place o.direction (box_size p 0) (port_at d (port_number d 0 j)).size (port_place p (port_number d 0 j)) ≡ drawn_port v 0 j) where
   abbrev w : Document
   w = lowered d
 
@@ -85,31 +85,31 @@ module _ (d : Document) (p : Placed) (o : LevelOptions) (plan : PlainPlan) (orde
 
   abbrev PortsStand : List ℕ → Type 0
   PortsStand ks =
-      (j : ℕ) → j < length ks → turned_place o.direction (box_size p 0) (port_at w (get_or ks j 0)).size (port_place p (get_or ks j 0)) ≡ drawn_port v 0 j
+      (j : ℕ) → j < length ks → rotated_place o.direction (box_size p 0) (port_at w (get_or ks j 0)).size (port_place p (get_or ks j 0)) ≡ drawn_port v 0 j
 
   ports_stand : PortsStand (ports_of d 0)
   ports_stand j h =
       let k = port_number d 0 j in
       let own = (numbers_match d 0).ports.meant j h in
-      ap (λ (x : Port). turned_place o.direction (box_size p 0) x.size (port_place p k)) (root_port_at d k own.port_in own.of_node) ∙ stand j h
+      ap (λ (x : Port). rotated_place o.direction (box_size p 0) x.size (port_place p k)) (root_port_at d k own.port_in own.of_node) ∙ stand j h
 
-  child_turned : IsTurnedChild w q o.direction v by 0 1
-  child_turned =
+  child_rotated : IsRotatedChild w q o.direction v by 0 1
+  child_rotated =
       record { box = box_there o.direction (box_of p 0) (point_or v.boxes 0); ports = subst PortsStand (sym (ports_are d)) ports_stand }
 
-  abbrev ChildrenTurned : List ℕ → Type 0
-  ChildrenTurned cs = (i : ℕ) → i < length cs → IsTurnedChild w q o.direction v by i (get_or cs i 0)
+  abbrev ChildrenRotated : List ℕ → Type 0
+  ChildrenRotated cs = (i : ℕ) → i < length cs → IsRotatedChild w q o.direction v by i (get_or cs i 0)
 
   abbrev alone : List ℕ
   alone = 1 ∷ []
 
-  children_turned : ChildrenTurned alone
-  children_turned = below1 (λ i. IsTurnedChild w q o.direction v by i (get_or alone i 0)) child_turned
+  children_rotated : ChildrenRotated alone
+  children_rotated = below1 (λ i. IsRotatedChild w q o.direction v by i (get_or alone i 0)) child_rotated
 
-  turned_back : IsTurnedDrawing w q 0 o.direction v by
-  turned_back =
+  rotated_back : IsRotatedDrawing w q 0 o.direction v by
+  rotated_back =
       record {
-        children = subst ChildrenTurned (sym (only_child d)) children_turned;
+        children = subst ChildrenRotated (sym (only_child d)) children_rotated;
         sections = λ i h. absurd (let none = ap length (no_edges d) in omega (arith, h, none));
       }
 
@@ -119,11 +119,11 @@ module _ (d : Document) (p : Placed) (o : LevelOptions) (plan : PlainPlan) (orde
         sound = lowered_sound d sound;
         options = level;
         leaves = leaves;
-        drawn = turned_back;
+        drawn = rotated_back;
         certificate = c;
         written = refl;
         numbered = refl;
-        reversed_in = λ i h. absurd (unturned i h);
+        reversed_in = λ i h. absurd (unrotated i h);
       }
 
   anchored : IsAnchored (root_level d p o) plan orders v
@@ -141,7 +141,7 @@ module _ (d : Document) (p : Placed) (o : LevelOptions) (plan : PlainPlan) (orde
   root_kept =
       let same = level_is d p c o in
       root_keeps d p c sound
-      (ports_turn_back w q 0 o plan orders v by from
+      (ports_rotate_back w q 0 o plan orders v by from
       (subst (λ l. IsAnchored l plan orders v) (sym same) anchored) (subst (λ l. AllKeepPorts l plan orders v) (sym same) kept) 1 child)
 
 -- ---- what is laid out, at a level that is that level

@@ -22,10 +22,10 @@ use Rattle.level_draw.specs.Traced.{plain_traces}
 use Rattle.level_split.specs.Boxes.{alone}
 use Rattle.level_draw.specs.declared.drawing.LevelOut.{LevelOut}
 use Rattle.level_draw.specs.Drawing.{IsTight, drawn_in, plan_from}
-use Rattle.working_frame.specs.Turned.{level_of}
+use Rattle.working_frame.specs.Rotated.{level_of}
 use Rattle.working_frame.proofs.NumberedLemmas.{levels_are_listed}
-use Rattle.turned_levels.proofs.EdgeLemmas.{has_holds}
-use Rattle.turned_levels.proofs.Bounded.{extents_small}
+use Rattle.rotated_levels.proofs.EdgeLemmas.{has_holds}
+use Rattle.rotated_levels.proofs.Bounded.{extents_small}
 use Rattle.level_io.specs.Levels.{HasRoom}
 use Rattle.level_io.specs.Read.{AreSizes, HasSizes}
 use Rattle.level_io.proofs.LevelLemmas.{levels_are_levels}
@@ -41,7 +41,7 @@ use Rattle.compound.specs.Planned.{ArePlannedFrom}
 use Rattle.compound.proofs.EdgeLemmas.{edges_none}
 use Rattle.compound.specs.Nested.{IsSmallBox}
 use Rattle.compound.proofs.NestedLemmas.{planned_boxes_are_small, planned_levels_have_room}
-use Rattle.turned_levels.specs.Joined.{with_gaps}
+use Rattle.rotated_levels.specs.Joined.{with_gaps}
 use Rattle.level_split.specs.declared.layout.PartsOut.{PartsOut}
 use Rattle.level_split.specs.Laws.{IsPartedDrawing}
 use Rattle.level_split.specs.Parts.{IsPartsLayout, whole_drawing}

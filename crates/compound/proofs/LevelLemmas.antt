@@ -23,7 +23,7 @@ use Rattle.port_order.specs.Conditions.{IsSmall}
 use Rattle.port_order.specs.Sides.{side_else}
 use Rattle.level_model.specs.Conditions.{IsLevel, IsLevelChild}
 use Rattle.level_model.specs.Level.{PlainLevel, child_at}
-use Rattle.working_frame.specs.Turned.{box_size, half_along, is_port_of, level_child, level_edge, level_of, level_port, port_number, ports_of, turned_given, turned_place, turned_size}
+use Rattle.working_frame.specs.Rotated.{box_size, half_along, is_port_of, level_child, level_edge, level_of, level_port, port_number, ports_of, rotated_given, rotated_place, rotated_size}
 use Rattle.working_frame.proofs.NumberedLemmas.{numbers_match}
 use Rattle.level_io.proofs.ChildLemmas.{child_sound}
 use Rattle.level_io.proofs.CountLemmas.{few_numbers}
@@ -65,10 +65,10 @@ ports_are d =
 abbrev port_by : Direction → Size → Port → Option Side → ChildPort
 port_by way box x given =
     record {
-      size = turned_size way x.size;
-      place = turned_place way box x.size x.place;
-      half = half_along way (side_else (turned_given way given) false) (turned_size way x.size);
-      side = turned_given way x.side;
+      size = rotated_size way x.size;
+      place = rotated_place way box x.size x.place;
+      half = half_along way (side_else (rotated_given way given) false) (rotated_size way x.size);
+      side = rotated_given way x.side;
       index = x.index;
     }
 
@@ -87,7 +87,7 @@ level_ports_are d way box =
 
 child_is : (d : Document) (p : Placed) (c : Certificate) (way : Direction) → level_child (lowered d) (lowered_drawing p c) way 1 ≡ level_child d p way 0
 child_is d p c way =
-    let with_ports : List ChildPort → Child = λ qs. record { size = turned_size way (box_size p 0); compound = is_some (node_at d 0).level; rule = (node_at d 0).rule; direction = way; position = (node_at d 0).position; ports = qs } in
+    let with_ports : List ChildPort → Child = λ qs. record { size = rotated_size way (box_size p 0); compound = is_some (node_at d 0).level; rule = (node_at d 0).rule; direction = way; position = (node_at d 0).position; ports = qs } in
     ap with_ports (level_ports_are d way (box_size p 0))
 
 pub level_is : (d : Document) (p : Placed) (c : Certificate) (o : LevelOptions) → level_of (lowered d) (lowered_drawing p c) 0 o ≡ root_level d p o
@@ -112,11 +112,11 @@ root_long p h =
     let z = h.height.below in
     record { width = record { above = h.width.above; below = omega (arith, ints, w) }; height = record { above = h.height.above; below = omega (arith, ints, z) } }
 
-turned_short : (way : Direction) (s : Size) → s.width ≤ℤ pos (2 ^ 45 + 2 ^ 37) → s.height ≤ℤ pos (2 ^ 45 + 2 ^ 37) → ((turned_size way s).width ≤ℤ pos (2 ^ 45 + 2 ^ 37)) × ((turned_size way s).height ≤ℤ pos (2 ^ 45 + 2 ^ 37))
-turned_short Right s w h = (w, h)
-turned_short Left s w h = (w, h)
-turned_short Down s w h = (h, w)
-turned_short Up s w h = (h, w)
+rotated_short : (way : Direction) (s : Size) → s.width ≤ℤ pos (2 ^ 45 + 2 ^ 37) → s.height ≤ℤ pos (2 ^ 45 + 2 ^ 37) → ((rotated_size way s).width ≤ℤ pos (2 ^ 45 + 2 ^ 37)) × ((rotated_size way s).height ≤ℤ pos (2 ^ 45 + 2 ^ 37))
+rotated_short Right s w h = (w, h)
+rotated_short Left s w h = (w, h)
+rotated_short Down s w h = (h, w)
+rotated_short Up s w h = (h, w)
 
 no_leaf : (level : Option LevelOptions) (o : LevelOptions) → level ≡ Some o → IsNone level → ⊥
 no_leaf level o is h = absurd (let none : IsNone (Some o) = subst IsNone is h in search rules)
@@ -143,7 +143,7 @@ root_is_level d p o s level box =
     let way = o.direction in
     let child = level_child d p o.direction 0 in
     let few = few_ports d p o.direction s in
-    let short = turned_short o.direction (box_size p 0) box.width.below box.height.below in
+    let short = rotated_short o.direction (box_size p 0) box.width.below box.height.below in
     let options : IsSoundLevel d 0 o = subst (λ x. IfSome x (IsSoundLevel d 0)) level (s.levels.options 0 s.tree.root) in
     let widths = ports_short wide child.ports (λ j h. (port_short d o.direction (box_size p 0) 0 j s h).width) in
     let heights = ports_short high child.ports (λ j h. (port_short d o.direction (box_size p 0) 0 j s h).height) in

@@ -7,7 +7,7 @@ use Rattle.drawing_types.specs.declared.shape.Rect.{Rect}
 use Rattle.elk_doc.specs.Numbers.{numbers_below, total_below}
 use Rattle.port_order.specs.declared.children.Child.{Child}
 use Rattle.level_model.specs.Conditions.{sum_of_ints}
-use Rattle.turned_levels.proofs.Sums.{over}
+use Rattle.rotated_levels.proofs.Sums.{over}
 
 over_append : (f : ℕ → ℤ) (xs ys : List ℕ) → over f (xs ++ ys) ≡ over f xs +ℤ over f ys
 over_append f [] ys = omega (arith, ints)

@@ -14,7 +14,7 @@ use Rattle.elk_doc.proofs.NumberLaws.{is_true}
 use Rattle.port_order.specs.declared.children.Child.{Child}
 use Rattle.level_model.specs.Conditions.{total_height, total_ports, total_width}
 use Rattle.level_model.specs.Level.{child_at}
-use Rattle.working_frame.specs.Turned.{box_size, child_number, level_of}
+use Rattle.working_frame.specs.Rotated.{box_size, child_number, level_of}
 use Rattle.working_frame.proofs.NumberedLemmas.{levels_are_listed, numbers_match}
 use Rattle.level_io.specs.Levels.{HasRoom}
 use Rattle.level_io.proofs.CountLemmas.{few_ports}
@@ -22,10 +22,10 @@ use Rattle.level_io.proofs.TotalLemmas.{ArePortsShort, Measure, ports_short}
 use Rattle.compound.specs.Planned.{ArePlannedFrom}
 use Rattle.compound.specs.Nested.{PlannedBoxesAreSmall, PlannedLevelsHaveRoom}
 use Rattle.compound.proofs.ExtentLemmas.{high, wide}
-use Rattle.turned_levels.proofs.Sums.{over}
+use Rattle.rotated_levels.proofs.Sums.{over}
 use Rattle.compound.proofs.ListLemmas.{over_least}
 use Rattle.compound.proofs.BoundBoxLemmas.{level_most, level_solid}
-use Rattle.compound.proofs.NodeLemmas.{children_sum, leaf_most, leaf_solid, level_short, size_sum, turned_least}
+use Rattle.compound.proofs.NodeLemmas.{children_sum, leaf_most, leaf_solid, level_short, size_sum, rotated_least}
 use Rattle.compound.proofs.SumLemmas.{AreCosts, child_behind, children_small, cost, total_least}
 
 -- ---- the sizes of planned nodes
@@ -110,7 +110,7 @@ module _ (d : Document) (p : Placed) (n : ℕ) (o : LevelOptions) (s : IsSound d
       let many = listed.child_count in
       let inside : i < length (children d n) = omega (arith, h, many) in
       let box = child_solid (child_number d n i) ((numbers_match d n).children.meant i inside) in
-      subst (λ (c : Child). (pos 0 ≤ℤ wide c) × (pos 0 ≤ℤ high c)) (sym (listed.child i inside)) (turned_least o.direction (box_size p (child_number d n i)) box.width box.height)
+      subst (λ (c : Child). (pos 0 ≤ℤ wide c) × (pos 0 ≤ℤ high c)) (sym (listed.child i inside)) (rotated_least o.direction (box_size p (child_number d n i)) box.width box.height)
 
   few : total_ports (level_of d p n o).children ≤ length d.ports
   few = few_ports d p o.direction (is_child d n) (length d.nodes)

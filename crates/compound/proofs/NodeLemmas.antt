@@ -27,10 +27,10 @@ use Rattle.level_model.specs.Conditions.{plain_level}
 use Rattle.level_model.specs.Level.{PlainLevel}
 use Rattle.level_draw.specs.Drawing.{drawn_in, plan_from}
 use Rattle.working_frame.specs.Numbered.{IsPortOf}
-use Rattle.working_frame.specs.Turned.{box_size, child_number, level_child, level_edge, level_of, port_number, ports_of, turned_size}
+use Rattle.working_frame.specs.Rotated.{box_size, child_number, level_child, level_edge, level_of, port_number, ports_of, rotated_size}
 use Rattle.working_frame.proofs.NumberedLemmas.{levels_are_listed, numbers_match}
-use Rattle.level_io.proofs.ReadLemmas.{turned_sound}
-use Rattle.turned_levels.proofs.Bounded.{extents_bounded, extents_small}
+use Rattle.level_io.proofs.ReadLemmas.{rotated_sound}
+use Rattle.rotated_levels.proofs.Bounded.{extents_bounded, extents_small}
 use Rattle.level_io.specs.Sizes.{Asks, IsSizeRound, end_across, end_down, end_of, padded_height, padded_width, pinned_under}
 use Rattle.compound.specs.Parted.{IsPartedPlan}
 use Rattle.compound.specs.Planned.{IsLayeredPlan}
@@ -38,7 +38,7 @@ use Rattle.compound.proofs.EdgeLemmas.{level_sound}
 use Rattle.compound.proofs.ExtentLemmas.{AllShort, extent_most, high, wide}
 use Rattle.compound.proofs.PartLemmas.{parts_most}
 use Rattle.level_split.proofs.BoundLemmas.{parts_are_bounded}
-use Rattle.turned_levels.proofs.Sums.{over}
+use Rattle.rotated_levels.proofs.Sums.{over}
 use Rattle.compound.proofs.ListLemmas.{over_both, over_numbers}
 use Rattle.compound.proofs.SumLemmas.{cost, room}
 
@@ -48,22 +48,22 @@ size_sum p n = (box_of p n).width +ℤ (box_of p n).height
 
 -- ---- sizes in the frame
 
-pub turned_sum : (way : Direction) (s : Size) → ((turned_size way s).width +ℤ (turned_size way s).height) ≡ (s.width +ℤ s.height)
-turned_sum Right s = refl
-turned_sum Left s = refl
-turned_sum Down s = omega (arith, ints)
-turned_sum Up s = omega (arith, ints)
+pub rotated_sum : (way : Direction) (s : Size) → ((rotated_size way s).width +ℤ (rotated_size way s).height) ≡ (s.width +ℤ s.height)
+rotated_sum Right s = refl
+rotated_sum Left s = refl
+rotated_sum Down s = omega (arith, ints)
+rotated_sum Up s = omega (arith, ints)
 
-pub turned_least : (way : Direction) (s : Size) → pos 0 ≤ℤ s.width → pos 0 ≤ℤ s.height → (pos 0 ≤ℤ (turned_size way s).width) × (pos 0 ≤ℤ (turned_size way s).height)
-turned_least Right s w h = (w, h)
-turned_least Left s w h = (w, h)
-turned_least Down s w h = (h, w)
-turned_least Up s w h = (h, w)
+pub rotated_least : (way : Direction) (s : Size) → pos 0 ≤ℤ s.width → pos 0 ≤ℤ s.height → (pos 0 ≤ℤ (rotated_size way s).width) × (pos 0 ≤ℤ (rotated_size way s).height)
+rotated_least Right s w h = (w, h)
+rotated_least Left s w h = (w, h)
+rotated_least Down s w h = (h, w)
+rotated_least Up s w h = (h, w)
 
 pub children_sum : (d : Document) (p : Placed) (n : ℕ) (way : Direction)
     → (over wide (map (level_child d p way) (children d n)) +ℤ over high (map (level_child d p way) (children d n))) ≡ total_below (is_child d n) (size_sum p) (length d.nodes)
 children_sum d p n way =
-    over_both (level_child d p way) wide high (size_sum p) (children d n) (λ c. turned_sum way (box_size p c)) ∙ over_numbers (is_child d n) (size_sum p) (length d.nodes)
+    over_both (level_child d p way) wide high (size_sum p) (children d n) (λ c. rotated_sum way (box_size p c)) ∙ over_numbers (is_child d n) (size_sum p) (length d.nodes)
 
 -- the ports of a level are short
 pub level_short : (d : Document) (p : Placed) (n : ℕ) (o : LevelOptions) → IsSound d → AllShort (level_of d p n o)
@@ -75,7 +75,7 @@ level_short d p n o s c h k less =
     let own : k < length (ports_of d (child_number d n c)) = omega (arith, less, many) in
     let of = (numbers_match d (child_number d n c)).ports.meant k own in
     subst (λ (q : ChildPort). IsSoundSize q.size) (sym (listed.port c k inside own))
-    (turned_sound o.direction (port_at d (port_number d (child_number d n c) k)).size (s.ports.each (port_number d (child_number d n c) k) of.port_in).size)
+    (rotated_sound o.direction (port_at d (port_number d (child_number d n c) k)).size (s.ports.each (port_number d (child_number d n c) k) of.port_in).size)
 
 room_is : (d : Document) (p : Placed) (n : ℕ) (o : LevelOptions) → room (length (level_of d p n o).children) (length (level_of d p n o).edges) ≡ room (child_count d n) (edge_count d n)
 room_is d p n o =
@@ -139,18 +139,18 @@ sum_least a b c h k m = omega (arith, ints, h, k, m)
 -- a node that is framed round content of this extent in the frame
 module _ (d : Document) (p : Placed) (n : ℕ) (o : LevelOptions) (s : IsSound d) (there : n < length d.nodes) (is : (node_at d n).level ≡ Some o)
     (extent : Size) (wide_enough : pos 0 ≤ℤ extent.width) (high_enough : pos 0 ≤ℤ extent.height) (framed : IsSizeRound d n o extent (box_size p n)) where
-  turned_content : (pos 0 ≤ℤ (turned_size o.direction extent).width) × (pos 0 ≤ℤ (turned_size o.direction extent).height)
-  turned_content = turned_least o.direction extent wide_enough high_enough
+  rotated_content : (pos 0 ≤ℤ (rotated_size o.direction extent).width) × (pos 0 ≤ℤ (rotated_size o.direction extent).height)
+  rotated_content = rotated_least o.direction extent wide_enough high_enough
 
   width_least : pos 0 ≤ℤ padded_width o extent
   width_least =
       let sound = (level_sound d n o s there is).padding in
-      sum_least o.padding.left (turned_size o.direction extent).width o.padding.right sound.left.above turned_content.0 sound.right.above
+      sum_least o.padding.left (rotated_size o.direction extent).width o.padding.right sound.left.above rotated_content.0 sound.right.above
 
   height_least : pos 0 ≤ℤ padded_height o extent
   height_least =
       let sound = (level_sound d n o s there is).padding in
-      sum_least o.padding.top (turned_size o.direction extent).height o.padding.bottom sound.top.above turned_content.1 sound.bottom.above
+      sum_least o.padding.top (rotated_size o.direction extent).height o.padding.bottom sound.top.above rotated_content.1 sound.bottom.above
 
   width_within : (padded_width o extent ≤ℤ (box_of p n).width) × ((box_of p n).width ≤ℤ (padded_width o extent +ℤ pos (2 ^ 21)))
   width_within = asked_most d n true (padded_width o extent) (box_of p n).width s (some_is (node_at d n).level o is) width_least framed.width
@@ -168,9 +168,9 @@ module _ (d : Document) (p : Placed) (n : ℕ) (o : LevelOptions) (s : IsSound d
       → size_sum p n ≤ℤ (total_below (is_child d n) (size_sum p) (length d.nodes) +ℤ pos (cost d n))
   framed_most most =
       let sound = (level_sound d n o s there is).padding in
-      sums (box_of p n).width (box_of p n).height o.padding.left o.padding.right o.padding.top o.padding.bottom (turned_size o.direction extent).width (turned_size o.direction extent).height
+      sums (box_of p n).width (box_of p n).height o.padding.left o.padding.right o.padding.top o.padding.bottom (rotated_size o.direction extent).width (rotated_size o.direction extent).height
       (extent.width +ℤ extent.height) (total_below (is_child d n) (size_sum p) (length d.nodes)) (room (child_count d n) (edge_count d n))
-      width_within.1 height_within.1 sound.left.below sound.right.below sound.top.below sound.bottom.below (turned_sum o.direction extent) most
+      width_within.1 height_within.1 sound.left.below sound.right.below sound.top.below sound.bottom.below (rotated_sum o.direction extent) most
     where
       sums : (w h a b c e x y z t : ℤ) (r : ℕ) → w ≤ℤ (((a +ℤ x) +ℤ b) +ℤ pos (2 ^ 21)) → h ≤ℤ (((c +ℤ y) +ℤ e) +ℤ pos (2 ^ 21))
           → a ≤ℤ pos (2 ^ 20) → b ≤ℤ pos (2 ^ 20) → c ≤ℤ pos (2 ^ 20) → e ≤ℤ pos (2 ^ 20) → (x +ℤ y) ≡ z → z ≤ℤ (t +ℤ pos r) → (w +ℤ h) ≤ℤ (t +ℤ pos (r + 2 ^ 23))

@@ -5,10 +5,10 @@ use Rattle.drawing_types.specs.declared.shape.Rect.{Rect}
 use Rattle.elk_doc.specs.Sound.{IsDistance}
 use Rattle.port_order.specs.declared.children.Child.{Child}
 use Rattle.box_pack.specs.Boxes.{point_at}
-use Rattle.turned_levels.proofs.PartLemmas as parts
-use Rattle.turned_levels.proofs.JoinedReachLemmas as reach
-use Rattle.turned_levels.specs.Extents.{outline_heights, outline_widths}
-use Rattle.turned_levels.proofs.Sums.{over}
+use Rattle.rotated_levels.proofs.PartLemmas as parts
+use Rattle.rotated_levels.proofs.JoinedReachLemmas as reach
+use Rattle.rotated_levels.specs.Extents.{outline_heights, outline_widths}
+use Rattle.rotated_levels.proofs.Sums.{over}
 use Rattle.level_model.specs.declared.level.LevelIn.{LevelIn}
 use Rattle.level_model.specs.Conditions.{plain_level}
 use Rattle.level_model.specs.Level.{PlainLevel, child_at}

@@ -15,24 +15,24 @@ use Rattle.elk_doc.proofs.NumberLaws.{length-numbers_below}
 use Rattle.level_model.specs.Conditions.{IsLevel}
 use Rattle.level_model.specs.FromPlan.{LevelDrawing}
 use Rattle.level_model.specs.Level.{PlainLevel, holds}
-use Rattle.turned_levels.specs.Joined.{KeepsRules, with_gaps}
+use Rattle.rotated_levels.specs.Joined.{KeepsRules, with_gaps}
 use Rattle.level_split.specs.Laws.{IsPartedDrawing}
 use Rattle.level_split.specs.Parts.{whole_drawing}
 use Rattle.level_split.proofs.WholeLemmas.{parts_are_drawn}
 use Rattle.level_io.specs.Sizes.{KeepsPinned}
 use Rattle.level_io.proofs.FramedLemmas.{framed}
-use Rattle.working_frame.specs.Drawing.{IsTurnedDrawing}
-use Rattle.working_frame.specs.Turned.{edge_number, level_of}
+use Rattle.working_frame.specs.Drawing.{IsRotatedDrawing}
+use Rattle.working_frame.specs.Rotated.{edge_number, level_of}
 use Rattle.working_frame.proofs.NumberedLemmas.{levels_are_listed}
-use Rattle.turned_levels.specs.Framed.{IsFramed, start_of}
-use Rattle.turned_levels.proofs.FrameLemmas.{framed_boxes_fit}
-use Rattle.turned_levels.specs.Certified.{IsCertified, IsSoundCertificate}
-use Rattle.turned_levels.proofs.WholeLemmas.{certificates_turn_back}
-use Rattle.turned_levels.specs.DockLaws.{IsFromLevel}
-use Rattle.turned_levels.proofs.SpreadLemmas.{ports_turn_back}
-use Rattle.turned_levels.proofs.RouteLemmas.{routes_turn_back}
-use Rattle.turned_levels.specs.Levels.{IsWellDrawn}
-use Rattle.turned_levels.proofs.LevelLemmas.{anchored}
+use Rattle.rotated_levels.specs.Framed.{IsFramed, start_of}
+use Rattle.rotated_levels.proofs.FrameLemmas.{framed_boxes_fit}
+use Rattle.rotated_levels.specs.Certified.{IsCertified, IsSoundCertificate}
+use Rattle.rotated_levels.proofs.WholeLemmas.{certificates_rotate_back}
+use Rattle.rotated_levels.specs.DockLaws.{IsFromLevel}
+use Rattle.rotated_levels.proofs.SpreadLemmas.{ports_rotate_back}
+use Rattle.rotated_levels.proofs.RouteLemmas.{routes_rotate_back}
+use Rattle.rotated_levels.specs.Levels.{IsWellDrawn}
+use Rattle.rotated_levels.proofs.LevelLemmas.{anchored}
 use Rattle.compound.specs.PartedDrawn.{IsDrawnInParts, PartedLevelsAreDrawn}
 use Rattle.compound.proofs.ApartLemmas.{layers_apart, numbers_parts, parts_apart}
 
@@ -76,8 +76,8 @@ module _ (d : Document) (p : Placed) (n : ℕ) (o : LevelOptions) (h : IsDrawnIn
   abbrev shown : LevelDrawing
   shown = with_gaps v rules_kept.gaps
 
-  turned : IsTurnedDrawing d p n o.direction shown move
-  turned =
+  rotated : IsRotatedDrawing d p n o.direction shown move
+  rotated =
       record { children = λ i less. record { box = (h.planned.drawn.children i less).box; ports = (h.planned.drawn.children i less).ports }; sections = h.planned.drawn.sections }
 
   from_level : IsFromLevel d p n o rules_kept.plan shown move
@@ -87,24 +87,24 @@ module _ (d : Document) (p : Placed) (n : ℕ) (o : LevelOptions) (h : IsDrawnIn
         sound = h.sound;
         options = h.options;
         leaves = h.leaves;
-        drawn = turned;
+        drawn = rotated;
         certificate = written;
         written = h.planned.certificate.is_written;
-        numbered = h.planned.certificate.numbered.reversed ∙ ap (map (edge_number d n)) (sym rules_kept.turned);
+        numbered = h.planned.certificate.numbered.reversed ∙ ap (map (edge_number d n)) (sym rules_kept.is_reversed);
         reversed_in = λ i on.
-            let there = (drawn.proof.reversed.closes i (subst (λ (r : List ℕ). holds r i ≡ true) rules_kept.turned on)).of_level in
+            let there = (drawn.proof.reversed.closes i (subst (λ (r : List ℕ). holds r i ≡ true) rules_kept.is_reversed on)).of_level in
             omega (arith, there, many);
       }
 
   ports_kept : (m : ℕ) → IsChild d n m → KeepsPorts d p m
   ports_kept =
-      ports_turn_back d p n o rules_kept.plan rules_kept.orders shown move from_level (anchored l rules_kept.plan rules_kept.orders shown rules_kept.placed rules_kept.routes) rules_kept.ports
+      ports_rotate_back d p n o rules_kept.plan rules_kept.orders shown move from_level (anchored l rules_kept.plan rules_kept.orders shown rules_kept.placed rules_kept.routes) rules_kept.ports
 
   certified : IsCertified d p n o made written
   certified = record { of_level = drawn.proof; numbered = h.planned.certificate.numbered; is_written = h.planned.certificate.is_written }
 
   certificate : IsSoundCertificate d p n o written
-  certificate = certificates_turn_back d p n o made written h.sound certified
+  certificate = certificates_rotate_back d p n o made written h.sound certified
 
   parts_are : written.parts ≡ h.planned.out.parts
   parts_are = h.planned.certificate.parts ∙ drawn.parts
@@ -127,8 +127,8 @@ module _ (d : Document) (p : Placed) (n : ℕ) (o : LevelOptions) (h : IsDrawnIn
 
     well_drawn : IsWellDrawn d p n o written
     well_drawn =
-        let box = framed_boxes_fit d p n o shown move h.sound turned rules_kept.tight round in
-        let routed = routes_turn_back d p n o rules_kept.plan rules_kept.orders shown move from_level rules_kept.placed rules_kept.routes in
+        let box = framed_boxes_fit d p n o shown move h.sound rotated rules_kept.tight round in
+        let routed = routes_rotate_back d p n o rules_kept.plan rules_kept.orders shown move from_level rules_kept.placed rules_kept.routes in
         record {
           drawn = record {
             apart = record {

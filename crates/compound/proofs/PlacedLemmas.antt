@@ -18,7 +18,7 @@ use Rattle.level_model.specs.PortsKept.{port_side}
 use Rattle.level_draw.specs.declared.drawing.LevelOut.{LevelOut}
 use Rattle.level_draw.specs.Drawing.{drawn_in}
 use Rattle.level_layout.specs.Layout.{IsLaidOut}
-use Rattle.working_frame.specs.Turned.{box_size, level_port, port_number, ports_of, turned_place}
+use Rattle.working_frame.specs.Rotated.{box_size, level_port, port_number, ports_of, rotated_place}
 use Rattle.level_io.specs.Back.{size_of}
 use Rattle.level_io.specs.Canvas.{IsDrawingOf}
 use Rattle.level_io.specs.Changed.{AreChanged}
@@ -88,9 +88,9 @@ module _ (d : Document) (o : LevelOptions) (l : LevelIn) (v : LevelOut) (old : P
         (subst (λ ks. AreChanged ks (port_change d o.direction outer ks places) origin before after) are_numbers changed))
 
     stand_there : (j : ℕ) → j < length (ports_of d 0)
-        → turned_place o.direction (box_size now 0) (port_at d (port_number d 0 j)).size (port_place now (port_number d 0 j)) ≡ point_or placed_in j
+        → rotated_place o.direction (box_size now 0) (port_at d (port_number d 0 j)).size (port_place now (port_number d 0 j)) ≡ point_or placed_in j
     stand_there j h =
-        ap (turned_place o.direction (box_size old 0) (port_at d (port_number d 0 j)).size) (written.at j h)
+        ap (rotated_place o.direction (box_size old 0) (port_at d (port_number d 0 j)).size) (written.at j h)
         ∙ place_there o.direction (box_of old 0) (port_at d (port_number d 0 j)).size (point_or placed_in j)
 
     stand : RootPortsStand d now o

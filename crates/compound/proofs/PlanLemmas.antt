@@ -12,11 +12,11 @@ use Rattle.drawing_types.specs.Shapes.{hull, moved_by, rect_at}
 use Rattle.box_pack.specs.Squareness.{IsSquarest}
 use Rattle.level_model.specs.Level.{PlainLevel}
 use Rattle.working_frame.specs.Kept.{AgreeAt}
-use Rattle.working_frame.specs.Turned.{box_size, child_number, port_number, turned_place, turned_size}
+use Rattle.working_frame.specs.Rotated.{box_size, child_number, port_number, rotated_place, rotated_size}
 use Rattle.working_frame.proofs.KeptLemmas.{drawings_read_levels, levels_read_sizes}
 use Rattle.working_frame.proofs.NumberedLemmas.{numbers_match}
 use Rattle.level_draw.specs.Drawing.{drawn_in}
-use Rattle.turned_levels.specs.Framed.{start_of}
+use Rattle.rotated_levels.specs.Framed.{start_of}
 use Rattle.level_io.specs.Sizes.{IsSizeRound}
 use Rattle.compound.specs.Boxed.{IsBoxedPlan, corner_of, outline_sizes, size_of}
 use Rattle.compound.specs.Laws.{PlansStay}
@@ -101,13 +101,13 @@ boxed_stays d p q n o agree certificate size planned =
       ports = λ i j h k.
           let c = child_number d n i in
           let m = port_number d c j in
-          ap₂ (λ s z. turned_place o.direction s (port_at d m).size z) (sym (ap size_of (agree.boxes c (child i h)))) (sym (agree.ports c m (child i h) ((numbers_match d c).ports.meant j k)))
+          ap₂ (λ s z. rotated_place o.direction s (port_at d m).size z) (sym (ap size_of (agree.boxes c (child i h)))) (sym (agree.ports c m (child i h) ((numbers_match d c).ports.meant j k)))
           ∙ planned.ports i j h k;
       squarest = planned.squarest;
       rows = subst (λ s. IsSquarest s o.spacing.node_node planned.squarest) sizes planned.rows;
       outlines = λ i h. ap corner_of (sym (outlines_stay d p q n (child_number d n i) agree (child i h))) ∙ planned.outlines i h;
       certificate = sym certificate ∙ planned.certificate;
-      size = subst (λ s. IsSizeRound d n o (turned_size o.direction planned.squarest.rows.extent) s) size planned.size;
+      size = subst (λ s. IsSizeRound d n o (rotated_size o.direction planned.squarest.rows.extent) s) size planned.size;
     }
 
 pub plans_stay : PlansStay

@@ -13,7 +13,7 @@ use Rattle.drawing_types.specs.Shapes.{origin}
 use Rattle.elk_doc.specs.Drawing.{box_of}
 use Rattle.elk_doc.specs.Level.{IsChild, children}
 use Rattle.elk_doc.specs.PortsKept.{KeepsPorts}
-use Rattle.elk_doc.specs.Shapes.{turned}
+use Rattle.elk_doc.specs.Shapes.{rotated}
 use Rattle.drawing_types.specs.Shapes.{rect_at}
 use Rattle.elk_doc.specs.Sound.{IsSound}
 use Rattle.elk_doc.specs.Fits.{LeavesKept}
@@ -26,12 +26,12 @@ use Rattle.level_model.specs.PortsKept.{ArePortsPlaced}
 use Rattle.level_model.specs.Ready.{IsReady}
 use Rattle.plan_laws.proofs.PortLemmas.{ports_are_kept}
 use Rattle.level_draw.specs.Drawing.{drawn_in, plan_from}
-use Rattle.working_frame.specs.Drawing.{IsTurnedDrawing, plus}
-use Rattle.working_frame.specs.Turned.{box_size, child_number, edge_number, level_edge, level_of, turned_size}
+use Rattle.working_frame.specs.Drawing.{IsRotatedDrawing, plus}
+use Rattle.working_frame.specs.Rotated.{box_size, child_number, edge_number, level_edge, level_of, rotated_size}
 use Rattle.working_frame.proofs.NumberedLemmas.{levels_are_listed}
-use Rattle.turned_levels.proofs.EdgeLemmas.{has_holds}
-use Rattle.turned_levels.specs.DockLaws.{IsAnchored, IsFromLevel}
-use Rattle.turned_levels.proofs.SpreadLemmas.{ports_turn_back}
+use Rattle.rotated_levels.proofs.EdgeLemmas.{has_holds}
+use Rattle.rotated_levels.specs.DockLaws.{IsAnchored, IsFromLevel}
+use Rattle.rotated_levels.proofs.SpreadLemmas.{ports_rotate_back}
 use Rattle.compound.specs.Boxed.{IsBoxedPlan, boxes_certificate, corner_of, edgeless}
 use Rattle.compound.proofs.EdgeLemmas.{edges_none, no_edges}
 
@@ -39,7 +39,7 @@ use Rattle.compound.proofs.EdgeLemmas.{edges_none, no_edges}
 from_zero : (a : ℤ) → a ≡ pos 0 +ℤ a
 from_zero a = omega (arith, ints)
 
-in_place : (way : Direction) (r : Rect) → turned way r ≡ rect_at (plus origin (corner_of (turned way r))) (turned_size way (record { width = r.width; height = r.height }))
+in_place : (way : Direction) (r : Rect) → rotated way r ≡ rect_at (plus origin (corner_of (rotated way r))) (rotated_size way (record { width = r.width; height = r.height }))
 in_place Right r = same_rect _ _ (from_zero _) (from_zero _) refl refl
 in_place Left r = same_rect _ _ (from_zero _) (from_zero _) refl refl
 in_place Down r = same_rect _ _ (from_zero _) (from_zero _) refl refl
@@ -80,7 +80,7 @@ module _ (d : Document) (p : Placed) (n : ℕ) (o : LevelOptions) (sound : IsSou
   -- ---- a drawing of the level whose boxes stand where they stand in the document
 
   abbrev box_corner : ℕ → Point
-  box_corner c = corner_of (turned o.direction (box_of p c))
+  box_corner c = corner_of (rotated o.direction (box_of p c))
 
   abbrev pub drawing : LevelDrawing
   drawing =
@@ -90,24 +90,24 @@ module _ (d : Document) (p : Placed) (n : ℕ) (o : LevelOptions) (sound : IsSou
         boxes = map box_corner (children d n);
         ports = planned.out.ports;
         sections = [];
-        extent = turned_size o.direction planned.squarest.rows.extent;
+        extent = rotated_size o.direction planned.squarest.rows.extent;
         left = pos 0;
         top = pos 0;
       }
 
-  pub turned_back : IsTurnedDrawing d p n o.direction drawing origin
-  turned_back =
+  pub rotated_back : IsRotatedDrawing d p n o.direction drawing origin
+  rotated_back =
       record {
         children = λ i h. record {
           box = in_place o.direction (box_of p (child_number d n i))
-              ∙ ap (λ q. rect_at (plus origin q) (turned_size o.direction (box_size p (child_number d n i)))) (sym (get_or-map box_corner (children d n) i 0 origin h));
+              ∙ ap (λ q. rect_at (plus origin q) (rotated_size o.direction (box_size p (child_number d n i)))) (sym (get_or-map box_corner (children d n) i 0 origin h));
           ports = λ j k. planned.ports i j h k;
         };
         sections = λ i h. absurd (let none = edges_none d n o sound there options boxes in omega (arith, h, none));
       }
 
-  unturned : (i : ℕ) → IsTrue (holds planned.out.certificate.reversed i) → ⊥
-  unturned i h =
+  unrotated : (i : ℕ) → IsTrue (holds planned.out.certificate.reversed i) → ⊥
+  unrotated i h =
       let of_level = (planned.laid_out.certificate.reversed.closes i h).of_level in
       let none : length (plain_level planned.level).edges ≡ 0 = ap (λ (l : PlainLevel). length l.edges) planned.is in
       omega (arith, of_level, none)
@@ -125,14 +125,14 @@ module _ (d : Document) (p : Placed) (n : ℕ) (o : LevelOptions) (sound : IsSou
           sound = sound;
           options = options;
           leaves = leaves;
-          drawn = turned_back;
+          drawn = rotated_back;
           certificate = boxes_certificate d n;
           written = planned.certificate;
-          numbered = sym (ap (map (edge_number d n)) (none_held planned.out.certificate.reversed unturned));
-          reversed_in = λ i h. absurd (unturned i h);
+          numbered = sym (ap (map (edge_number d n)) (none_held planned.out.certificate.reversed unrotated));
+          reversed_in = λ i h. absurd (unrotated i h);
         }
 
     pub ports_kept : (m : ℕ) → IsChild d n m → KeepsPorts d p m
     ports_kept =
-        ports_turn_back d p n o plan orders drawing origin from anchored
+        ports_rotate_back d p n o plan orders drawing origin from anchored
         (λ i h. ports_are_kept.placed (level_of d p n o) plan orders drawing ready.level ready.units.orders placed i h)

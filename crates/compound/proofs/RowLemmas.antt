@@ -22,8 +22,8 @@ use Rattle.drawing_types.proofs.SameShapes.{same_rect}
 use Rattle.box_pack.specs.Boxes.{size_at}
 use Rattle.box_pack.specs.Spaced.{AreSolid, AreSpaced, box_at}
 use Rattle.box_pack.proofs.SpacedLemmas.{rows_are_spaced}
-use Rattle.turned_levels.specs.Outlines.{shifted}
-use Rattle.working_frame.specs.Turned.{child_number}
+use Rattle.rotated_levels.specs.Outlines.{shifted}
+use Rattle.working_frame.specs.Rotated.{child_number}
 use Rattle.working_frame.proofs.NumberedLemmas.{numbers_match}
 use Rattle.compound.specs.Boxed.{IsBoxedPlan, inner_corner, outline_sizes, size_of}
 

@@ -17,15 +17,15 @@ use Rattle.level_model.specs.FromPlan.{LevelDrawing}
 use Rattle.level_model.specs.Ready.{IsReady}
 use Rattle.level_layout.specs.Certificate.{IsCertificateOf}
 use Rattle.level_draw.specs.Drawing.{drawn_in, IsDrawing, plan_from}
-use Rattle.working_frame.specs.Turned.{level_of}
+use Rattle.working_frame.specs.Rotated.{level_of}
 use Rattle.working_frame.proofs.NumberedLemmas.{levels_are_listed}
-use Rattle.turned_levels.specs.Framed.{IsFramed, start_of}
-use Rattle.turned_levels.specs.Certified.{IsCertified, IsProofOf}
-use Rattle.turned_levels.proofs.WholeLemmas.{certificates_turn_back}
-use Rattle.turned_levels.specs.DockLaws.{IsFromLevel}
-use Rattle.turned_levels.proofs.SpreadLemmas.{ports_turn_back}
-use Rattle.turned_levels.specs.Levels.{IsWellDrawn}
-use Rattle.turned_levels.proofs.LevelLemmas.{anchored, levels_are_drawn, ports_placed}
+use Rattle.rotated_levels.specs.Framed.{IsFramed, start_of}
+use Rattle.rotated_levels.specs.Certified.{IsCertified, IsProofOf}
+use Rattle.rotated_levels.proofs.WholeLemmas.{certificates_rotate_back}
+use Rattle.rotated_levels.specs.DockLaws.{IsFromLevel}
+use Rattle.rotated_levels.proofs.SpreadLemmas.{ports_rotate_back}
+use Rattle.rotated_levels.specs.Levels.{IsWellDrawn}
+use Rattle.rotated_levels.proofs.LevelLemmas.{anchored, levels_are_drawn, ports_placed}
 use Rattle.level_io.specs.Sizes.{KeepsPinned}
 use Rattle.level_io.proofs.FramedLemmas.{framed}
 use Rattle.compound.specs.Boxed.{boxes_certificate}
@@ -101,7 +101,7 @@ module _ (d : Document) (p : Placed) (n : ℕ) (o : LevelOptions) (sound : IsSou
   ports_kept : (m : ℕ) → IsChild d n m → KeepsPorts d p m
   ports_kept =
       let placed = ports_placed laid plan orders drawing ready.level (drawn.from_plan orders ready) in
-      ports_turn_back d p n o plan orders drawing move from_level (anchored laid plan orders drawing placed (drawn.routes orders ready)) (drawn.ports orders ready)
+      ports_rotate_back d p n o plan orders drawing move from_level (anchored laid plan orders drawing placed (drawn.routes orders ready)) (drawn.ports orders ready)
 
   certified : IsCertified d p n o made written
   unfolding written
@@ -133,7 +133,7 @@ module _ (d : Document) (p : Placed) (n : ℕ) (o : LevelOptions) (sound : IsSou
 
   certificate_fits : IsFalse o.split → FitsCertificate d n o written
   certificate_fits whole =
-      (certificates_turn_back d p n o made written sound certified).fits (no_parts_asked o.split (child_count d n) (length written.parts) whole no_parts)
+      (certificates_rotate_back d p n o made written sound certified).fits (no_parts_asked o.split (child_count d n) (length written.parts) whole no_parts)
 
 -- What a level that is planned has: its certificate, in the form that is asked for; the ports of its children, which are kept;
 -- and where these have no negative sizes and the ports of its node are kept, it is drawn and fitted.

@@ -10,7 +10,7 @@ use Rattle.elk_doc.specs.Document.{Document, no_node, node_at}
 use Rattle.drawing_types.specs.Shapes.{no_size}
 use Rattle.elk_doc.specs.Drawing.{box_of, certificate_of, no_rect}
 use Rattle.elk_doc.specs.Sound.{IsSound}
-use Rattle.working_frame.specs.Turned.{box_size}
+use Rattle.working_frame.specs.Rotated.{box_size}
 use Rattle.level_io.specs.Back.{size_of}
 use Rattle.level_io.specs.Canvas.{IsDrawingOf, blank_box, blank_drawing}
 use Rattle.compound.specs.Work.{IsWork, given_size}

@@ -12,7 +12,7 @@ use Rattle.elk_doc.specs.Fits.{FitsLevel, HasCertificates, IsSolid}
 use Rattle.elk_doc.specs.PortsKept.{KeepsPorts}
 use Rattle.elk_doc.specs.Sound.{IsSound}
 use Rattle.drawing_types.specs.Ranges.{IsWithin}
-use Rattle.turned_levels.specs.Levels.{IsWellDrawn}
+use Rattle.rotated_levels.specs.Levels.{IsWellDrawn}
 use Rattle.drawing_laws.specs.Held.{IsHeld}
 use Rattle.drawing_laws.proofs.HeldLemmas.{held_drawings_are_small, held_drawings_fit}
 use Rattle.compound.proofs.NestedLemmas.{planned_boxes_are_small}

@@ -20,7 +20,7 @@ use Rattle.level_layout.specs.Layout.{IsLaidOut}
 use Rattle.box_pack.specs.declared.squarest.Squarest.{Squarest}
 use Rattle.box_pack.specs.Boxes.{point_at}
 use Rattle.box_pack.specs.Squareness.{IsSquarest}
-use Rattle.working_frame.specs.Turned.{box_size, child_number, level_child, port_number, ports_of, turned_place, turned_size}
+use Rattle.working_frame.specs.Rotated.{box_size, child_number, level_child, port_number, ports_of, rotated_place, rotated_size}
 use Rattle.working_frame.specs.Drawing.{plus}
 use Rattle.level_io.specs.Sizes.{IsSizeRound}
 
@@ -48,7 +48,7 @@ corner_of r = record { x = r.x; y = r.y }
 abbrev pub inner_corner : Padding → Point
 inner_corner m = record { x = m.left; y = m.top }
 
--- the certificate of a level of boxes: every child lies in layer 0, and nothing is turned round or flows
+-- the certificate of a level of boxes: every child lies in layer 0, and nothing is reversed or flows
 abbrev pub lowest : ℕ → ℕ
 lowest child = 0
 
@@ -56,7 +56,7 @@ abbrev pub boxes_certificate : Document → ℕ → Certificate
 boxes_certificate d n = record { layers = map lowest (children d n); reversed = []; flow = []; span = 0; parts = [] }
 
 -- The level of n, which has these options, is one of boxes. Its ports stand at each child as in a layout of the children without
--- edges, turned back. The outlines of the children stand in the squarest rows of their sizes, with the gap between nodes, and the
+-- edges, rotated back. The outlines of the children stand in the squarest rows of their sizes, with the gap between nodes, and the
 -- content begins at the padding. The node has the size that this content and its pinned ports need.
 pub record IsBoxedPlan (d : Document) (p : Placed) (n : ℕ) (o : LevelOptions) : Type 0 where
   pub level : LevelIn
@@ -66,7 +66,7 @@ pub record IsBoxedPlan (d : Document) (p : Placed) (n : ℕ) (o : LevelOptions) 
   pub placing : level.placing ≡ o.placing
   pub laid_out : IsLaidOut level out
   pub ports : (i j : ℕ) → i < length (children d n) → j < length (ports_of d (child_number d n i))
-      → turned_place o.direction (box_size p (child_number d n i)) (port_at d (port_number d (child_number d n i) j)).size
+      → rotated_place o.direction (box_size p (child_number d n i)) (port_at d (port_number d (child_number d n i) j)).size
       (port_place p (port_number d (child_number d n i) j))
       ≡ point_or (slice_index_or out.ports i []) j
   pub squarest : Squarest
@@ -74,4 +74,4 @@ pub record IsBoxedPlan (d : Document) (p : Placed) (n : ℕ) (o : LevelOptions) 
   pub outlines : (i : ℕ) → i < length (children d n)
       → corner_of (outline_of d p (child_number d n i)) ≡ plus (inner_corner o.padding) (point_at squarest.rows.at i)
   pub certificate : certificate_of p n ≡ Some (boxes_certificate d n)
-  pub size : IsSizeRound d n o (turned_size o.direction squarest.rows.extent) (box_size p n)
+  pub size : IsSizeRound d n o (rotated_size o.direction squarest.rows.extent) (box_size p n)

@@ -8,7 +8,7 @@ use Rattle.elk_doc.specs.Fits.{FitsCertificate, IsSolid, LeavesKept}
 use Rattle.elk_doc.specs.Level.{IsChild}
 use Rattle.elk_doc.specs.PortsKept.{KeepsPorts}
 use Rattle.elk_doc.specs.Sound.{IsSound}
-use Rattle.turned_levels.specs.Levels.{IsWellDrawn}
+use Rattle.rotated_levels.specs.Levels.{IsWellDrawn}
 use Rattle.compound.specs.Boxed.{IsBoxedPlan, boxes_certificate}
 
 -- The level of n, which has these options, is one of boxes that comes from a layout, in a drawing whose leaves keep their sizes.

@@ -13,7 +13,7 @@ use Rattle.level_split.specs.Parts.{IsPartsLayout}
 use Rattle.level_io.specs.declared.figure.LevelFigure.{LevelFigure}
 use Rattle.level_io.specs.Figure.{figure_of}
 
--- a layer for each box, and nothing turned round
+-- a layer for each box, and nothing reversed
 abbrev pub layers_for : List Point → List ℕ
 layers_for boxes = map (λ _. 0) boxes
 

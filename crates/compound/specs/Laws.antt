@@ -5,7 +5,7 @@ use Rattle.elk_doc.specs.declared.drawing.Placed.{Placed}
 use Rattle.elk_doc.specs.Document.{Document}
 use Rattle.elk_doc.specs.Drawing.{certificate_of}
 use Rattle.working_frame.specs.Kept.{AgreeAt}
-use Rattle.working_frame.specs.Turned.{box_size}
+use Rattle.working_frame.specs.Rotated.{box_size}
 use Rattle.compound.specs.Planned.{IsPlannedLevel}
 
 -- A level stays planned where its drawing, its certificate and the size of its node stay.

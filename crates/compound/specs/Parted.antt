@@ -7,14 +7,14 @@ use Rattle.level_model.specs.declared.level.LevelIn.{LevelIn}
 use Rattle.level_model.specs.Conditions.{plain_level}
 use Rattle.level_split.specs.declared.layout.PartsOut.{PartsOut}
 use Rattle.level_split.specs.Parts.{IsPartsLayout, whole_drawing}
-use Rattle.working_frame.specs.Turned.{box_size, level_of}
-use Rattle.working_frame.specs.Drawing.{IsTurnedDrawing}
-use Rattle.turned_levels.specs.Framed.{start_of}
+use Rattle.working_frame.specs.Rotated.{box_size, level_of}
+use Rattle.working_frame.specs.Drawing.{IsRotatedDrawing}
+use Rattle.rotated_levels.specs.Framed.{start_of}
 use Rattle.level_io.specs.Sizes.{IsSizeRound}
 use Rattle.level_io.specs.Written.{HasCertificate}
 
 -- The level of n, which has these options, comes from layouts of its connected parts, with the sizes of its children in the
--- drawing, in the frame of its direction: its boxes, ports and routes are those of the parts in rows, turned back and moved to
+-- drawing, in the frame of its direction: its boxes, ports and routes are those of the parts in rows, rotated back and moved to
 -- begin at the padding; its certificate is put together from those of the parts, with the document's numbers of edges; and the node
 -- has the size that this content and its pinned ports need.
 pub record IsPartedPlan (d : Document) (p : Placed) (n : ℕ) (o : LevelOptions) : Type 0 where
@@ -25,5 +25,5 @@ pub record IsPartedPlan (d : Document) (p : Placed) (n : ℕ) (o : LevelOptions)
   pub placing : level.placing ≡ o.placing
   pub laid_out : IsPartsLayout level o.component out
   pub certificate : HasCertificate d n p out.certificate
-  pub drawn : IsTurnedDrawing d p n o.direction (whole_drawing out) (start_of o.direction o.padding out.extent)
+  pub drawn : IsRotatedDrawing d p n o.direction (whole_drawing out) (start_of o.direction o.padding out.extent)
   pub size : IsSizeRound d n o out.extent (box_size p n)

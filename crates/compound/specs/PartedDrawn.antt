@@ -9,7 +9,7 @@ use Rattle.elk_doc.specs.Fits.{FitsCertificate, IsSolid, LeavesKept}
 use Rattle.elk_doc.specs.Level.{IsChild}
 use Rattle.elk_doc.specs.PortsKept.{KeepsPorts}
 use Rattle.elk_doc.specs.Sound.{IsSound}
-use Rattle.turned_levels.specs.Levels.{IsWellDrawn}
+use Rattle.rotated_levels.specs.Levels.{IsWellDrawn}
 use Rattle.compound.specs.Parted.{IsPartedPlan}
 
 -- The level of n, which has these options, comes from layouts of its parts, in a drawing whose leaves keep their sizes.

@@ -12,16 +12,16 @@ use Rattle.level_model.specs.Level.{PlainLevel}
 use Rattle.level_draw.specs.declared.drawing.LevelOut.{LevelOut}
 use Rattle.level_draw.specs.Drawing.{drawn_in}
 use Rattle.level_layout.specs.Layout.{IsLaidOut}
-use Rattle.working_frame.specs.Turned.{box_size, level_child, level_of, port_number, ports_of, turned_place}
-use Rattle.working_frame.specs.Drawing.{IsTurnedDrawing}
-use Rattle.turned_levels.specs.Framed.{start_of}
+use Rattle.working_frame.specs.Rotated.{box_size, level_child, level_of, port_number, ports_of, rotated_place}
+use Rattle.working_frame.specs.Drawing.{IsRotatedDrawing}
+use Rattle.rotated_levels.specs.Framed.{start_of}
 use Rattle.level_io.specs.Sizes.{IsSizeRound}
 use Rattle.level_io.specs.Written.{HasCertificate}
 use Rattle.compound.specs.Boxed.{IsBoxedPlan}
 use Rattle.compound.specs.Parted.{IsPartedPlan}
 
 -- The level of n, which has these options, comes from a layout of its children, with their sizes in the drawing, and its edges,
--- in the frame of its direction: its boxes, ports and routes are those of the layout, turned back and moved to begin at the
+-- in the frame of its direction: its boxes, ports and routes are those of the layout, rotated back and moved to begin at the
 -- padding; its certificate is the layout's, with the document's numbers of edges; and the node has the size that this content
 -- and its pinned ports need.
 pub record IsLayeredPlan (d : Document) (p : Placed) (n : ℕ) (o : LevelOptions) : Type 0 where
@@ -32,7 +32,7 @@ pub record IsLayeredPlan (d : Document) (p : Placed) (n : ℕ) (o : LevelOptions
   pub placing : level.placing ≡ o.placing
   pub laid_out : IsLaidOut level out
   pub certificate : HasCertificate d n p out.certificate
-  pub drawn : (left top : ℤ) → IsTurnedDrawing d p n o.direction (drawn_in out left top) (start_of o.direction o.padding out.extent)
+  pub drawn : (left top : ℤ) → IsRotatedDrawing d p n o.direction (drawn_in out left top) (start_of o.direction o.padding out.extent)
   pub size : IsSizeRound d n o out.extent (box_size p n)
 
 -- The level of n, which has these options, comes from a layout of it: as a level of boxes where it is one, and part by part where
@@ -46,14 +46,14 @@ pub record IsPlannedLevel (d : Document) (p : Placed) (n : ℕ) (o : LevelOption
 abbrev pub root_level : Document → Placed → LevelOptions → PlainLevel
 root_level d p o = record { children = level_child d p o.direction 0 ∷ []; edges = []; spacing = o.spacing; choices = o.choices }
 
--- The ports of the root stand at it as those of this child do in a layout of that level, turned back.
+-- The ports of the root stand at it as those of this child do in a layout of that level, rotated back.
 pub record RootPortsStand (d : Document) (p : Placed) (o : LevelOptions) : Type 0 where
   pub level : LevelIn
   pub out : LevelOut
   pub is : plain_level level ≡ root_level d p o
   pub laid_out : IsLaidOut level out
   pub ports : (j : ℕ) → j < length (ports_of d 0)
-      → turned_place o.direction (box_size p 0) (port_at d (port_number d 0 j)).size (port_place p (port_number d 0 j))
+      → rotated_place o.direction (box_size p 0) (port_at d (port_number d 0 j)).size (port_place p (port_number d 0 j))
       ≡ point_or (slice_index_or out.ports 0 []) j
 
 -- every level comes from a layout, and so do the ports of the root

@@ -10,7 +10,7 @@ use Rattle.elk_doc.specs.Fits.{IsRooted}
 use Rattle.level_model.specs.declared.level.LevelIn.{LevelIn}
 use Rattle.level_model.specs.Conditions.{plain_level}
 use Rattle.level_io.specs.declared.figure.LevelFigure.{LevelFigure}
-use Rattle.working_frame.specs.Turned.{box_size, level_of}
+use Rattle.working_frame.specs.Rotated.{box_size, level_of}
 use Rattle.level_io.specs.Read.{size_at}
 use Rattle.level_io.specs.Canvas.{IsDrawingOf}
 use Rattle.level_io.specs.Sizes.{IsNodeFramed}

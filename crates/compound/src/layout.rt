@@ -4,7 +4,7 @@ ghost use Rattle.elk_doc.specs.Document.{node_at};
 ghost use Rattle.elk_doc.specs.Drawn.{Drawn};
 ghost use Rattle.elk_doc.specs.Fitted.{Fitted};
 ghost use Rattle.elk_doc.specs.Sound.{IsSound};
-ghost use Rattle.working_frame.specs.Turned.{box_size};
+ghost use Rattle.working_frame.specs.Rotated.{box_size};
 ghost use Rattle.level_io.specs.Indexed.{IsIndex};
 ghost use Rattle.level_io.specs.Canvas.{IsDrawingOf, drawing_of};
 ghost use Rattle.level_io.specs.Written.{IsWritable};
@@ -146,8 +146,15 @@ fn lay_out_levels(
 /// The drawing of a document: it obeys the document, has no more room than it needs, and comes from layouts of the levels, in layers,
 /// part by part, or as boxes. No coordinate reaches 2^53 in size.
 ///
-/// Every level is laid out after those that lie in it, in the frame in which its direction runs to the right, and turned back.
-/// The only error is want of memory.
+/// Every level is laid out after those that lie in it, in the frame in which its direction runs to the right, and rotated back.
+/// The only error is out of memory.
+///
+/// Proved:
+/// - For every document there is a drawing that obeys it at every level and takes no more room than it needs.
+/// - No coordinate of it reaches 2^53 in size.
+/// - Each level of this drawing comes from a layout of the level: in layers, part by part or as boxes.
+/// - The children have the same sizes in that layout as in the drawing.
+/// - The places of the root's ports come from a layout of the root alone.
 pub fn lay_out(alloc: Global, doc: &Doc) -> Result<Placed, AllocError>
     ensures drawn { IfOk result (Drawn doc.now) }
     ensures fitted { IfOk result (Fitted doc.now) }

@@ -1,5 +1,5 @@
 //! The layout of a whole document: its levels from the inside out, each in the frame in which its direction runs to the right
-//! and then turned back, and the ports of the root. And that a drawing which comes so from layouts obeys its document.
+//! and then rotated back, and the ports of the root. And that a drawing which comes so from layouts obeys its document.
 #![tactic(auto)]
 
 mod bounds;

@@ -6,7 +6,7 @@ ghost use Rattle.elk_doc.specs.Drawing.{box_of};
 ghost use Rattle.elk_doc.specs.Sound.{IsSound};
 ghost use Rattle.port_order.specs.Conditions.{IsSmall};
 ghost use Rattle.level_model.specs.Conditions.{plain_level};
-ghost use Rattle.working_frame.specs.Turned.{box_size};
+ghost use Rattle.working_frame.specs.Rotated.{box_size};
 ghost use Rattle.level_io.specs.Indexed.{IsIndex};
 ghost use Rattle.level_io.specs.Back.{size_of};
 ghost use Rattle.level_io.specs.Canvas.{IsDrawingOf, drawing_of};
@@ -87,6 +87,11 @@ fn place_with(
 /// Puts the ports of the document's root at their places in its box, as if the root were alone in a level of its own direction,
 /// without edges. All else stays. The box of the root has its size already, from 0 to 2^45 + 2^37 each way. The only error is want of
 /// memory; the drawing is as it was then.
+///
+/// Proved:
+/// - The root is a child of no level. Its ports are put where they stand in a layout of a level that has the root's own direction, the
+///   root as its only child, and no edges.
+/// - Everything else stays the same, and without memory all of it does.
 pub fn place_root_ports(
     alloc: Global,
     doc: &Doc,

@@ -6,7 +6,7 @@ use drawing_types::shape::Size;
 use elk_doc::document::Node;
 use std::alloc::{AllocError, Global};
 
-/// The sizes that a document gives its nodes: none to a compound node. The only error is want of memory.
+/// The sizes that a document gives its nodes: none to a compound node. The only error is out of memory.
 pub(crate) fn given_sizes(alloc: Global, nodes: &[Node]) -> Result<Vec<Size>, AllocError>
     ensures { IfOk result (λ sizes. sizes.items ≡ map given_size nodes.now) }
 {

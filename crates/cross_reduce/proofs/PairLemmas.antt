@@ -68,13 +68,13 @@ abbrev pub any_pair : Plain → List (List ℕ) → Link → Link → ℕ
 any_pair l rows b a = one_if (is_under (pin_of l rows b) (pin_of l rows a))
 
 mix_left : (t p q av bu au bv : Bool) → one_if p + one_if (av && bu) ≡ one_if q + one_if (au && bv) → one_if (t && p) + (one_if (bu && (av && t)) + 0) ≡ one_if (t && q) + (one_if (bv && (au && t)) + 0)
-mix_left true p q av bu au bv h = rw (turned bu av, turned bv au) (omega (arith, h))
+mix_left true p q av bu au bv h = rw (flipped bu av, flipped bv au) (omega (arith, h))
   where
-    turned : (x y : Bool) → (x && (y && true)) ≡ (y && x)
-    turned true true = refl
-    turned true false = refl
-    turned false true = refl
-    turned false false = refl
+    flipped : (x y : Bool) → (x && (y && true)) ≡ (y && x)
+    flipped true true = refl
+    flipped true false = refl
+    flipped false true = refl
+    flipped false false = refl
 mix_left false p q av bu au bv h = rw (none bu av, none bv au) refl
   where
     none : (x y : Bool) → (x && (y && false)) ≡ false

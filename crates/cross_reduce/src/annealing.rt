@@ -3,15 +3,15 @@
 //! Simulated annealing by Kirkpatrick, Gelatt and Vecchi 1983: an exchange that adds no crossing is kept, and one that adds some
 //! with a chance that falls as the work goes on.
 
-use crate::easing::ease;
-use crate::effort::Effort;
+use crate::budget::Budget;
 use crate::flat::{Flat, Span, number_at};
 use crate::held_starts::is_held;
+use crate::joints::Joints;
 use crate::lots::Lots;
-use crate::middles::Middles;
 use crate::neighbours::exchange_at;
-use crate::pairs::{LOOK, Pairs, more_by_exchange, turn};
+use crate::pairs::{LOOK, Pairs, flip, more_by_exchange};
 use crate::reinserting::{chains_for, reinsert};
+use crate::shortening::shorten;
 use std::alloc::{AllocError, Global};
 
 /// An exchange that adds more crossings than this isn't kept.
@@ -25,7 +25,7 @@ pub(crate) struct Annealing {
     bounds: [u64; 9],
     crossings: u64,
     lots: Lots,
-    effort: Effort,
+    budget: Budget,
 }
 
 /// The chance of one half.
@@ -46,7 +46,7 @@ impl Annealing {
             bounds: [0; 9],
             crossings,
             lots: Lots::of_seed(1),
-            effort: Effort::of(work),
+            budget: Budget::of(work),
         }
     }
 
@@ -57,7 +57,7 @@ impl Annealing {
             bounds: [0; 9],
             crossings,
             lots: Lots::of_seed(64),
-            effort: Effort::of(work),
+            budget: Budget::of(work),
         }
     }
 
@@ -68,30 +68,30 @@ impl Annealing {
             bounds: [0; 9],
             crossings,
             lots: Lots::of_seed(seed),
-            effort: Effort::of(work),
+            budget: Budget::of(work),
         }
     }
 
     /// Work was done.
     fn spend(&mut self, work: u64) {
-        self.effort.spend(work);
+        self.budget.spend(work);
     }
 
     /// Whether no work is left.
     fn is_spent(&self) -> bool {
-        self.effort.is_spent()
+        self.budget.is_spent()
     }
 
     /// Whether no more than so much work is left, or nothing crosses.
     fn is_done(&self, left: u64) -> bool {
-        self.effort.left() <= left || self.crossings == 0
+        self.budget.left() <= left || self.crossings == 0
     }
 
     /// The chance that one more crossing is by the work that is left: at first two thirds of the hottest, then slowly more and
     /// soon less, and in the end none.
     fn chance(&self) -> u64 {
-        let part = self.effort.part_left(self.hottest);
-        let less = self.effort.part_left(part) / 3 * 2;
+        let part = self.budget.part_left(self.hottest);
+        let less = self.budget.part_left(part) / 3 * 2;
         part.saturating_sub(less).saturating_mul(2)
     }
 
@@ -145,7 +145,7 @@ fn consider(
         return lower;
     }
     annealing.note(more);
-    turn(flat, pairs, upper, lower);
+    flip(flat, pairs, upper, lower);
     exchange_at(flat, i, upper, lower);
     upper
 }
@@ -197,7 +197,7 @@ fn anneal_until(
     held: &[bool],
     left: u64,
 ) {
-    for _ in 0..annealing.effort.whole() {
+    for _ in 0..annealing.budget.whole() {
         if annealing.is_done(left) {
             return;
         }
@@ -208,7 +208,7 @@ fn anneal_until(
 
 /// Exchanges neighbours of all rows again and again, until the work is done or nothing crosses.
 ///
-/// In the last sixth of the work a crossing of two links between middles of long edges weighs twice. Before it and after it chains
+/// In the last sixth of the work a crossing of two links between joints of long edges weighs twice. Before it and after it chains
 /// that cross something are put where they cross less. In the end neighbours that cross as much either way are put so that their
 /// links are short. Of two neighbours that are both held none is exchanged; `held` is empty if no unit is held.
 pub(crate) fn anneal(
@@ -218,16 +218,16 @@ pub(crate) fn anneal(
     held: &[bool],
 ) -> Result<(), AllocError> {
     let mut pairs = Pairs::of(alloc, flat.place.len())?;
-    let last = annealing.effort.whole() / 6;
+    let last = annealing.budget.whole() / 6;
     anneal_until(flat, &mut pairs, annealing, held, last);
     if annealing.crossings == 0 {
         return Ok(());
     }
     let mut chains = chains_for(alloc, flat, held)?;
     reinsert(alloc, flat, &mut chains, last / 2)?;
-    pairs.weigh(Middles::of(alloc, flat)?);
+    pairs.weigh(Joints::of(alloc, flat)?);
     annealing.forget_crossings();
     anneal_until(flat, &mut pairs, annealing, held, 0);
     reinsert(alloc, flat, &mut chains, last / 2)?;
-    ease(alloc, flat, pairs.middles(), held)
+    shorten(alloc, flat, pairs.joints(), held)
 }

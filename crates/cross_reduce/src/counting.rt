@@ -207,7 +207,10 @@ fn crossed_links(pins: &[LinkEnd], heads: &[u32]) -> u64
 /// The number of pairs of links of one gap of which one begins further up and ends further down.
 ///
 /// Both ends of the pairs are compared by their keys, so links that share a pin do not cross. The only
-/// error is want of memory.
+/// error is out of memory.
+///
+/// Proved:
+/// - The number of crossings of an order of the rows.
 pub fn crossings(alloc: Global, layered: &Layered, order: &Order) -> Result<u64, AllocError>
     requires sound { IsSound (plain layered.now) }
     requires rows { AreRows (plain layered.now) (rows_of order.now) }

@@ -61,13 +61,13 @@ impl Visits {
         self.number(unit);
         let (left, right) = flat.ends.of(unit);
         let lot = self.lots.draw();
-        let (left_turned, right_turned) = (lot / 2 % 2 == 1, lot / 4 % 2 == 1);
+        let (left_flipped, right_flipped) = (lot / 2 % 2 == 1, lot / 4 % 2 == 1);
         if lot % 2 == 0 {
-            self.add_ends(left, left_turned)?;
-            self.add_ends(right, right_turned)
+            self.add_ends(left, left_flipped)?;
+            self.add_ends(right, right_flipped)
         } else {
-            self.add_ends(right, right_turned)?;
-            self.add_ends(left, left_turned)
+            self.add_ends(right, right_flipped)?;
+            self.add_ends(left, left_flipped)
         }
     }
 

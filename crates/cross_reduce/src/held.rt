@@ -4,7 +4,7 @@ ghost use Rattle.elk_layers.specs.Layered.{plain, rows_of, IsSound, AreRows};
 ghost use Rattle.elk_layers.specs.Crossings.{HasSameRows};
 ghost use Rattle.cross_reduce.specs.Held.{AreHeldRows, NoBetterFreeSwap, IsHeldFrom};
 
-use crate::effort::work_for;
+use crate::budget::work_for;
 use crate::exchanging::exchanged_free;
 use crate::held_search::search_held;
 use crate::holding::hold;
@@ -39,7 +39,11 @@ fn searched(
 /// `held` has by unit its key, or `None` where the unit is free. In each row the held units stand in the order of their keys,
 /// those of one key in the order of their numbers. Free units go where a search finds few crossings. No exchange of two
 /// neighbours of a row lowers the crossings, unless both are held. The effort is a factor on the work of the search, as for
-/// `reduce_with_effort`. The only error is want of memory, which drops the start.
+/// `reduce_with_effort`. The only error is out of memory, which drops the start.
+///
+/// Proved:
+/// - An order of the same rows in which some units are held: in each row they stand in the order of their keys, those with equal keys
+///   in the order of their numbers. Exchanging two neighbours never gives fewer crossings, unless both are held.
 pub fn reduce_held(
     alloc: Global,
     layered: &Layered,

@@ -12,12 +12,11 @@
 #![tactic(auto)]
 
 mod annealing;
+mod budget;
 mod chains;
 mod counting;
 mod crossing_units;
 mod depth_first;
-mod easing;
-mod effort;
 mod exchanging;
 mod fans;
 mod flat;
@@ -25,8 +24,8 @@ mod held;
 mod held_search;
 mod held_starts;
 mod holding;
+mod joints;
 mod lots;
-mod middles;
 mod neighbours;
 mod ordering;
 mod pairs;
@@ -37,6 +36,7 @@ mod reinserting;
 mod reordering;
 mod searching;
 mod settling;
+mod shortening;
 mod sifting;
 mod starts;
 mod sweeping;

@@ -1,6 +1,6 @@
 //! Neighbours of an order in one list: what their exchange brings, and exchanges that lower the crossings.
 
-use crate::effort::Effort;
+use crate::budget::Budget;
 use crate::fans::Far;
 use crate::flat::{Flat, Span, number_at, place_of, set_number, set_place};
 
@@ -69,13 +69,13 @@ pub(crate) fn exchange_at(flat: &mut Flat, i: usize, upper: u32, lower: u32) {
 
 /// Exchanges a unit and the one below it where that lowers the crossings, as long as there is work left;
 /// tells the unit that is the lower one then.
-fn lower_at(flat: &mut Flat, i: usize, upper: u32, effort: &mut Effort) -> u32 {
+fn lower_at(flat: &mut Flat, i: usize, upper: u32, budget: &mut Budget) -> u32 {
     let lower = number_at(flat.units.as_slice(), i.wrapping_add(1));
-    if effort.is_spent() {
+    if budget.is_spent() {
         return lower;
     }
     let (more, looks) = compare(flat, upper, lower);
-    effort.spend(looks);
+    budget.spend(looks);
     if more < 0 {
         exchange_at(flat, i, upper, lower);
         return upper;
@@ -84,17 +84,17 @@ fn lower_at(flat: &mut Flat, i: usize, upper: u32, effort: &mut Effort) -> u32 {
 }
 
 /// Exchanges neighbours of a row where that lowers the crossings, from the top.
-fn lower_row(flat: &mut Flat, row: Span, effort: &mut Effort) {
+fn lower_row(flat: &mut Flat, row: Span, budget: &mut Budget) {
     let mut upper = number_at(flat.units.as_slice(), row.first);
     for i in row.first..row.last {
-        upper = lower_at(flat, i, upper, effort);
+        upper = lower_at(flat, i, upper, budget);
     }
 }
 
 /// Exchanges neighbours of each row where that lowers the crossings, once from the top.
-pub(crate) fn lower_rows(flat: &mut Flat, effort: &mut Effort) {
+pub(crate) fn lower_rows(flat: &mut Flat, budget: &mut Budget) {
     for r in 0..flat.rows.len() {
         let row = flat.row_at(r);
-        lower_row(flat, row, effort);
+        lower_row(flat, row, budget);
     }
 }

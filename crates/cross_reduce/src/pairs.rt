@@ -6,7 +6,7 @@
 
 use crate::fans::Far;
 use crate::flat::Flat;
-use crate::middles::Middles;
+use crate::joints::Joints;
 use crate::neighbours::compare;
 use std::alloc::{AllocError, Global};
 
@@ -34,7 +34,7 @@ pub(crate) const LOOK: u64 = 4;
 #[derive(Drop)]
 pub(crate) struct Pairs {
     list: Vec<Pair>,
-    middles: Middles,
+    joints: Joints,
 }
 
 impl Pairs {
@@ -43,19 +43,19 @@ impl Pairs {
         let list: Vec<Pair> = vec![in alloc; NOTHING; units.saturating_mul(KEPT)]?;
         Ok(Pairs {
             list,
-            middles: Middles::none(alloc),
+            joints: Joints::none(alloc),
         })
     }
 
-    /// From now on crossings of links between middles weigh twice. What was known is forgotten.
-    pub(crate) fn weigh(&mut self, middles: Middles) {
+    /// From now on crossings of links between joints weigh twice. What was known is forgotten.
+    pub(crate) fn weigh(&mut self, joints: Joints) {
         self.list.as_mut_slice().fill(NOTHING);
-        self.middles = middles;
+        self.joints = joints;
     }
 
-    /// The middles between which crossings weigh twice.
-    pub(crate) fn middles(&self) -> &Middles {
-        &self.middles
+    /// The joints between which crossings weigh twice.
+    pub(crate) fn joints(&self) -> &Joints {
+        &self.joints
     }
 
     /// What is kept at a place.
@@ -89,9 +89,9 @@ fn place_of(lesser: u32, greater: u32) -> usize {
 }
 
 /// What is known of two units, once their links are compared, and the work of that.
-fn compared(flat: &Flat, middles: &Middles, lesser: u32, greater: u32) -> (Pair, u64) {
+fn compared(flat: &Flat, joints: &Joints, lesser: u32, greater: u32) -> (Pair, u64) {
     let (more, looks) = compare(flat, lesser, greater);
-    let more = more.wrapping_add(middles.more_of(flat, lesser, greater));
+    let more = more.wrapping_add(joints.more_of(flat, lesser, greater));
     (Pair { greater, more }, looks.wrapping_add(LOOK))
 }
 
@@ -102,13 +102,13 @@ fn pair_of(flat: &Flat, pairs: &mut Pairs, lesser: u32, greater: u32) -> (Pair, 
     if known.greater == greater {
         return (known, LOOK);
     }
-    let (pair, work) = compared(flat, &pairs.middles, lesser, greater);
+    let (pair, work) = compared(flat, &pairs.joints, lesser, greater);
     pairs.put(i, pair);
     (pair, work)
 }
 
 /// A number, or its negative where the upper unit is the greater one.
-fn turned(upper: u32, lower: u32, number: i32) -> i32 {
+fn signed(upper: u32, lower: u32, number: i32) -> i32 {
     let sign = 1_i32.wrapping_sub(((upper > lower) as i32).wrapping_mul(2));
     number.wrapping_mul(sign)
 }
@@ -121,51 +121,51 @@ pub(crate) fn more_by_exchange(
     lower: u32,
 ) -> (i32, u64) {
     let (pair, work) = pair_of(flat, pairs, upper.min(lower), upper.max(lower));
-    (turned(upper, lower, pair.more), work)
+    (signed(upper, lower, pair.more), work)
 }
 
 /// Two links whose near ends are exchanged cross where they didn't, or don't where they did: their far ends
 /// bring less the other way round, or more.
-fn turn_ends(pairs: &mut Pairs, upper: u32, lower: u32) {
-    pairs.add(upper.min(lower), upper.max(lower), turned(upper, lower, -2));
+fn flip_ends(pairs: &mut Pairs, upper: u32, lower: u32) {
+    pairs.add(upper.min(lower), upper.max(lower), signed(upper, lower, -2));
 }
 
 /// The same for one link of the upper and each of the lower.
-fn turn_end(pairs: &mut Pairs, upper: u32, lower: &[Far]) {
+fn flip_end(pairs: &mut Pairs, upper: u32, lower: &[Far]) {
     for far in lower {
-        turn_ends(pairs, upper, far.unit);
+        flip_ends(pairs, upper, far.unit);
     }
 }
 
 /// The same for the links to one side.
-fn turn_side(pairs: &mut Pairs, upper: &[Far], lower: &[Far]) {
+fn flip_side(pairs: &mut Pairs, upper: &[Far], lower: &[Far]) {
     if lower.is_empty() {
         return;
     }
     for far in upper {
-        turn_end(pairs, far.unit, lower);
+        flip_end(pairs, far.unit, lower);
     }
 }
 
-/// What is turned once more where the links of two middles lead to middles.
-fn turn_middles(pairs: &mut Pairs, upper: &[Far], lower: &[Far]) {
+/// What is flipped once more where the links of two joints lead to joints.
+fn flip_joints(pairs: &mut Pairs, upper: &[Far], lower: &[Far]) {
     if upper.is_empty() || lower.is_empty() {
         return;
     }
     let (above, below) = (upper[0].unit, lower[0].unit);
-    if pairs.middles.have(above, below) {
-        turn_ends(pairs, above, below);
+    if pairs.joints.have(above, below) {
+        flip_ends(pairs, above, below);
     }
 }
 
 /// Two neighbours are to be exchanged: what is known of units beside their row is kept true.
-pub(crate) fn turn(flat: &Flat, pairs: &mut Pairs, upper: u32, lower: u32) {
+pub(crate) fn flip(flat: &Flat, pairs: &mut Pairs, upper: u32, lower: u32) {
     let (left, right) = flat.ends.of(upper);
     let (lower_left, lower_right) = flat.ends.of(lower);
-    turn_side(pairs, left, lower_left);
-    turn_side(pairs, right, lower_right);
-    if pairs.middles.have(upper, lower) {
-        turn_middles(pairs, left, lower_left);
-        turn_middles(pairs, right, lower_right);
+    flip_side(pairs, left, lower_left);
+    flip_side(pairs, right, lower_right);
+    if pairs.joints.have(upper, lower) {
+        flip_joints(pairs, left, lower_left);
+        flip_joints(pairs, right, lower_right);
     }
 }

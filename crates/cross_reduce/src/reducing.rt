@@ -10,8 +10,8 @@ ghost use Rattle.cross_reduce.specs.Reduced.{IsFirstOfFewest, IsReduced, Settles
 ghost use Rattle.cross_reduce.specs.Candidates.{IsKeptOrFewer};
 ghost use Rattle.elk_layers.specs.Sweeps.{sweep_orders, forward_sweep, backward_sweep};
 
+use crate::budget::{USUAL, work_for};
 use crate::counting::crossings;
-use crate::effort::{USUAL, work_for};
 use crate::exchanging::{exchanged, exchanged_by};
 use crate::fans::{Fans, Towards};
 use crate::searching::{search, search_on};
@@ -213,7 +213,7 @@ fn searched_on(
 /// It has at most the crossings of the start, and of the orders after a forward sweep of it by the
 /// barycentre rule, after a backward sweep of that order, and once more so. No exchange of two neighbours
 /// of a row lowers its crossings. A start without crossings is given back, and of the orders after the sweeps
-/// the first without crossings. The only error is want of memory, which drops the start.
+/// the first without crossings. The only error is out of memory, which drops the start.
 ///
 /// The exchanges begin from the first of fewest crossings among these five orders, and go through the rows
 /// from the top, again and again. What they reach is the answer, unless a search finds an order with fewer
@@ -221,6 +221,13 @@ fn searched_on(
 /// effort, 7, the search compares some 450 pairs of links for each unit and link of the level and at most 7 * 2^20, so
 /// small levels are searched more thoroughly than large ones, and a level of more than 2^18 units and links
 /// not at all. Nothing in it is chance or measured time: equal drawings have equal answers.
+///
+/// Proved:
+/// - An order of the same rows with no more crossings than the start and each of its four sweep orders.
+/// - It is the start itself if the start has none.
+/// - No exchange of two neighbours gives fewer crossings.
+/// - From the first of fewest among these five orders, exchanges lower the crossings, row by row from the top and again until none
+///   does. The order is what they reach, or has fewer crossings than that.
 pub fn reduce(alloc: Global, layered: &Layered, start: Order) -> Result<Order, AllocError>
     requires sound { IsSound (plain layered.now) }
     requires rows { AreRows (plain layered.now) (rows_of start) }
@@ -235,6 +242,9 @@ pub fn reduce(alloc: Global, layered: &Layered, start: Order) -> Result<Order, A
 /// above 1,000 counts as 1,000. By more than 7 the answer of 7 is annealed again and again, first by three
 /// more, then each time with half as much more. So from 7 on an answer has at most the crossings that it has
 /// by less effort. For each one of effort the search compares at most 2^20 pairs of links, and by no effort more than 2^28.
+///
+/// Proved:
+/// - The same for each effort of the search.
 pub fn reduce_with_effort(
     alloc: Global,
     layered: &Layered,

@@ -1,11 +1,11 @@
 //! Moves of whole chains and of single units to places where they cross less.
 
+use crate::budget::Budget;
 use crate::chains::Chains;
 use crate::crossing_units::crossing_units;
-use crate::effort::Effort;
 use crate::flat::Flat;
 use crate::held_starts::is_held;
-use crate::middles::Middles;
+use crate::joints::Joints;
 use crate::sifting::sift;
 use crate::windows::{row_of, rows_by_unit};
 use std::alloc::{AllocError, Global};
@@ -42,15 +42,15 @@ fn move_chains(
     chains: &mut Chains,
     marked: &[bool],
     reach: usize,
-    effort: &mut Effort,
+    budget: &mut Budget,
 ) -> Result<i64, AllocError> {
     let mut gain: i64 = 0;
     for unit in 0..count_of(flat) {
-        if effort.is_spent() {
+        if budget.is_spent() {
             return Ok(gain);
         }
         let (more, work) = chains.reinsert(flat, marked, unit, reach)?;
-        effort.spend(work / SLOTS);
+        budget.spend(work / SLOTS);
         gain = gain.saturating_add(more.max(0));
     }
     Ok(gain)
@@ -63,13 +63,13 @@ fn move_unit_alone(
     marked: &[bool],
     held: &[bool],
     unit: u32,
-    effort: &mut Effort,
+    budget: &mut Budget,
 ) -> i64 {
     if !is_marked(marked, unit) || chains.moves(unit) || is_held(held, unit) {
         return 0;
     }
     let (more, work) = sift(flat, row_of(chains.rows(), unit), unit, FAR);
-    effort.spend(work);
+    budget.spend(work);
     more.max(0)
 }
 
@@ -79,14 +79,14 @@ fn move_units(
     chains: &Chains,
     marked: &[bool],
     held: &[bool],
-    effort: &mut Effort,
+    budget: &mut Budget,
 ) -> i64 {
     let mut gain: i64 = 0;
     for unit in 0..count_of(flat) {
-        if effort.is_spent() {
+        if budget.is_spent() {
             return gain;
         }
-        let more = move_unit_alone(flat, chains, marked, held, unit, effort);
+        let more = move_unit_alone(flat, chains, marked, held, unit, budget);
         gain = gain.saturating_add(more);
     }
     gain
@@ -95,9 +95,9 @@ fn move_units(
 /// Chains of free units that have one link to each side.
 pub(crate) fn chains_for(alloc: Global, flat: &Flat, held: &[bool]) -> Result<Chains, AllocError> {
     let mut movable: Vec<bool> = Vec::with_capacity(alloc, flat.place.len())?;
-    let middles = Middles::of(alloc, flat)?;
+    let joints = Joints::of(alloc, flat)?;
     for unit in 0..count_of(flat) {
-        movable.push(middles.has(unit) && !is_held(held, unit))?;
+        movable.push(joints.has(unit) && !is_held(held, unit))?;
     }
     let rows = rows_by_unit(alloc, flat)?;
     Ok(Chains::of(alloc, movable, rows))
@@ -110,9 +110,9 @@ pub(crate) fn reinsert(
     chains: &mut Chains,
     work: u64,
 ) -> Result<(), AllocError> {
-    let mut effort = Effort::of(work);
+    let mut budget = Budget::of(work);
     let marked = crossing_units(alloc, flat)?;
-    move_chains(flat, chains, marked.as_slice(), REACH, &mut effort)?;
+    move_chains(flat, chains, marked.as_slice(), REACH, &mut budget)?;
     Ok(())
 }
 
@@ -137,13 +137,13 @@ pub(crate) fn reinsert_anew(
     work: u64,
 ) -> Result<(), AllocError> {
     let mut chains = chains_for(alloc, flat, held)?;
-    let mut effort = Effort::of(work);
+    let mut budget = Budget::of(work);
     let reach = reach_for(u64::from(count_of(flat)), work);
     for _ in 0..8_u64 {
         let marked = crossing_units(alloc, flat)?;
-        let by_chains = move_chains(flat, &mut chains, marked.as_slice(), reach, &mut effort)?;
-        let by_units = move_units(flat, &chains, marked.as_slice(), held, &mut effort);
-        if by_chains.saturating_add(by_units) <= 0 || effort.is_spent() {
+        let by_chains = move_chains(flat, &mut chains, marked.as_slice(), reach, &mut budget)?;
+        let by_units = move_units(flat, &chains, marked.as_slice(), held, &mut budget);
+        if by_chains.saturating_add(by_units) <= 0 || budget.is_spent() {
             return Ok(());
         }
     }

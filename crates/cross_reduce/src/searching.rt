@@ -6,7 +6,7 @@ ghost use Rattle.elk_layers.specs.Crossings as spec;
 ghost use Rattle.cross_reduce.specs.Candidates.{IsBestFrom, IsKeptOrFewer, IsSettledFrom};
 
 use crate::annealing::{Annealing, anneal};
-use crate::effort::{Effort, size_of};
+use crate::budget::{Budget, size_of};
 use crate::exchanging::exchanged;
 use crate::fans::Towards;
 use crate::flat::{Flat, flat_of};
@@ -33,11 +33,11 @@ fn sweep_and_exchange(
     flat: &mut Flat,
     towards: Towards,
     size: u64,
-    effort: &mut Effort,
+    budget: &mut Budget,
 ) -> Result<(), AllocError> {
-    effort.spend(size.saturating_mul(3));
+    budget.spend(size.saturating_mul(3));
     sweep_again(alloc, flat, towards)?;
-    lower_rows(flat, effort);
+    lower_rows(flat, budget);
     Ok(())
 }
 
@@ -47,13 +47,13 @@ fn started_and_swept(
     flat: &mut Flat,
     start: u64,
     size: u64,
-    effort: &mut Effort,
+    budget: &mut Budget,
 ) -> Result<(), AllocError> {
-    effort.spend(size.saturating_mul(8));
+    budget.spend(size.saturating_mul(8));
     start_anew(alloc, flat, start)?;
     for sweep in 0..4_u64 {
         let towards = side_of(start, sweep);
-        sweep_and_exchange(alloc, flat, towards, size, effort)?;
+        sweep_and_exchange(alloc, flat, towards, size, budget)?;
     }
     Ok(())
 }
@@ -108,14 +108,14 @@ fn best_start(
     ensures fewer { IfOk result (λ k. IsKeptOrFewer (plain layered.now) (rows_of kept.order) (rows_of k.order)) }
 {
     let mut flat = flat_of(alloc, layered, &kept.order)?;
-    let mut effort = Effort::of(work);
+    let mut budget = Budget::of(work);
     let is_ranked = has_ranks(layered);
     let mut kept = kept;
     for start in 0..32_u64 {
-        if kept.crossings == 0 || effort.is_spent() {
+        if kept.crossings == 0 || budget.is_spent() {
             return Ok(kept);
         }
-        started_and_swept(alloc, &mut flat, start, size_of(layered), &mut effort)?;
+        started_and_swept(alloc, &mut flat, start, size_of(layered), &mut budget)?;
         kept = fewer_after(alloc, layered, kept, &flat, is_ranked)?;
     }
     Ok(kept)

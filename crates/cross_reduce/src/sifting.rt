@@ -74,12 +74,12 @@ pub(crate) fn sift(flat: &mut Flat, row: Span, unit: u32, reach: usize) -> (i64,
     let last = own.saturating_add(reach).min(row.last);
     let down = look_down(flat, unit, own, last, start);
     let first = own.saturating_sub(reach).max(row.first);
-    let turned = Look {
+    let flipped = Look {
         best: down.best,
         more: 0,
         work: down.work,
     };
-    let both = look_up(flat, unit, own, first, turned);
+    let both = look_up(flat, unit, own, first, flipped);
     if both.best.more < 0 {
         move_unit(flat, unit, own, both.best.place);
     }

@@ -12,7 +12,7 @@ use Rattle.net_routes.specs.declared.Net.{Net}
 use Rattle.net_routes.specs.declared.NetRoute.{NetRoute}
 use Rattle.net_routes.specs.declared.NetRoute.TheVariants.{Straight, One, Two}
 use Rattle.net_routes.specs.Pieces.{slot, border_of, corners, net_at, route_at}
-use Rattle.net_routes.specs.GapFree.{GapFree, HasPin, IsLevelNet, StandsIn}
+use Rattle.net_routes.specs.GapFree.{GapFree, HasPin, IsStraightNet, StandsIn}
 use Rattle.net_routes.specs.Crossings.{is_over, passes, is_between, one, pin_cut, bar_cut, cuts, cut, cut_at, upright}
 use Rattle.net_routes.proofs.Turns.{lt_true, lt_false}
 use Rattle.route_lines.specs.Points.{PlainGap, stand, point_at, corner_points, net_points}
@@ -21,9 +21,9 @@ use Rattle.crossing_laws.specs.Crossed.{crosses, sum_segments, uprights_cross, p
 -- ---- places between two others
 
 -- which of the two comes first doesn't matter
-over_turned : (x y z : ℤ) → is_over x y z ≡ is_over y x z
+over_flipped : (x y z : ℤ) → is_over x y z ≡ is_over y x z
 unfolding is_over
-over_turned x y z = ap₂ (λ (u v : ℤ). int_lt u z && int_lt z v) (omega (arith, ints, clamps)) (omega (arith, ints, clamps))
+over_flipped x y z = ap₂ (λ (u v : ℤ). int_lt u z && int_lt z v) (omega (arith, ints, clamps)) (omega (arith, ints, clamps))
 
 and_false : (b c : Bool) → c ≡ false → (b && c) ≡ false
 and_false true c e = e
@@ -133,13 +133,13 @@ flat : (a b c d : Point) → a.y ≡ b.y → one (crosses a b c d) ≡ 0
 unfolding crosses
 flat a b c d e = one_none (is_over c.x d.x a.x) (is_over a.y b.y c.y) (ap (λ (y : ℤ). is_over y b.y c.y) e ∙ none_over b.y c.y)
 
-level_none : (a b : Point) (qs : List Point) → a.y ≡ b.y → sum_segments (λ c d. one (crosses a b c d)) qs ≡ 0
+horizontal_none : (a b : Point) (qs : List Point) → a.y ≡ b.y → sum_segments (λ c d. one (crosses a b c d)) qs ≡ 0
 unfolding sum_segments
-level_none a b [] e = refl
-level_none a b (c ∷ []) e = refl
-level_none a b (c ∷ d ∷ qs) e = ap₂ (λ (m n : ℕ). m + n) (flat a b c d e) (level_none a b (d ∷ qs) e)
+horizontal_none a b [] e = refl
+horizontal_none a b (c ∷ []) e = refl
+horizontal_none a b (c ∷ d ∷ qs) e = ap₂ (λ (m n : ℕ). m + n) (flat a b c d e) (horizontal_none a b (d ∷ qs) e)
 
--- and an upright one crosses nothing as a level one
+-- and an upright one crosses nothing as a horizontal one
 stub : (a b c d : Point) → c.x ≡ d.x → one (crosses a b c d) ≡ 0
 unfolding crosses one
 stub a b c d e = ap (λ (u : Bool). one (u && is_over a.y b.y c.y)) (ap (λ (x : ℤ). is_over x d.x a.x) e ∙ none_over d.x a.x)
@@ -150,7 +150,7 @@ flip : (x y z : ℤ) (qs : List Point)
 unfolding sum_segments crosses
 flip x y z [] = refl
 flip x y z (c ∷ []) = refl
-flip x y z (c ∷ d ∷ qs) = ap₂ (λ (m n : ℕ). m + n) (ap (λ (u : Bool). one (is_over c.x d.x x && u)) (over_turned y z c.y)) (flip x y z (d ∷ qs))
+flip x y z (c ∷ d ∷ qs) = ap₂ (λ (m n : ℕ). m + n) (ap (λ (u : Bool). one (is_over c.x d.x x && u)) (over_flipped y z c.y)) (flip x y z (d ∷ qs))
 
 sum_two : (f : Point → Point → ℕ) (a b : Point) → sum_segments f (a ∷ b ∷ []) ≡ f a b
 unfolding sum_segments
@@ -208,7 +208,7 @@ module _ (g : PlainGap) (step : pos 0 <ℤ g.step) (n : Net) (u : ℕ) (y z : �
   pin_back : (p : Pin) (t : ℕ) → Within p.on_left (stand g (border_of p.on_left)) (stand g (slot u)) → here (slot_at t p.height) (pin_at p) ≡ pin_cut p t (upright u y z)
   unfolding crosses
   pin_back p t l =
-      ap (λ (b : Bool). one (b && is_over y z p.height)) (over_turned (stand g (slot t)) (stand g (border_of p.on_left)) (stand g (slot u)))
+      ap (λ (b : Bool). one (b && is_over y z p.height)) (over_flipped (stand g (slot t)) (stand g (border_of p.on_left)) (stand g (slot u)))
       ∙ pin_piece p t l
 
   bar_piece : (s : ℕ) (h : ℤ) (t : ℕ) → here (slot_at s h) (slot_at t h) ≡ bar_cut s h t (upright u y z)
@@ -220,25 +220,25 @@ module _ (g : PlainGap) (step : pos 0 <ℤ g.step) (n : Net) (u : ℕ) (y z : �
   bar_back : (s : ℕ) (h : ℤ) (t : ℕ) → here (slot_at t h) (slot_at s h) ≡ bar_cut s h t (upright u y z)
   unfolding crosses
   bar_back s h t =
-      ap (λ (b : Bool). one (b && is_over y z h)) (over_turned (stand g (slot t)) (stand g (slot s)) (stand g (slot u))) ∙ bar_piece s h t
+      ap (λ (b : Bool). one (b && is_over y z h)) (over_flipped (stand g (slot t)) (stand g (slot s)) (stand g (slot u))) ∙ bar_piece s h t
 
   stub_here : (t : ℕ) (h k : ℤ) → here (slot_at t h) (slot_at t k) ≡ 0
   stub_here t h k = stub (point_at (stand g (slot u)) y) (point_at (stand g (slot u)) z) (slot_at t h) (slot_at t k) refl
 
-  whole : IsLevelNet n → here (pin_at n.a) (pin_at n.b) ≡ one (is_over y z n.a.height)
+  whole : IsStraightNet n → here (pin_at n.a) (pin_at n.b) ≡ one (is_over y z n.a.height)
   unfolding crosses
   whole level =
       one_and (is_over (stand g (border_of n.a.on_left)) (stand g (border_of n.b.on_left)) (stand g (slot u))) (is_over y z n.a.height)
       ∙ ap (λ (b : Bool). if b then one (is_over y z n.a.height) else 0) (across g step n.a.on_left n.b.on_left u level.0 a_in b_in)
 
-  whole_back : IsLevelNet n → here (pin_at n.b) (pin_at n.a) ≡ one (is_over y z n.a.height)
+  whole_back : IsStraightNet n → here (pin_at n.b) (pin_at n.a) ≡ one (is_over y z n.a.height)
   unfolding crosses
   whole_back level =
-      ap₂ (λ (b c : Bool). one (b && c)) (over_turned (stand g (border_of n.b.on_left)) (stand g (border_of n.a.on_left)) (stand g (slot u)))
+      ap₂ (λ (b c : Bool). one (b && c)) (over_flipped (stand g (border_of n.b.on_left)) (stand g (border_of n.a.on_left)) (stand g (slot u)))
       (ap (λ (h : ℤ). is_over y z h) (sym level.1))
       ∙ whole level
 
-  pub cuts_there : (q : NetRoute) → (q ≡ Straight → IsLevelNet n) → sum_segments here (corner_points g (corners n q)) ≡ cuts n q (upright u y z)
+  pub cuts_there : (q : NetRoute) → (q ≡ Straight → IsStraightNet n) → sum_segments here (corner_points g (corners n q)) ≡ cuts n q (upright u y z)
   unfolding cuts
   cuts_there Straight level = sum_two here (pin_at n.a) (pin_at n.b) ∙ whole (level refl)
   cuts_there (One t) level =
@@ -248,7 +248,7 @@ module _ (g : PlainGap) (step : pos 0 <ℤ g.step) (n : Net) (u : ℕ) (y z : �
       sum_six here (pin_at n.a) (slot_at s n.a.height) (slot_at s h) (slot_at t h) (slot_at t n.b.height) (pin_at n.b)
       ∙ outer_three _ _ _ _ _ _ _ _ (pin_piece n.a s a_in) (stub_here s n.a.height h) (bar_piece s h t) (stub_here t h n.b.height) (pin_back n.b t b_in)
 
-  pub cuts_back : (q : NetRoute) → (q ≡ Straight → IsLevelNet n) → sum_segments here (reverse (corner_points g (corners n q))) ≡ cuts n q (upright u y z)
+  pub cuts_back : (q : NetRoute) → (q ≡ Straight → IsStraightNet n) → sum_segments here (reverse (corner_points g (corners n q))) ≡ cuts n q (upright u y z)
   unfolding cuts
   cuts_back Straight level = sum_two here (pin_at n.b) (pin_at n.a) ∙ whole_back (level refl)
   cuts_back (One t) level =
@@ -272,32 +272,32 @@ module _ (g : PlainGap) (qs : List Point) (n : Net) (q : NetRoute)
   abbrev slot_of : ℕ → ℤ → Point
   slot_of t h = point_at (stand g (slot t)) h
 
-  turned : (u : ℕ) (y z : ℤ) → u < g.count → along (slot_of u z) (slot_of u y) ≡ cuts n q (upright u y z)
-  turned u y z l = flip (stand g (slot u)) z y qs ∙ each u y z l
+  flipped : (u : ℕ) (y z : ℤ) → u < g.count → along (slot_of u z) (slot_of u y) ≡ cuts n q (upright u y z)
+  flipped u y z l = flip (stand g (slot u)) z y qs ∙ each u y z l
 
-  pub cut_there : (m : Net) (r : NetRoute) → (r ≡ Straight → IsLevelNet m) → ((s : ℕ) → StandsIn r s → s < g.count)
+  pub cut_there : (m : Net) (r : NetRoute) → (r ≡ Straight → IsStraightNet m) → ((s : ℕ) → StandsIn r s → s < g.count)
       → sum_segments along (corner_points g (corners m r)) ≡ cut m r n q
   unfolding cut
-  cut_there m Straight level inside = sum_two along (pin_of m.a) (pin_of m.b) ∙ level_none (pin_of m.a) (pin_of m.b) qs (level refl).1
+  cut_there m Straight level inside = sum_two along (pin_of m.a) (pin_of m.b) ∙ horizontal_none (pin_of m.a) (pin_of m.b) qs (level refl).1
   cut_there m (One s) level inside =
       sum_four along (pin_of m.a) (slot_of s m.a.height) (slot_of s m.b.height) (pin_of m.b)
-      ∙ inner_one _ _ _ _ (level_none (pin_of m.a) (slot_of s m.a.height) qs refl) (each s m.a.height m.b.height (inside s refl)) (level_none (slot_of s m.b.height) (pin_of m.b) qs refl)
+      ∙ inner_one _ _ _ _ (horizontal_none (pin_of m.a) (slot_of s m.a.height) qs refl) (each s m.a.height m.b.height (inside s refl)) (horizontal_none (slot_of s m.b.height) (pin_of m.b) qs refl)
   cut_there m (Two s h t) level inside =
       sum_six along (pin_of m.a) (slot_of s m.a.height) (slot_of s h) (slot_of t h) (slot_of t m.b.height) (pin_of m.b)
-      ∙ inner_two _ _ _ _ _ _ _ (level_none (pin_of m.a) (slot_of s m.a.height) qs refl) (each s m.a.height h (inside s (inl refl)))
-      (level_none (slot_of s h) (slot_of t h) qs refl) (each t h m.b.height (inside t (inr refl))) (level_none (slot_of t m.b.height) (pin_of m.b) qs refl)
+      ∙ inner_two _ _ _ _ _ _ _ (horizontal_none (pin_of m.a) (slot_of s m.a.height) qs refl) (each s m.a.height h (inside s (inl refl)))
+      (horizontal_none (slot_of s h) (slot_of t h) qs refl) (each t h m.b.height (inside t (inr refl))) (horizontal_none (slot_of t m.b.height) (pin_of m.b) qs refl)
 
-  pub cut_back : (m : Net) (r : NetRoute) → (r ≡ Straight → IsLevelNet m) → ((s : ℕ) → StandsIn r s → s < g.count)
+  pub cut_back : (m : Net) (r : NetRoute) → (r ≡ Straight → IsStraightNet m) → ((s : ℕ) → StandsIn r s → s < g.count)
       → sum_segments along (reverse (corner_points g (corners m r))) ≡ cut m r n q
   unfolding cut
-  cut_back m Straight level inside = sum_two along (pin_of m.b) (pin_of m.a) ∙ level_none (pin_of m.b) (pin_of m.a) qs (sym (level refl).1)
+  cut_back m Straight level inside = sum_two along (pin_of m.b) (pin_of m.a) ∙ horizontal_none (pin_of m.b) (pin_of m.a) qs (sym (level refl).1)
   cut_back m (One s) level inside =
       sum_four along (pin_of m.b) (slot_of s m.b.height) (slot_of s m.a.height) (pin_of m.a)
-      ∙ inner_one _ _ _ _ (level_none (pin_of m.b) (slot_of s m.b.height) qs refl) (turned s m.a.height m.b.height (inside s refl)) (level_none (slot_of s m.a.height) (pin_of m.a) qs refl)
+      ∙ inner_one _ _ _ _ (horizontal_none (pin_of m.b) (slot_of s m.b.height) qs refl) (flipped s m.a.height m.b.height (inside s refl)) (horizontal_none (slot_of s m.a.height) (pin_of m.a) qs refl)
   cut_back m (Two s h t) level inside =
       sum_six along (pin_of m.b) (slot_of t m.b.height) (slot_of t h) (slot_of s h) (slot_of s m.a.height) (pin_of m.a)
-      ∙ two_back _ _ _ _ _ _ _ (level_none (pin_of m.b) (slot_of t m.b.height) qs refl) (turned t h m.b.height (inside t (inr refl)))
-      (level_none (slot_of t h) (slot_of s h) qs refl) (turned s m.a.height h (inside s (inl refl))) (level_none (slot_of s m.a.height) (pin_of m.a) qs refl)
+      ∙ two_back _ _ _ _ _ _ _ (horizontal_none (pin_of m.b) (slot_of t m.b.height) qs refl) (flipped t h m.b.height (inside t (inr refl)))
+      (horizontal_none (slot_of t h) (slot_of s h) qs refl) (flipped s m.a.height h (inside s (inl refl))) (horizontal_none (slot_of s m.a.height) (pin_of m.a) qs refl)
 
 -- ---- the law
 
@@ -309,23 +309,23 @@ module _ (g : PlainGap) (free : GapFree g.nets g.count g.routes) (spread : IsSpr
       by true e = spread.left k u p l has e h
       by false e = spread.right k u p l has e h
 
-  level_if : (k : ℕ) → k < length g.nets → route_at g.routes k ≡ Straight → IsLevelNet (net_at g.nets k)
-  level_if k l e = (free.straight k l).0 e
+  straight_if : (k : ℕ) → k < length g.nets → route_at g.routes k ≡ Straight → IsStraightNet (net_at g.nets k)
+  straight_if k l e = (free.straight k l).0 e
 
   cuts_of : (k : ℕ) (to_b : Bool) → k < length g.nets → (u : ℕ) (y z : ℤ) → u < g.count
       → sum_segments (λ c d. one (crosses (point_at (stand g (slot u)) y) (point_at (stand g (slot u)) z) c d)) (net_points g k to_b) ≡ cuts (net_at g.nets k) (route_at g.routes k) (upright u y z)
   cuts_of k true l u y z h =
-      cuts_there g spread.step (net_at g.nets k) u y z (within k u (net_at g.nets k).a l (inl refl) h) (within k u (net_at g.nets k).b l (inr refl) h) (route_at g.routes k) (level_if k l)
+      cuts_there g spread.step (net_at g.nets k) u y z (within k u (net_at g.nets k).a l (inl refl) h) (within k u (net_at g.nets k).b l (inr refl) h) (route_at g.routes k) (straight_if k l)
   cuts_of k false l u y z h =
-      cuts_back g spread.step (net_at g.nets k) u y z (within k u (net_at g.nets k).a l (inl refl) h) (within k u (net_at g.nets k).b l (inr refl) h) (route_at g.routes k) (level_if k l)
+      cuts_back g spread.step (net_at g.nets k) u y z (within k u (net_at g.nets k).a l (inl refl) h) (within k u (net_at g.nets k).b l (inr refl) h) (route_at g.routes k) (straight_if k l)
 
   cut_of : (j k : ℕ) (from_a to_b : Bool) → j < length g.nets → k < length g.nets
       → uprights_cross (net_points g j from_a) (net_points g k to_b) ≡ cut_at g.nets g.routes j k
   unfolding uprights_cross
   cut_of j k true to_b jl kl =
-      cut_there g (net_points g k to_b) (net_at g.nets k) (route_at g.routes k) (cuts_of k to_b kl) (net_at g.nets j) (route_at g.routes j) (level_if j jl) (λ s h. free.slots_in j s jl h)
+      cut_there g (net_points g k to_b) (net_at g.nets k) (route_at g.routes k) (cuts_of k to_b kl) (net_at g.nets j) (route_at g.routes j) (straight_if j jl) (λ s h. free.slots_in j s jl h)
   cut_of j k false to_b jl kl =
-      cut_back g (net_points g k to_b) (net_at g.nets k) (route_at g.routes k) (cuts_of k to_b kl) (net_at g.nets j) (route_at g.routes j) (level_if j jl) (λ s h. free.slots_in j s jl h)
+      cut_back g (net_points g k to_b) (net_at g.nets k) (route_at g.routes k) (cuts_of k to_b kl) (net_at g.nets j) (route_at g.routes j) (straight_if j jl) (λ s h. free.slots_in j s jl h)
 
 pub nets_cross_as_drawn : NetsCrossAsDrawn
 unfolding paths_cross

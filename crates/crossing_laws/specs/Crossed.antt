@@ -8,7 +8,7 @@ use Rattle.net_routes.specs.Crossings.{is_over, one}
 use Rattle.net_routes.specs.Uncrossed.{crossed}
 use Rattle.route_lines.specs.Points.{PlainGap, stand, net_points}
 
--- Of two segments that are parallel to an axis, the upright one from a to b and the level one from c to d cross: each passes
+-- Of two segments that are parallel to an axis, the upright one from a to b and the horizontal one from c to d cross: each passes
 -- strictly between the ends of the other.
 unfoldable pub crosses : Point → Point → Point → Point → Bool
 crosses a b c d = is_over c.x d.x a.x && is_over a.y b.y c.y
@@ -19,7 +19,7 @@ sum_segments f [] = 0
 sum_segments f (a ∷ []) = 0
 sum_segments f (a ∷ b ∷ ps) = f a b + sum_segments f (b ∷ ps)
 
--- how often upright segments of the first path cross level ones of the second
+-- how often upright segments of the first path cross horizontal ones of the second
 unfoldable pub uprights_cross : List Point → List Point → ℕ
 uprights_cross ps qs = sum_segments (λ a b. sum_segments (λ c d. one (crosses a b c d)) qs) ps
 

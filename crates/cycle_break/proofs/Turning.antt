@@ -1,4 +1,4 @@
--- Edges are turned round one after the other.
+-- Edges are reversed one after the other.
 use Rattle.std.proofs.Common.{◌≡◌, ◌≢◌, ℕ, zero, suc, length, take, get_or, ◌+◌, ◌<◌, ◌≤◌, eq-eqb, nat_eq, cond, Bool, false, List, [], ◌∷◌, ◌++◌, filter, Option, Some, None, IsSome, arith, refl, sym, ap, ◌∙◌, subst, inl, inr}
 use Rattle.std.proofs.lemmas.Bool.{cases_eq}
 use Rattle.std.proofs.lemmas.List.{length-map, take-map}
@@ -6,7 +6,7 @@ use Rattle.graph_arena.specs.Graph.{Graph, Ends, ends_at, out_list, in_list, occ
 use Rattle.graph_arena.specs.Changes.{Reverses, without}
 use Rattle.graph_arena.specs.declared.keys.EdgeKey.{EdgeKey}
 use Rattle.cycle_break.specs.Ways.{edge_keys}
-use Rattle.cycle_break.specs.Reversed.{TurnsRound}
+use Rattle.cycle_break.specs.Reversed.{ReversesListed}
 use Rattle.cycle_break.proofs.Keys.{key_at}
 use Rattle.cycle_break.proofs.Lists.{eqb_other, occurs-append, occurs_one, occurs_none}
 use Rattle.graph_arena.proofs.Removal.{filter_without, filter_stronger}
@@ -18,7 +18,7 @@ filter_last p e (x ∷ xs) h = ap (λ (l : List ℕ). cond (p x) (x ∷ l) l) (f
 same_ends : (x y : Ends) → Some x ≡ Some y → x ≡ y
 same_ends x y h = cc
 
-module _ (g m k : Graph) (listed : List ℕ) (e : ℕ) (x : Ends) (t : TurnsRound g m listed) (is : ends_at m e ≡ Some x) (r : Reverses m k e x.tail x.head) (new : occurs e listed ≡ 0) where
+module _ (g m k : Graph) (listed : List ℕ) (e : ℕ) (x : Ends) (t : ReversesListed g m listed) (is : ends_at m e ≡ Some x) (r : Reverses m k e x.tail x.head) (new : occurs e listed ≡ 0) where
   both : (d : ℕ) → occurs d (listed ++ e ∷ []) ≡ occurs d listed + occurs d (e ∷ [])
   both d = occurs-append d listed (e ∷ [])
 
@@ -64,16 +64,16 @@ module _ (g m k : Graph) (listed : List ℕ) (e : ℕ) (x : Ends) (t : TurnsRoun
             ]
       ]
 
-  pub turns_more : TurnsRound g k (listed ++ e ∷ [])
+  pub turns_more : ReversesListed g k (listed ++ e ∷ [])
   turns_more =
       let p : ℕ → Bool = λ d. nat_eq (occurs d (listed ++ e ∷ [])) 0 in
       let q : ℕ → Bool = λ d. nat_eq (occurs d listed) 0 in
       record {
-        turned = λ d y h at. elim (cases_eq d e) [
+        is_reversed = λ d y h at. elim (cases_eq d e) [
           | inl s ↦
               let same : x ≡ y = same_ends x y (sym is ∙ (t.others e new ∙ subst (λ (j : ℕ). ends_at g j ≡ Some y) s at)) in
-              subst (λ (z : Ends). ends_at k d ≡ Some (record { tail = z.head; head = z.tail })) same (ap (λ (j : ℕ). ends_at k j) s ∙ r.turned)
-          | inr n ↦ let z = occurs_none d e (λ i. n (sym i)) in r.other_edges d n ∙ t.turned d y (omega (arith, h, both d, z)) at
+              subst (λ (z : Ends). ends_at k d ≡ Some (record { tail = z.head; head = z.tail })) same (ap (λ (j : ℕ). ends_at k j) s ∙ r.is_reversed)
+          | inr n ↦ let z = occurs_none d e (λ i. n (sym i)) in r.other_edges d n ∙ t.is_reversed d y (omega (arith, h, both d, z)) at
         ];
         others = λ d h.
             let n : d ≢ e = λ s. (let h2 : occurs e (listed ++ e ∷ []) ≡ 0 = subst (λ (j : ℕ). occurs j (listed ++ e ∷ []) ≡ 0) s h in omega (arith, h2, both e, occurs_one e)) in
@@ -115,7 +115,7 @@ ends_there : (o : Option Ends) → IsSome o → (x : Ends) × (o ≡ Some x)
 ends_there None h = cc
 ends_there (Some x) h = (x, refl)
 
-pub turns_next : (g m k : Graph) (listed l1 : List ℕ) (e : ℕ) → TurnsRound g m listed → IsSome (ends_at m e) → ((x : Ends) → ends_at m e ≡ Some x → Reverses m k e x.tail x.head) → occurs e listed ≡ 0 → l1 ≡ listed ++ e ∷ [] → TurnsRound g k l1
+pub turns_next : (g m k : Graph) (listed l1 : List ℕ) (e : ℕ) → ReversesListed g m listed → IsSome (ends_at m e) → ((x : Ends) → ends_at m e ≡ Some x → Reverses m k e x.tail x.head) → occurs e listed ≡ 0 → l1 ≡ listed ++ e ∷ [] → ReversesListed g k l1
 turns_next g m k listed l1 e t live r new is =
     let x = ends_there (ends_at m e) live in
-    subst (λ (l : List ℕ). TurnsRound g k l) (sym is) (turns_more g m k listed e x.0 t x.1 (r x.0 x.1) new)
+    subst (λ (l : List ℕ). ReversesListed g k l) (sym is) (turns_more g m k listed e x.0 t x.1 (r x.0 x.1) new)

@@ -19,9 +19,9 @@ pub record IsReversed (g : Graph) (listed : List ℕ) : Type 0 where
   pub once : (e : ℕ) → occurs e listed ≤ 1
   pub acyclic : (a b : ℕ) → UnlistedStep g listed a b → Reaches (UnlistedStep g listed) b a → ⊥
 
--- just the listed edges are turned round
-pub record TurnsRound (old new : Graph) (listed : List ℕ) : Type 0 where
-  pub turned : (e : ℕ) (x : Ends) → 0 < occurs e listed → ends_at old e ≡ Some x
+-- just the listed edges are reversed
+pub record ReversesListed (old new : Graph) (listed : List ℕ) : Type 0 where
+  pub is_reversed : (e : ℕ) (x : Ends) → 0 < occurs e listed → ends_at old e ≡ Some x
       → ends_at new e ≡ Some (record { tail = x.head; head = x.tail })
   pub others : (e : ℕ) → occurs e listed ≡ 0 → ends_at new e ≡ ends_at old e
   pub same_nodes : (v : ℕ) → IsNode new v ↔ IsNode old v

@@ -109,6 +109,9 @@ fn order_of(alloc: Global, arena: &Arena, work: &mut Arena) -> Result<Vec<NodeKe
 
 /// All nodes, each once and tails before heads. There is no such order exactly where there is a cycle, of which a
 /// self-loop is one. (Kahn 1962.)
+///
+/// Proved:
+/// - An order of the nodes is found exactly if there is one.
 pub fn topological(alloc: Global, arena: &Arena) -> Result<Option<Vec<NodeKey>>, AllocError>
     ensures answer { IfOk result (λ r. MatchOption r (HasCycle arena.now) (λ order. IsTopological arena.now (node_keys order.items))) }
     ensures acyclic { IfOk result (λ r. IfSome r (λ _. HasCycle arena.now → ⊥)) }

@@ -4,14 +4,14 @@ ghost use Rattle.std.specs.Prelude.{◌≡◌, ◌≤◌, ◌<◌, ◌++◌, ℕ
 ghost use Rattle.graph_arena.specs.Graph.{IsNode, IsEdge, occurs};
 ghost use Rattle.graph_arena.specs.Changes.{IsSame};
 ghost use Rattle.cycle_break.specs.Ways.{edge_keys};
-ghost use Rattle.cycle_break.specs.Reversed.{IsReversed, TurnsRound, Settled, before};
+ghost use Rattle.cycle_break.specs.Reversed.{IsReversed, ReversesListed, Settled, before};
 
 use crate::placing::place_all;
 use crate::searching::{no_places, path};
 use graph_arena::{Arena, EdgeKey};
 use std::alloc::{AllocError, Global};
 
-/// The edges that were turned round, each once.
+/// The edges that were reversed, each once.
 #[derive(Drop)]
 pub struct Reversed {
     pub edges: Vec<EdgeKey>,
@@ -110,7 +110,7 @@ fn settle(
 fn turn_all(arena: &mut Arena, edges: &[EdgeKey])
     requires live { (e : ℕ) → 0 < occurs e (edge_keys edges.now) → IsEdge arena.old e }
     requires once { (e : ℕ) → occurs e (edge_keys edges.now) ≤ 1 }
-    ensures { TurnsRound arena.old arena.new (edge_keys edges.now) }
+    ensures { ReversesListed arena.old arena.new (edge_keys edges.now) }
 {
     'edges: for edge in edges {
         arena.reverse(*edge);
@@ -132,12 +132,15 @@ fn edges_to_turn(
     settle(alloc, arena, &mut kept, listed.as_slice())
 }
 
-/// Turns edges round so that no cycle is left but self-loops, which stay. Each edge that is turned closed a cycle
+/// Reverses edges so that no cycle is left but self-loops, which stay. Each edge that is reversed closed a cycle
 /// with edges that are not. Where memory is wanting the arena stays as it was. (Sugiyama, Tagawa, Toda 1981; Eades,
 /// Lin, Smyth 1993.)
+///
+/// Proved:
+/// - The listed edges close cycles with unlisted ones, which have no cycle, and exactly the listed edges are reversed.
 pub fn orient(alloc: Global, arena: &mut Arena) -> Result<Reversed, AllocError>
     ensures reversed { IfOk result (λ r. IsReversed arena.old (edge_keys r.edges.items)) }
-    ensures turned { IfOk result (λ r. TurnsRound arena.old arena.new (edge_keys r.edges.items)) }
+    ensures is_reversed { IfOk result (λ r. ReversesListed arena.old arena.new (edge_keys r.edges.items)) }
     ensures err { OnErr result (IsSame arena.old arena.new) }
 {
     let mut places = no_places(alloc, arena.node_bound())?;

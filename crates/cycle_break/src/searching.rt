@@ -168,6 +168,9 @@ fn path_by(
 
 /// The edges of a path from one node to another, in order; none where they are the same node. It comes to no node
 /// twice. There is no answer exactly where there is no path.
+///
+/// Proved:
+/// - A path that visits no node twice is found exactly if there is a path.
 pub fn path(
     alloc: Global,
     arena: &Arena,

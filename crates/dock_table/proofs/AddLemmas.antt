@@ -12,9 +12,9 @@ use Rattle.port_order.specs.Child.{spot_at, no_spot}
 use Rattle.level_model.specs.declared.level.EdgeEnd.{EdgeEnd}
 use Rattle.level_model.specs.Conditions.{IsLevel, IsSpoke, total_ports}
 use Rattle.level_model.specs.Level.{PlainLevel, PlainPlan, End, child_at, end_at, ends_of_edges, enters}
-use Rattle.dock_table.specs.declared.flows.Flow.{Flow}
+use Rattle.dock_table.specs.declared.courses.Course.{Course}
 use Rattle.dock_table.specs.declared.spots.Told.{Told}
-use Rattle.dock_table.specs.Flows.{IsFlow, first_link}
+use Rattle.dock_table.specs.Courses.{IsCourse, first_link}
 use Rattle.dock_table.specs.Rows.{AreNumbers, AreRowsOf, HasPlace, IsCounted, at_child, bare, ends_to, more_mean, number_by, number_in, number_of, row_at, row_of, row_with, told_by, with_end, with_link}
 use Rattle.dock_table.proofs.SpotLemmas.{IsTold}
 use Rattle.dock_table.proofs.RowLemmas.{row_long}
@@ -26,23 +26,23 @@ far_is l rows e before after true b_is a_is = b_is
 far_is l rows e before after false b_is a_is = a_is
 
 -- what an edge's flow tells of its ends
-pub told_true : (l : PlainLevel) (p : PlainPlan) (e : ℕ) (f : Flow) (t : Bool) → IsFlow l p e f → IsTold l p (end_at e t) (told_by f t)
-told_true l p e f t flow =
-    let enters_is : cond t f.turned (not f.turned) ≡ enters p (end_at e t) = ap (λ b. cond t b (not b)) flow.turned in
+pub told_true : (l : PlainLevel) (p : PlainPlan) (e : ℕ) (f : Course) (t : Bool) → IsCourse l p e f → IsTold l p (end_at e t) (told_by f t)
+told_true l p e f t course =
+    let enters_is : cond t f.is_reversed (not f.is_reversed) ≡ enters p (end_at e t) = ap (λ b. cond t b (not b)) course.is_reversed in
     record {
-      looped = flow.looped;
+      looped = course.looped;
       enters_is = enters_is;
       place = λ no_loop.
           ap (λ b. cond b f.before f.after) enters_is
-          ∙ far_is p.layered p.rows e f.before f.after (enters p (end_at e t)) (flow.before no_loop) (flow.after no_loop);
+          ∙ far_is p.layered p.rows e f.before f.after (enters p (end_at e t)) (course.before no_loop) (course.after no_loop);
     }
 
 small_of : (b : Bool) (m n most : ℕ) → m ≤ most → n ≤ most → cond b m n ≤ most
 small_of true m n most a c = a
 small_of false m n most a c = c
 
-pub told_small : (l : PlainLevel) (p : PlainPlan) (e : ℕ) (f : Flow) (t : Bool) → IsFlow l p e f → (told_by f t).place ≤ 2 ^ 24
-told_small l p e f t flow = small_of (cond t f.turned (not f.turned)) f.before f.after (2 ^ 24) flow.before_small flow.after_small
+pub told_small : (l : PlainLevel) (p : PlainPlan) (e : ℕ) (f : Course) (t : Bool) → IsCourse l p e f → (told_by f t).place ≤ 2 ^ 24
+told_small l p e f t course = small_of (cond t f.is_reversed (not f.is_reversed)) f.before f.after (2 ^ 24) course.before_small course.after_small
 
 -- ---- how much the means count
 

@@ -14,8 +14,8 @@ use Rattle.level_model.specs.Level.{PlainLevel, PlainPlan, edge_at, first_or, he
 use Rattle.level_model.specs.Nets.{unit_of}
 use Rattle.level_model.specs.Traces.{chain, links_at, links_from}
 use Rattle.level_model.specs.Units.{AreLinked, chain_at}
-use Rattle.dock_table.specs.declared.flows.Flow.{Flow}
-use Rattle.dock_table.specs.Flows.{AreFirst, AreFlows, IsFlow, IsReadable, TurnsMarked, first_link, flow_at, is_near, near_unit}
+use Rattle.dock_table.specs.declared.courses.Course.{Course}
+use Rattle.dock_table.specs.Courses.{AreFirst, AreCourses, IsCourse, IsReadable, ReversedAreMarked, first_link, course_at, is_near, near_unit}
 
 first_exists : (test : ℕ → Bool) (a m k : ℕ) → a ≤ k → k < a + m → test k ≡ true → first_or (filter test (range_with_len a m)) 0 < a + m
 first_exists test a zero k low high t = absurd (omega (arith, low, high))
@@ -90,23 +90,23 @@ pub record AreRead (l : PlainLevel) (p : PlainPlan) (place : List ℕ) (marks : 
   pub level : IsLevel l
   pub sound : IsSound p.layered
   pub rows : AreRows p.layered p.rows
-  pub turned : TurnsMarked l marks p
+  pub is_reversed : ReversedAreMarked l marks p
   pub places : ArePlaces p.layered p.rows place
   pub firsts_are : AreFirst (is_near p.layered false) (length p.layered.links) (length l.edges) firsts
   pub lasts_are : AreFirst (is_near p.layered true) (length p.layered.links) (length l.edges) lasts
 
 pub read_first : (l : PlainLevel) (p : PlainPlan) (place : List ℕ) (marks : List Bool) (firsts lasts : List ℕ) (e : ℕ) → AreRead l p place marks firsts lasts → e < length l.edges → IsFalse (is_loop l e) → IsReadable p.layered.links place (get_or firsts e 0)
 read_first l p place marks firsts lasts e are h no_loop =
-    rw (are.firsts_are.first_is e h) (readable p.layered p.rows place (first_link p.layered false e) are.sound are.places (first_there l p are.turned.layers e are.turned.linked h no_loop (either_spoke l e (not (holds p.reversed e)) are.level h)))
+    rw (are.firsts_are.first_is e h) (readable p.layered p.rows place (first_link p.layered false e) are.sound are.places (first_there l p are.is_reversed.layers e are.is_reversed.linked h no_loop (either_spoke l e (not (holds p.reversed e)) are.level h)))
 
 pub read_last : (l : PlainLevel) (p : PlainPlan) (place : List ℕ) (marks : List Bool) (firsts lasts : List ℕ) (e : ℕ) → AreRead l p place marks firsts lasts → e < length l.edges → IsFalse (is_loop l e) → IsReadable p.layered.links place (get_or lasts e 0)
 read_last l p place marks firsts lasts e are h no_loop =
-    rw (are.lasts_are.first_is e h) (readable p.layered p.rows place (first_link p.layered true e) are.sound are.places (last_there l p are.turned.layers e are.turned.linked h no_loop (either_spoke l e (holds p.reversed e) are.level h)))
+    rw (are.lasts_are.first_is e h) (readable p.layered p.rows place (first_link p.layered true e) are.sound are.places (last_there l p are.is_reversed.layers e are.is_reversed.linked h no_loop (either_spoke l e (holds p.reversed e) are.level h)))
 
 -- what is read of an edge
-pub record IsRead (l : PlainLevel) (p : PlainPlan) (place : List ℕ) (marks : List Bool) (firsts lasts : List ℕ) (e : ℕ) (v : Flow) : Type 0 where
+pub record IsRead (l : PlainLevel) (p : PlainPlan) (place : List ℕ) (marks : List Bool) (firsts lasts : List ℕ) (e : ℕ) (v : Course) : Type 0 where
   pub looped : v.looped ≡ is_loop l e
-  pub turned : v.turned ≡ get_or marks e false
+  pub is_reversed : v.is_reversed ≡ get_or marks e false
   pub after : v.after ≡ cond (is_loop l e) 0 (get_or place (link_at p.layered.links (get_or firsts e 0)).head 0)
   pub before : v.before ≡ cond (is_loop l e) 0 (get_or place (link_at p.layered.links (get_or lasts e 0)).tail 0)
 
@@ -114,8 +114,8 @@ small_cond : (b : Bool) (n most : ℕ) → (b ≡ false → n ≤ most) → cond
 small_cond true n most h = omega arith
 small_cond false n most h = h refl
 
-pub flow_read : (l : PlainLevel) (p : PlainPlan) (place : List ℕ) (marks : List Bool) (firsts lasts : List ℕ) (e : ℕ) (v : Flow) → AreRead l p place marks firsts lasts → e < length l.edges → IsRead l p place marks firsts lasts e v → IsFlow l p e v
-flow_read l p place marks firsts lasts e v are h is =
+pub course_read : (l : PlainLevel) (p : PlainPlan) (place : List ℕ) (marks : List Bool) (firsts lasts : List ℕ) (e : ℕ) (v : Course) → AreRead l p place marks firsts lasts → e < length l.edges → IsRead l p place marks firsts lasts e v → IsCourse l p e v
+course_read l p place marks firsts lasts e v are h is =
     let units = are.sound.few_units in
     let placed : (u : ℕ) → u < length place → (get_or place u 0 ≡ place_of p.layered p.rows u) × (get_or place u 0 ≤ 2 ^ 24) = λ u less.
     let inside : u < length p.layered.units = omega (arith, less, are.places.as_long) in
@@ -133,7 +133,7 @@ flow_read l p place marks firsts lasts e v are h is =
     in
     record {
       looped = is.looped;
-      turned = is.turned ∙ are.turned.marks.each e h;
+      is_reversed = is.is_reversed ∙ are.is_reversed.marks.each e h;
       after = λ no_loop. is.after ∙ ap (λ b. cond b 0 (get_or place (link_at p.layered.links (get_or firsts e 0)).head 0)) no_loop ∙ head no_loop;
       before = λ no_loop. is.before ∙ ap (λ b. cond b 0 (get_or place (link_at p.layered.links (get_or lasts e 0)).tail 0)) no_loop ∙ tail no_loop;
       after_small = rw is.after (small_cond (is_loop l e) (get_or place (link_at p.layered.links (get_or firsts e 0)).head 0) (2 ^ 24) (λ no_loop. (placed (link_at p.layered.links (get_or firsts e 0)).head (read_first l p place marks firsts lasts e are h no_loop).head).1));
@@ -142,15 +142,15 @@ flow_read l p place marks firsts lasts e v are h is =
 
 -- ---- as an edge is read from the tables
 
-pub tables : (l : PlainLevel) (p : PlainPlan) (place : List ℕ) (marks : List Bool) (firsts lasts : List ℕ) (es : List LevelEdge) → es ≡ l.edges → IsLevel l → IsSound p.layered → AreRows p.layered p.rows → TurnsMarked l marks p
+pub tables : (l : PlainLevel) (p : PlainPlan) (place : List ℕ) (marks : List Bool) (firsts lasts : List ℕ) (es : List LevelEdge) → es ≡ l.edges → IsLevel l → IsSound p.layered → AreRows p.layered p.rows → ReversedAreMarked l marks p
     → ArePlaces p.layered p.rows place → AreFirst (is_near p.layered false) (length p.layered.links) (length es) firsts → AreFirst (is_near p.layered true) (length p.layered.links) (length es) lasts
     → AreRead l p place marks firsts lasts
-tables l p place marks firsts lasts es e level sound rows turned places firsts_are lasts_are =
+tables l p place marks firsts lasts es e level sound rows is_reversed places firsts_are lasts_are =
     record {
       level = level;
       sound = sound;
       rows = rows;
-      turned = turned;
+      is_reversed = is_reversed;
       places = places;
       firsts_are = subst (λ (xs : List LevelEdge). AreFirst (is_near p.layered false) (length p.layered.links) (length xs) firsts) e firsts_are;
       lasts_are = subst (λ (xs : List LevelEdge). AreFirst (is_near p.layered true) (length p.layered.links) (length xs) lasts) e lasts_are;
@@ -196,31 +196,31 @@ cond_link b c links links' place place' k k' near q x y z =
     ∙ ap (λ n. cond c 0 (get_or place (near (link_at links n)) 0)) z
 
 -- a flow that was read, behind those that were
-pub flow_pushed : (l : PlainLevel) (p : PlainPlan) (place : List ℕ) (marks : List Bool) (firsts lasts : List ℕ) (es : List LevelEdge) (e : ℕ) (d : LevelEdge) (links' : List Link) (place' : List ℕ) (first last : ℕ) (v : Flow) (old new : List Flow)
+pub course_pushed : (l : PlainLevel) (p : PlainPlan) (place : List ℕ) (marks : List Bool) (firsts lasts : List ℕ) (es : List LevelEdge) (e : ℕ) (d : LevelEdge) (links' : List Link) (place' : List ℕ) (first last : ℕ) (v : Course) (old new : List Course)
     → AreRead l p place marks firsts lasts → es ≡ l.edges → e < length es → links' ≡ p.layered.links → place' ≡ place → first ≡ get_or firsts e first → last ≡ get_or lasts e last
-    → v.looped ≡ ((get_or es e d).source.child == (get_or es e d).target.child) → v.turned ≡ get_or marks e false
+    → v.looped ≡ ((get_or es e d).source.child == (get_or es e d).target.child) → v.is_reversed ≡ get_or marks e false
     → v.after ≡ cond ((get_or es e d).source.child == (get_or es e d).target.child) 0 (get_or place' (link_at links' first).head 0)
     → v.before ≡ cond ((get_or es e d).source.child == (get_or es e d).target.child) 0 (get_or place' (link_at links' last).tail 0)
-    → new ≡ old ++ v ∷ [] → AreFlows l p e old → AreFlows l p (e + 1) new
-flow_pushed l p place marks firsts lasts es e d links' place' first last v old new are q h a b f t looped turned after before pushed s =
+    → new ≡ old ++ v ∷ [] → AreCourses l p e old → AreCourses l p (e + 1) new
+course_pushed l p place marks firsts lasts es e d links' place' first last v old new are q h a b f t looped is_reversed after before pushed s =
     let at = edge_read l es e d q h in
     let loop : ((get_or es e d).source.child == (get_or es e d).target.child) ≡ is_loop l e = ap (λ (y : LevelEdge). y.source.child == y.target.child) at.0 in
     let long_f = are.firsts_are.as_long in
     let long_l = are.lasts_are.as_long in
     let first_is = get_or_read firsts e first (omega (arith, long_f, at.1)) f 0 in
     let last_is = get_or_read lasts e last (omega (arith, long_l, at.1)) t 0 in
-    let is : IsFlow l p e v = flow_read l p place marks firsts lasts e v are at.1 (record {
+    let is : IsCourse l p e v = course_read l p place marks firsts lasts e v are at.1 (record {
       looped = looped ∙ loop;
-      turned = turned;
+      is_reversed = is_reversed;
       after = after ∙ cond_link ((get_or es e d).source.child == (get_or es e d).target.child) (is_loop l e) p.layered.links links' place place' (get_or firsts e 0) first (λ x. x.head) loop a b first_is;
       before = before ∙ cond_link ((get_or es e d).source.child == (get_or es e d).target.child) (is_loop l e) p.layered.links links' place place' (get_or lasts e 0) last (λ x. x.tail) loop a b last_is;
     }) in
     let old_long = s.as_long in
     let more = length_push old v in
-    subst (AreFlows l p (e + 1)) (sym pushed) (record {
+    subst (AreCourses l p (e + 1)) (sym pushed) (record {
       as_long = omega (arith, old_long, more);
-      flow_is = λ i less. elim (cases_eq i e) [
-        | inl same ↦ subst (λ x. IsFlow l p x (flow_at (old ++ v ∷ []) x)) (sym same) (subst (IsFlow l p e) (sym (get_or_push old v (flow_at [] 0) e old_long)) is)
-        | inr ne ↦ subst (IsFlow l p i) (sym (get_or_append_left old (v ∷ []) (flow_at [] 0) i (omega (arith, less, ne, old_long)))) (s.flow_is i (omega (arith, less, ne)))
+      course_is = λ i less. elim (cases_eq i e) [
+        | inl same ↦ subst (λ x. IsCourse l p x (course_at (old ++ v ∷ []) x)) (sym same) (subst (IsCourse l p e) (sym (get_or_push old v (course_at [] 0) e old_long)) is)
+        | inr ne ↦ subst (IsCourse l p i) (sym (get_or_append_left old (v ∷ []) (course_at [] 0) i (omega (arith, less, ne, old_long)))) (s.course_is i (omega (arith, less, ne)))
       ];
     })

@@ -65,7 +65,7 @@ asked_marked docks spots firsts i marks are h asks s =
         | inl e ↦
             let q : j ≡ first_same docks i = e ∙ first_is in
             let parts = same_parts (dock_in docks (first_same docks i)) (dock_in docks i) of_i.same in
-            let same : same_dock (dock_in docks i) (dock_in docks j) ≡ true = turned (dock_in docks j) (dock_in docks i) (subst (λ n. same_dock (dock_in docks n) (dock_in docks i) ≡ true) (sym q) of_i.same) in
+            let same : same_dock (dock_in docks i) (dock_in docks j) ≡ true = is_reversed (dock_in docks j) (dock_in docks i) (subst (λ n. same_dock (dock_in docks n) (dock_in docks i) ≡ true) (sym q) of_i.same) in
             let side : (dock_in docks i).side ≡ (dock_in docks j).side = (same_parts (dock_in docks i) (dock_in docks j) same).0 in
             let asks_j : asks_at docks spots i j ≡ true = subst (λ (x : Side). asks_lane x (spot_at spots i).leaves (spot_at spots i).enters ≡ true) side asks in
             ap (λ x. get_or (set marks (get_or firsts i 0) true) x false) e ∙ get_or-set_same marks (get_or firsts i 0) true false inside ∙ sym (asked_yes docks spots i j same asks_j)
@@ -78,8 +78,8 @@ asked_marked docks spots firsts i marks are h asks s =
       ];
     }
   where
-    turned : (d k : Dock) → same_dock d k ≡ true → same_dock k d ≡ true
-    turned d k e = let parts = same_parts d k e in same_from k d (sym parts.0) (sym parts.1)
+    is_reversed : (d k : Dock) → same_dock d k ≡ true → same_dock k d ≡ true
+    is_reversed d k e = let parts = same_parts d k e in same_from k d (sym parts.0) (sym parts.1)
 
 pub asked_kept : (docks : List Dock) (spots : List Spot) (i : ℕ) (marks : List Bool) → asks_at docks spots i i ≡ false → AreAsked docks spots i marks → AreAsked docks spots (i + 1) marks
 asked_kept docks spots i marks quiet s =

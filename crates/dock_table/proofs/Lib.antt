@@ -1,4 +1,4 @@
-pub mod FlowLemmas
+pub mod CourseLemmas
 pub mod ChainLemmas
 pub mod EndLemmas
 pub mod SpotLemmas

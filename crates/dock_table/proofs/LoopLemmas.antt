@@ -14,7 +14,7 @@ use Rattle.level_model.specs.Level.{End, PlainLevel, PlainPlan, child_at, dock_o
 use Rattle.dock_table.specs.declared.loops.LoopLanes.{LoopLanes}
 use Rattle.dock_table.specs.declared.spots.Spots.{Spots}
 use Rattle.dock_table.specs.Ends.{AreEndDocks, AreLoopLanes, CountsLoop, HaveChildren, is_unit_of, loop_on, loops_to, with_unit}
-use Rattle.dock_table.specs.Flows.{AreFirstFrom}
+use Rattle.dock_table.specs.Courses.{AreFirstFrom}
 use Rattle.dock_table.specs.Lanes.{loop_lane_on}
 use Rattle.dock_table.specs.Outlines.{dock_in}
 use Rattle.dock_table.specs.Rows.{AreSpotsOf, HasNumber, row_lists}
@@ -22,7 +22,7 @@ use Rattle.dock_table.specs.Sides.{AreDocks, FourOrders, dock_by, docks_at, four
 use Rattle.level_model.specs.Nets.{is_number}
 use Rattle.dock_table.proofs.ChainLemmas.{edge_read}
 use Rattle.dock_table.proofs.FirstLemmas.{filter_more_no, filter_more_yes}
-use Rattle.dock_table.proofs.FlowLemmas.{firsts_hit, firsts_miss}
+use Rattle.dock_table.proofs.CourseLemmas.{firsts_hit, firsts_miss}
 
 -- ---- docks of ends
 

@@ -13,7 +13,7 @@ use Rattle.dock_table.specs.declared.lanes.DockLanes.{DockLanes}
 use Rattle.dock_table.specs.declared.loops.LoopLanes.{LoopLanes}
 use Rattle.dock_table.specs.Ends.{AreLoopLanes, is_unit_of}
 use Rattle.dock_table.specs.Entries.{AreEndEntries, AreEntries, AreLoopEntries, AreReady, HaveBodies}
-use Rattle.dock_table.specs.Flows.{AreFirst}
+use Rattle.dock_table.specs.Courses.{AreFirst}
 use Rattle.dock_table.specs.Lanes.{plain_lanes}
 use Rattle.dock_table.specs.Narrow.{IsOffset}
 use Rattle.dock_table.specs.Outlines.{dock_in}

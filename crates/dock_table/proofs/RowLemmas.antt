@@ -51,7 +51,7 @@ ports_kept l p c ns n none =
     map_same (λ k. spot l p (Some k) k (filter (at_port l c k) (ns ++ n ∷ []))) (λ k. spot l p (Some k) k (filter (at_port l c k) ns)) (range_with_len 0 (length (child_at l c).ports))
     (λ k. ap (spot l p (Some k) k) (filter_drop (at_port l c k) ns n (none k)))
 
-one_set : (f g : ℕ → Spot) (m k : ℕ) (v : Spot) → k < m → g k ≡ v → ((j : ℕ) → j ≢ k → g j ≡ f j) → map g (range_with_len 0 m) ≡ set (map f (range_with_len 0 m)) k v
+pub one_set : (f g : ℕ → Spot) (m k : ℕ) (v : Spot) → k < m → g k ≡ v → ((j : ℕ) → j ≢ k → g j ≡ f j) → map g (range_with_len 0 m) ≡ set (map f (range_with_len 0 m)) k v
 one_set f g m k v inside here there =
     let old = length-map-range_with_len f 0 m in
     let new = length-map-range_with_len g 0 m in

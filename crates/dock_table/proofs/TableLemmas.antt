@@ -24,7 +24,7 @@ use Rattle.dock_table.specs.declared.loops.LoopLanes.{LoopLanes}
 use Rattle.dock_table.specs.declared.spots.Spots.{Spots}
 use Rattle.dock_table.specs.Ends.{AreEndDocks, AreLoopLanes, is_unit_of, loop_on, loops_to}
 use Rattle.dock_table.specs.Entries.{AreEndEntries, AreEntries, AreLanesOf, AreLoopEntries, IsEndEntry, IsLoopEntry}
-use Rattle.dock_table.specs.Flows.{AreFirst}
+use Rattle.dock_table.specs.Courses.{AreFirst}
 use Rattle.dock_table.specs.Lanes.{AreDockLanes, PlainLanes, asked, first_same, height_by, height_or, is_on, lane_in, lane_place_in, lane_side_in, lanes_at, lanes_to, side_by}
 use Rattle.dock_table.specs.Outlines.{dock_in, outline_by}
 use Rattle.dock_table.specs.Rows.{AreSpotsOf, HasNumber, row_lists}

@@ -11,9 +11,9 @@ use Rattle.port_order.specs.Conditions.{AreSpots, IsSpot}
 use Rattle.level_model.specs.declared.level.EdgeEnd.{EdgeEnd}
 use Rattle.level_model.specs.Conditions.{IsLevel, IsSpoke}
 use Rattle.level_model.specs.Level.{PlainLevel, PlainPlan, End, all_ends, child_at, end_at, ends_of_edges, enters, implicit_ends, implicit_spot, is_loop, linked, mean_of, place_of_end, port_spot, spoke, spot, spot_at_port, spots}
-use Rattle.dock_table.specs.declared.flows.Flow.{Flow}
+use Rattle.dock_table.specs.declared.courses.Course.{Course}
 use Rattle.dock_table.specs.declared.spots.Spots.{Spots}
-use Rattle.dock_table.specs.Flows.{AreFlows}
+use Rattle.dock_table.specs.Courses.{AreCourses}
 use Rattle.dock_table.specs.Rows.{AreCounted, AreSpotsOf, AreSpotsTo, HasNumber, at_child, at_port, ends_before, ends_to, implicit_spots, number_by, number_of, port_spots_of, row_at, row_lists, row_of}
 use Rattle.dock_table.proofs.RowLemmas.{implicit_numbered, port_spots_long, port_there, row_long}
 use Rattle.dock_table.proofs.EndLemmas.{Differ, differ_filter, ends_differ, ends_split, place_there}
@@ -163,8 +163,8 @@ spoke_at l e true level h = (level.edges e h).source
 spoke_at l e false level h = (level.edges e h).target
 
 -- the spots of all edges' ends are those of the level
-pub spots_whole : (l : PlainLevel) (p : PlainPlan) (flows : List Flow) (count : ℕ) (v : Spots) → IsLevel l → AreFlows l p (length l.edges) flows → count ≡ length l.edges → AreSpotsTo l flows count v → AreSpotsOf l p v
-spots_whole l p flows count v level are all s =
+pub spots_whole : (l : PlainLevel) (p : PlainPlan) (courses : List Course) (count : ℕ) (v : Spots) → IsLevel l → AreCourses l p (length l.edges) courses → count ≡ length l.edges → AreSpotsTo l courses count v → AreSpotsOf l p v
+spots_whole l p courses count v level are all s =
     let rows = s.rows p are in
     let few_edges = level.few_edges in
     let long = ends_to_long (length l.edges) in

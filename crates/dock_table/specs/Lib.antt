@@ -1,4 +1,4 @@
-pub mod Flows
+pub mod Courses
 pub mod Rows
 pub mod Narrow
 pub mod Sides

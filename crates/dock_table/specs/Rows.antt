@@ -1,7 +1,8 @@
 -- The spots of children, as they grow end by end in document order.
 use Rattle.std.specs.Prelude.{◌≡◌, ℕ, ◌+◌, ◌*◌, ◌<◌, ◌≤◌, ◌^◌, ◌==◌, cond, Bool, true, false, not, ◌&&◌, ◌||◌, List, [], ◌∷◌, ◌++◌, map}
-use Rattle.std.specs.Prelude.{Option, None, Some, length, slice_index, slice_index_or, slice_set, is_none, IfSome}
+use Rattle.std.specs.Prelude.{Option, None, Some, Vec, length, slice_index, slice_index_or, slice_set, is_none, IfSome}
 use Rattle.std.specs.List.{filter, range_with_len}
+use Rattle.std.specs.declared.alloc.Global.{Global}
 use Rattle.port_order.specs.declared.spots.Mean.{Mean}
 use Rattle.port_order.specs.declared.spots.Spot.{Spot}
 use Rattle.port_order.specs.Child.{spot_at}
@@ -9,19 +10,19 @@ use Rattle.level_model.specs.declared.level.EdgeEnd.{EdgeEnd}
 use Rattle.level_model.specs.Level.{PlainLevel, PlainPlan, End, end_at, child_at, spoke, is_port, ends_of_edges, spot, spot_of}
 use Rattle.level_model.specs.Level as level
 use Rattle.port_order.specs.Conditions.{AreSpots}
-use Rattle.dock_table.specs.declared.flows.Flow.{Flow}
+use Rattle.dock_table.specs.declared.courses.Course.{Course}
 use Rattle.dock_table.specs.declared.spots.Told.{Told}
 use Rattle.dock_table.specs.declared.spots.Rows.{Rows}
 use Rattle.dock_table.specs.declared.spots.Spots.{Spots}
-use Rattle.dock_table.specs.Flows.{AreFlows}
+use Rattle.dock_table.specs.Courses.{AreCourses}
 
 -- what an end tells its spot: whether its edge is a self-loop, whether the edge enters, and the place of the unit at the far end
-abbrev pub told_by : Flow → Bool → Told
+abbrev pub told_by : Course → Bool → Told
 told_by f at_source =
     record {
       looped = f.looped;
-      enters = cond at_source f.turned (not f.turned);
-      place = cond (cond at_source f.turned (not f.turned)) f.before f.after;
+      enters = cond at_source f.is_reversed (not f.is_reversed);
+      place = cond (cond at_source f.is_reversed (not f.is_reversed)) f.before f.after;
     }
 
 abbrev pub more_mean : Option Mean → ℕ → Mean
@@ -66,8 +67,11 @@ pub record HasPlace (port : Option ℕ) (row : List Spot) : Type 0 where
   pub short : length row ≤ 2 ^ 16
   pub counted : (k : ℕ) → k < length row → IsCounted (2 ^ 16) (spot_at row k).mean
 
+abbrev pub lists_of : List (Vec Spot Global) → List (List Spot)
+lists_of rows = map (λ v. v.items) rows
+
 abbrev pub row_lists : Rows → List (List Spot)
-row_lists rows = map (λ v. v.items) rows.lists.items
+row_lists rows = lists_of rows.lists.items
 
 abbrev pub row_at : List (List Spot) → ℕ → List Spot
 row_at rows c = slice_index_or rows c []
@@ -137,8 +141,8 @@ pub record AreNumbers (l : PlainLevel) (count : ℕ) (numbers : List ℕ) : Type
   pub target : (e : ℕ) → e < count → slice_index numbers (2 * e + 1) ≡ number_of l e false
 
 -- the spots of a level by the ends of its first edges, whatever plan the edges' flows were read from
-pub record AreSpotsTo (l : PlainLevel) (flows : List Flow) (count : ℕ) (spots : Spots) : Type 0 where
-  pub rows : (p : PlainPlan) → AreFlows l p (length l.edges) flows → AreRowsOf l p (ends_to count) (row_lists spots.rows)
+pub record AreSpotsTo (l : PlainLevel) (courses : List Course) (count : ℕ) (spots : Spots) : Type 0 where
+  pub rows : (p : PlainPlan) → AreCourses l p (length l.edges) courses → AreRowsOf l p (ends_to count) (row_lists spots.rows)
   pub counted : (c k : ℕ) → IsCounted (2 * count) (spot_at (row_at (row_lists spots.rows) c) k).mean
   pub numbers : AreNumbers l count spots.numbers.items
 

@@ -53,8 +53,8 @@ pub record HavePlaces (c : Child) (spots : List Spot) (v : FourOrders) (place : 
 -- the offset of a spot by its place in the order of its side, which has so many spots
 abbrev pub offset_by : Child → Side → Bool → Option ℕ → ℕ → ℕ → ℤ
 offset_by c side true (Some k) len place = along side (port_at c k).place +ℤ (port_at c k).half
-offset_by c side true None len place = places.turned_spread (is_mirrored c.direction side) (size_along side c.size) len place
-offset_by c side false port len place = places.turned_spread (is_mirrored c.direction side) (size_along side c.size) len place
+offset_by c side true None len place = places.rotated_spread (is_mirrored c.direction side) (size_along side c.size) len place
+offset_by c side false port len place = places.rotated_spread (is_mirrored c.direction side) (size_along side c.size) len place
 
 -- the dock of a spot of a child with this number
 abbrev pub dock_by : Child → ℕ → FourOrders → Spot → Dock

@@ -67,10 +67,10 @@ fn note_sides(place: &mut [u32], child: &Child, spots: &[Spot], orders: &SideOrd
 }
 
 // The working offset of a spread spot by its place from the top or the left.
-fn turned_spread(mirrored: bool, len: i64, count: u32, place: u32) -> i64
+fn rotated_spread(mirrored: bool, len: i64, count: u32, place: u32) -> i64
     requires len { IsWithin (pos 0) (pos (2 ^ 47)) len }
     requires place { place < count }
-    ensures value { result ≡ places.turned_spread mirrored len count place }
+    ensures value { result ≡ places.rotated_spread mirrored len count place }
     ensures inside { IsWithin (pos 0) len result }
 {
     if mirrored {
@@ -84,11 +84,11 @@ fn turned_spread(mirrored: bool, len: i64, count: u32, place: u32) -> i64
 fn spread_offset(child: &Child, side: Side, count: u32, place: u32) -> i64
     requires child { IsNarrow child.now }
     requires place { place < count }
-    ensures value { result ≡ places.turned_spread (sides.is_mirrored child.now.direction side) (kept.size_along side child.now.size) count place }
+    ensures value { result ≡ places.rotated_spread (sides.is_mirrored child.now.direction side) (kept.size_along side child.now.size) count place }
     ensures offset { IsOffset result }
 {
     let mirrored = is_mirrored(child.direction, side);
-    turned_spread(mirrored, size_along(side, child.size), count, place)
+    rotated_spread(mirrored, size_along(side, child.size), count, place)
 }
 
 // The offset of the anchor of a pinned port.

@@ -8,6 +8,7 @@ ghost use Rattle.drawing_types.specs.declared.shape.Side.TheVariants.{North, Sou
 ghost use Rattle.elk_doc.specs.Sound.{IsSoundSpacing};
 ghost use Rattle.drawing_types.specs.Ranges.{IsWithin};
 ghost use Rattle.level_model.specs.Lanes as plan;
+ghost use Rattle.dock_table.specs.Bounds.{IsIn};
 ghost use Rattle.dock_table.specs.Lanes as spec;
 ghost use Rattle.dock_table.specs.Lanes.{AreAsked, AreDockLanes, AreFirstSpots, AreLanePlaces, AreLaneSides, AreReadable, NotesFirstSpot, NumbersLanes, first_same, height_by, is_on, lane_place_in, lane_side_in, lanes_to, plain_lanes, side_by};
 ghost use Rattle.dock_table.specs.Outlines.{dock_in};
@@ -156,15 +157,16 @@ fn asked_spots(
 
 // Whether an offset lies in the lower half of a box.
 fn is_lower(height: i64, offset: i64) -> bool
-    requires { IsOffset offset }
+    requires { IsIn offset }
     ensures { result ≡ int_lt height (offset +ℤ offset) }
 {
     offset + offset > height
 }
 
-// The side of a dock's lane, at a box of this height.
-fn side_by(height: i64, side: Side, offset: i64) -> Side
-    requires { IsOffset offset }
+/// The side of the lane of a dock, which lies on a side of a box of this height at an offset along the side. The lane of a
+/// dock in the west or the east is in the south if the dock lies in the lower half of the box, and else in the north.
+pub fn lane_side(height: i64, side: Side, offset: i64) -> Side
+    requires { IsIn offset }
     ensures { result ≡ side_by height side offset }
 {
     let beside = if is_lower(height, offset) {
@@ -186,7 +188,7 @@ fn lane_at(size: Size, dock: Dock, first: bool, asked: bool) -> Option<Side>
     ensures { result ≡ cond (first && asked) (Some (side_by size.height dock.side dock.offset)) None }
 {
     if first && asked {
-        Some(side_by(size.height, dock.side, dock.offset))
+        Some(lane_side(size.height, dock.side, dock.offset))
     } else {
         None
     }

@@ -5,8 +5,8 @@
 //! from the outline. `table_of` puts together what a drawing needs of them.
 #![tactic(auto)]
 
+mod courses;
 mod docks;
-mod flows;
 mod lanes;
 mod laws;
 mod loops;
@@ -16,7 +16,8 @@ mod spots;
 mod tables;
 mod units;
 
-pub use lanes::room;
+pub use lanes::{lane_side, room};
 pub use laws::{tables_need_no_orders, tables_read_no_tops};
 pub use outlines::hull;
+pub use spots::port_rows;
 pub use tables::table_of;

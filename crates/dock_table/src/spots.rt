@@ -3,11 +3,11 @@ ghost use Rattle.std.specs.Prelude.{◌≡◌, ◌+◌, ◌<◌, ◌≤◌, ◌^
 ghost use Rattle.std.specs.List.{range_with_len};
 ghost use Rattle.level_model.specs.Conditions.{plain_level, IsLevel};
 ghost use Rattle.level_model.specs.Level.{PlainPlan};
-ghost use Rattle.dock_table.specs.Flows.{AreFlows};
+ghost use Rattle.dock_table.specs.Courses.{AreCourses};
 ghost use Rattle.dock_table.specs.Rows as spec;
-ghost use Rattle.dock_table.specs.Rows.{ArePortRows, AreSpotsOf, AreSpotsTo, HasPlace, IsCounted, bare, number_in, row_at, row_lists, row_with, told_by};
+ghost use Rattle.dock_table.specs.Rows.{ArePortRows, AreSpotsOf, AreSpotsTo, HasPlace, IsCounted, bare, lists_of, number_in, row_at, row_lists, row_with, told_by};
 
-use crate::flows::Flow;
+use crate::courses::Course;
 use level_model::{EdgeEnd, LevelIn};
 use port_order::{Mean, Spot};
 use std::alloc::{AllocError, Global};
@@ -45,14 +45,18 @@ pub(crate) struct Spots {
 }
 
 // What an end of an edge tells its spot.
-fn told_by(flow: Flow, at_source: bool) -> Told
-    ensures { result ≡ told_by flow at_source }
+fn told_by(course: Course, at_source: bool) -> Told
+    ensures { result ≡ told_by course at_source }
 {
-    let enters = if at_source { flow.turned } else { !flow.turned };
+    let enters = if at_source {
+        course.is_reversed
+    } else {
+        !course.is_reversed
+    };
     Told {
-        looped: flow.looped,
+        looped: course.looped,
         enters,
-        place: if enters { flow.before } else { flow.after },
+        place: if enters { course.before } else { course.after },
     }
 }
 
@@ -156,10 +160,10 @@ fn port_row(alloc: Global, count: usize) -> Result<Vec<Spot>, AllocError>
     Ok(row)
 }
 
-// The spots of all children's ports, without ends.
-fn port_rows(alloc: Global, level: &LevelIn) -> Result<Rows, AllocError>
+/// By child, the spots of its ports, which no edge leaves or enters yet.
+pub fn port_rows(alloc: Global, level: &LevelIn) -> Result<Vec<Vec<Spot>>, AllocError>
     requires { IsLevel (plain_level level.now) }
-    ensures { IfOk result (λ rows. ArePortRows (plain_level level.now) (length level.now.children) (row_lists rows)) }
+    ensures { IfOk result (λ rows. ArePortRows (plain_level level.now) (length level.now.children) (lists_of rows.items)) }
 {
     let children = level.children.as_slice();
     let mut lists: Vec<Vec<Spot>> = Vec::with_capacity(alloc, children.len())?;
@@ -167,46 +171,52 @@ fn port_rows(alloc: Global, level: &LevelIn) -> Result<Rows, AllocError>
         let row = port_row(alloc, child.ports.len())?;
         lists.push(row)?;
     }
-    Ok(Rows { lists })
+    Ok(lists)
 }
 
 // Adds the two ends of an edge.
 fn add_edge(
     spots: &mut Spots,
     level: &LevelIn,
-    flows: &[Flow],
+    courses: &[Course],
     edge: usize,
 ) -> Result<(), AllocError>
     requires level { IsLevel (plain_level level.now) }
-    requires flows { (p : PlainPlan) × AreFlows (plain_level level.now) p (length level.now.edges) flows.now }
+    requires courses { (p : PlainPlan) × AreCourses (plain_level level.now) p (length level.now.edges) courses.now }
     requires edge { edge < length level.now.edges }
-    requires so_far { AreSpotsTo (plain_level level.now) flows.now edge spots.old }
-    ensures { OnOk result (AreSpotsTo (plain_level level.now) flows.now (edge + 1) spots.new) }
+    requires so_far { AreSpotsTo (plain_level level.now) courses.now edge spots.old }
+    ensures { OnOk result (AreSpotsTo (plain_level level.now) courses.now (edge + 1) spots.new) }
 {
     let found = *level.edges.at(edge);
-    let flow = flows[edge];
-    let source = add_end(&mut spots.rows, found.source, told_by(flow, true))?;
-    let target = add_end(&mut spots.rows, found.target, told_by(flow, false))?;
+    let course = courses[edge];
+    let source = add_end(&mut spots.rows, found.source, told_by(course, true))?;
+    let target = add_end(&mut spots.rows, found.target, told_by(course, false))?;
     spots.numbers.push(source)?;
     spots.numbers.push(target)?;
     Ok(())
 }
 
 /// The spots of a level's children, and the number of each end's spot.
-pub(crate) fn spots_of(alloc: Global, level: &LevelIn, flows: &[Flow]) -> Result<Spots, AllocError>
+pub(crate) fn spots_of(
+    alloc: Global,
+    level: &LevelIn,
+    courses: &[Course],
+) -> Result<Spots, AllocError>
     requires level { IsLevel (plain_level level.now) }
-    requires flows { (p : PlainPlan) × AreFlows (plain_level level.now) p (length level.now.edges) flows.now }
+    requires courses { (p : PlainPlan) × AreCourses (plain_level level.now) p (length level.now.edges) courses.now }
     ensures { IfOk result
-        (λ spots. (p : PlainPlan) → AreFlows (plain_level level.now) p (length level.now.edges) flows.now
+        (λ spots. (p : PlainPlan) → AreCourses (plain_level level.now) p (length level.now.edges) courses.now
         → AreSpotsOf (plain_level level.now) p spots) }
 {
     let count = level.edges.len();
     let mut spots = Spots {
-        rows: port_rows(alloc, level)?,
+        rows: Rows {
+            lists: port_rows(alloc, level)?,
+        },
         numbers: Vec::with_capacity(alloc, 2 * count)?,
     };
     for edge in 0..count {
-        add_edge(&mut spots, level, flows, edge)?;
+        add_edge(&mut spots, level, courses, edge)?;
     }
     Ok(spots)
 }

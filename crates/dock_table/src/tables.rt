@@ -12,14 +12,14 @@ ghost use Rattle.level_model.specs.Units.{AreOrders};
 ghost use Rattle.dock_table.specs.Bounds.{AreNumbersIn, IsIn, IsLoopIn};
 ghost use Rattle.dock_table.specs.Ends.{HaveChildren};
 ghost use Rattle.dock_table.specs.Entries.{AreEndEntries, AreEntries, AreLanesOf, AreLoopEntries, AreReady, HaveBodies, HaveDocks, HaveFew, HavePlaces, HaveSpots, IsEndEntry, IsEntry, IsPlannedTable};
-ghost use Rattle.dock_table.specs.Flows.{TurnsMarked};
+ghost use Rattle.dock_table.specs.Courses.{ReversedAreMarked};
 ghost use Rattle.dock_table.specs.Lanes.{AreReadable, height_by, height_or, lane_place_in, lane_side_in, lanes_at, plain_lanes};
 ghost use Rattle.dock_table.specs.Narrow.{IsNarrow, IsNearRect, IsOffset};
 ghost use Rattle.dock_table.specs.Rows.{AreSpotsOf, row_lists};
 ghost use Rattle.dock_table.specs.Sides.{AreDocks, FourOrders, dock_lists, orders_in};
 
+use crate::courses::courses_of;
 use crate::docks::{Docks, docks_of};
-use crate::flows::flows_of;
 use crate::lanes::{DockLanes, lane_height, lanes_of_child};
 use crate::loops::{LoopLanes, end_docks, loop_lanes};
 use crate::orders::orders_of;
@@ -299,28 +299,35 @@ fn table_from(
 }
 
 /// The table of a level: what a drawing needs to know of its children, ends and self-loops. Of the layered drawing only
-/// units, links and the places in rows are read. `turned` marks the edges that are turned round.
+/// units, links and the places in rows are read. `is_reversed` marks the edges that are reversed.
 ///
-/// The only error is want of memory.
+/// The only error is out of memory.
+///
+/// Proved:
+/// - The table of a level has, for every end of its edges, its dock, its anchor and the height of its dock's lane.
+/// - It has, for every child, its outline and the places of its ports.
+/// - It has the lanes of self-loops.
+/// - All these are those of the level's plan, and in range. The orders of the sides are those of `order_side` in port_order.
+///   (`tables_need_no_orders`, `tables_read_no_tops`)
 pub fn table_of(
     alloc: Global,
     level: &LevelIn,
     layered: &Layered,
     order: &Order,
-    turned: &[bool],
+    is_reversed: &[bool],
 ) -> Result<Table, AllocError>
     requires level { IsLevel (plain_level level.now) }
     requires sound { IsSound (plain layered.now) }
     requires rows { AreRows (plain layered.now) (rows_of order.now) }
-    requires turned { (reversed : List ℕ) × TurnsMarked (plain_level level.now) turned.now (plain_plan layered.now order.now [] reversed) }
+    requires is_reversed { (reversed : List ℕ) × ReversedAreMarked (plain_level level.now) is_reversed.now (plain_plan layered.now order.now [] reversed) }
     ensures table { IfOk result
-        (λ t. (reversed : List ℕ) → TurnsMarked (plain_level level.now) turned.now (plain_plan layered.now order.now [] reversed)
+        (λ t. (reversed : List ℕ) → ReversedAreMarked (plain_level level.now) is_reversed.now (plain_plan layered.now order.now [] reversed)
         → (o : Orders) × AreOrders (plain_level level.now) (plain_plan layered.now order.now [] reversed) o
         × IsTable (plain_level level.now) (plain_plan layered.now order.now [] reversed) o t) }
     ensures numbers { IfOk result AreNumbersIn }
 {
-    let flows = flows_of(alloc, level, layered, order, turned)?;
-    let spots = spots_of(alloc, level, flows.as_slice())?;
+    let courses = courses_of(alloc, level, layered, order, is_reversed)?;
+    let spots = spots_of(alloc, level, courses.as_slice())?;
     let orders = orders_of(alloc, level, &spots.rows)?;
     let docks = docks_of(alloc, level, &spots.rows, orders.as_slice())?;
     let table = table_from(alloc, level, layered, &spots, &docks)?;

@@ -2,7 +2,7 @@
 ghost use Rattle.std.specs.Prelude.{◌≡◌, ℕ, ◌<◌, ◌≤◌, ◌^◌, length, slice_index, IfOk};
 ghost use Rattle.elk_layers.specs.Layered.{plain, unit_at};
 ghost use Rattle.dock_table.specs.Ends.{HaveChildren, is_unit_of, with_unit};
-ghost use Rattle.dock_table.specs.Flows.{AreFirst};
+ghost use Rattle.dock_table.specs.Courses.{AreFirst};
 
 use elk_layers::Layered;
 use std::alloc::{AllocError, Global};

@@ -1,7 +1,7 @@
 //! From a graph in DOT to the graph that pictures are made of: nodes with sizes, labels and ports, clusters as nodes that hold others,
 //! edges between nodes, ports and clusters, and the options of layouts that attributes of Graphviz ask for.
 //!
-//! Every graph has one. What has no effect in it is told with its place in the text.
+//! Every graph can be translated. What has no effect gives a warning with its place in the text.
 #![tactic(auto)]
 
 mod arrows;
@@ -18,7 +18,6 @@ mod nodes;
 mod planned;
 mod ranks;
 mod records;
-mod sets;
 mod sides;
 mod spacing;
 mod spots;

@@ -8,7 +8,7 @@ use crate::known::{own_value, tell_value};
 use crate::layers::{Arc, layers_of};
 use crate::levels::Levels;
 use crate::nodes::Standing;
-use crate::sets::Sets;
+use disjoint_sets::DisjointSets;
 use dot_looks::{Given, Notes, line_of};
 use dot_syntax::Graph;
 use std::alloc::{AllocError, Global};
@@ -52,7 +52,7 @@ fn rank_named(name: &str) -> Option<Rank> {
 struct Asking {
     ranks: Ranks,
     // Items that are to be in one layer are in one set.
-    sets: Sets,
+    sets: DisjointSets,
 }
 
 fn mark(flags: &mut [bool], at: usize) {
@@ -247,7 +247,7 @@ pub(crate) fn ranks_of(
             is_asked: vec![in alloc; false; count]?,
             is_left_out: vec![in alloc; false; graph.edges.len()]?,
         },
-        sets: Sets::of_one(alloc, nodes.saturating_add(count))?,
+        sets: DisjointSets::singletons(alloc, nodes.saturating_add(count))?,
     };
     for number in 1..graph.subgraphs.len() {
         asking.add(alloc, graph, levels, number, notes)?;

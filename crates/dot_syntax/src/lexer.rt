@@ -1,6 +1,8 @@
 //! From characters to tokens.
 
 use crate::fault::{DotFault, Warning, add_warning};
+use crate::form::Form;
+use crate::lines::{ends_name, is_arrow, is_chain, is_one_text};
 use crate::place::Place;
 use crate::token::{Kind, Token, kind_of_mark, kind_of_word};
 use std::alloc::{AllocError, Global};
@@ -15,8 +17,10 @@ pub(crate) struct Lexer<'a> {
     letters: &'a [char],
     at: usize,
     place: Place,
-    // Whether a colon behind a blank begins a label, which ends with its line.
-    has_labels: bool,
+    // In lines, a colon behind a blank begins a label, which ends with its line.
+    form: Form,
+    // Whether the line at which the text is read is a chain.
+    is_chain: bool,
     pub(crate) warnings: Vec<Warning>,
 }
 
@@ -33,13 +37,14 @@ fn is_digit(letter: Option<char>) -> bool {
 }
 
 impl<'a> Lexer<'a> {
-    pub(crate) fn new(alloc: Global, letters: &'a [char], has_labels: bool) -> Lexer<'a> {
+    pub(crate) fn new(alloc: Global, letters: &'a [char], form: Form) -> Lexer<'a> {
         Lexer {
             alloc,
             letters,
             at: 0,
             place: Place::FIRST,
-            has_labels,
+            form,
+            is_chain: form == Form::Lines && is_chain(letters, 0),
             warnings: Vec::new(alloc),
         }
     }
@@ -81,9 +86,10 @@ impl<'a> Lexer<'a> {
         self.skip_blanks()?;
         let place = self.place;
         match self.next() {
-            Some(':') if self.has_labels && self.at > before => self.label(place),
+            Some(':') if self.is_at_label(before) => self.label(place),
             None => Ok(self.token(Kind::End, String::new(self.alloc), place)),
             Some('"') => self.quoted(place),
+            Some(_) if self.is_chain && !is_arrow(self.letters, self.at) => self.plain(place),
             Some('<') => self.html(place),
             Some(letter) if is_letter(letter) => self.word(place),
             Some(_) if self.is_at_number() => self.number(place),
@@ -95,7 +101,8 @@ impl<'a> Lexer<'a> {
     fn skip_blanks(&mut self) -> Result<(), DotFault> {
         for _ in 0..self.left() {
             match (self.next(), self.ahead(1)) {
-                (Some(' ' | '\t' | '\r' | '\n'), _) => {
+                (Some('\n'), _) => self.begin_line(),
+                (Some(' ' | '\t' | '\r'), _) => {
                     self.pass();
                 }
                 (Some('#'), _) | (Some('/'), Some('/')) => self.skip_line(),
@@ -104,6 +111,12 @@ impl<'a> Lexer<'a> {
             }
         }
         Ok(())
+    }
+
+    // Goes on to a line that no token goes on to, which alone can be a chain.
+    fn begin_line(&mut self) {
+        self.pass();
+        self.is_chain = self.form == Form::Lines && is_chain(self.letters, self.at);
     }
 
     fn skip_line(&mut self) {
@@ -243,6 +256,26 @@ impl<'a> Lexer<'a> {
         Err(self.unended(place, "HTML without its closing >"))
     }
 
+    // Whether a colon begins a label. In DOT there may be a blank between it and what ends at a place.
+    fn is_at_label(&self, before: usize) -> bool {
+        self.is_chain || (self.form == Form::Lines && self.at > before)
+    }
+
+    // A name without quotes in a chain.
+    fn plain(&mut self, place: Place) -> Result<Token, DotFault> {
+        let mut name = String::new(self.alloc);
+        for _ in 0..self.left() {
+            match self.next() {
+                Some(letter) if !ends_name(letter) && !is_arrow(self.letters, self.at) => {
+                    self.take(&mut name)?
+                }
+                _ => break,
+            }
+        }
+        let name = name.as_str().trim_end_matches([' ', '\t']);
+        Ok(self.token(Kind::Name, unescaped(self.alloc, name)?, place))
+    }
+
     // A label without quotes, or with quotes around it.
     fn label(&mut self, place: Place) -> Result<Token, DotFault> {
         let mut line = String::new(self.alloc);
@@ -257,7 +290,10 @@ impl<'a> Lexer<'a> {
         let quoted = label
             .strip_prefix("\"")
             .and_then(|it| it.strip_suffix("\""));
-        let text = String::from_str(self.alloc, quoted.unwrap_or(label))?;
+        let text = match quoted {
+            Some(inner) if is_one_text(inner) => String::from_str(self.alloc, inner)?,
+            _ => unescaped(self.alloc, label)?,
+        };
         Ok(self.token(Kind::Label, text, place))
     }
 
@@ -286,4 +322,16 @@ impl<'a> Lexer<'a> {
 // HTML without the bracket that opens it.
 fn inner(alloc: Global, text: &str) -> Result<String, AllocError> {
     String::from_str(alloc, text.strip_prefix("<").unwrap_or(text))
+}
+
+// A text without escapes, as one in quotes has it. Each backslash stands for itself.
+fn unescaped(alloc: Global, text: &str) -> Result<String, AllocError> {
+    let mut out = String::new(alloc);
+    for letter in text.chars() {
+        if letter == '\\' {
+            out.push('\\')?;
+        }
+        out.push(letter)?;
+    }
+    Ok(out)
 }

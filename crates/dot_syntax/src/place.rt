@@ -4,6 +4,9 @@ ghost use Rattle.std.specs.Prelude.{◌≤◌};
 use std::fmt;
 
 /// A place in a text: its line and its column, both counted from 1. A column is counted in characters.
+///
+/// Proved:
+/// - The line and the column of a place in a text are at least 1.
 #[derive(Clone, Copy, Debug, Drop, PartialEq, Eq)]
 pub struct Place {
     pub line: usize,

@@ -3,6 +3,7 @@
 use crate::builder::Builder;
 use crate::charset::{Charset, charset_in, charset_named};
 use crate::fault::{DotFault, add_warning};
+use crate::form::{Form, form_of};
 use crate::graph::Graph;
 use crate::letters::{decoded, latin_letters};
 use crate::lexer::Lexer;
@@ -12,27 +13,15 @@ use crate::statements::Statements;
 use crate::token::Kind;
 use std::alloc::{AllocError, Global};
 
-// How a text is written.
-#[derive(Clone, Copy, Debug, Drop, PartialEq, Eq)]
-enum Form {
-    Framed,
-    Lines,
-}
-
-/// Reads the first graph of a text in DOT. It is UTF-8, unless the graph asks for Latin-1 by its attribute `charset`.
+/// Reads the first graph of a text in DOT, or a text of lines. It is UTF-8, unless the graph asks for Latin-1 by its attribute `charset`.
+///
+/// Lines are the statements of a directed graph without the frame `digraph { }`. A text that begins with a name, with `node`, `edge` or
+/// `subgraph`, has lines, unless it looks as if its frame is misspelt. A line such as `Order received -> b : calls` consists of names,
+/// which need no quotes, with `->` or `--` between them, and of a label behind a colon. All other lines are statements of DOT, in which
+/// a label may stand behind a blank and a colon. Edges that are written by `--` have the attribute `dir` with the value `none`.
 pub fn read_dot(alloc: Global, bytes: &[u8]) -> Result<Graph, DotFault> {
-    read(alloc, bytes, Form::Framed)
-}
-
-/// Reads the statements of a directed graph without the frame `digraph { }`. A colon behind a blank begins a label, which ends with its
-/// line, as in `a -> b : calls`. Edges that are written by `--` have the attribute `dir` with the value `none`.
-pub fn read_lines(alloc: Global, bytes: &[u8]) -> Result<Graph, DotFault> {
-    read(alloc, bytes, Form::Lines)
-}
-
-fn read(alloc: Global, bytes: &[u8], form: Form) -> Result<Graph, DotFault> {
     let letters = decoded(alloc, bytes)?;
-    let mut graph = graph_in(alloc, letters.all.as_slice(), form)?;
+    let mut graph = graph_in(alloc, letters.all.as_slice())?;
     let charset = match charset_in(&graph) {
         Some(written) => charset_named(written.text.as_str()),
         None => Charset::Usual,
@@ -40,7 +29,7 @@ fn read(alloc: Global, bytes: &[u8], form: Form) -> Result<Graph, DotFault> {
     if charset == Charset::Latin1 {
         if letters.invalid.is_none() && !bytes.is_ascii() {
             let letters = latin_letters(alloc, bytes)?;
-            return graph_in(alloc, letters.as_slice(), form);
+            return graph_in(alloc, letters.as_slice());
         }
     } else if let Some(valid) = letters.invalid {
         warn_of_bytes(alloc, &mut graph, bytes, valid)?;
@@ -79,9 +68,10 @@ fn warn_of_charset(alloc: Global, graph: &mut Graph) -> Result<(), AllocError> {
     add_warning(&mut graph.warnings, place, message)
 }
 
-fn graph_in(alloc: Global, letters: &[char], form: Form) -> Result<Graph, DotFault> {
+fn graph_in(alloc: Global, letters: &[char]) -> Result<Graph, DotFault> {
+    let form = form_of(alloc, letters)?;
     let has_lines = form == Form::Lines;
-    let lexer = Lexer::new(alloc, letters, has_lines);
+    let lexer = Lexer::new(alloc, letters, form);
     let parser = Parser::new(alloc, lexer)?;
     let statements = if has_lines {
         let builder = Builder::new(alloc, false, true)?;

@@ -346,7 +346,9 @@ impl<'a> Statements<'a> {
         let mut list = self.attribute_lists()?;
         if self.parser.is_at(Kind::Label) {
             let label = self.parser.pass()?;
-            list.push(self.made("label", label.text, label.place)?)?;
+            if !label.text.is_empty() {
+                list.push(self.made("label", label.text, label.place)?)?;
+            }
         }
         let Some(frame) = self.frames.last_mut() else {
             return Ok(());

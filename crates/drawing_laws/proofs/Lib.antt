@@ -5,5 +5,5 @@ pub mod BoxLemmas
 pub mod PortLemmas
 pub mod SectionLemmas
 pub mod HeldLemmas
-pub mod TurningLaws
+pub mod RotatingLaws
 pub mod FrameLaws

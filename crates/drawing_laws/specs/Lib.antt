@@ -1,4 +1,4 @@
 pub mod Duality
 pub mod Held
-pub mod Turning
+pub mod Rotating
 pub mod Frames

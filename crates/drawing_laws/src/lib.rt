@@ -5,10 +5,11 @@
 
 mod fits;
 mod laws;
-mod turning;
+mod rotating;
 
 pub use fits::held_drawings_fit;
 pub use laws::least_by_flow;
-pub use turning::{
-    boxes_turn, distances_turn, docks_turn, paths_turn, routes_turn, sides_turn, turns_back,
+pub use rotating::{
+    boxes_rotate, distances_rotate, docks_rotate, paths_rotate, rotates_back, routes_rotate,
+    sides_rotate,
 };

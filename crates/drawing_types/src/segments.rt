@@ -43,6 +43,9 @@ fn is_piece(left: i64, right: i64, top: i64, bottom: i64) -> bool
 }
 
 /// Whether a point of the segment from `a` to `b` lies in the closed rectangle.
+///
+/// Proved:
+/// - Each test on axis-parallel segments equals its definition. (`segment_enters_rect`, `segments_share`)
 pub fn segment_meets_rect(a: Point, b: Point, r: Rect) -> bool
     requires { IsAxisParallel a b }
     ensures { IsTrue result ↔ MeetsRect a b r }

@@ -1,5 +1,5 @@
 -- `check` says yes to an answer of `layout`.
-use Rattle.std.proofs.Common.{◌≡◌, ◌⊎◌, inl, inr, ℕ, ◌≤◌, List, [], length, None, Some, Option, sym, ap, ◌∙◌, subst, arith}
+use Rattle.std.proofs.Common.{◌≡◌, ◌⊎◌, inl, inr, ℕ, ◌≤◌, List, [], length, None, Some, Option, refl, sym, ap, ◌∙◌, subst, arith}
 use Rattle.std.specs.Prelude.{codes}
 use Rattle.std.specs.Io.KnownBytes.{Consumes, IsAtEnd}
 use Rattle.serde_json.specs.Data.{Data}
@@ -12,11 +12,10 @@ use Rattle.elk_json.specs.Bytes.{reading}
 use Rattle.elk_write.specs.Placing.{IsDrawing, refused_placed}
 use Rattle.layout_check.specs.declared.verdict.Verdict.TheVariants.{Yes}
 use Rattle.layout_check.proofs.DrawnLaws.{exact}
-use Rattle.elk_outer.specs.Causes.{Rose}
 use Rattle.elk_engine.specs.declared.words.Command.TheVariants.{Check}
 use Rattle.elk_engine.specs.Check.{Refuses, RefusesReading, IsJudged, verdict_line, verdict_status}
 use Rattle.elk_engine.specs.Command.{limit, IsRefused}
-use Rattle.elk_engine.specs.Outcome.{Outcome, Gains, IsCutShort}
+use Rattle.elk_engine.specs.Outcome.{Outcome, Run, Gains, IsCutShort}
 use Rattle.elk_engine.specs.Again.{AnswersAreGood}
 use Rattle.elk_engine.proofs.Outcomes.{due, whole}
 
@@ -41,34 +40,36 @@ module _ (text : List ℕ) (value : Data) (read : reading text ≡ Some value) w
 -- ---- a run of check over the whole of such a text
 
 module _ (text : List ℕ) (short : length text ≤ limit Check) (not_refused : (r : Refusal) → Refuses text r → ⊥)
-    (says_yes : (status : ℕ) (line : List ℕ) → IsJudged text status line → (status ≡ 0) × (line ≡ codes "yes\n"))
-    (status : ℕ) (taken : List ℕ) (out new_out notes new_notes : Option (List ℕ)) (source_failed out_failed notes_failed : Type 0) where
+    (says_yes : (status : ℕ) (line : List ℕ) → IsJudged text status line → (status ≡ 0) × (line ≡ codes "yes\n")) (run : Run) where
   abbrev EndsWell : Type 0
-  EndsWell = (status ≡ 0) × Gains out new_out notes new_notes (codes "yes\n") []
+  EndsWell = (run.status ≡ 0) × Gains run (codes "yes\n") []
 
-  yes_by : (line : List ℕ) → text ≡ taken → IsJudged taken status line → Gains out new_out notes new_notes line [] → EndsWell
+  yes_by : (line : List ℕ) → text ≡ run.taken → IsJudged run.taken run.status line → Gains run line [] → EndsWell
   yes_by line is judged gains =
-      let yes = says_yes status line (subst (λ l. IsJudged l status line) (sym is) judged) in
-      (yes.0, subst (λ l. Gains out new_out notes new_notes l []) yes.1 gains)
+      let yes = says_yes run.status line (subst (λ l. IsJudged l run.status line) (sym is) judged) in
+      (yes.0, subst (λ l. Gains run l []) yes.1 gains)
 
   never_refused : IsRefused Check text → ⊥
   never_refused (inl long) = omega arith
   never_refused (inr (note, refuses)) = not_refused refuses.0 refuses.1
 
-  ended : (left : Option (List ℕ)) → Consumes (Some text) left taken → Outcome Check status taken (IsAtEnd left) source_failed out_failed notes_failed out new_out notes new_notes → IsCutShort status ⊎ EndsWell
-  ended None took o = absurd took
-  ended (Some rest) took o = elim (due Check status text taken (Some rest) out new_out notes new_notes source_failed out_failed notes_failed took o) [
+  all_taken : (left : Option (List ℕ)) → Consumes (Some text) left run.taken → IsAtEnd left → text ≡ run.taken
+  all_taken None took end = absurd took
+  all_taken (Some rest) took end = whole text run.taken rest end took
+
+  ended : Consumes (Some text) run.source.new run.taken → Outcome Check run → IsCutShort run.status ⊎ EndsWell
+  ended took o = elim (due Check run text run.source.new refl took o) [
     | inl cut ↦ inl cut
     | inr is ↦ elim is [
       | inl refused ↦ absurd (never_refused refused.0)
-      | inr done ↦ let a = o.answered done.1 in inr (yes_by a.2 (whole text taken rest a.0 took) a.3 a.4)
+      | inr done ↦ let a = o.answered done.1 in inr (yes_by a.2 (all_taken run.source.new took a.0) a.3 a.4)
     ]
   ]
 
 pub answers_good : AnswersAreGood
-answers_good laid text h short status taken left out new_out notes new_notes read new_read written new_written noted new_noted took o =
+answers_good laid text h short run source took o =
     let a = h.1 in
     let g = a.good in
     let b = g.read_back in
-    ended text short (not_refused text g.answer g.read_again b.accepted) (says_yes text g.answer g.read_again a.placed b.says.drawing b.drawn)
-    status taken out new_out notes new_notes (Rose read new_read) (Rose written new_written) (Rose noted new_noted) left took o
+    ended text short (not_refused text g.answer g.read_again b.accepted) (says_yes text g.answer g.read_again a.placed b.says.drawing b.drawn) run
+    (subst (λ l. Consumes l run.source.new run.taken) source took) o

@@ -20,11 +20,11 @@ use Rattle.elk_json.specs.declared.fault.Refusal.{Refusal}
 use Rattle.elk_answer.specs.Answer as answer
 use Rattle.elk_engine.specs.Notes.{refused_note, too_long_note}
 use Rattle.elk_engine.specs.Batch.{longest, IsReply, IsShortReply, AreReplies, AreAllReplies, fed, with_last}
-use Rattle.elk_engine.specs.Outcome.{Outcome}
+use Rattle.elk_engine.specs.Outcome.{HasFailed, Outcome, Run, Stream}
 use Rattle.elk_engine.specs.Lines.{AreAnswered, IsDone, IsHalted, IsPut, IsPieceReply, IsReplyPut, AfterLine, halt_of, note_of, status_of}
 use Rattle.elk_write.proofs.OneLine.{text_is_line}
 use Rattle.elk_engine.proofs.OneLine.{long_is_line, note_is_line}
-use Rattle.elk_engine.proofs.Outcomes.{Noted, read_failed, memory_failed, refused, write_failed}
+use Rattle.elk_engine.proofs.Outcomes.{Noted, answer_written, read_failed, memory_failed, refused, write_failed}
 
 -- ---- the reply to a line
 
@@ -279,30 +279,26 @@ reply_put piece told ended out out' reply (Err TooLong) other is put = put
 
 -- ---- the whole run
 
-pub done_outcome : (before left out out' notes : Option (List ℕ)) (source_failed out_failed notes_failed : Type 0) → IsDone before left out out' → (taken : List ℕ) × Consumes before left taken × Outcome Batch 0 taken (IsAtEnd left) source_failed out_failed notes_failed out out' notes notes
-done_outcome before left out out' notes source_failed out_failed notes_failed d = (
+pub done_outcome : (before : Option (List ℕ)) (source out notes : Stream) → IsDone before source.new out.old out.new → Appends notes.old notes.new [] → (taken : List ℕ) × Consumes before source.new taken × Outcome Batch (record { status = 0; taken = taken; source = source; out = out; notes = notes })
+done_outcome before source out notes d none = (
   d.bytes,
   d.consumed,
-  record {
-    statuses = omega arith;
-    answered = λ s. (d.at_end, record { not_long = λ long. (let n = d.within in omega (arith, long, n)); not_refused = λ note refuses. refuses }, d.text, (refl, d.replies), record { out_gained = d.written; notes_gained = Appends-nil notes });
-    refused = λ s. absurd (omega arith);
-    read_fault = λ s. absurd (omega arith);
-    write_fault = λ s. absurd (omega arith);
-    not_usage = λ s. omega arith;
-    out_of_memory = λ s. absurd (omega arith);
-  },
+  answer_written Batch _ d.text d.at_end (record { not_long = λ long. (let n = d.within in omega (arith, long, n)); not_refused = λ note refuses. refuses }) (refl, d.replies) (record { out_gained = d.written; notes_gained = none }),
 )
 
-pub halted_outcome : (halt : Halt) (status : ℕ) (before left out out' notes notes' : Option (List ℕ)) (source_failed out_failed notes_failed : Type 0) → IsHalted before left out out' halt → (halt ≡ Read → source_failed) → (halt ≡ Write → out_failed) → Noted (status_of halt) (note_of halt) status notes notes' notes_failed → (taken : List ℕ) × Consumes before left taken × Outcome Batch status taken (IsAtEnd left) source_failed out_failed notes_failed out out' notes notes'
-halted_outcome Read status before left out out' notes notes' source_failed out_failed notes_failed h reads writes noted =
-    let (text, begun, gained) = h.halted in
-    (h.bytes, h.consumed, read_failed Batch h.bytes (IsAtEnd left) source_failed out_failed notes_failed status out out' notes notes' text (note_of Read) gained (record { failed = reads refl; begun = begun; note_is = refl }) noted)
-halted_outcome TooLong status before left out out' notes notes' source_failed out_failed notes_failed h reads writes noted =
-    let (past, text, begun, gained) = h.halted in
-    (h.bytes, h.consumed, refused Batch h.bytes (IsAtEnd left) source_failed out_failed notes_failed status out out' notes notes' text (note_of TooLong) gained (record { refused = inl (omega (arith, past), past, refl); begun = begun }) noted)
-halted_outcome Write status before left out out' notes notes' source_failed out_failed notes_failed h reads writes noted =
-    (h.bytes, h.consumed, write_failed Batch h.bytes (IsAtEnd left) source_failed out_failed notes_failed status out out' notes notes' (writes refl) h.halted noted)
-halted_outcome Memory status before left out out' notes notes' source_failed out_failed notes_failed h reads writes noted =
-    let (text, begun, gained) = h.halted in
-    (h.bytes, h.consumed, memory_failed Batch h.bytes (IsAtEnd left) source_failed out_failed notes_failed status out out' notes notes' text (note_of Memory) gained (record { begun = begun; note_is = refl }) noted)
+-- the run ended at the halt, and this was noted
+module _ (status : ℕ) (before : Option (List ℕ)) (source out notes : Stream) where
+  abbrev run_of : List ℕ → Run
+  run_of taken = record { status = status; taken = taken; source = source; out = out; notes = notes }
+
+  pub halted_outcome : (halt : Halt) → IsHalted before source.new out.old out.new halt → (halt ≡ Read → HasFailed source) → (halt ≡ Write → HasFailed out) → Noted (status_of halt) (note_of halt) status notes → (taken : List ℕ) × Consumes before source.new taken × Outcome Batch (run_of taken)
+  halted_outcome Read h reads writes noted =
+      let (text, begun, gained) = h.halted in
+      (h.bytes, h.consumed, read_failed Batch (run_of h.bytes) text (note_of Read) gained (record { failed = reads refl; begun = begun; note_is = refl }) noted)
+  halted_outcome TooLong h reads writes noted =
+      let (past, text, begun, gained) = h.halted in
+      (h.bytes, h.consumed, refused Batch (run_of h.bytes) text (note_of TooLong) gained (record { refused = inl (omega (arith, past), past, refl); begun = begun }) noted)
+  halted_outcome Write h reads writes noted = (h.bytes, h.consumed, write_failed Batch (run_of h.bytes) (writes refl) h.halted noted)
+  halted_outcome Memory h reads writes noted =
+      let (text, begun, gained) = h.halted in
+      (h.bytes, h.consumed, memory_failed Batch (run_of h.bytes) text (note_of Memory) gained (record { begun = begun; note_is = refl }) noted)

@@ -1,8 +1,7 @@
 -- Each reply of `batch` is one line.
-use Rattle.std.proofs.Common.{◌≡◌, ◌⊎◌, ⊎_elim, ℕ, ◌≤◌, ◌<◌, List, [], ◌∷◌, ◌++◌, length, codes, Option, None, Some, refl, sym, ◌∙◌, ap, subst, arith}
+use Rattle.std.proofs.Common.{◌≡◌, inl, inr, ℕ, ◌<◌, List, [], ◌∷◌, ◌++◌, length, codes, Option, None, Some, refl, sym, ◌∙◌, ap, subst, arith}
 use Rattle.std.specs.Fmt.{decimal}
 use Rattle.std.specs.Io.KnownBytes.{Appends, Consumes}
-use Rattle.elk_outer.specs.Whole.{AppendsPart}
 use Rattle.elk_doc.specs.declared.document.Id.{Id}
 use Rattle.elk_json.specs.declared.fault.Rule.{Rule}
 use Rattle.elk_json.specs.declared.fault.Rule.TheVariants as rules
@@ -15,7 +14,7 @@ use Rattle.elk_engine.specs.declared.words.Command.TheVariants.{Batch}
 use Rattle.elk_engine.specs.Notes.{place_text, refused_note, too_long_note}
 use Rattle.elk_engine.specs.Batch.{IsReply, AreReplies, AreAllReplies, with_last, GainsLines}
 use Rattle.elk_engine.specs.Command.{Answers}
-use Rattle.elk_engine.specs.Outcome.{Outcome, Gains}
+use Rattle.elk_engine.specs.Outcome.{Outcome, Run, Stream}
 use Rattle.elk_engine.proofs.Outcomes.{Noted}
 
 -- ---- the line of a refusal
@@ -74,8 +73,8 @@ feeds_of (line ∷ lines) text (reply, rest, parted, is, others) =
     let more = feeds_of lines rest others in
     omega (arith, whole, sum, one, more)
 
-gains_by : (before left out new_out : Option (List ℕ)) (bytes text : List ℕ) (notes new_notes : Option (List ℕ)) → Consumes before left bytes → AreAllReplies bytes text → Gains out new_out notes new_notes text [] → GainsLines before left out new_out
-gains_by before left out new_out bytes text notes new_notes took (lines, last, parted, replies) gains =
+gains_by : (before left out new_out : Option (List ℕ)) (bytes text : List ℕ) → Consumes before left bytes → AreAllReplies bytes text → Appends out new_out text → GainsLines before left out new_out
+gains_by before left out new_out bytes text took (lines, last, parted, replies) gained =
     record {
       bytes = bytes;
       text = text;
@@ -84,30 +83,25 @@ gains_by before left out new_out bytes text notes new_notes took (lines, last, p
       consumed = took;
       parted = parted;
       replies = replies;
-      gained = gains.out_gained;
+      gained = gained;
       as_many = feeds_of (with_last lines last) text replies;
     }
 
 all_replies : (taken : List ℕ) (status : ℕ) (text : List ℕ) → Answers Batch taken status text → AreAllReplies taken text
 all_replies taken status text (zero, replies) = replies
 
-batch_lines : (status : ℕ) (taken : List ℕ) (at_end source_failed out_failed notes_failed : Type 0) (before left out new_out notes new_notes : Option (List ℕ)) → Consumes before left taken
-    → Outcome Batch status taken at_end source_failed out_failed notes_failed out new_out notes new_notes → status ≡ 0 → GainsLines before left out new_out
-batch_lines status taken at_end source_failed out_failed notes_failed before left out new_out notes new_notes took o zero =
+batch_lines : (run : Run) (before : Option (List ℕ)) → Consumes before run.source.new run.taken → Outcome Batch run → run.status ≡ 0 → GainsLines before run.source.new run.out.old run.out.new
+batch_lines run before took o zero =
     let a = o.answered (omega (arith, zero)) in
-    gains_by before left out new_out taken a.2 notes new_notes took (all_replies taken status a.2 a.3) a.4
+    gains_by before run.source.new run.out.old run.out.new run.taken a.2 took (all_replies run.taken run.status a.2 a.3) a.4.out_gained
 
 same_command : (a b : Command) (asked : Option Command) → asked ≡ Some a → asked ≡ Some b → a ≡ b
 same_command a b asked is also = let e : Some a ≡ Some b = sym is ∙ also in cc
 
-pub run_lines : (asked : Option Command) (command : Command) (status : ℕ) (taken : List ℕ) (at_end source_failed out_failed notes_failed : Type 0) (before left out new_out notes new_notes : Option (List ℕ)) → asked ≡ Some command → Consumes before left taken
-    → Outcome command status taken at_end source_failed out_failed notes_failed out new_out notes new_notes → asked ≡ Some Batch → status ≡ 0 → GainsLines before left out new_out
-run_lines asked command status taken at_end source_failed out_failed notes_failed before left out new_out notes new_notes is took o batch =
-    batch_lines status taken at_end source_failed out_failed notes_failed before left out new_out notes new_notes took
-    (subst (λ (k : Command). Outcome k status taken at_end source_failed out_failed notes_failed out new_out notes new_notes) (same_command command Batch asked is batch) o)
+pub run_lines : (asked : Option Command) (command : Command) (run : Run) (before : Option (List ℕ)) → asked ≡ Some command → Consumes before run.source.new run.taken → Outcome command run → asked ≡ Some Batch → run.status ≡ 0 → GainsLines before run.source.new run.out.old run.out.new
+run_lines asked command run before is took o batch = batch_lines run before took (subst (λ (k : Command). Outcome k run) (same_command command Batch asked is batch) o)
 
 -- a run that only writes a note doesn't end with 0
-pub noted_otherwise : {goal : Type 0} (status : ℕ) (note : List ℕ) (result : ℕ) (notes new_notes : Option (List ℕ)) (rose : Type 0) → Noted status note result notes new_notes rose → 0 < status → result ≡ 0 → goal
-noted_otherwise status note result notes new_notes rose noted some zero =
-    absurd (⊎_elim (λ (h : (result ≡ status) × Appends notes new_notes note). let e = h.0 in omega (arith, e, some, zero))
-    (λ (h : (result ≡ 4) × rose × AppendsPart notes new_notes note). let e = h.0 in omega (arith, e, zero)) noted)
+pub noted_otherwise : {goal : Type 0} (status : ℕ) (note : List ℕ) (result : ℕ) (notes : Stream) → Noted status note result notes → 0 < status → result ≡ 0 → goal
+noted_otherwise status note result notes (inl (is, appends)) some zero = absurd (omega (arith, is, some, zero))
+noted_otherwise status note result notes (inr (is, rose, part)) some zero = absurd (omega (arith, is, zero))

@@ -8,7 +8,7 @@ use Rattle.elk_json.specs.declared.fault.DocFault.TheVariants as fault
 use Rattle.elk_engine.specs.Notes.{refused_note}
 use Rattle.elk_engine.specs.Command.{Refuses}
 
--- the input is refused with the note; want of memory says nothing
+-- the input is refused with the note; out of memory says nothing
 abbrev pub IsCause : Command → List ℕ → Stop → Type 0
 IsCause command input (stop.Refused note) = Refuses command input note.items
 IsCause command input stop.Memory = ⊤

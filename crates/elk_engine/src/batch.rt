@@ -1,12 +1,12 @@
 // A run of `batch`: one reply a line.
 ghost use Rattle.std.specs.Prelude.{◌≡◌, ◌⊎◌, ◌≤◌, ◌<◌, ◌+◌, ◌-◌, ◌^◌, ℕ, List, Ok, Err, IfOk, IfErr, false, length};
 ghost use Rattle.std.specs.declared.option.Option.{Option};
-ghost use Rattle.std.specs.Io.KnownBytes.{Consumes, IsAtEnd};
+ghost use Rattle.std.specs.Io.KnownBytes.{Consumes};
 ghost use Rattle.elk_outer.specs.Causes.{Rose};
 ghost use Rattle.elk_engine.specs.declared.words.Command.TheVariants.{Batch};
 ghost use Rattle.elk_engine.specs.Batch.{longest, IsReply};
 ghost use Rattle.elk_engine.specs.Lines.{AfterLine, AreAnswered, IsEnd, IsPut, IsReplyPut, IsTold, halt_of, note_of, status_of};
-ghost use Rattle.elk_engine.specs.Outcome.{Outcome};
+ghost use Rattle.elk_engine.specs.Outcome.{Outcome, stream_of};
 
 use crate::notes::{OUT_OF_MEMORY, READ_FAULT, TOO_LONG, WRITE_FAULT, noted, refusal_note};
 use elk_answer::answer;
@@ -38,9 +38,13 @@ pub(crate) fn batch<S: Source, K: Sink, N: Sink>(
     notes: &mut N,
 ) -> u8
     ensures outcome { (taken : List ℕ) × Consumes (S.left source.old) (S.left source.new) taken
-        × Outcome Batch result taken (IsAtEnd (S.left source.new))
-        (Rose (S.faults source.old) (S.faults source.new)) (Rose (K.faults out.old) (K.faults out.new)) (Rose (N.faults notes.old) (N.faults notes.new))
-        (K.taken out.old) (K.taken out.new) (N.taken notes.old) (N.taken notes.new) }
+        × Outcome Batch (record {
+          status = result;
+          taken = taken;
+          source = stream_of S.left S.faults source.old source.new;
+          out = stream_of K.taken K.faults out.old out.new;
+          notes = stream_of N.taken N.faults notes.old notes.new;
+        }) }
     ensures sure_out { (room : ℕ) → K.sure out.old room → K.sure out.new room }
     ensures sure_notes { (room : ℕ) → N.sure notes.old room → N.sure notes.new room }
 {

@@ -17,6 +17,11 @@ use elk_doc::document::{Direction, Doc, Edge, End, Id, Node, PortRule, default_o
 use std::alloc::{AllocError, Global};
 
 /// The document of `demo`, with this number of leaves.
+///
+/// Proved:
+/// - The document of `demo n`, for each n from 1 to 1,024, is the defined one: n leaves under a root with the default options.
+/// - It has an edge to each leaf except the first, from the leaf of half its number.
+/// - It has an edge from each leaf to the leaf of three times its number, if there is one.
 pub fn demo(alloc: Global, nodes: u32) -> Result<Doc, AllocError>
     requires some { 1 ≤ nodes }
     requires few { nodes ≤ 1024 }

@@ -1,11 +1,10 @@
 // A run of one command.
-ghost use Rattle.std.specs.Prelude.{◌≡◌, ◌≤◌, ◌^◌, ⊤, ℕ, List, IsTrue, IsFalse};
-ghost use Rattle.std.specs.Io.KnownBytes.{Consumes, IsAtEnd, Keeps};
-ghost use Rattle.elk_outer.specs.Causes.{Rose};
+ghost use Rattle.std.specs.Prelude.{◌≡◌, ◌≤◌, ◌^◌, ℕ, List, IsTrue, IsFalse};
+ghost use Rattle.std.specs.Io.KnownBytes.{Consumes, Keeps};
 ghost use Rattle.elk_engine.specs.Words.{IsBounded};
 ghost use Rattle.elk_engine.specs.declared.words.Command.TheVariants.{Batch};
 ghost use Rattle.elk_engine.specs.Command.{Answers, IsAccepted, IsTooLong, IsWhole, Reads, limit};
-ghost use Rattle.elk_engine.specs.Outcome.{Outcome};
+ghost use Rattle.elk_engine.specs.Outcome.{Outcome, all_read, stream_of};
 
 use crate::Command;
 use crate::batch::batch;
@@ -24,9 +23,13 @@ pub(crate) fn perform<S: Source, K: Sink, N: Sink>(
 ) -> u8
     requires { IsBounded command }
     ensures outcome { (taken : List ℕ) × Consumes (S.left source.old) (S.left source.new) taken
-        × Outcome command result taken (IsAtEnd (S.left source.new))
-        (Rose (S.faults source.old) (S.faults source.new)) (Rose (K.faults out.old) (K.faults out.new)) (Rose (N.faults notes.old) (N.faults notes.new))
-        (K.taken out.old) (K.taken out.new) (N.taken notes.old) (N.taken notes.new) }
+        × Outcome command (record {
+          status = result;
+          taken = taken;
+          source = stream_of S.left S.faults source.old source.new;
+          out = stream_of K.taken K.faults out.old out.new;
+          notes = stream_of N.taken N.faults notes.old notes.new;
+        }) }
     ensures unread { Reads command ⊥ → (S.faults source.new ≡ S.faults source.old) × Keeps (S.left source.old) (S.left source.new) }
     ensures sure_out { (room : ℕ) → K.sure out.old room → K.sure out.new room }
     ensures sure_notes { (room : ℕ) → N.sure notes.old room → N.sure notes.new room }
@@ -61,9 +64,13 @@ fn perform_whole<S: Source, K: Sink, N: Sink>(
     requires bounded { IsBounded command }
     requires whole { IsWhole command }
     ensures outcome { (taken : List ℕ) × Consumes (S.left source.old) (S.left source.new) taken
-        × Outcome command result taken (IsAtEnd (S.left source.new))
-        (Rose (S.faults source.old) (S.faults source.new)) (Rose (K.faults out.old) (K.faults out.new)) (Rose (N.faults notes.old) (N.faults notes.new))
-        (K.taken out.old) (K.taken out.new) (N.taken notes.old) (N.taken notes.new) }
+        × Outcome command (record {
+          status = result;
+          taken = taken;
+          source = stream_of S.left S.faults source.old source.new;
+          out = stream_of K.taken K.faults out.old out.new;
+          notes = stream_of N.taken N.faults notes.old notes.new;
+        }) }
     ensures unread { Reads command ⊥ → (S.faults source.new ≡ S.faults source.old) × Keeps (S.left source.old) (S.left source.new) }
     ensures sure_out { (room : ℕ) → K.sure out.old room → K.sure out.new room }
     ensures sure_notes { (room : ℕ) → N.sure notes.old room → N.sure notes.new room }
@@ -116,8 +123,13 @@ pub(crate) fn replied<K: Sink, N: Sink>(
     requires bounded { IsBounded command }
     requires whole { IsWhole command }
     requires not_long { IsTooLong command bytes.now → ⊥ }
-    ensures outcome { Outcome command result bytes.now ⊤ ⊥ (Rose (K.faults out.old) (K.faults out.new)) (Rose (N.faults notes.old) (N.faults notes.new))
-        (K.taken out.old) (K.taken out.new) (N.taken notes.old) (N.taken notes.new) }
+    ensures outcome { Outcome command (record {
+      status = result;
+      taken = bytes.now;
+      source = all_read bytes.now;
+      out = stream_of K.taken K.faults out.old out.new;
+      notes = stream_of N.taken N.faults notes.old notes.new;
+    }) }
     ensures sure_out { (room : ℕ) → K.sure out.old room → K.sure out.new room }
     ensures sure_notes { (room : ℕ) → N.sure notes.old room → N.sure notes.new room }
 {
@@ -139,8 +151,13 @@ fn written<K: Sink, N: Sink>(
 ) -> u8
     requires accepted { IsAccepted _command _bytes.now }
     requires answer { Answers _command _bytes.now status text.now }
-    ensures outcome { Outcome _command result _bytes.now ⊤ ⊥ (Rose (K.faults out.old) (K.faults out.new)) (Rose (N.faults notes.old) (N.faults notes.new))
-        (K.taken out.old) (K.taken out.new) (N.taken notes.old) (N.taken notes.new) }
+    ensures outcome { Outcome _command (record {
+      status = result;
+      taken = _bytes.now;
+      source = all_read _bytes.now;
+      out = stream_of K.taken K.faults out.old out.new;
+      notes = stream_of N.taken N.faults notes.old notes.new;
+    }) }
     ensures sure_out { (room : ℕ) → K.sure out.old room → K.sure out.new room }
     ensures sure_notes { (room : ℕ) → N.sure notes.old room → N.sure notes.new room }
 {

@@ -6,7 +6,7 @@ use Rattle.elk_json.specs.declared.fault.DocFault.{DocFault}
 use Rattle.elk_json.specs.declared.fault.DocFault.TheVariants.{Refused, Memory}
 use Rattle.elk_json.specs.declared.fault.Refusal.{Refusal}
 
--- what holds of a refusal; want of memory says nothing
+-- what holds of a refusal; out of memory says nothing
 abbrev pub MatchFault : DocFault → (Refusal → Type 0) → Type 0
 MatchFault (Refused r) P = P r
 MatchFault Memory P = Unit {0}

@@ -49,6 +49,11 @@ fn read_listed(alloc: Global, value: &Value, list: &Listed<'_, '_>) -> Result<Do
 /// The document of a value: its nodes, ports and edges in document order, with the options that hold for them. A value
 /// that a rule refuses is answered by the lowest-numbered rule that holds, at the first element at which it does.
 /// Whole ids are numbers of 64 bits, with a sign or without.
+///
+/// Proved:
+/// - The document of a value is its nodes, ports and edges in document order with their effective options.
+/// - Each rule is a condition on the whole value.
+/// - Whole ids of a document that is read fit into 64 bits.
 #[tactic(auto, unfolding(crate::specs::Rules::refused))]
 pub fn read_doc(alloc: Global, value: &Value) -> Result<Doc, DocFault>
     ensures { MatchResult result

@@ -24,6 +24,9 @@ pub enum Rule {
 }
 
 /// The number of a rule, from 1.
+///
+/// Proved:
+/// - Rules have the defined numbers and names. (`rule_name`)
 pub fn rule_number(rule: Rule) -> u32
     ensures { result ≡ number_spec rule }
 {

@@ -44,9 +44,9 @@ Keeps distance tops row =
     (i : ℕ) → i + 1 < length row
     → (top_of tops (slice_index row i) +ℤ distance (slice_index row i) (slice_index row (i + 1))) ≤ℤ top_of tops (slice_index row (i + 1))
 
--- the ends of a link are level
-abbrev pub IsLevel : Plain → List ℤ → ℕ → Type 0
-IsLevel layered tops k =
+-- the ends of a link are horizontal
+abbrev pub IsHorizontal : Plain → List ℤ → ℕ → Type 0
+IsHorizontal layered tops k =
     let l = link_at layered.links k in
     top_of tops l.tail +ℤ l.tail_at ≡ top_of tops l.head +ℤ l.head_at
 
@@ -57,10 +57,10 @@ pub record AreApart (layered : Plain) (rows : List (List ℕ)) (tops : List ℤ)
   pub room : (r : ℕ) → r < length rows → Keeps (room layered) tops (row_at rows r)
   pub body_room : (r : ℕ) → r < length rows → Keeps (body_room layered) tops (filter (is_child layered) (row_at rows r))
 
--- besides, the chosen links are level
+-- besides, the chosen links are horizontal
 pub record AreLines (layered : Plain) (rows : List (List ℕ)) (links : List ℕ) (tops : List ℤ) : Type 0 where
   pub apart : AreApart layered rows tops
-  pub level : All (IsLevel layered tops) links
+  pub horizontal : All (IsHorizontal layered tops) links
 
 -- and no top is above that of any such lines
 pub record AreLeastLines (layered : Plain) (rows : List (List ℕ)) (sweep : Sweep) (tops : List ℤ) : Type 0 where

@@ -10,6 +10,9 @@ use crate::units::{Layered, Unit};
 /// It is the upper unit's height and, from its lowermost line or outline to the uppermost of the lower
 /// one, `node_node` between two outlines, `edge_node` between a lane and an outline, and `edge_edge`
 /// between two lanes.
+///
+/// Proved:
+/// - The distances that neighbouring units keep.
 pub fn room(layered: &Layered, upper: u32, lower: u32) -> i64
     requires sound { IsSound (plain layered.now) }
     requires upper { upper < length (plain layered.now).units }
@@ -29,6 +32,9 @@ pub fn room(layered: &Layered, upper: u32, lower: u32) -> i64
 
 /// The distance from top to top of two consecutive children of a row, so that their outlines are
 /// `node_node` apart.
+///
+/// Proved:
+/// - The distances that consecutive children keep.
 pub fn body_room(layered: &Layered, upper: u32, lower: u32) -> i64
     requires sound { IsSound (plain layered.now) }
     requires upper { upper < length (plain layered.now).units }

@@ -33,7 +33,10 @@ fn note_rows(layered: &Layered, order: &Order, place: &mut [u32])
 
 /// By unit, its place in its row, from 0.
 ///
-/// The only error is want of memory.
+/// The only error is out of memory.
+///
+/// Proved:
+/// - The place of each unit in its row.
 pub fn places(alloc: Global, layered: &Layered, order: &Order) -> Result<Vec<u32>, AllocError>
     requires sound { IsSound (plain layered.now) }
     requires rows { AreRows (plain layered.now) (rows_of order.now) }

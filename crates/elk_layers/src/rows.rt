@@ -14,7 +14,10 @@ fn is_child_at(layered: &Layered, unit: u32) -> bool
     units[unit as usize].child.is_some()
 }
 
-/// The children of a row, in its order. The only error is want of memory.
+/// The children of a row, in its order. The only error is out of memory.
+///
+/// Proved:
+/// - The children of a row.
 pub fn children_of(alloc: Global, layered: &Layered, row: &[u32]) -> Result<Vec<u32>, AllocError>
     requires { All (λ u. u < length (plain layered.now).units) row.now }
     ensures { IfOk result (λ v. v.items ≡ filter (is_child (plain layered.now)) row.now) }

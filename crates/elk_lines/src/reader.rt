@@ -15,6 +15,13 @@ use std::marker::Model;
 /// out, followed by what the source has left. A line ends with a byte 10, which isn't part of it; what follows the
 /// last of them is a line where it isn't empty. Where a read gives no bytes the source has ended. Another call asks it
 /// again, and a terminal may give more then: a caller that wants no such read stops where `has_ended` says so.
+///
+/// Proved:
+/// - The lines of a stream, in whatever pieces its source delivers them.
+/// - A line longer than the limit is skipped.
+/// - The reader keeps no more bytes than the longest line may have, and 2^14.
+/// - Why there is no further line.
+/// - Whether the source had ended at the last answer, so that a caller needn't ask it again.
 #[derive(Drop)]
 pub struct LineReader {
     store: Store,

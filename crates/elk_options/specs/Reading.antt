@@ -4,9 +4,6 @@ use Rattle.std.specs.Prelude.{unwrap_or, ℤ, pos, ◌≤ℤ◌, nat_abs, Result
 use Rattle.std.specs.Option.{option_map_or, option_and_then}
 use Rattle.std.specs.Int.{int_max}
 use Rattle.serde_json.specs.Data.{Data}
-use Rattle.elk_doc.specs.declared.document.Direction.{Direction}
-use Rattle.drawing_types.specs.declared.sweep.Sweep.{Sweep}
-use Rattle.elk_doc.specs.declared.document.Placing.{Placing}
 use Rattle.elk_doc.specs.declared.document.Direction.TheVariants as direction
 use Rattle.elk_doc.specs.declared.document.PortRule.{PortRule}
 use Rattle.elk_doc.specs.declared.document.PortRule.TheVariants as rule
@@ -23,6 +20,9 @@ use Rattle.elk_options.specs.declared.options.Role.{Role}
 use Rattle.elk_options.specs.declared.options.Role.TheVariants.{Level, Leaf, Port, Edge}
 use Rattle.elk_options.specs.declared.options.Options.{Options}
 use Rattle.elk_options.specs.declared.options.BadValue.{BadValue}
+use Rattle.elk_options.specs.declared.options.FrontValues.{FrontValues}
+use Rattle.elk_options.specs.declared.options.BackValues.{BackValues}
+use Rattle.elk_options.specs.declared.options.ChosenValues.{ChosenValues}
 use denote.Bor.{Bor}
 use Rattle.serde_json.specs.View.{view}
 use Rattle.serde_json.specs.declared.value.Value.{Value}
@@ -102,15 +102,6 @@ spacing_of d = record {
   edge_edge_layers = distance_or 10 name.EdgeEdgeLayers d;
 }
 
-abbrev pub AreDistances : Data → Spacing → Type 0
-AreDistances d s =
-    (s.node_node ≡ distance_or 20 name.NodeNode d)
-    × (s.edge_node ≡ distance_or 10 name.EdgeNode d)
-    × (s.edge_edge ≡ distance_or 10 name.EdgeEdge d)
-    × (s.node_layers ≡ distance_or 20 name.NodeLayers d)
-    × (s.edge_node_layers ≡ distance_or 10 name.EdgeNodeLayers d)
-    × (s.edge_edge_layers ≡ distance_or 10 name.EdgeEdgeLayers d)
-
 abbrev pub usual_padding : Padding
 usual_padding = record { top = pos 12; left = pos 12; bottom = pos 12; right = pos 12 }
 
@@ -134,21 +125,6 @@ choices_of d = record {
   straightness = straightness_of d;
 }
 
--- a level of boxes is never split
-unfoldable pub level_of : Data → LevelOptions
-level_of d =
-    let boxes = value_or to_boxes false name.Algorithm d in record {
-      direction = value_or to_direction direction.Right name.Direction d;
-      spacing = spacing_of d;
-      padding = value_or to_padding usual_padding name.Padding d;
-      fixed = value_or to_sweep None name.FixedAlignment d;
-      split = not boxes && value_or to_truth false name.SeparateParts d;
-      component = distance_or 20 name.ComponentComponent d;
-      placing = value_or to_placing placing.BrandesKoepf name.NodePlacement d;
-      boxes = boxes;
-      choices = choices_of d;
-    }
-
 unfoldable pub rule_of : Data → PortRule
 rule_of d = value_or to_rule rule.Free name.PortConstraints d
 
@@ -156,42 +132,70 @@ rule_of d = value_or to_rule rule.Free name.PortConstraints d
 unfoldable pub weight_of : Data → ℕ
 weight_of d = nat_abs (int_max (value_or to_shortness (pos 0) name.Shortness d) (pos 1))
 
-unfoldable pub options_of : Role → Data → Options
-options_of Level d = record { level = Some (level_of d); rule = rule_of d; position = position_of d; side = None; index = pos 0; weight = 1 }
-options_of Leaf d = record { level = None; rule = rule_of d; position = position_of d; side = None; index = pos 0; weight = 1 }
-options_of Port d =
+-- ---- the parts of a level's options
+
+-- what a node asks before the distances
+abbrev pub front_of : Data → FrontValues
+front_of d =
     record {
-      level = None;
-      rule = rule.Free;
-      position = None;
-      side = value_or to_side None name.PortSide d;
-      index = value_or to_index (pos 0) name.PortIndex d;
-      weight = 1;
+      boxes = value_or to_boxes false name.Algorithm d;
+      direction = value_or to_direction direction.Right name.Direction d;
+      rule = rule_of d;
+      padding = value_or to_padding usual_padding name.Padding d;
     }
-options_of Edge d = record { level = None; rule = rule.Free; position = None; side = None; index = pos 0; weight = weight_of d }
+
+-- what a level asks between the distances and the choices
+abbrev pub back_of : Data → BackValues
+back_of d =
+    record {
+      sweep = value_or to_sweep None name.FixedAlignment d;
+      split = value_or to_truth false name.SeparateParts d;
+      component = distance_or 20 name.ComponentComponent d;
+      placing = value_or to_placing placing.BrandesKoepf name.NodePlacement d;
+    }
+
+-- the choices of a level, and the position of its node
+abbrev pub chosen_of : Data → ChosenValues
+chosen_of d = record { choices = choices_of d; position = position_of d }
+
+-- a level of its parts; one of boxes is never split
+abbrev pub level_from : FrontValues → Spacing → BackValues → Choices → LevelOptions
+level_from front spacing back choices = record {
+  direction = front.direction;
+  spacing = spacing;
+  padding = front.padding;
+  fixed = back.sweep;
+  split = not front.boxes && back.split;
+  component = back.component;
+  placing = back.placing;
+  boxes = front.boxes;
+  choices = choices;
+}
+
+-- ---- the options of an element
+
+unfoldable pub level_of : Data → LevelOptions
+level_of d = level_from (front_of d) (spacing_of d) (back_of d) (choices_of d)
+
+-- what an element has where its role reads nothing
+abbrev pub usual_options : Options
+usual_options = record { level = None; rule = rule.Free; position = None; side = None; index = pos 0; weight = 1 }
+
+unfoldable pub options_of : Role → Data → Options
+options_of Level d = record usual_options { level = Some (level_of d); rule = rule_of d; position = position_of d }
+options_of Leaf d = record usual_options { rule = rule_of d; position = position_of d }
+options_of Port d = record usual_options {
+  side = value_or to_side None name.PortSide d;
+  index = value_or to_index (pos 0) name.PortIndex d;
+}
+options_of Edge d = record usual_options { weight = weight_of d }
 
 -- ---- for private clauses
 
--- a level's options from what was read
-abbrev pub joined_options : Bool → Direction → PortRule → Padding → Spacing → Option Sweep → Bool → ℤ → Placing → Choices → Option ℤ → Options
-joined_options boxes direction rule padding spacing sweep split component placing choices position = record {
-  level = Some (record {
-    direction = direction;
-    spacing = spacing;
-    padding = padding;
-    fixed = sweep;
-    split = not boxes && split;
-    component = component;
-    placing = placing;
-    boxes = boxes;
-    choices = choices;
-  });
-  rule = rule;
-  position = position;
-  side = None;
-  index = pos 0;
-  weight = 1;
-}
+-- the options handed in are read: the value, or the first of these names whose value is outside its table
+abbrev pub ReadsAll : {T : Type 0} → List OptionName → Data → T → Result T BadValue → Type 0
+ReadsAll names d value r =
+    MatchResult r (λ v. (find (is_bad d) names ≡ None) × (v ≡ value)) (λ e. find (is_bad d) names ≡ Some e.option)
 
 -- one option is read
 

@@ -1,10 +1,6 @@
 //! The options of an element.
-ghost use Rattle.std.specs.Prelude.{◌≡◌, false, Some, None, find, MatchResult};
-ghost use Rattle.elk_doc.specs.declared.document.Direction.TheVariants as direction;
-ghost use Rattle.elk_doc.specs.declared.document.Placing.TheVariants as placing;
-ghost use Rattle.elk_options.specs.declared.names.OptionName.TheVariants as name;
-ghost use Rattle.elk_options.specs.Table.{to_boxes, to_direction, to_padding, to_sweep, to_truth, to_placing};
-ghost use Rattle.elk_options.specs.Reading.{given, is_bad, front_names, spacing_names, back_names, choice_names, choices_of, position_of, value_or, distance_or, usual_padding, AreDistances, rule_of, first_bad, options_of, joined_options};
+ghost use Rattle.std.specs.Prelude.{◌≡◌, Some, None, MatchResult};
+ghost use Rattle.elk_options.specs.Reading.{given, front_names, front_of, spacing_names, spacing_of, back_names, back_of, choice_names, chosen_of, names_of, level_from, usual_options, first_bad, options_of, ReadsAll};
 
 use crate::names::OptionName;
 use crate::readers;
@@ -42,9 +38,7 @@ pub struct BadValue {
 
 #[tactic(auto, unfolding(crate::specs::Reading::spacing_names))]
 fn spacing(options: Option<&Value>) -> Result<Spacing, BadValue>
-    ensures { MatchResult result
-        (λ v. (find (is_bad (given options.entry)) spacing_names ≡ None) × AreDistances (given options.entry) v)
-        (λ e. find (is_bad (given options.entry)) spacing_names ≡ Some e.option) }
+    ensures { ReadsAll spacing_names (given options.entry) (spacing_of (given options.entry)) result }
 {
     let node_node = readers::node_node(options)?;
     let edge_node = readers::edge_node(options)?;
@@ -62,6 +56,7 @@ fn spacing(options: Option<&Value>) -> Result<Spacing, BadValue>
     })
 }
 
+// What a node asks before the distances.
 #[derive(Clone, Copy, Drop)]
 struct FrontValues {
     boxes: bool,
@@ -72,13 +67,7 @@ struct FrontValues {
 
 #[tactic(auto, unfolding(crate::specs::Reading::front_names))]
 fn front(options: Option<&Value>) -> Result<FrontValues, BadValue>
-    ensures { MatchResult result
-        (λ v. (find (is_bad (given options.entry)) front_names ≡ None)
-        × (v.boxes ≡ value_or to_boxes false name.Algorithm (given options.entry))
-        × (v.direction ≡ value_or to_direction direction.Right name.Direction (given options.entry))
-        × (v.rule ≡ rule_of (given options.entry))
-        × (v.padding ≡ value_or to_padding usual_padding name.Padding (given options.entry)))
-        (λ e. find (is_bad (given options.entry)) front_names ≡ Some e.option) }
+    ensures { ReadsAll front_names (given options.entry) (front_of (given options.entry)) result }
 {
     let boxes = readers::boxes(options)?;
     let direction = readers::direction(options)?;
@@ -93,6 +82,7 @@ fn front(options: Option<&Value>) -> Result<FrontValues, BadValue>
     })
 }
 
+// What a level asks between the distances and the choices.
 #[derive(Clone, Copy, Drop)]
 struct BackValues {
     sweep: Option<Sweep>,
@@ -103,13 +93,7 @@ struct BackValues {
 
 #[tactic(auto, unfolding(crate::specs::Reading::back_names))]
 fn back(options: Option<&Value>) -> Result<BackValues, BadValue>
-    ensures { MatchResult result
-        (λ v. (find (is_bad (given options.entry)) back_names ≡ None)
-        × (v.sweep ≡ value_or to_sweep None name.FixedAlignment (given options.entry))
-        × (v.split ≡ value_or to_truth false name.SeparateParts (given options.entry))
-        × (v.component ≡ distance_or 20 name.ComponentComponent (given options.entry))
-        × (v.placing ≡ value_or to_placing placing.BrandesKoepf name.NodePlacement (given options.entry)))
-        (λ e. find (is_bad (given options.entry)) back_names ≡ Some e.option) }
+    ensures { ReadsAll back_names (given options.entry) (back_of (given options.entry)) result }
 {
     let sweep = readers::sweep(options)?;
     let split = readers::split(options)?;
@@ -123,26 +107,23 @@ fn back(options: Option<&Value>) -> Result<BackValues, BadValue>
     })
 }
 
+// The choices of a level, and the position of its node.
 #[derive(Clone, Copy, Drop)]
-struct ChoiceValues {
+struct ChosenValues {
     choices: Choices,
     position: Option<i64>,
 }
 
 #[tactic(auto, unfolding(crate::specs::Reading::choice_names, crate::specs::Reading::choices_of))]
-fn choices(options: Option<&Value>) -> Result<ChoiceValues, BadValue>
-    ensures { MatchResult result
-        (λ v. (find (is_bad (given options.entry)) choice_names ≡ None)
-        × (v.choices ≡ choices_of (given options.entry))
-        × (v.position ≡ position_of (given options.entry)))
-        (λ e. find (is_bad (given options.entry)) choice_names ≡ Some e.option) }
+fn chosen(options: Option<&Value>) -> Result<ChosenValues, BadValue>
+    ensures { ReadsAll choice_names (given options.entry) (chosen_of (given options.entry)) result }
 {
     let slots = readers::slots(options)?;
     let effort = readers::effort(options)?;
     let order = readers::order(options)?;
     let straightness = readers::straightness(options)?;
     let position = readers::position(options)?;
-    Ok(ChoiceValues {
+    Ok(ChosenValues {
         choices: Choices {
             slots,
             effort,
@@ -153,23 +134,36 @@ fn choices(options: Option<&Value>) -> Result<ChoiceValues, BadValue>
     })
 }
 
-fn joined(front: FrontValues, spacing: Spacing, back: BackValues, last: ChoiceValues) -> Options
-    ensures { result ≡ joined_options front.boxes front.direction front.rule front.padding spacing back.sweep back.split back.component back.placing last.choices last.position }
+// A level of boxes is never split.
+fn level_from(
+    front: FrontValues,
+    spacing: Spacing,
+    back: BackValues,
+    choices: Choices,
+) -> LevelOptions
+    ensures { result ≡ level_from front spacing back choices }
+{
+    LevelOptions {
+        direction: front.direction,
+        spacing,
+        padding: front.padding,
+        fixed: back.sweep,
+        split: !front.boxes && back.split,
+        component: back.component,
+        placing: back.placing,
+        boxes: front.boxes,
+        choices,
+    }
+}
+
+// What an element has where its role reads nothing.
+fn usual_options() -> Options
+    ensures { result ≡ usual_options }
 {
     Options {
-        level: Some(LevelOptions {
-            direction: front.direction,
-            spacing,
-            padding: front.padding,
-            fixed: back.sweep,
-            split: !front.boxes && back.split,
-            component: back.component,
-            placing: back.placing,
-            boxes: front.boxes,
-            choices: last.choices,
-        }),
-        rule: front.rule,
-        position: last.position,
+        level: None,
+        rule: PortRule::Free,
+        position: None,
         side: None,
         index: 0,
         weight: 1,
@@ -177,67 +171,54 @@ fn joined(front: FrontValues, spacing: Spacing, back: BackValues, last: ChoiceVa
 }
 
 fn level_options(options: Option<&Value>) -> Result<Options, BadValue>
-    ensures { MatchResult result
-        (λ o. (first_bad Role.Level (given options.entry) ≡ None) × (o ≡ options_of Role.Level (given options.entry)))
-        (λ e. first_bad Role.Level (given options.entry) ≡ Some e.option) }
+    ensures { ReadsAll (names_of Role.Level) (given options.entry) (options_of Role.Level (given options.entry)) result }
 {
     let front = front(options)?;
     let spacing = spacing(options)?;
     let back = back(options)?;
-    let choices = choices(options)?;
-    Ok(joined(front, spacing, back, choices))
+    let chosen = chosen(options)?;
+    Ok(Options {
+        level: Some(level_from(front, spacing, back, chosen.choices)),
+        rule: front.rule,
+        position: chosen.position,
+        ..usual_options()
+    })
 }
 
-#[tactic(auto, unfolding(crate::specs::Reading::first_bad, crate::specs::Reading::options_of))]
+#[tactic(auto, unfolding(crate::specs::Reading::options_of))]
 fn leaf_options(options: Option<&Value>) -> Result<Options, BadValue>
-    ensures { MatchResult result
-        (λ o. (first_bad Role.Leaf (given options.entry) ≡ None) × (o ≡ options_of Role.Leaf (given options.entry)))
-        (λ e. first_bad Role.Leaf (given options.entry) ≡ Some e.option) }
+    ensures { ReadsAll (names_of Role.Leaf) (given options.entry) (options_of Role.Leaf (given options.entry)) result }
 {
     let rule = readers::rule(options)?;
     let position = readers::position(options)?;
     Ok(Options {
-        level: None,
         rule,
         position,
-        side: None,
-        index: 0,
-        weight: 1,
+        ..usual_options()
     })
 }
 
-#[tactic(auto, unfolding(crate::specs::Reading::first_bad, crate::specs::Reading::options_of))]
+#[tactic(auto, unfolding(crate::specs::Reading::options_of))]
 fn port_options(options: Option<&Value>) -> Result<Options, BadValue>
-    ensures { MatchResult result
-        (λ o. (first_bad Role.Port (given options.entry) ≡ None) × (o ≡ options_of Role.Port (given options.entry)))
-        (λ e. first_bad Role.Port (given options.entry) ≡ Some e.option) }
+    ensures { ReadsAll (names_of Role.Port) (given options.entry) (options_of Role.Port (given options.entry)) result }
 {
     let side = readers::side(options)?;
     let index = readers::index(options)?;
     Ok(Options {
-        level: None,
-        rule: PortRule::Free,
-        position: None,
         side,
         index,
-        weight: 1,
+        ..usual_options()
     })
 }
 
-#[tactic(auto, unfolding(crate::specs::Reading::first_bad, crate::specs::Reading::options_of, crate::specs::Reading::weight_of))]
+#[tactic(auto, unfolding(crate::specs::Reading::options_of, crate::specs::Reading::weight_of))]
 fn edge_options(options: Option<&Value>) -> Result<Options, BadValue>
-    ensures { MatchResult result
-        (λ o. (first_bad Role.Edge (given options.entry) ≡ None) × (o ≡ options_of Role.Edge (given options.entry)))
-        (λ e. first_bad Role.Edge (given options.entry) ≡ Some e.option) }
+    ensures { ReadsAll (names_of Role.Edge) (given options.entry) (options_of Role.Edge (given options.entry)) result }
 {
     let shortness = readers::shortness(options)?;
     Ok(Options {
-        level: None,
-        rule: PortRule::Free,
-        position: None,
-        side: None,
-        index: 0,
         weight: readers::weight_from(shortness),
+        ..usual_options()
     })
 }
 
@@ -245,6 +226,11 @@ fn edge_options(options: Option<&Value>) -> Result<Options, BadValue>
 /// name, its name from `elk.` on and its short name, and the longest that is there counts. It fails where an option that is
 /// read in the role has a value outside its table, and names the first in the order of `OptionName`. Distances are
 /// effective, at least 1, in document units; a level of boxes is never split.
+///
+/// Proved:
+/// - Options are read by their table; the longest spelling counts. The engine's own options are among them: slots, effort, order, straightness and position.
+/// - The first option whose value is not in the table is named.
+#[tactic(auto, unfolding(crate::specs::Reading::first_bad))]
 pub fn read_options(options: Option<&Value>, role: Role) -> Result<Options, BadValue>
     ensures { MatchResult result
         (λ o. (first_bad role (given options.entry) ≡ None) × (o ≡ options_of role (given options.entry)))

@@ -166,6 +166,9 @@ fn side(given: Option<u32>) -> i64
 
 /// The padding that a text like `[top=12,left=4.0]` gives, in document units; a side that is not named is 0. None where the
 /// text is outside the grammar: each name at most once, each number from 0 to 2^20, spaces anywhere between the words.
+///
+/// Proved:
+/// - Padding texts are read by their grammar.
 pub fn read_padding(text: &str) -> Option<Padding>
     ensures { result ≡ padding_text text.now }
 {

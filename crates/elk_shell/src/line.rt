@@ -16,14 +16,22 @@ fn in_line(byte: u8) -> u8
     if byte == FEED { BLANK } else { byte }
 }
 
+// Puts blanks in place of line feeds.
+fn blank_feeds(bytes: &mut [u8])
+    ensures { bytes.new ≡ map line_byte bytes.old }
+{
+    for byte in bytes.iter_mut() {
+        *byte = in_line(*byte);
+    }
+}
+
 // The bytes with blanks in place of line feeds.
 fn without_feeds(alloc: Global, bytes: &[u8]) -> Result<Vec<u8>, AllocError>
     ensures { IfOk result (λ line. line.items ≡ map line_byte bytes.now) }
 {
     let mut line = Vec::with_capacity(alloc, bytes.len().saturating_add(1))?;
-    for byte in bytes {
-        line.push(in_line(*byte))?;
-    }
+    line.extend_from_slice(bytes)?;
+    blank_feeds(line.as_mut_slice());
     Ok(line)
 }
 

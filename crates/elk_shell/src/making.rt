@@ -20,6 +20,9 @@ use std::alloc::{AllocError, Global};
 const FEED: u8 = 10;
 
 /// The engine's answer to a document's bytes: what `elk layout` writes.
+///
+/// Proved:
+/// - The answer that it writes is the engine's, and a graph is only refused if the engine refuses it.
 pub fn answer_of(alloc: Global, bytes: &[u8]) -> Result<Vec<u8>, DocFault>
     ensures answered { IfOk result (λ text. IsAnswer bytes.now text.items) }
     ensures refused { IfErr result (λ fault. MatchFault fault (Refuses bytes.now)) }

@@ -135,6 +135,9 @@ fn refused_length<N: Sink>(alloc: Global, wish: Wish, notes: &mut N) -> u8
 }
 
 /// Reads a graph and writes what is wished of it. Answers the status.
+///
+/// Proved:
+/// - The same holds for every run that asks for the answer.
 pub fn perform<S: Source, K: Sink, N: Sink>(
     alloc: Global,
     wish: Wish,

@@ -60,6 +60,9 @@ fn reply_to(alloc: Global, line: &[u8]) -> Result<Value, AllocError> {
 }
 
 /// The reply to a line: what its request wants, or what is wrong.
+///
+/// Proved:
+/// - A reply to a request is one line. (`in_one_line`)
 pub fn reply_line(alloc: Global, line: &[u8]) -> Result<Vec<u8>, AllocError>
     ensures { IfOk result (λ reply. IsOneLine reply.items) }
 {

@@ -60,6 +60,10 @@ pub fn refuse_words<N: Sink>(notes: &mut N) -> u8 {
 }
 
 /// Does what the arguments ask for, and answers the program's status.
+///
+/// Proved:
+/// - With the argument `--plain` alone and status 0, the whole input was read, and the output is the engine's answer to it. With
+///   status 2, nothing was written.
 pub fn run<S: Source, K: Sink, N: Sink>(
     alloc: Global,
     words: &[String],

@@ -202,7 +202,7 @@ fn with_settings<'a>(alloc: Global, command: Command<'a>) -> Result<Command<'a>,
     let dot = flag(
         alloc,
         "dot",
-        "Read the graph as DOT, the language of Graphviz",
+        "Read the graph as DOT, the language of Graphviz, or as lines such as `a -> b : label`",
     )
     .conflicts_with("lines")?
     .conflicts_with("placed")?;

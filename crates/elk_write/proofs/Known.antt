@@ -26,7 +26,7 @@ use Rattle.elk_json.specs.Shape.{is_good, is_good_node, is_good_port, is_good_ed
 use Rattle.elk_json.specs.Rules.{refused, value_refusal, edge_refusal, option_refusal, if_so}
 use Rattle.elk_json.specs.Document.{IsDocument, node_of, port_of, edge_of}
 use Rattle.elk_write.specs.Written.{AllFrom}
-use Rattle.elk_write.proofs.Turned.{all_from}
+use Rattle.elk_write.proofs.ReversedTokens.{all_from}
 use Rattle.elk_write.proofs.Ready.{ReadyNode, ReadyPort, ReadyEdge, node_kind, port_kind, edge_kind}
 
 -- ---- no rule refuses

@@ -5,7 +5,7 @@ pub mod Kept
 pub mod Shape
 pub mod Stripped
 pub mod Pairs
-pub mod Turned
+pub mod ReversedTokens
 pub mod Puttings
 pub mod Ready
 pub mod Known

@@ -26,7 +26,7 @@ use Rattle.elk_write.specs.Values.{whole, point_data, id_data, end_members, with
 use Rattle.elk_write.specs.Written.{is_split}
 use Rattle.elk_write.specs.Answered.{kept_into, with_point, port_answer, port_answers, with_sections, edge_answer, edge_answers, with_place, with_size, with_layering, with_node, answer_node, answer_into, answer_member, answer_children, parts_answer}
 use Rattle.elk_write.proofs.Puts.{cmp}
-use Rattle.elk_write.proofs.Shape.{equal_bytes, turned, below_apart}
+use Rattle.elk_write.proofs.Shape.{equal_bytes, is_reversed, below_apart}
 use Rattle.elk_write.proofs.Law.{answer_of}
 use Rattle.elk_write.proofs.NotRefused.{few_levels}
 
@@ -151,7 +151,7 @@ parts_deep false false doc p at ds = omega arith
 levels_none : (k : List ℕ) (ms : Members) → k ≡ codes "children" → IsBelow k ms → levels_below ms ≡ 0
 levels_none k no_members e h = refl
 levels_none k (member l d ms) e h =
-    let away : bytes_eq l (codes "children") ≡ false = subst (λ c. bytes_eq l c ≡ false) e (turned k l (below_apart k l h.0)) in
+    let away : bytes_eq l (codes "children") ≡ false = subst (λ c. bytes_eq l c ≡ false) e (is_reversed k l (below_apart k l h.0)) in
     rw away (levels_none k ms e h.1)
 
 module _ (doc : Document) (p : Placed) where

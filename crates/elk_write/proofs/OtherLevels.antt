@@ -14,7 +14,7 @@ use Rattle.elk_doc.specs.Document.{Document, document, node_at, edge_at}
 use Rattle.elk_doc.specs.Level.{IsChild, IsEdge, source_node, target_node, is_loop, is_edge_of}
 use Rattle.elk_doc.specs.Numbers.{count_below, sum_below, total_below}
 use Rattle.elk_doc.specs.Drawing.{path_of, point_at, certificate_of, tail_node, head_node, flow_in}
-use Rattle.elk_doc.specs.Shapes.{turned}
+use Rattle.elk_doc.specs.Shapes.{rotated}
 use Rattle.drawing_types.specs.Segments.{MeetsRect}
 use Rattle.elk_doc.specs.Sides.{given_side, side_of_end}
 use Rattle.elk_doc.specs.Places.{outline_of, dock_of}
@@ -248,12 +248,12 @@ module _ (ns : List Node) (es : List Edge) (ps qs : List Port) (same : map witho
       layers_over : (n : ℕ) (o : LevelOptions) (c : Certificate) (a b : ℕ) → LayersApart doc p n o c a b → LayersApart other p n o c a b
       layers_over n o c a b h = record {
         same_layer = λ e.
-            subst (λ r. IsAboveBy o.spacing.node_node (turned o.direction r) (framed other p o b) ⊎ IsAboveBy o.spacing.node_node (framed other p o b) (turned o.direction r)) (sym (outline_is a))
-            (subst (λ r. IsAboveBy o.spacing.node_node (framed doc p o a) (turned o.direction r) ⊎ IsAboveBy o.spacing.node_node (turned o.direction r) (framed doc p o a)) (sym (outline_is b))
+            subst (λ r. IsAboveBy o.spacing.node_node (rotated o.direction r) (framed other p o b) ⊎ IsAboveBy o.spacing.node_node (framed other p o b) (rotated o.direction r)) (sym (outline_is a))
+            (subst (λ r. IsAboveBy o.spacing.node_node (framed doc p o a) (rotated o.direction r) ⊎ IsAboveBy o.spacing.node_node (rotated o.direction r) (framed doc p o a)) (sym (outline_is b))
             (h.same_layer e));
         earlier_layer = λ lt.
-            subst (λ r. IsLeftBy o.spacing.node_layers (turned o.direction r) (framed other p o b)) (sym (outline_is a))
-            (subst (λ r. IsLeftBy o.spacing.node_layers (framed doc p o a) (turned o.direction r)) (sym (outline_is b))
+            subst (λ r. IsLeftBy o.spacing.node_layers (rotated o.direction r) (framed other p o b)) (sym (outline_is a))
+            (subst (λ r. IsLeftBy o.spacing.node_layers (framed doc p o a) (rotated o.direction r)) (sym (outline_is b))
             (h.earlier_layer lt));
       }
 

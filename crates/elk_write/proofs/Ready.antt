@@ -21,7 +21,7 @@ use Rattle.elk_write.specs.Values.{whole, sections_data, layering_data}
 use Rattle.elk_write.specs.Written.{AllFrom, IfThere, Has, HasLevel, IsNodeWritten, IsPortWritten, IsEdgeWritten, is_split}
 use Rattle.elk_write.specs.Answered.{kept_into, with_point, with_sections, with_node, answer_node, answer_into, port_answer, edge_answer}
 use Rattle.elk_write.proofs.Pairs.{step_kind, Same, Pairs, Keeps, value_answer}
-use Rattle.elk_write.proofs.Turned.{all_turned}
+use Rattle.elk_write.proofs.ReversedTokens.{all_reversed}
 use Rattle.elk_write.proofs.Puttings.{port_x, port_y, node_x, node_y, node_width, node_height, node_layering, edge_sections, edge_without}
 
 -- ---- kinds
@@ -148,10 +148,10 @@ module _ (doc : Document) (p : Placed) where
       )
 
   pub nodes_written : (xs ys : List Element) → Pairs doc p from_zero xs ys → AllFrom (ReadyNode p) 0 (filter is_node xs) → AllFrom (IsNodeWritten doc p) 0 (filter is_node ys)
-  nodes_written xs ys h r = all_turned doc p kind_is_node (λ a. a.node) node_hit node_miss (ReadyNode p) (IsNodeWritten doc p) turn_node xs ys from_zero h r
+  nodes_written xs ys h r = all_reversed doc p kind_is_node (λ a. a.node) node_hit node_miss (ReadyNode p) (IsNodeWritten doc p) turn_node xs ys from_zero h r
 
   pub ports_written : (xs ys : List Element) → Pairs doc p from_zero xs ys → AllFrom (ReadyPort p) 0 (filter is_port xs) → AllFrom (IsPortWritten p) 0 (filter is_port ys)
-  ports_written xs ys h r = all_turned doc p kind_is_port (λ a. a.port) port_hit port_miss (ReadyPort p) (IsPortWritten p) turn_port xs ys from_zero h r
+  ports_written xs ys h r = all_reversed doc p kind_is_port (λ a. a.port) port_hit port_miss (ReadyPort p) (IsPortWritten p) turn_port xs ys from_zero h r
 
   pub edges_written : (xs ys : List Element) → Pairs doc p from_zero xs ys → AllFrom (ReadyEdge doc p) 0 (filter is_edge xs) → AllFrom (IsEdgeWritten doc p) 0 (filter is_edge ys)
-  edges_written xs ys h r = all_turned doc p kind_is_edge (λ a. a.edge) edge_hit edge_miss (ReadyEdge doc p) (IsEdgeWritten doc p) turn_edge xs ys from_zero h r
+  edges_written xs ys h r = all_reversed doc p kind_is_edge (λ a. a.edge) edge_hit edge_miss (ReadyEdge doc p) (IsEdgeWritten doc p) turn_edge xs ys from_zero h r

@@ -43,13 +43,13 @@ get_later q l d ms h = either (cmp q l) (get_member q ms) (Some d) (is_eq-slice_
 pub equal_bytes : (k l : List ℕ) → bytes_eq k l ≡ true → k ≡ l
 equal_bytes k l e = (bytes_eq-Decides k l).0 e
 
-turned_false : (b : Bool) (k l : List ℕ) → bytes_eq l k ≡ b → bytes_eq k l ≡ false → bytes_eq l k ≡ false
-turned_false true k l is h = absurd (apart k l h (sym (equal_bytes l k is)))
-turned_false false k l is h = is
+reversed_false : (b : Bool) (k l : List ℕ) → bytes_eq l k ≡ b → bytes_eq k l ≡ false → bytes_eq l k ≡ false
+reversed_false true k l is h = absurd (apart k l h (sym (equal_bytes l k is)))
+reversed_false false k l is h = is
 
 -- bytes that differ, differ the other way round
-pub turned : (k l : List ℕ) → bytes_eq k l ≡ false → bytes_eq l k ≡ false
-turned k l h = turned_false (bytes_eq l k) k l refl h
+pub is_reversed : (k l : List ℕ) → bytes_eq k l ≡ false → bytes_eq l k ≡ false
+is_reversed k l h = reversed_false (bytes_eq l k) k l refl h
 
 -- ---- the members of a node that is answered
 
@@ -114,7 +114,7 @@ edges_same doc p at a b d = refl
 pub children_found : (doc : Document) (p : Placed) (at : Numbers) (compound : Bool) (ms : Members) (below : Numbers)
     → get_member (codes "children") (answered doc p at compound below ms) ≡ option_map (answer_member doc p at below (codes "children")) (get_member (codes "children") ms)
 children_found doc p at compound ms below =
-    found doc p at compound (codes "children") (stays_children compound) (λ l e b apart_from d. ap (λ c. answer_member doc p at c (codes "children") d) (past_other l b e (turned (codes "children") l apart_from))) ms below
+    found doc p at compound (codes "children") (stays_children compound) (λ l e b apart_from d. ap (λ c. answer_member doc p at c (codes "children") d) (past_other l b e (is_reversed (codes "children") l apart_from))) ms below
 
 pub ports_found : (doc : Document) (p : Placed) (at : Numbers) (compound : Bool) (ms : Members) (below : Numbers)
     → get_member (codes "ports") (answered doc p at compound below ms) ≡ option_map (answer_member doc p at below (codes "ports")) (get_member (codes "ports") ms)
@@ -183,7 +183,7 @@ below_apart k l less = below_differs (bytes_eq k l) k l refl less
 past_none : (k : List ℕ) (ms : Members) (at : Numbers) → k ≡ codes "children" → IsBelow k ms → past_members at ms ≡ at
 past_none k no_members at e h = refl
 past_none k (member l d ms) at e h =
-    let away : bytes_eq l (codes "children") ≡ false = subst (λ c. bytes_eq l c ≡ false) e (turned k l (below_apart k l h.0)) in
+    let away : bytes_eq l (codes "children") ≡ false = subst (λ c. bytes_eq l c ≡ false) e (is_reversed k l (below_apart k l h.0)) in
     ap (λ c. past_members c ms) (past_other l at d away) ∙ past_none k ms at e h.1
 
 -- after the children no more numbers are given
@@ -199,7 +199,7 @@ below_by true pl owner h k d ms is ih =
     here ∙ ap (λ o. option_map_or (elements_within pl owner h) o []) (sym at)
 below_by false pl owner h k d ms is ih =
     let later : elements_below pl owner h (member k d ms) ≡ elements_below pl owner h ms = rw is refl in
-    later ∙ ih ∙ ap (λ o. option_map_or (elements_within pl owner h) o []) (sym (get_later (codes "children") k d ms (turned k (codes "children") is)))
+    later ∙ ih ∙ ap (λ o. option_map_or (elements_within pl owner h) o []) (sym (get_later (codes "children") k d ms (is_reversed k (codes "children") is)))
 
 below_get : (pl owner : ℕ) (h : Data) (ms : Members) → elements_below pl owner h ms ≡ option_map_or (elements_within pl owner h) (get_member (codes "children") ms) []
 below_get pl owner h no_members = refl

@@ -43,8 +43,8 @@ abbrev pub layer_tokens : Bool → Certificate → List Token
 layer_tokens split c =
     key (codes "flow") ∷ (tokens_of (wholes c.flow) ++ key (codes "layers") ∷ (tokens_of (wholes c.layers) ++ part_tokens split c))
 
-abbrev pub turned_members : Document → Certificate → Members
-turned_members doc c =
+abbrev pub reversed_members : Document → Certificate → Members
+reversed_members doc c =
     member (codes "reversed") (array (items_of (edge_ids doc c.reversed))) (member (codes "span") (whole (pos c.span)) no_members)
 
 -- ---- how far they are written

@@ -30,6 +30,13 @@ use std::alloc::{AllocError, Global};
 /// each edge's section. All else stays as it is. The answer says the same drawing, and the same document but for the places
 /// of ports; a rule may refuse it, as where a port stands further out than a given one may. Where the drawing obeys its
 /// document, no rule does: `placed_of` reads the answer, and the drawing obeys the document that it reads.
+///
+/// Proved:
+/// - For any document and any drawing that fits it, what is written is the input value except for the written members.
+/// - These members have the values of the drawing.
+/// - What was written describes the same drawing, and the same document except for the places of ports.
+/// - If the drawing obeys its document, no rule refuses what was written.
+/// - Then the drawing also obeys the document that is read from it, with no more room and no greater spans than it needs.
 pub fn answer_value(
     alloc: Global,
     value: &Value,

@@ -10,6 +10,9 @@ use serde_json::{Number, Value};
 use std::alloc::{AllocError, Global};
 
 /// The id as JSON text: a text id in quotes, a number in decimal.
+///
+/// Proved:
+/// - Ids are written as JSON text.
 pub fn id_text(alloc: Global, id: &Id) -> Result<Vec<u8>, AllocError>
     ensures { IfOk result (λ b. b.items ≡ id_spelling id.now) }
 {

@@ -241,6 +241,11 @@ fn drawing_of(alloc: Global, doc: &Doc, elements: &[Element<'_>]) -> Result<Plac
 /// and layering of each compound node, the section of each edge. A value that a rule refuses is answered as by `read_doc`;
 /// any other is refused as not placed exactly where a written member is missing or is not of its form, at the first element
 /// in document order that lacks one.
+///
+/// Proved:
+/// - A placed value is refused exactly if a rule refuses it, or a written member is missing or not of its form.
+/// - It is refused at the first element with such a fault.
+/// - Otherwise the drawing that the placed value describes is read.
 pub fn placed_of(alloc: Global, value: &Value) -> Result<(Doc, Placed), DocFault>
     ensures exact { MatchResult result
         (λ pair. refused_placed (view value.now) ≡ None)

@@ -14,6 +14,11 @@ use std::alloc::{AllocError, Global};
 /// The compact text of a value whose numbers are all whole, and a line feed, which is the only one. The members of each
 /// object stand in the order in which the value has them, so that their keys ascend where they do in the value. It is read
 /// as the same value, unless that nests deeper than a text may.
+///
+/// Proved:
+/// - The compact text is one line.
+/// - Its keys ascend if those of the value do.
+/// - It is read as the same value, unless the value nests deeper than a text may. No answer does.
 pub fn text_of(alloc: Global, value: &Value) -> Result<Vec<u8>, AllocError>
     requires { has_float (view value.now) ≡ false }
     ensures written { IfOk result (λ b. b.items ≡ text (view value.now)) }

@@ -3,7 +3,7 @@ ghost use Rattle.std.specs.Prelude.{[], ◌∷◌, OnOk, codes, map, option_map}
 ghost use Rattle.json.specs.Token.{key as key_token, string as string_token};
 ghost use Rattle.serde_json.specs.Data.{number as number_data, array, object};
 ghost use Rattle.serde_json.specs.View.{view, number_view, items_view, members_view, items_of};
-ghost use Rattle.elk_write.specs.Tokens.{tokens_of, tokens_of_members, bend_tokens, id_tokens, part_tokens, layer_tokens, turned_members, Adds};
+ghost use Rattle.elk_write.specs.Tokens.{tokens_of, tokens_of_members, bend_tokens, id_tokens, part_tokens, layer_tokens, reversed_members, Adds};
 ghost use Rattle.elk_write.specs.Values.{whole, wholes, point_data, section_id, id_data, end_members, sections_data, edge_ids, layering_data};
 
 use crate::ids::section_name;
@@ -239,8 +239,8 @@ fn put_layers(out: &mut Writer, split: bool, certificate: &Certificate) -> Resul
 }
 
 // The edges that a certificate turns, its span, and its end.
-fn put_turned(out: &mut Writer, doc: &Doc, certificate: &Certificate) -> Result<(), AllocError>
-    ensures { OnOk result (Adds out.old out.new (tokens_of_members (turned_members doc.now certificate.now))) }
+fn put_reversed(out: &mut Writer, doc: &Doc, certificate: &Certificate) -> Result<(), AllocError>
+    ensures { OnOk result (Adds out.old out.new (tokens_of_members (reversed_members doc.now certificate.now))) }
 {
     out.key("reversed")?;
     put_ids(out, doc, certificate.reversed.as_slice())?;
@@ -260,5 +260,5 @@ pub(crate) fn put_layering(
 {
     out.begin_object()?;
     put_layers(out, split, certificate)?;
-    put_turned(out, doc, certificate)
+    put_reversed(out, doc, certificate)
 }

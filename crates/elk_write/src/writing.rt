@@ -285,6 +285,11 @@ fn put_children(
 
 /// The text of the answer: the value with the written members of the drawing, as `answer_value` gives it and `text_of` writes
 /// it, without a value between.
+///
+/// Proved:
+/// - The text of an answer, which is written without building a value, is the text of such a value.
+/// - It is read as that value if the document was read from a text, whole ids fit into 64 bits and coordinates are small. This holds
+///   for every answer of the program.
 pub fn answer_text(
     alloc: Global,
     value: &Value,

@@ -18,6 +18,9 @@ use network_laws::{
 use std::alloc::{AllocError, Global};
 
 /// The number of each node's connected part. The parts are numbered 0, 1, 2 in the order of their least nodes.
+///
+/// Proved:
+/// - Parts are numbered by least node.
 pub fn parts(alloc: Global, net: &Network) -> Result<Vec<u32>, AllocError>
     requires { IsNetwork net.now.nodes net.now.edges.items }
     ensures { IfOk result (λ numbers. ArePartNumbers net.now.nodes net.now.edges.items numbers.items) }
@@ -102,6 +105,11 @@ pub fn solve_from(alloc: Global, net: &Network, first: Vec<i64>) -> Result<Solut
 
 /// A layering of least cost, and a flow that proves it, as `solve_from` finds them from the layering of greatest path
 /// sums.
+///
+/// Proved:
+/// - The layers keep each edge's length, and the least layer of each part is 0. The flow balances, and its value is the cost.
+///   (`solve_from`)
+/// - So no layering costs less, for every network and from any layering to begin with. (`solve_from`)
 pub fn solve(alloc: Global, net: &Network) -> Result<Solution, AllocError>
     requires { IsNetwork net.now.nodes net.now.edges.items }
     ensures { IfOk result (λ s. IsSolution net.now.nodes net.now.edges.items s.layer.items s.flow.items s.cost) }

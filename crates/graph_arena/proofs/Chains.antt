@@ -2,10 +2,10 @@ use Rattle.std.proofs.Common.{◌≡◌, ◌≢◌, ℕ, ◌+◌, ◌<◌, ◌�
 use Rattle.std.proofs.lemmas.Bool.{cases_eq}
 use Rattle.std.proofs.lemmas.List.{length-append}
 use Rattle.std.proofs.lemmas.Bool.Decides.{nat_tests}
-use Rattle.graph_arena.specs.declared.slots.Row.{Row}
+use Rattle.graph_arena.specs.declared.slots.EdgeList.{EdgeList}
 use Rattle.graph_arena.specs.Graph.{front, after, occurs, if_end}
-use Rattle.graph_arena.specs.Chain.{follow, IsChain, row_keys, IsRow, IsSide}
-use Rattle.graph_arena.specs.Sides.{pushed}
+use Rattle.graph_arena.specs.Chain.{follow, IsChain, row_keys, IsRow, IsFlank}
+use Rattle.graph_arena.specs.Flanks.{pushed}
 
 pub eqb_other : (m n : ℕ) → m ≢ n → eqb m n ≡ false
 eqb_other m n h = grind (arith, nat_tests, h)
@@ -113,7 +113,7 @@ pub if_end_le : (o : Option ℕ) (v : ℕ) → if_end o v ≤ 1
 if_end_le None v = omega arith
 if_end_le (Some u) v = grind (arith, nat_tests)
 
-pub member_owned : (row : ℕ → Option Row) (next prev owner : ℕ → Option ℕ) (v k : ℕ) → IsSide row next prev owner → 0 < occurs k (row_keys next (row v)) → owner k ≡ Some v
+pub member_owned : (row : ℕ → Option EdgeList) (next prev owner : ℕ → Option ℕ) (v k : ℕ) → IsFlank row next prev owner → 0 < occurs k (row_keys next (row v)) → owner k ≡ Some v
 member_owned row next prev owner v k s h = let o = s.once v k in owned (owner k) v (omega (arith, o, h))
 
 pub last_member : (next prev : ℕ → Option ℕ) (at : Option ℕ) (ks : List ℕ) (last : Option ℕ) (k : ℕ) → IsChain next prev None at ks last → last ≡ Some k → 0 < occurs k ks
@@ -122,7 +122,7 @@ last_member next prev at (x ∷ ks) last k c h =
     let l = last_in next prev None at x ks last c in
     subst (λ (j : ℕ). 0 < occurs j (x ∷ ks)) (some_inj l.0 k (sym l.1 ∙ h)) l.2
 
-pub some_row_inj : (a b : Row) → Some a ≡ Some b → a ≡ b
+pub some_row_inj : (a b : EdgeList) → Some a ≡ Some b → a ≡ b
 some_row_inj a b h = cc
 
 pub occurs-append : (k : ℕ) (xs ys : List ℕ) → occurs k (xs ++ ys) ≡ occurs k xs + occurs k ys
@@ -130,13 +130,13 @@ occurs-append k [] ys = omega arith
 occurs-append k (x ∷ xs) ys = let i = occurs-append k xs ys in omega (arith, i)
 
 -- the last key of a row is one of the node's own
-pub row_last_owned : (row : ℕ → Option Row) (next prev owner : ℕ → Option ℕ) (v k : ℕ) (r : Row) → IsSide row next prev owner → row v ≡ Some r → r.last ≡ Some k → owner k ≡ Some v
+pub row_last_owned : (row : ℕ → Option EdgeList) (next prev owner : ℕ → Option ℕ) (v k : ℕ) (r : EdgeList) → IsFlank row next prev owner → row v ≡ Some r → r.last ≡ Some k → owner k ≡ Some v
 row_last_owned row next prev owner v k r s is l =
     let here : row_keys next (row v) ≡ follow next r.count r.first = rw is refl in
     member_owned row next prev owner v k s (rw here (last_member next prev r.first (follow next r.count r.first) r.last k (s.rows v r is).chain l))
 
 -- a free edge went to the end of a node's list, and nothing else changed
-pub record Appends (row row' : ℕ → Option Row) (next next' prev prev' owner owner' : ℕ → Option ℕ) (v e : ℕ) (r r' : Row) : Type 0 where
+pub record Appends (row row' : ℕ → Option EdgeList) (next next' prev prev' owner owner' : ℕ → Option ℕ) (v e : ℕ) (r r' : EdgeList) : Type 0 where
   pub was_row : row v ≡ Some r
   pub was_free : owner e ≡ None
   pub is_row : row' v ≡ Some r'
@@ -152,7 +152,7 @@ pub record Appends (row row' : ℕ → Option Row) (next next' prev prev' owner 
   pub ends : next' e ≡ None
   pub comes_after : prev' e ≡ r.last
 
-module _ (row row' : ℕ → Option Row) (next next' prev prev' owner owner' : ℕ → Option ℕ) (v e : ℕ) (r r' : Row) (s : IsSide row next prev owner) (a : Appends row row' next next' prev prev' owner owner' v e r r') where
+module _ (row row' : ℕ → Option EdgeList) (next next' prev prev' owner owner' : ℕ → Option ℕ) (v e : ℕ) (r r' : EdgeList) (s : IsFlank row next prev owner) (a : Appends row row' next next' prev prev' owner owner' v e r r') where
   not_new : (u k : ℕ) → 0 < occurs k (row_keys next (row u)) → k ≢ e
   not_new u k h same =
       let o : owner e ≡ Some u = subst (λ (j : ℕ). owner j ≡ Some u) same (member_owned row next prev owner u k s h) in
@@ -194,7 +194,7 @@ module _ (row row' : ℕ → Option Row) (next next' prev prev' owner owner' : �
       let two : owner k ≡ Some u = member_owned row next prev owner u k s h in
       other (some_inj u v (sym two ∙ one))
 
-  other_row : (u : ℕ) (o : Option Row) → u ≢ v → row u ≡ o → (row_keys next' o ≡ row_keys next o) × ((q : Row) → o ≡ Some q → IsRow next' prev' q)
+  other_row : (u : ℕ) (o : Option EdgeList) → u ≢ v → row u ≡ o → (row_keys next' o ≡ row_keys next o) × ((q : EdgeList) → o ≡ Some q → IsRow next' prev' q)
   other_row u None other is = (refl, λ q h. cc)
   other_row u (Some q) other is =
       let here : row_keys next (row u) ≡ follow next q.count q.first = rw is refl in
@@ -208,7 +208,7 @@ module _ (row row' : ℕ → Option Row) (next next' prev prev' owner owner' : �
       subst (λ (n : ℕ). follow next' n q.first ≡ follow next q.count q.first) w.counted (follow_is next' prev' None q.first (follow next q.count q.first) q.last c)
       in
       let good : IsRow next' prev' q = record { counted = rw f w.counted; chain = rw f c } in
-      (f, λ p h. let e2 : q ≡ p = cc in subst (λ (x : Row). IsRow next' prev' x) e2 good)
+      (f, λ p h. let e2 : q ≡ p = cc in subst (λ (x : EdgeList). IsRow next' prev' x) e2 good)
 
   -- every other node's list is as it was
   pub other_keys : (u : ℕ) → u ≢ v → row_keys next' (row' u) ≡ row_keys next (row u)
@@ -217,12 +217,12 @@ module _ (row row' : ℕ → Option Row) (next next' prev prev' owner owner' : �
   owner_others : (u k : ℕ) → k ≢ e → if_end (owner' k) u ≡ if_end (owner k) u
   owner_others u k n = rw (a.owners_kept k n) refl
 
-  all_rows : (u : ℕ) (q : Row) → row' u ≡ Some q → IsRow next' prev' q
+  all_rows : (u : ℕ) (q : EdgeList) → row' u ≡ Some q → IsRow next' prev' q
   all_rows u q is =
       elim (cases_eq u v) [
         | inl same ↦
             let e2 : r' ≡ q = some_row_inj r' q (sym a.is_row ∙ (ap row' (sym same) ∙ is)) in
-            subst (λ (x : Row). IsRow next' prev' x) e2 own_row
+            subst (λ (x : EdgeList). IsRow next' prev' x) e2 own_row
         | inr other ↦ (other_row u (row u) other refl).1 q (sym (a.rows_kept u other) ∙ is)
       ]
 
@@ -256,5 +256,5 @@ module _ (row row' : ℕ → Option Row) (next next' prev prev' owner owner' : �
         | inr other ↦ rw (other_keys u other) (o ∙ once_there u k other)
       ]
 
-  pub side_append : IsSide row' next' prev' owner'
-  side_append = record { rows = all_rows; once = new_once }
+  pub flank_append : IsFlank row' next' prev' owner'
+  flank_append = record { rows = all_rows; once = new_once }

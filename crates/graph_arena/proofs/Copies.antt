@@ -4,7 +4,7 @@ use Rattle.std.specs.List.{AllZip}
 use Rattle.slab.specs.Slab.{Slab, IsSlotClone}
 use Rattle.graph_arena.specs.declared.slots.NodeSlot.{NodeSlot}
 use Rattle.graph_arena.specs.declared.slots.EdgeSlot.{EdgeSlot}
-use Rattle.graph_arena.specs.Sides.{IsSound, graph_of}
+use Rattle.graph_arena.specs.Flanks.{IsSound, graph_of}
 use Rattle.graph_arena.specs.Changes.{IsSame}
 
 pub same_slots : {T : Type 0} (R : T → T → Type 0) → ((x y : T) → R x y → y ≡ x) → (xs ys : List (Option T)) → AllZip (IsSlotClone R) xs ys → ys ≡ xs
@@ -24,7 +24,7 @@ pub copy_sound : (nodes n1 : Slab NodeSlot) (edges e1 : Slab EdgeSlot) → n1.sl
 copy_sound nodes n1 edges e1 a b s =
     subst (λ (n : Slab NodeSlot). IsSound n e1) (sym (slab_from nodes n1 a))
     (subst (λ (e : Slab EdgeSlot). IsSound (record nodes { vacant_key = n1.vacant_key; capacity = n1.capacity }) e) (sym (slab_from edges e1 b))
-    (record { sides = s.sides; ends = s.ends; small = s.small }))
+    (record { flanks = s.flanks; ends = s.ends; small = s.small }))
 
 pub copy_same : (nodes n1 : Slab NodeSlot) (edges e1 : Slab EdgeSlot) → n1.slots ≡ nodes.slots → e1.slots ≡ edges.slots → IsSame (graph_of nodes edges) (graph_of n1 e1)
 copy_same nodes n1 edges e1 a b =

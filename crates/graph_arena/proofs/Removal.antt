@@ -2,19 +2,19 @@
 use Rattle.std.proofs.Common.{◌≡◌, ◌≢◌, ◌||◌, ℕ, ◌<◌, eqb, eq-eqb, cond, not, Bool, true, false, List, [], ◌∷◌, length, filter, Option, Some, None, IsSome, is_some, arith, refl, sym, ap, ◌∙◌, subst, inl, inr, ⊎_elim}
 use Rattle.std.proofs.lemmas.Bool.{cases_eq, cases_Bool, or_left, or_right}
 use Rattle.slab.specs.Slab.{Slab, get}
-use Rattle.graph_arena.specs.declared.slots.Side.{Side}
-use Rattle.graph_arena.specs.declared.slots.Side.TheVariants.{Outward, Inward}
-use Rattle.graph_arena.specs.declared.slots.Row.{Row}
+use Rattle.graph_arena.specs.declared.slots.Flank.{Flank}
+use Rattle.graph_arena.specs.declared.slots.Flank.TheVariants.{Outward, Inward}
+use Rattle.graph_arena.specs.declared.slots.EdgeList.{EdgeList}
 use Rattle.graph_arena.specs.declared.slots.NodeSlot.{NodeSlot}
 use Rattle.graph_arena.specs.declared.slots.EdgeSlot.{EdgeSlot}
 use Rattle.graph_arena.specs.Graph.{Graph, Ends, lists_at, ends_at, out_list, in_list, IsEdge, occurs, if_end, tail_in, head_in}
 use Rattle.graph_arena.specs.Changes.{RemovesEdge, RemovesNode, Peels, touches, without}
-use Rattle.graph_arena.specs.Chain.{row_keys, follow, IsChain, IsSide}
-use Rattle.graph_arena.specs.Sides.{row_in, row, next, prev, owner, keys, IsSideOf, IsSound, graph_of}
+use Rattle.graph_arena.specs.Chain.{row_keys, follow, IsChain, IsFlank}
+use Rattle.graph_arena.specs.Flanks.{row_in, row, next, prev, owner, keys, IsFlankOf, IsSound, graph_of}
 use Rattle.graph_arena.proofs.Chains.{eqb_other, occurs_tail, occurs_head, member_owned}
 use Rattle.graph_arena.proofs.Unlinking.{first_in, length-without}
 use Rattle.graph_arena.proofs.Views.{lists_are, outs_are, ins_are, node_is, tail_is, head_is, incidence_of}
-use Rattle.graph_arena.proofs.Whole.{by_side}
+use Rattle.graph_arena.proofs.Whole.{by_flank}
 
 -- ---- lists
 
@@ -99,19 +99,19 @@ peels_then g h k v p q =
 
 -- ---- the first edge of a list
 
-pub first_owned : (s : Side) (nodes : Slab NodeSlot) (edges : Slab EdgeSlot) (v k : ℕ) (r : Row) → IsSideOf s nodes edges → row s nodes v ≡ Some r → r.first ≡ Some k → owner s edges k ≡ Some v
-first_owned s nodes edges v k r side is f =
-    let m = first_in (next s edges) (prev s edges) None r.first (follow (next s edges) r.count r.first) r.last k (side.rows v r is).chain f in
-    member_owned (row s nodes) (next s edges) (prev s edges) (owner s edges) v k side (rw is m)
+pub first_owned : (s : Flank) (nodes : Slab NodeSlot) (edges : Slab EdgeSlot) (v k : ℕ) (r : EdgeList) → IsFlankOf s nodes edges → row s nodes v ≡ Some r → r.first ≡ Some k → owner s edges k ≡ Some v
+first_owned s nodes edges v k r flank is f =
+    let m = first_in (next s edges) (prev s edges) None r.first (follow (next s edges) r.count r.first) r.last k (flank.rows v r is).chain f in
+    member_owned (row s nodes) (next s edges) (prev s edges) (owner s edges) v k flank (rw is m)
 
 no_first : (next prev : ℕ → Option ℕ) (before at : Option ℕ) (ks : List ℕ) (last : Option ℕ) → IsChain next prev before at ks last → at ≡ None → ks ≡ []
 no_first next prev before at [] last c h = refl
 no_first next prev before at (k ∷ ks) last c h = let bad : None ≡ Some k = sym h ∙ c.0 in cc
 
 -- an edge in a list of the node touches it
-pub owner_touches : (s : Side) (nodes : Slab NodeSlot) (edges : Slab EdgeSlot) (v e : ℕ) (x : Ends) → IsSound nodes edges → ends_at (graph_of nodes edges) e ≡ Some x → owner s edges e ≡ Some v → touches (ends_at (graph_of nodes edges) e) v ≡ true
+pub owner_touches : (s : Flank) (nodes : Slab NodeSlot) (edges : Slab EdgeSlot) (v e : ℕ) (x : Ends) → IsSound nodes edges → ends_at (graph_of nodes edges) e ≡ Some x → owner s edges e ≡ Some v → touches (ends_at (graph_of nodes edges) e) v ≡ true
 owner_touches s nodes edges v e x sound is own =
-    rw is (by_side (λ t. owner t edges e ≡ Some v → (eqb x.tail v || eqb x.head v) ≡ true)
+    rw is (by_flank (λ t. owner t edges e ≡ Some v → (eqb x.tail v || eqb x.head v) ≡ true)
     (λ o. or_left (eqb x.tail v) (eqb x.head v) (eq-eqb x.tail v (let q : Some x.tail ≡ Some v = sym (sym (tail_is nodes edges e sound) ∙ ap tail_in is) ∙ o in cc)))
     (λ o. or_right (eqb x.tail v) (eqb x.head v) (eq-eqb x.head v (let q : Some x.head ≡ Some v = sym (sym (head_is nodes edges e sound) ∙ ap head_in is) ∙ o in cc)))
     s own)
@@ -120,10 +120,10 @@ shorter : (e : ℕ) (xs ys : List ℕ) → ys ≡ without e xs → 0 < occurs e 
 shorter e xs ys is h = let l = length-without e xs h in rw is (omega (arith, l))
 
 -- the list that the edge stood in is shorter
-pub fewer_keys : (s : Side) (nodes n1 : Slab NodeSlot) (edges e1 : Slab EdgeSlot) (v e : ℕ) (x : Ends) → IsSound nodes edges → ends_at (graph_of nodes edges) e ≡ Some x → owner s edges e ≡ Some v → RemovesEdge (graph_of nodes edges) (graph_of n1 e1) e x.tail x.head → length (keys s n1 e1 v) < length (keys s nodes edges v)
+pub fewer_keys : (s : Flank) (nodes n1 : Slab NodeSlot) (edges e1 : Slab EdgeSlot) (v e : ℕ) (x : Ends) → IsSound nodes edges → ends_at (graph_of nodes edges) e ≡ Some x → owner s edges e ≡ Some v → RemovesEdge (graph_of nodes edges) (graph_of n1 e1) e x.tail x.head → length (keys s n1 e1 v) < length (keys s nodes edges v)
 fewer_keys s nodes n1 edges e1 v e x sound is own r =
-    let there : 0 < occurs e (keys s nodes edges v) = let o = (sound.sides s).once v e in let o2 = rw (own, eq-eqb v v refl) at o in omega (arith, o2) in
-    by_side (λ t. owner t edges e ≡ Some v → 0 < occurs e (keys t nodes edges v) → length (keys t n1 e1 v) < length (keys t nodes edges v))
+    let there : 0 < occurs e (keys s nodes edges v) = let o = (sound.flanks s).once v e in let o2 = rw (own, eq-eqb v v refl) at o in omega (arith, o2) in
+    by_flank (λ t. owner t edges e ≡ Some v → 0 < occurs e (keys t nodes edges v) → length (keys t n1 e1 v) < length (keys t nodes edges v))
     (λ o h.
     let q : x.tail ≡ v = (let q : Some x.tail ≡ Some v = sym (sym (tail_is nodes edges e sound) ∙ ap tail_in is) ∙ o in cc) in
     let l : out_list (graph_of n1 e1) v ≡ without e (out_list (graph_of nodes edges) v) = subst (λ (j : ℕ). out_list (graph_of n1 e1) j ≡ without e (out_list (graph_of nodes edges) j)) q r.at_tail in
@@ -136,8 +136,8 @@ fewer_keys s nodes n1 edges e1 v e x sound is own r =
 
 -- ---- a node with no edges goes
 
-side_drop : (row row' : ℕ → Option Row) (next prev owner : ℕ → Option ℕ) (v : ℕ) → IsSide row next prev owner → row_keys next (row v) ≡ [] → row' v ≡ None → ((u : ℕ) → u ≢ v → row' u ≡ row u) → IsSide row' next prev owner
-side_drop row row' next prev owner v s empty gone there =
+flank_drop : (row row' : ℕ → Option EdgeList) (next prev owner : ℕ → Option ℕ) (v : ℕ) → IsFlank row next prev owner → row_keys next (row v) ≡ [] → row' v ≡ None → ((u : ℕ) → u ≢ v → row' u ≡ row u) → IsFlank row' next prev owner
+flank_drop row row' next prev owner v s empty gone there =
     record {
       rows = λ u r is. elim (cases_eq u v) [
         | inl e ↦ let bad : None ≡ Some r = sym gone ∙ (ap row' (sym e) ∙ is) in cc
@@ -161,7 +161,7 @@ module _ (n0 n1 n2 n3 : Slab NodeSlot) (e0 e1 e2 : Slab EdgeSlot) (v : ℕ) (s1 
   all_peeled = peels_then (graph_of n0 e0) (graph_of n1 e1) (graph_of n2 e2) v p q
 
   no_out_then : (e : ℕ) → if_end (owner Outward e1 e) v ≡ 0
-  no_out_then e = let o = (s1.sides Outward).once v e in let o2 = rw no_outs at o in sym o2
+  no_out_then e = let o = (s1.flanks Outward).once v e in let o2 = rw no_outs at o in sym o2
 
   no_tail : (e : ℕ) → if_end (tail_in (ends_at (graph_of n2 e2) e)) v ≡ 0
   no_tail e =
@@ -169,10 +169,10 @@ module _ (n0 n1 n2 n3 : Slab NodeSlot) (e0 e1 e2 : Slab EdgeSlot) (v : ℕ) (s1 
       (λ (b : (ends_at (graph_of n2 e2) e ≡ None) × (touches (ends_at (graph_of n1 e1) e) v ≡ true)). ap (λ (o : Option Ends). if_end (tail_in o) v) b.0) (q.edges e)
 
   no_head : (e : ℕ) → if_end (head_in (ends_at (graph_of n2 e2) e)) v ≡ 0
-  no_head e = ap (λ (o : Option ℕ). if_end o v) (head_is n2 e2 e s2) ∙ (let o = (s2.sides Inward).once v e in let o2 = rw no_ins at o in sym o2)
+  no_head e = ap (λ (o : Option ℕ). if_end o v) (head_is n2 e2 e s2) ∙ (let o = (s2.flanks Inward).once v e in let o2 = rw no_ins at o in sym o2)
 
   no_outs2 : keys Outward n2 e2 v ≡ []
-  no_outs2 = empty_from (keys Outward n2 e2 v) (λ e. (s2.sides Outward).once v e ∙ (ap (λ (o : Option ℕ). if_end o v) (sym (tail_is n2 e2 e s2)) ∙ no_tail e))
+  no_outs2 = empty_from (keys Outward n2 e2 v) (λ e. (s2.flanks Outward).once v e ∙ (ap (λ (o : Option ℕ). if_end o v) (sym (tail_is n2 e2 e s2)) ∙ no_tail e))
 
   off : (e : ℕ) (o : Option Ends) → if_end (tail_in o) v ≡ 0 → if_end (head_in o) v ≡ 0 → touches o v ≡ false
   off e None a b = refl
@@ -187,7 +187,7 @@ module _ (n0 n1 n2 n3 : Slab NodeSlot) (e0 e1 e2 : Slab EdgeSlot) (v : ℕ) (s1 
   pub dropped_sound : IsSound n3 e2
   dropped_sound =
       record {
-        sides = λ t. side_drop (row t n2) (row t n3) (next t e2) (prev t e2) (owner t e2) v (s2.sides t) (by_side (λ z. keys z n2 e2 v ≡ []) no_outs2 no_ins t) (ap (row_in t) gone) (λ u d. ap (row_in t) (others u d));
+        flanks = λ t. flank_drop (row t n2) (row t n3) (next t e2) (prev t e2) (owner t e2) v (s2.flanks t) (by_flank (λ z. keys z n2 e2 v ≡ []) no_outs2 no_ins t) (ap (row_in t) gone) (λ u d. ap (row_in t) (others u d));
         ends = s2.ends;
         small = s2.small;
       }
@@ -209,7 +209,7 @@ module _ (n0 n1 n2 n3 : Slab NodeSlot) (e0 e1 e2 : Slab EdgeSlot) (v : ℕ) (s1 
   same_ends : (e : ℕ) → ends_at (graph_of n3 e2) e ≡ ends_at (graph_of n2 e2) e
   same_ends e = refl
 
-  same_row : (t : Side) (u : ℕ) → u ≢ v → keys t n3 e2 u ≡ keys t n2 e2 u
+  same_row : (t : Flank) (u : ℕ) → u ≢ v → keys t n3 e2 u ≡ keys t n2 e2 u
   same_row t u d = ap (λ (o : Option NodeSlot). row_keys (next t e2) (row_in t o)) (others u d)
 
   same_node : (u : ℕ) → u ≢ v → is_some (lists_at (graph_of n3 e2) u) ≡ is_some (lists_at (graph_of n2 e2) u)

@@ -3,10 +3,10 @@ use Rattle.std.proofs.Common.{◌≡◌, ◌≢◌, ℕ, ◌+◌, ◌<◌, ◌�
 use Rattle.std.specs.Option.{option_map}
 use Rattle.std.proofs.lemmas.Bool.{cases_eq}
 use Rattle.std.proofs.lemmas.List.{length-map}
-use Rattle.graph_arena.specs.declared.slots.Row.{Row}
+use Rattle.graph_arena.specs.declared.slots.EdgeList.{EdgeList}
 use Rattle.graph_arena.specs.Graph.{occurs, if_end}
 use Rattle.graph_arena.specs.Changes.{renamed}
-use Rattle.graph_arena.specs.Chain.{IsChain, IsRow, IsSide, follow, row_keys}
+use Rattle.graph_arena.specs.Chain.{IsChain, IsRow, IsFlank, follow, row_keys}
 use Rattle.graph_arena.proofs.Chains.{eqb_other, chain_same, some_inj, occurs_tail, occurs_head, follow_is, member_owned, if_end_le, some_row_inj}
 use Rattle.graph_arena.proofs.Unlinking.{first_in, next_in, prev_in}
 
@@ -84,7 +84,7 @@ pub record Owned (next prev owner : ℕ → Option ℕ) (u j : ℕ) : Type 0 whe
   pub there : 0 < occurs j list
   pub members : (k : ℕ) → 0 < occurs k list → owner k ≡ Some u
 
-owned_in : (row : ℕ → Option Row) (next prev owner : ℕ → Option ℕ) (u j : ℕ) → IsSide row next prev owner → owner j ≡ Some u → (o : Option Row) → row u ≡ o → Owned next prev owner u j
+owned_in : (row : ℕ → Option EdgeList) (next prev owner : ℕ → Option ℕ) (u j : ℕ) → IsFlank row next prev owner → owner j ≡ Some u → (o : Option EdgeList) → row u ≡ o → Owned next prev owner u j
 owned_in row next prev owner u j s is None at =
     let o = s.once u j in let o2 = rw (at, is, eq-eqb u u refl) at o in absurd (omega (arith, o2))
 owned_in row next prev owner u j s is (Some r) at =
@@ -101,32 +101,32 @@ owned_in row next prev owner u j s is (Some r) at =
       members = λ k h. member_owned row next prev owner u k s (rw same h);
     }
 
-pub owned_chain : (row : ℕ → Option Row) (next prev owner : ℕ → Option ℕ) (u j : ℕ) → IsSide row next prev owner → owner j ≡ Some u → Owned next prev owner u j
+pub owned_chain : (row : ℕ → Option EdgeList) (next prev owner : ℕ → Option ℕ) (u j : ℕ) → IsFlank row next prev owner → owner j ≡ Some u → Owned next prev owner u j
 owned_chain row next prev owner u j s is = owned_in row next prev owner u j s is (row u) refl
 
 -- the neighbours of an edge have its owner
-pub side_next_owner : (row : ℕ → Option Row) (next prev owner : ℕ → Option ℕ) (u j m : ℕ) → IsSide row next prev owner → owner j ≡ Some u → next j ≡ Some m → owner m ≡ Some u
-side_next_owner row next prev owner u j m s is n =
+pub flank_next_owner : (row : ℕ → Option EdgeList) (next prev owner : ℕ → Option ℕ) (u j m : ℕ) → IsFlank row next prev owner → owner j ≡ Some u → next j ≡ Some m → owner m ≡ Some u
+flank_next_owner row next prev owner u j m s is n =
     let w = owned_chain row next prev owner u j s is in
     w.members m (next_in next prev None w.first w.list w.last j m w.chain w.there n)
 
-pub side_prev_owner : (row : ℕ → Option Row) (next prev owner : ℕ → Option ℕ) (u j m : ℕ) → IsSide row next prev owner → owner j ≡ Some u → prev j ≡ Some m → owner m ≡ Some u
-side_prev_owner row next prev owner u j m s is p =
+pub flank_prev_owner : (row : ℕ → Option EdgeList) (next prev owner : ℕ → Option ℕ) (u j m : ℕ) → IsFlank row next prev owner → owner j ≡ Some u → prev j ≡ Some m → owner m ≡ Some u
+flank_prev_owner row next prev owner u j m s is p =
     let w = owned_chain row next prev owner u j s is in
     w.members m (prev_in next prev None w.first w.list w.last j m w.chain (λ b. cc) w.there p)
 
-pub side_next_prev : (row : ℕ → Option Row) (next prev owner : ℕ → Option ℕ) (u j m : ℕ) → IsSide row next prev owner → owner j ≡ Some u → next j ≡ Some m → prev m ≡ Some j
-side_next_prev row next prev owner u j m s is n =
+pub flank_next_prev : (row : ℕ → Option EdgeList) (next prev owner : ℕ → Option ℕ) (u j m : ℕ) → IsFlank row next prev owner → owner j ≡ Some u → next j ≡ Some m → prev m ≡ Some j
+flank_next_prev row next prev owner u j m s is n =
     let w = owned_chain row next prev owner u j s is in
     chain_next_prev next prev None w.first w.list w.last j m w.chain w.there n
 
-pub side_prev_next : (row : ℕ → Option Row) (next prev owner : ℕ → Option ℕ) (u j m : ℕ) → IsSide row next prev owner → owner m ≡ Some u → prev m ≡ Some j → next j ≡ Some m
-side_prev_next row next prev owner u j m s is p =
+pub flank_prev_next : (row : ℕ → Option EdgeList) (next prev owner : ℕ → Option ℕ) (u j m : ℕ) → IsFlank row next prev owner → owner m ≡ Some u → prev m ≡ Some j → next j ≡ Some m
+flank_prev_next row next prev owner u j m s is p =
     let w = owned_chain row next prev owner u m s is in
     chain_prev_next next prev None w.first w.list w.last j m w.chain w.once (λ b. cc) w.there p
 
-pub side_no_loop : (row : ℕ → Option Row) (next prev owner : ℕ → Option ℕ) (u j : ℕ) → IsSide row next prev owner → owner j ≡ Some u → next j ≢ Some j
-side_no_loop row next prev owner u j s is =
+pub flank_no_loop : (row : ℕ → Option EdgeList) (next prev owner : ℕ → Option ℕ) (u j : ℕ) → IsFlank row next prev owner → owner j ≡ Some u → next j ≢ Some j
+flank_no_loop row next prev owner u j s is =
     let w = owned_chain row next prev owner u j s is in
     chain_no_loop next prev None w.first w.list w.last j w.chain w.once w.there
 
@@ -178,7 +178,7 @@ renamed_kept e by None h = refl
 renamed_kept e by (Some k) h = let n : k ≢ e = λ i. h (ap Some i) in rw (eqb_other k e n) refl
 
 -- an edge's place in its node's list was given to a loose edge
-pub record Renames (row row' : ℕ → Option Row) (next next' prev prev' owner owner' : ℕ → Option ℕ) (v e by : ℕ) (r r' : Row) : Type 0 where
+pub record Renames (row row' : ℕ → Option EdgeList) (next next' prev prev' owner owner' : ℕ → Option ℕ) (v e by : ℕ) (r r' : EdgeList) : Type 0 where
   pub was_row : row v ≡ Some r
   pub was_owned : owner e ≡ Some v
   pub was_free : owner by ≡ None
@@ -193,7 +193,7 @@ pub record Renames (row row' : ℕ → Option Row) (next next' prev prev' owner 
   pub nexts : (j u : ℕ) → owner j ≡ Some u → next' (renamed e by j) ≡ option_map (renamed e by) (next j)
   pub prevs : (j u : ℕ) → owner j ≡ Some u → prev' (renamed e by j) ≡ option_map (renamed e by) (prev j)
 
-module _ (row row' : ℕ → Option Row) (next next' prev prev' owner owner' : ℕ → Option ℕ) (v e by : ℕ) (r r' : Row) (s : IsSide row next prev owner) (t : Renames row row' next next' prev prev' owner owner' v e by r r') where
+module _ (row row' : ℕ → Option EdgeList) (next next' prev prev' owner owner' : ℕ → Option ℕ) (v e by : ℕ) (r r' : EdgeList) (s : IsFlank row next prev owner) (t : Renames row row' next next' prev prev' owner owner' v e by r r') where
   two : by ≢ e
   two i = let bad : None ≡ Some v = sym t.was_free ∙ (ap owner i ∙ t.was_owned) in cc
 
@@ -226,7 +226,7 @@ module _ (row row' : ℕ → Option Row) (next next' prev prev' owner owner' : �
       let o : owner e ≡ Some u = subst (λ (j : ℕ). owner j ≡ Some u) same (member_owned row next prev owner u k s h) in
       other (some_inj u v (sym o ∙ t.was_owned))
 
-  other_row : (u : ℕ) (o : Option Row) → u ≢ v → row u ≡ o → (row_keys next' o ≡ row_keys next o) × ((q : Row) → o ≡ Some q → IsRow next' prev' q)
+  other_row : (u : ℕ) (o : Option EdgeList) → u ≢ v → row u ≡ o → (row_keys next' o ≡ row_keys next o) × ((q : EdgeList) → o ≡ Some q → IsRow next' prev' q)
   other_row u None other is = (refl, λ q h. cc)
   other_row u (Some q) other is =
       let keys : row_keys next (row u) ≡ follow next q.count q.first = rw is refl in
@@ -246,17 +246,17 @@ module _ (row row' : ℕ → Option Row) (next next' prev prev' owner owner' : �
       subst (λ (n : ℕ). follow next' n q.first ≡ follow next q.count q.first) w.counted (follow_is next' prev' None q.first (follow next q.count q.first) q.last c)
       in
       let good : IsRow next' prev' q = record { counted = rw f w.counted; chain = rw f c } in
-      (f, λ p h. let e2 : q ≡ p = some_row_inj q p h in subst (λ (x : Row). IsRow next' prev' x) e2 good)
+      (f, λ p h. let e2 : q ≡ p = some_row_inj q p h in subst (λ (x : EdgeList). IsRow next' prev' x) e2 good)
 
   pub unrenamed_keys : (u : ℕ) → u ≢ v → row_keys next' (row' u) ≡ row_keys next (row u)
   unrenamed_keys u other = rw (t.rows_kept u other) ((other_row u (row u) other refl).0)
 
-  all_rows : (u : ℕ) (q : Row) → row' u ≡ Some q → IsRow next' prev' q
+  all_rows : (u : ℕ) (q : EdgeList) → row' u ≡ Some q → IsRow next' prev' q
   all_rows u q is =
       elim (cases_eq u v) [
         | inl same ↦
             let e2 : r' ≡ q = some_row_inj r' q (sym t.is_row ∙ (ap row' (sym same) ∙ is)) in
-            subst (λ (x : Row). IsRow next' prev' x) e2 own_row
+            subst (λ (x : EdgeList). IsRow next' prev' x) e2 own_row
         | inr other ↦ (other_row u (row u) other refl).1 q (sym (t.rows_kept u other) ∙ is)
       ]
 
@@ -300,5 +300,5 @@ module _ (row row' : ℕ → Option Row) (next next' prev prev' owner owner' : �
         | inr other ↦ rw (unrenamed_keys u other) (s.once u k ∙ once_there u k other)
       ]
 
-  pub side_rename : IsSide row' next' prev' owner'
-  side_rename = record { rows = all_rows; once = new_once }
+  pub flank_rename : IsFlank row' next' prev' owner'
+  flank_rename = record { rows = all_rows; once = new_once }

@@ -3,14 +3,14 @@ use Rattle.std.proofs.Common.{◌≡◌, ℕ, subst, sym, refl, Result, Ok, Err,
 use Rattle.slab.specs.Slab.{Slab}
 use Rattle.graph_arena.specs.declared.slots.NodeSlot.{NodeSlot}
 use Rattle.graph_arena.specs.declared.slots.EdgeSlot.{EdgeSlot}
-use Rattle.graph_arena.specs.Sides.{IsSound, graph_of}
+use Rattle.graph_arena.specs.Flanks.{IsSound, graph_of}
 use Rattle.graph_arena.specs.Changes.{IsSame, AddsEdge, Splits}
 
 pub roomy_sound : (nodes n1 : Slab NodeSlot) (edges e1 : Slab EdgeSlot) → n1 ≡ record nodes { capacity = n1.capacity } → e1 ≡ record edges { capacity = e1.capacity } → IsSound nodes edges → IsSound n1 e1
 roomy_sound nodes n1 edges e1 a b s =
     subst (λ (n : Slab NodeSlot). IsSound n e1) (sym a)
     (subst (λ (e : Slab EdgeSlot). IsSound (record nodes { capacity = n1.capacity }) e) (sym b)
-    (record { sides = s.sides; ends = s.ends; small = s.small }))
+    (record { flanks = s.flanks; ends = s.ends; small = s.small }))
 
 pub roomy_same : (nodes n1 : Slab NodeSlot) (edges e1 : Slab EdgeSlot) → n1 ≡ record nodes { capacity = n1.capacity } → e1 ≡ record edges { capacity = e1.capacity } → IsSame (graph_of nodes edges) (graph_of n1 e1)
 roomy_same nodes n1 edges e1 a b =

@@ -1,10 +1,10 @@
 -- A key is taken out of a list: its neighbours are linked to each other.
 use Rattle.std.proofs.Common.{◌≡◌, ◌≢◌, ℕ, ◌+◌, ◌<◌, ◌≤◌, eq-eqb, List, [], ◌∷◌, length, Option, Some, None, arith, refl, sym, ap, ◌∙◌, subst, inl, inr}
 use Rattle.std.proofs.lemmas.Bool.{cases_eq}
-use Rattle.graph_arena.specs.declared.slots.Row.{Row}
+use Rattle.graph_arena.specs.declared.slots.EdgeList.{EdgeList}
 use Rattle.graph_arena.specs.Graph.{occurs, if_end}
 use Rattle.graph_arena.specs.Changes.{without}
-use Rattle.graph_arena.specs.Chain.{IsChain, IsRow, IsSide, follow, row_keys}
+use Rattle.graph_arena.specs.Chain.{IsChain, IsRow, IsFlank, follow, row_keys}
 use Rattle.graph_arena.proofs.Chains.{eqb_other, chain_same, some_inj, occurs_tail, occurs_head, follow_is, member_owned, if_end_le, some_row_inj}
 
 -- the new links skip the key
@@ -148,7 +148,7 @@ occurs-without_other k j (x ∷ xs) d =
     ]
 
 -- an edge went out of its node's list, and nothing else changed
-pub record Takes (row row' : ℕ → Option Row) (next next' prev prev' owner owner' : ℕ → Option ℕ) (v e : ℕ) (r r' : Row) : Type 0 where
+pub record Takes (row row' : ℕ → Option EdgeList) (next next' prev prev' owner owner' : ℕ → Option ℕ) (v e : ℕ) (r r' : EdgeList) : Type 0 where
   pub was_row : row v ≡ Some r
   pub was_owned : owner e ≡ Some v
   pub is_row : row' v ≡ Some r'
@@ -165,7 +165,7 @@ pub record Takes (row row' : ℕ → Option Row) (next next' prev prev' owner ow
   pub prev_kept : (j u : ℕ) → owner j ≡ Some u → j ≢ e → prev j ≢ Some e → prev' j ≡ prev j
   pub prev_moved : (j u : ℕ) → owner j ≡ Some u → j ≢ e → prev j ≡ Some e → prev' j ≡ prev e
 
-module _ (row row' : ℕ → Option Row) (next next' prev prev' owner owner' : ℕ → Option ℕ) (v e : ℕ) (r r' : Row) (s : IsSide row next prev owner) (t : Takes row row' next next' prev prev' owner owner' v e r r') where
+module _ (row row' : ℕ → Option EdgeList) (next next' prev prev' owner owner' : ℕ → Option ℕ) (v e : ℕ) (r r' : EdgeList) (s : IsFlank row next prev owner) (t : Takes row row' next next' prev prev' owner owner' v e r r') where
   here : row_keys next (row v) ≡ follow next r.count r.first
   here = rw t.was_row refl
 
@@ -208,7 +208,7 @@ module _ (row row' : ℕ → Option Row) (next next' prev prev' owner owner' : �
       let o : owner e ≡ Some u = subst (λ (j : ℕ). owner j ≡ Some u) same (member_owned row next prev owner u k s h) in
       other (some_inj u v (sym o ∙ t.was_owned))
 
-  other_row : (u : ℕ) (o : Option Row) → u ≢ v → row u ≡ o → (row_keys next' o ≡ row_keys next o) × ((q : Row) → o ≡ Some q → IsRow next' prev' q)
+  other_row : (u : ℕ) (o : Option EdgeList) → u ≢ v → row u ≡ o → (row_keys next' o ≡ row_keys next o) × ((q : EdgeList) → o ≡ Some q → IsRow next' prev' q)
   other_row u None other is = (refl, λ q h. cc)
   other_row u (Some q) other is =
       let keys : row_keys next (row u) ≡ follow next q.count q.first = rw is refl in
@@ -225,18 +225,18 @@ module _ (row row' : ℕ → Option Row) (next next' prev prev' owner owner' : �
       subst (λ (n : ℕ). follow next' n q.first ≡ follow next q.count q.first) w.counted (follow_is next' prev' None q.first (follow next q.count q.first) q.last c)
       in
       let good : IsRow next' prev' q = record { counted = rw f w.counted; chain = rw f c } in
-      (f, λ p h. let e2 : q ≡ p = some_row_inj q p h in subst (λ (x : Row). IsRow next' prev' x) e2 good)
+      (f, λ p h. let e2 : q ≡ p = some_row_inj q p h in subst (λ (x : EdgeList). IsRow next' prev' x) e2 good)
 
   -- every other node's list is as it was
   pub untaken_keys : (u : ℕ) → u ≢ v → row_keys next' (row' u) ≡ row_keys next (row u)
   untaken_keys u other = rw (t.rows_kept u other) ((other_row u (row u) other refl).0)
 
-  all_rows : (u : ℕ) (q : Row) → row' u ≡ Some q → IsRow next' prev' q
+  all_rows : (u : ℕ) (q : EdgeList) → row' u ≡ Some q → IsRow next' prev' q
   all_rows u q is =
       elim (cases_eq u v) [
         | inl same ↦
             let e2 : r' ≡ q = some_row_inj r' q (sym t.is_row ∙ (ap row' (sym same) ∙ is)) in
-            subst (λ (x : Row). IsRow next' prev' x) e2 own_row
+            subst (λ (x : EdgeList). IsRow next' prev' x) e2 own_row
         | inr other ↦ (other_row u (row u) other refl).1 q (sym (t.rows_kept u other) ∙ is)
       ]
 
@@ -267,5 +267,5 @@ module _ (row row' : ℕ → Option Row) (next next' prev prev' owner owner' : �
         | inr other ↦ rw (untaken_keys u other) (s.once u k ∙ once_there u k other)
       ]
 
-  pub side_take : IsSide row' next' prev' owner'
-  side_take = record { rows = all_rows; once = new_once }
+  pub flank_take : IsFlank row' next' prev' owner'
+  flank_take = record { rows = all_rows; once = new_once }

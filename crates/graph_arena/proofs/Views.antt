@@ -1,11 +1,11 @@
 -- The graph that the two slabs show.
 use Rattle.std.proofs.Common.{◌≡◌, ℕ, zero, suc, List, [], ◌∷◌, map, get_or, Option, Some, None, IsSome, is_some, refl, sym, ap, ◌∙◌}
 use Rattle.slab.specs.Slab.{Slab, get}
-use Rattle.graph_arena.specs.declared.slots.Side.TheVariants.{Outward, Inward}
+use Rattle.graph_arena.specs.declared.slots.Flank.TheVariants.{Outward, Inward}
 use Rattle.graph_arena.specs.declared.slots.NodeSlot.{NodeSlot}
 use Rattle.graph_arena.specs.declared.slots.EdgeSlot.{EdgeSlot}
 use Rattle.graph_arena.specs.Graph.{Graph, Lists, Ends, lists_at, ends_at, out_list, in_list, outward_of, inward_of, IsNode, IsIncidence, tail_in, head_in}
-use Rattle.graph_arena.specs.Sides.{graph_of, lists_in, ends_in, key_or_zero, next, owner, keys, row_in, place_in, node_in, IsSound}
+use Rattle.graph_arena.specs.Flanks.{graph_of, lists_in, ends_in, key_or_zero, next, owner, keys, row_in, place_in, node_in, IsSound}
 use Rattle.graph_arena.specs.Chain.{row_keys}
 use Rattle.graph_arena.proofs.Moves.{owner_is_node}
 
@@ -95,8 +95,8 @@ head_known nodes edges e v x s own is = let q : Some v ≡ Some x.head = sym own
 pub incidence_of : (nodes : Slab NodeSlot) (edges : Slab EdgeSlot) → IsSound nodes edges → IsIncidence (graph_of nodes edges)
 incidence_of nodes edges s =
     record {
-      outs = λ v e. rw (outs_are nodes edges v, tail_is nodes edges e s) ((s.sides Outward).once v e);
-      ins = λ v e. rw (ins_are nodes edges v, head_is nodes edges e s) ((s.sides Inward).once v e);
-      tails = λ e x is. node_is nodes edges x.tail ∙ owner_is_node Outward nodes edges x.tail e (s.sides Outward) (sym (tail_is nodes edges e s) ∙ ap tail_in is);
-      heads = λ e x is. node_is nodes edges x.head ∙ owner_is_node Inward nodes edges x.head e (s.sides Inward) (sym (head_is nodes edges e s) ∙ ap head_in is);
+      outs = λ v e. rw (outs_are nodes edges v, tail_is nodes edges e s) ((s.flanks Outward).once v e);
+      ins = λ v e. rw (ins_are nodes edges v, head_is nodes edges e s) ((s.flanks Inward).once v e);
+      tails = λ e x is. node_is nodes edges x.tail ∙ owner_is_node Outward nodes edges x.tail e (s.flanks Outward) (sym (tail_is nodes edges e s) ∙ ap tail_in is);
+      heads = λ e x is. node_is nodes edges x.head ∙ owner_is_node Inward nodes edges x.head e (s.flanks Inward) (sym (head_is nodes edges e s) ∙ ap head_in is);
     }

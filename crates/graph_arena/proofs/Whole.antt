@@ -3,23 +3,23 @@ use Rattle.std.proofs.Common.{◌≡◌, ◌≢◌, ◌↔◌, ℕ, ◌+◌, ◌
 use Rattle.std.proofs.Math.Path.{fun_ext}
 use Rattle.std.proofs.lemmas.Bool.{cases_eq}
 use Rattle.slab.specs.Slab.{Slab, get, slab_len}
-use Rattle.graph_arena.specs.declared.slots.Side.{Side}
-use Rattle.graph_arena.specs.declared.slots.Side.TheVariants.{Outward, Inward}
-use Rattle.graph_arena.specs.declared.slots.Row.{Row}
+use Rattle.graph_arena.specs.declared.slots.Flank.{Flank}
+use Rattle.graph_arena.specs.declared.slots.Flank.TheVariants.{Outward, Inward}
+use Rattle.graph_arena.specs.declared.slots.EdgeList.{EdgeList}
 use Rattle.graph_arena.specs.declared.slots.Place.{Place}
 use Rattle.graph_arena.specs.declared.slots.NodeSlot.{NodeSlot}
 use Rattle.graph_arena.specs.declared.slots.EdgeSlot.{EdgeSlot}
 use Rattle.graph_arena.specs.Graph.{lists_at, IsNode, occurs, if_end}
 use Rattle.graph_arena.specs.Changes.{AddsNode, AddsEdge, RemovesEdge, Reverses, Splits, without, renamed}
-use Rattle.graph_arena.specs.Chain.{row_keys, IsRow, IsSide}
-use Rattle.graph_arena.specs.Sides.{row_in, place_in, next_in, prev_in, node_in, row, next, prev, owner, keys, IsSideOf, Kept, Moved, MovedBoth, Loosened, Unmoved, HandedOver, IsSound, graph_of, lists_in, ends_in, no_row, no_place, empty_node, loose_edge}
+use Rattle.graph_arena.specs.Chain.{row_keys, IsRow, IsFlank}
+use Rattle.graph_arena.specs.Flanks.{row_in, place_in, next_in, prev_in, node_in, row, next, prev, owner, keys, IsFlankOf, Kept, Moved, MovedBoth, Loosened, Unmoved, HandedOver, IsSound, graph_of, lists_in, ends_in, no_row, no_place, empty_node, loose_edge}
 use Rattle.graph_arena.proofs.Chains.{eqb_other, occurs_tail, some_row_inj}
 use Rattle.graph_arena.proofs.Moves.{owner_is_node, owner_live}
 use Rattle.graph_arena.proofs.Views.{ends_are, lists_are, outs_are, ins_are, node_is, lists_from, ends_from, ends_same}
 
-pub by_side : (P : Side → Type 0) → P Outward → P Inward → (s : Side) → P s
-by_side P a b Outward = a
-by_side P a b Inward = b
+pub by_flank : (P : Flank → Type 0) → P Outward → P Inward → (s : Flank) → P s
+by_flank P a b Outward = a
+by_flank P a b Inward = b
 
 pub some_of : {X : Type 0} (o : Option X) → IsSome o → (x : X) × (o ≡ Some x)
 some_of None h = cc
@@ -30,36 +30,36 @@ some_is o x h = rw h refl
 
 -- ---- one side is as it was
 
-pub record SameSide (t : Side) (nodes : Slab NodeSlot) (edges : Slab EdgeSlot) (nodes' : Slab NodeSlot) (edges' : Slab EdgeSlot) : Type 0 where
+pub record SameFlank (t : Flank) (nodes : Slab NodeSlot) (edges : Slab EdgeSlot) (nodes' : Slab NodeSlot) (edges' : Slab EdgeSlot) : Type 0 where
   pub rows : (v : ℕ) → row t nodes' v ≡ row t nodes v
   pub nexts : (e : ℕ) → next t edges' e ≡ next t edges e
   pub prevs : (e : ℕ) → prev t edges' e ≡ prev t edges e
   pub owners : (e : ℕ) → owner t edges' e ≡ owner t edges e
 
-side_eq : (row row' : ℕ → Option Row) (next next' prev prev' owner owner' : ℕ → Option ℕ) → row ≡ row' → next ≡ next' → prev ≡ prev' → owner ≡ owner' → IsSide row next prev owner → IsSide row' next' prev' owner'
-side_eq row row' next next' prev prev' owner owner' a b c d s =
-    subst (λ (f : ℕ → Option Row). IsSide f next' prev' owner') a
-    (subst (λ (f : ℕ → Option ℕ). IsSide row f prev' owner') b
-    (subst (λ (f : ℕ → Option ℕ). IsSide row next f owner') c
-    (subst (λ (f : ℕ → Option ℕ). IsSide row next prev f) d s)))
+flank_eq : (row row' : ℕ → Option EdgeList) (next next' prev prev' owner owner' : ℕ → Option ℕ) → row ≡ row' → next ≡ next' → prev ≡ prev' → owner ≡ owner' → IsFlank row next prev owner → IsFlank row' next' prev' owner'
+flank_eq row row' next next' prev prev' owner owner' a b c d s =
+    subst (λ (f : ℕ → Option EdgeList). IsFlank f next' prev' owner') a
+    (subst (λ (f : ℕ → Option ℕ). IsFlank row f prev' owner') b
+    (subst (λ (f : ℕ → Option ℕ). IsFlank row next f owner') c
+    (subst (λ (f : ℕ → Option ℕ). IsFlank row next prev f) d s)))
 
-pub same_sound : (t : Side) (nodes n1 : Slab NodeSlot) (edges e1 : Slab EdgeSlot) → SameSide t nodes edges n1 e1 → IsSideOf t nodes edges → IsSideOf t n1 e1
+pub same_sound : (t : Flank) (nodes n1 : Slab NodeSlot) (edges e1 : Slab EdgeSlot) → SameFlank t nodes edges n1 e1 → IsFlankOf t nodes edges → IsFlankOf t n1 e1
 same_sound t nodes n1 edges e1 same s =
-    side_eq (row t nodes) (row t n1) (next t edges) (next t e1) (prev t edges) (prev t e1) (owner t edges) (owner t e1)
+    flank_eq (row t nodes) (row t n1) (next t edges) (next t e1) (prev t edges) (prev t e1) (owner t edges) (owner t e1)
     (fun_ext (λ v. sym (same.rows v))) (fun_ext (λ e. sym (same.nexts e))) (fun_ext (λ e. sym (same.prevs e))) (fun_ext (λ e. sym (same.owners e))) s
 
-pub same_keys : (t : Side) (nodes n1 : Slab NodeSlot) (edges e1 : Slab EdgeSlot) → SameSide t nodes edges n1 e1 → (v : ℕ) → keys t n1 e1 v ≡ keys t nodes edges v
+pub same_keys : (t : Flank) (nodes n1 : Slab NodeSlot) (edges e1 : Slab EdgeSlot) → SameFlank t nodes edges n1 e1 → (v : ℕ) → keys t n1 e1 v ≡ keys t nodes edges v
 same_keys t nodes n1 edges e1 same v =
     let f : next t e1 ≡ next t edges = fun_ext same.nexts in
-    ap (λ (g : ℕ → Option ℕ). row_keys g (row t n1 v)) f ∙ ap (λ (r : Option Row). row_keys (next t edges) r) (same.rows v)
+    ap (λ (g : ℕ → Option ℕ). row_keys g (row t n1 v)) f ∙ ap (λ (r : Option EdgeList). row_keys (next t edges) r) (same.rows v)
 
-pub same_kept : (s t : Side) (nodes n1 : Slab NodeSlot) (edges e1 : Slab EdgeSlot) → t ≢ s → Kept row_in s nodes n1 → Kept place_in s edges e1 → SameSide t nodes edges n1 e1
+pub same_kept : (s t : Flank) (nodes n1 : Slab NodeSlot) (edges e1 : Slab EdgeSlot) → t ≢ s → Kept row_in s nodes n1 → Kept place_in s edges e1 → SameFlank t nodes edges n1 e1
 same_kept s t nodes n1 edges e1 d n e =
     record {
-      rows = n.other_side t d;
-      nexts = λ k. ap next_in (e.other_side t d k);
-      prevs = λ k. ap prev_in (e.other_side t d k);
-      owners = λ k. ap node_in (e.other_side t d k);
+      rows = n.other_flank t d;
+      nexts = λ k. ap next_in (e.other_flank t d k);
+      prevs = λ k. ap prev_in (e.other_flank t d k);
+      owners = λ k. ap node_in (e.other_flank t d k);
     }
 
 pub out_not_in : Outward ≢ Inward
@@ -69,18 +69,18 @@ pub in_not_out : Inward ≢ Outward
 in_not_out h = cc
 
 -- only a loose edge came or went
-loose_only : {P : Type 0} (p : Option Place → P) (t : Side) (edges e1 : Slab EdgeSlot) (e : ℕ) → p (place_in t (get edges e)) ≡ p None → p (place_in t (get e1 e)) ≡ p None → ((k : ℕ) → k ≢ e → get e1 k ≡ get edges k) → (k : ℕ) → p (place_in t (get e1 k)) ≡ p (place_in t (get edges k))
+loose_only : {P : Type 0} (p : Option Place → P) (t : Flank) (edges e1 : Slab EdgeSlot) (e : ℕ) → p (place_in t (get edges e)) ≡ p None → p (place_in t (get e1 e)) ≡ p None → ((k : ℕ) → k ≢ e → get e1 k ≡ get edges k) → (k : ℕ) → p (place_in t (get e1 k)) ≡ p (place_in t (get edges k))
 loose_only p t edges e1 e was is others k =
     elim (cases_eq k e) [
       | inl same ↦ subst (λ (i : ℕ). p (place_in t (get e1 i)) ≡ p (place_in t (get edges i))) (sym same) (is ∙ sym was)
       | inr n ↦ ap (λ (o : Option EdgeSlot). p (place_in t o)) (others k n)
     ]
 
-loose_place : (t : Side) → place_in t (Some loose_edge) ≡ Some no_place
+loose_place : (t : Flank) → place_in t (Some loose_edge) ≡ Some no_place
 loose_place Outward = refl
 loose_place Inward = refl
 
-pub same_came : (t : Side) (nodes : Slab NodeSlot) (edges e1 : Slab EdgeSlot) (e : ℕ) → get edges e ≡ None → get e1 e ≡ Some loose_edge → ((k : ℕ) → k ≢ e → get e1 k ≡ get edges k) → SameSide t nodes edges nodes e1
+pub same_came : (t : Flank) (nodes : Slab NodeSlot) (edges e1 : Slab EdgeSlot) (e : ℕ) → get edges e ≡ None → get e1 e ≡ Some loose_edge → ((k : ℕ) → k ≢ e → get e1 k ≡ get edges k) → SameFlank t nodes edges nodes e1
 same_came t nodes edges e1 e free here others =
     let new : place_in t (get e1 e) ≡ Some no_place = ap (place_in t) here ∙ loose_place t in
     let old : place_in t (get edges e) ≡ None = ap (place_in t) free in
@@ -91,7 +91,7 @@ same_came t nodes edges e1 e free here others =
       owners = loose_only node_in t edges e1 e (ap node_in old) (ap node_in new) others;
     }
 
-pub same_went : (t : Side) (nodes : Slab NodeSlot) (edges e1 : Slab EdgeSlot) (e : ℕ) → place_in t (get edges e) ≡ Some no_place → get e1 e ≡ None → ((k : ℕ) → k ≢ e → get e1 k ≡ get edges k) → SameSide t nodes edges nodes e1
+pub same_went : (t : Flank) (nodes : Slab NodeSlot) (edges e1 : Slab EdgeSlot) (e : ℕ) → place_in t (get edges e) ≡ Some no_place → get e1 e ≡ None → ((k : ℕ) → k ≢ e → get e1 k ≡ get edges k) → SameFlank t nodes edges nodes e1
 same_went t nodes edges e1 e old free others =
     let new : place_in t (get e1 e) ≡ None = ap (place_in t) free in
     record {
@@ -103,7 +103,7 @@ same_went t nodes edges e1 e old free others =
 
 -- ---- two moves, one on each side
 
-unmoved : {T X : Type 0} (read : Side → Option T → Option X) (s : Side) (old new : Slab T) → Kept read s old new → Unmoved old new
+unmoved : {T X : Type 0} (read : Flank → Option T → Option X) (s : Flank) (old new : Slab T) → Kept read s old new → Unmoved old new
 unmoved read s old new k = record { live = k.live; len = k.len; capacity = k.capacity }
 
 pub unmoved_then : {T : Type 0} (a b c : Slab T) → Unmoved a b → Unmoved b c → Unmoved a c
@@ -111,17 +111,17 @@ unmoved_then a b c h k = record { live = λ i. k.live i ∙ h.live i; len = k.le
 
 pub moved_both : (e tail head : ℕ) (f : List ℕ → List ℕ) (t h : Option ℕ) (nodes n1 n2 : Slab NodeSlot) (edges e1 e2 : Slab EdgeSlot) → Moved Outward tail e f t nodes edges n1 e1 → Moved Inward head e f h n1 e1 n2 e2 → MovedBoth e tail head f t h nodes edges n2 e2
 moved_both e tail head f t h nodes n1 n2 edges e1 e2 a b =
-    let outs : SameSide Outward n1 e1 n2 e2 = same_kept Inward Outward n1 n2 e1 e2 out_not_in b.nodes_kept b.edges_kept in
-    let ins : SameSide Inward nodes edges n1 e1 = same_kept Outward Inward nodes n1 edges e1 in_not_out a.nodes_kept a.edges_kept in
+    let outs : SameFlank Outward n1 e1 n2 e2 = same_kept Inward Outward n1 n2 e1 e2 out_not_in b.nodes_kept b.edges_kept in
+    let ins : SameFlank Inward nodes edges n1 e1 = same_kept Outward Inward nodes n1 edges e1 in_not_out a.nodes_kept a.edges_kept in
     record {
-      sides = by_side (λ s. IsSideOf s n2 e2) (same_sound Outward n1 n2 e1 e2 outs a.sound) b.sound;
+      flanks = by_flank (λ s. IsFlankOf s n2 e2) (same_sound Outward n1 n2 e1 e2 outs a.sound) b.sound;
       at_tail = same_keys Outward n1 n2 e1 e2 outs tail ∙ a.list;
       at_head = b.list ∙ ap f (same_keys Inward nodes n1 edges e1 ins head);
       other_outs = λ v d. same_keys Outward n1 n2 e1 e2 outs v ∙ a.other_lists v d;
       other_ins = λ v d. b.other_lists v d ∙ same_keys Inward nodes n1 edges e1 ins v;
       tail_is = outs.owners e ∙ a.owned;
       head_is = b.owned;
-      others = by_side (λ s. (k : ℕ) → k ≢ e → owner s e2 k ≡ owner s edges k) (λ k d. outs.owners k ∙ a.others k d) (λ k d. b.others k d ∙ ins.owners k);
+      others = by_flank (λ s. (k : ℕ) → k ≢ e → owner s e2 k ≡ owner s edges k) (λ k d. outs.owners k ∙ a.others k d) (λ k d. b.others k d ∙ ins.owners k);
       nodes_kept = unmoved_then nodes n1 n2 (unmoved row_in Outward nodes n1 a.nodes_kept) (unmoved row_in Inward n1 n2 b.nodes_kept);
       edges_kept = unmoved_then edges e1 e2 (unmoved place_in Outward edges e1 a.edges_kept) (unmoved place_in Inward e1 e2 b.edges_kept);
     }
@@ -137,23 +137,23 @@ module _ (nodes n2 : Slab NodeSlot) (edges e1 e2 : Slab EdgeSlot) (e tail head :
   added_live : (k : ℕ) → k ≢ e → is_some (get e2 k) ≡ is_some (get edges k)
   added_live k d = m.edges_kept.live k ∙ ap is_some (others k d)
 
-  added_owner : (t : Side) (k : ℕ) → k ≢ e → owner t e2 k ≡ owner t edges k
+  added_owner : (t : Flank) (k : ℕ) → k ≢ e → owner t e2 k ≡ owner t edges k
   added_owner t k d = m.others t k d ∙ ap (λ (o : Option EdgeSlot). node_in (place_in t o)) (others k d)
 
   pub added_sound : IsSound n2 e2
   added_sound =
       record {
-        sides = m.sides;
+        flanks = m.flanks;
         ends = λ t k live. elim (cases_eq k e) [
           | inl same ↦
               subst (λ (i : ℕ). IsSome (owner t e2 i)) (sym same)
-              (by_side (λ q. IsSome (owner q e2 e)) (some_is (owner Outward e2 e) tail m.tail_is) (some_is (owner Inward e2 e) head m.head_is) t)
+              (by_flank (λ q. IsSome (owner q e2 e)) (some_is (owner Outward e2 e) tail m.tail_is) (some_is (owner Inward e2 e) head m.head_is) t)
           | inr n ↦ ap is_some (added_owner t k n) ∙ s.ends t k (sym (added_live k n) ∙ live)
         ];
         small = let a = m.edges_kept.len in omega (arith, a, len, room);
       }
 
-  added_list : (t : Side) (v : ℕ) → keys t nodes e1 v ≡ keys t nodes edges v
+  added_list : (t : Flank) (v : ℕ) → keys t nodes e1 v ≡ keys t nodes edges v
   added_list t v = same_keys t nodes nodes edges e1 (same_came t nodes edges e1 e free here others) v
 
   pub added_edge : AddsEdge (graph_of nodes edges) (graph_of n2 e2) e tail head
@@ -172,22 +172,22 @@ module _ (nodes n2 : Slab NodeSlot) (edges e1 e2 : Slab EdgeSlot) (e tail head :
 -- ---- an edge was removed
 
 module _ (nodes n1 : Slab NodeSlot) (edges e1 e2 : Slab EdgeSlot) (e tail head : ℕ) (s : IsSound nodes edges) (l : Loosened nodes edges n1 e1 e tail head) (gone : get e2 e ≡ None) (others : (k : ℕ) → k ≢ e → get e2 k ≡ get e1 k) (len : slab_len e2 + 1 ≡ slab_len e1) where
-  gone_same : (t : Side) → SameSide t n1 e1 n1 e2
+  gone_same : (t : Flank) → SameFlank t n1 e1 n1 e2
   gone_same t = same_went t n1 e1 e2 e (l.loose t) gone others
 
   gone_live : (k : ℕ) → k ≢ e → is_some (get e2 k) ≡ is_some (get edges k)
   gone_live k d = ap is_some (others k d) ∙ l.moved.edges_kept.live k
 
-  gone_owner : (t : Side) (k : ℕ) → k ≢ e → owner t e2 k ≡ owner t edges k
+  gone_owner : (t : Flank) (k : ℕ) → k ≢ e → owner t e2 k ≡ owner t edges k
   gone_owner t k d = (gone_same t).owners k ∙ l.moved.others t k d
 
-  gone_list : (t : Side) (v : ℕ) → keys t n1 e2 v ≡ keys t n1 e1 v
+  gone_list : (t : Flank) (v : ℕ) → keys t n1 e2 v ≡ keys t n1 e1 v
   gone_list t v = same_keys t n1 n1 e1 e2 (gone_same t) v
 
   pub gone_sound : IsSound n1 e2
   gone_sound =
       record {
-        sides = λ t. same_sound t n1 n1 e1 e2 (gone_same t) (l.moved.sides t);
+        flanks = λ t. same_sound t n1 n1 e1 e2 (gone_same t) (l.moved.flanks t);
         ends = λ t k live. elim (cases_eq k e) [
           | inl same ↦ let dead : IsSome (get e2 e) = subst (λ (i : ℕ). IsSome (get e2 i)) same live in let bad = rw gone at dead in cc
           | inr n ↦ ap is_some (gone_owner t k n) ∙ s.ends t k (sym (gone_live k n) ∙ live)
@@ -207,7 +207,7 @@ module _ (nodes n1 : Slab NodeSlot) (edges e1 e2 : Slab EdgeSlot) (e tail head :
         same_nodes = live_both nodes n1 edges e2 l.moved.nodes_kept.live;
       }
 
--- ---- an edge was turned round
+-- ---- an edge was reversed
 
 without_absent : (e : ℕ) (ks : List ℕ) → occurs e ks ≡ 0 → without e ks ≡ ks
 without_absent e [] h = refl
@@ -217,27 +217,27 @@ without_absent e (x ∷ xs) h =
     rw (eqb_other x e n) (ap (λ (l : List ℕ). x ∷ l) (without_absent e xs (omega (arith, h, t))))
 
 -- an edge stands in no list but its owner's
-elsewhere : (t : Side) (nodes : Slab NodeSlot) (edges : Slab EdgeSlot) (e v u : ℕ) → IsSideOf t nodes edges → owner t edges e ≡ Some v → u ≢ v → occurs e (keys t nodes edges u) ≡ 0
+elsewhere : (t : Flank) (nodes : Slab NodeSlot) (edges : Slab EdgeSlot) (e v u : ℕ) → IsFlankOf t nodes edges → owner t edges e ≡ Some v → u ≢ v → occurs e (keys t nodes edges u) ≡ 0
 elsewhere t nodes edges e v u s own d =
     let n : v ≢ u = λ i. d (sym i) in
     s.once u e ∙ rw (own, eqb_other v u n) refl
 
 module _ (nodes n1 n2 : Slab NodeSlot) (edges e1 e2 : Slab EdgeSlot) (e tail head : ℕ) (s : IsSound nodes edges) (from_tail : owner Outward edges e ≡ Some tail) (to_head : owner Inward edges e ≡ Some head) (l : Loosened nodes edges n1 e1 e tail head) (m : MovedBoth e head tail (λ l. l ++ e ∷ []) (Some head) (Some tail) n1 e1 n2 e2) where
-  turned_live : (k : ℕ) → is_some (get e2 k) ≡ is_some (get edges k)
-  turned_live k = m.edges_kept.live k ∙ l.moved.edges_kept.live k
+  reversed_live : (k : ℕ) → is_some (get e2 k) ≡ is_some (get edges k)
+  reversed_live k = m.edges_kept.live k ∙ l.moved.edges_kept.live k
 
-  turned_owner : (t : Side) (k : ℕ) → k ≢ e → owner t e2 k ≡ owner t edges k
-  turned_owner t k d = m.others t k d ∙ l.moved.others t k d
+  reversed_owner : (t : Flank) (k : ℕ) → k ≢ e → owner t e2 k ≡ owner t edges k
+  reversed_owner t k d = m.others t k d ∙ l.moved.others t k d
 
-  pub turned_sound : IsSound n2 e2
-  turned_sound =
+  pub reversed_sound : IsSound n2 e2
+  reversed_sound =
       record {
-        sides = m.sides;
+        flanks = m.flanks;
         ends = λ t k live. elim (cases_eq k e) [
           | inl same ↦
               subst (λ (i : ℕ). IsSome (owner t e2 i)) (sym same)
-              (by_side (λ q. IsSome (owner q e2 e)) (some_is (owner Outward e2 e) head m.tail_is) (some_is (owner Inward e2 e) tail m.head_is) t)
-          | inr n ↦ ap is_some (turned_owner t k n) ∙ s.ends t k (sym (turned_live k) ∙ live)
+              (by_flank (λ q. IsSome (owner q e2 e)) (some_is (owner Outward e2 e) head m.tail_is) (some_is (owner Inward e2 e) tail m.head_is) t)
+          | inr n ↦ ap is_some (reversed_owner t k n) ∙ s.ends t k (sym (reversed_live k) ∙ live)
         ];
         small = let a = m.edges_kept.len in let b = l.moved.edges_kept.len in omega (arith, a, b, s.small);
       }
@@ -246,21 +246,21 @@ module _ (nodes n1 n2 : Slab NodeSlot) (edges e1 e2 : Slab EdgeSlot) (e tail hea
   out_less v =
       elim (cases_eq v tail) [
         | inl same ↦ subst (λ (i : ℕ). keys Outward n1 e1 i ≡ without e (keys Outward nodes edges i)) (sym same) l.moved.at_tail
-        | inr n ↦ l.moved.other_outs v n ∙ sym (without_absent e (keys Outward nodes edges v) (elsewhere Outward nodes edges e tail v (s.sides Outward) from_tail n))
+        | inr n ↦ l.moved.other_outs v n ∙ sym (without_absent e (keys Outward nodes edges v) (elsewhere Outward nodes edges e tail v (s.flanks Outward) from_tail n))
       ]
 
   in_less : (v : ℕ) → keys Inward n1 e1 v ≡ without e (keys Inward nodes edges v)
   in_less v =
       elim (cases_eq v head) [
         | inl same ↦ subst (λ (i : ℕ). keys Inward n1 e1 i ≡ without e (keys Inward nodes edges i)) (sym same) l.moved.at_head
-        | inr n ↦ l.moved.other_ins v n ∙ sym (without_absent e (keys Inward nodes edges v) (elsewhere Inward nodes edges e head v (s.sides Inward) to_head n))
+        | inr n ↦ l.moved.other_ins v n ∙ sym (without_absent e (keys Inward nodes edges v) (elsewhere Inward nodes edges e head v (s.flanks Inward) to_head n))
       ]
 
-  pub turned_edge : Reverses (graph_of nodes edges) (graph_of n2 e2) e tail head
-  turned_edge =
+  pub reversed_edge : Reverses (graph_of nodes edges) (graph_of n2 e2) e tail head
+  reversed_edge =
       record {
-        turned = ends_are n2 e2 e ∙ ends_from (get e2 e) head tail m.tail_is m.head_is;
-        other_edges = λ k d. ends_are n2 e2 k ∙ (ends_same (get e2 k) (get edges k) (turned_live k) (turned_owner Outward k d) (turned_owner Inward k d) ∙ sym (ends_are nodes edges k));
+        is_reversed = ends_are n2 e2 e ∙ ends_from (get e2 e) head tail m.tail_is m.head_is;
+        other_edges = λ k d. ends_are n2 e2 k ∙ (ends_same (get e2 k) (get edges k) (reversed_live k) (reversed_owner Outward k d) (reversed_owner Inward k d) ∙ sym (ends_are nodes edges k));
         left_tail = λ d. rw (outs_are n2 e2 tail, outs_are nodes edges tail) (m.other_outs tail d ∙ out_less tail);
         left_head = λ d. rw (ins_are n2 e2 head, ins_are nodes edges head) (m.other_ins head (λ i. d (sym i)) ∙ in_less head);
         at_head = rw (outs_are n2 e2 head, outs_are nodes edges head) (m.at_tail ∙ ap (λ (l : List ℕ). l ++ e ∷ []) (out_less head));
@@ -272,17 +272,17 @@ module _ (nodes n1 n2 : Slab NodeSlot) (edges e1 e2 : Slab EdgeSlot) (e tail hea
 
 -- ---- a node with no edges came
 
-new_row : (t : Side) → row_in t (Some empty_node) ≡ Some no_row
+new_row : (t : Flank) → row_in t (Some empty_node) ≡ Some no_row
 new_row Outward = refl
 new_row Inward = refl
 
-side_node : (row row' : ℕ → Option Row) (next prev owner : ℕ → Option ℕ) (v : ℕ) → IsSide row next prev owner → row v ≡ None → row' v ≡ Some no_row → ((u : ℕ) → u ≢ v → row' u ≡ row u) → IsSide row' next prev owner
-side_node row row' next prev owner v s free here there =
+flank_node : (row row' : ℕ → Option EdgeList) (next prev owner : ℕ → Option ℕ) (v : ℕ) → IsFlank row next prev owner → row v ≡ None → row' v ≡ Some no_row → ((u : ℕ) → u ≢ v → row' u ≡ row u) → IsFlank row' next prev owner
+flank_node row row' next prev owner v s free here there =
     record {
       rows = λ u r is. elim (cases_eq u v) [
         | inl e ↦
             let same : no_row ≡ r = some_row_inj no_row r (sym here ∙ (ap row' (sym e) ∙ is)) in
-            subst (λ (x : Row). IsRow next prev x) same (record { counted = refl; chain = (refl, refl) })
+            subst (λ (x : EdgeList). IsRow next prev x) same (record { counted = refl; chain = (refl, refl) })
         | inr n ↦ s.rows u r (sym (there u n) ∙ is)
       ];
       once = λ u e. elim (cases_eq u v) [
@@ -294,11 +294,11 @@ side_node row row' next prev owner v s free here there =
       ];
     }
 
-pub node_side : (t : Side) (nodes n1 : Slab NodeSlot) (edges : Slab EdgeSlot) (v : ℕ) → get nodes v ≡ None → get n1 v ≡ Some empty_node → ((u : ℕ) → u ≢ v → get n1 u ≡ get nodes u) → IsSideOf t nodes edges → IsSideOf t n1 edges
-node_side t nodes n1 edges v free here there s =
-    side_node (row t nodes) (row t n1) (next t edges) (prev t edges) (owner t edges) v s (ap (row_in t) free) (ap (row_in t) here ∙ new_row t) (λ u n. ap (row_in t) (there u n))
+pub node_flank : (t : Flank) (nodes n1 : Slab NodeSlot) (edges : Slab EdgeSlot) (v : ℕ) → get nodes v ≡ None → get n1 v ≡ Some empty_node → ((u : ℕ) → u ≢ v → get n1 u ≡ get nodes u) → IsFlankOf t nodes edges → IsFlankOf t n1 edges
+node_flank t nodes n1 edges v free here there s =
+    flank_node (row t nodes) (row t n1) (next t edges) (prev t edges) (owner t edges) v s (ap (row_in t) free) (ap (row_in t) here ∙ new_row t) (λ u n. ap (row_in t) (there u n))
 
-pub node_keys : (t : Side) (nodes n1 : Slab NodeSlot) (edges : Slab EdgeSlot) (v : ℕ) → get nodes v ≡ None → get n1 v ≡ Some empty_node → ((u : ℕ) → u ≢ v → get n1 u ≡ get nodes u) → (u : ℕ) → keys t n1 edges u ≡ keys t nodes edges u
+pub node_keys : (t : Flank) (nodes n1 : Slab NodeSlot) (edges : Slab EdgeSlot) (v : ℕ) → get nodes v ≡ None → get n1 v ≡ Some empty_node → ((u : ℕ) → u ≢ v → get n1 u ≡ get nodes u) → (u : ℕ) → keys t n1 edges u ≡ keys t nodes edges u
 node_keys t nodes n1 edges v free here there u =
     elim (cases_eq u v) [
       | inl e ↦
@@ -312,42 +312,42 @@ node_keys t nodes n1 edges v free here there u =
 -- ---- an edge was split
 
 module _ (n0 n1 n2 n3 n4 : Slab NodeSlot) (e0 e1 e2 e3 e4 : Slab EdgeSlot) (e m f tail head : ℕ) (s : IsSound n0 e0) (from_tail : owner Outward e0 e ≡ Some tail) (to_head : owner Inward e0 e ≡ Some head) (node_free : get n0 m ≡ None) (node_here : get n1 m ≡ Some empty_node) (node_others : (u : ℕ) → u ≢ m → get n1 u ≡ get n0 u) (edge_free : get e0 f ≡ None) (edge_here : get e1 f ≡ Some loose_edge) (edge_others : (k : ℕ) → k ≢ f → get e1 k ≡ get e0 k) where
-  start_same : (t : Side) → SameSide t n1 e0 n1 e1
+  start_same : (t : Flank) → SameFlank t n1 e0 n1 e1
   start_same t = same_came t n1 e0 e1 f edge_free edge_here edge_others
 
-  pub start_side : (t : Side) → IsSideOf t n1 e1
-  start_side t = same_sound t n1 n1 e0 e1 (start_same t) (node_side t n0 n1 e0 m node_free node_here node_others (s.sides t))
+  pub start_flank : (t : Flank) → IsFlankOf t n1 e1
+  start_flank t = same_sound t n1 n1 e0 e1 (start_same t) (node_flank t n0 n1 e0 m node_free node_here node_others (s.flanks t))
 
-  start_keys : (t : Side) (v : ℕ) → keys t n1 e1 v ≡ keys t n0 e0 v
+  start_keys : (t : Flank) (v : ℕ) → keys t n1 e1 v ≡ keys t n0 e0 v
   start_keys t v = same_keys t n1 n1 e0 e1 (start_same t) v ∙ node_keys t n0 n1 e0 m node_free node_here node_others v
 
-  start_owner : (t : Side) (k : ℕ) → k ≢ f → owner t e1 k ≡ owner t e0 k
+  start_owner : (t : Flank) (k : ℕ) → k ≢ f → owner t e1 k ≡ owner t e0 k
   start_owner t k d = ap (λ (o : Option EdgeSlot). node_in (place_in t o)) (edge_others k d)
 
   not_far : e ≢ f
   not_far i = let live = owner_live Outward (get e0 e) tail from_tail in let dead : IsSome (get e0 f) = subst (λ (k : ℕ). IsSome (get e0 k)) i live in let bad = rw edge_free at dead in cc
 
   not_head : head ≢ m
-  not_head i = let live = owner_is_node Inward n0 e0 head e (s.sides Inward) to_head in let dead : IsSome (get n0 m) = subst (λ (k : ℕ). IsSome (get n0 k)) i live in let bad = rw node_free at dead in cc
+  not_head i = let live = owner_is_node Inward n0 e0 head e (s.flanks Inward) to_head in let dead : IsSome (get n0 m) = subst (λ (k : ℕ). IsSome (get n0 k)) i live in let bad = rw node_free at dead in cc
 
-  nothing : (t : Side) → keys t n0 e0 m ≡ []
+  nothing : (t : Flank) → keys t n0 e0 m ≡ []
   nothing t = let b : row t n0 m ≡ None = ap (row_in t) node_free in ap (row_keys (next t e0)) b
 
   pub head_then : owner Inward e1 e ≡ Some head
   head_then = start_owner Inward e not_far ∙ to_head
 
-  pub far_loose : (t : Side) → owner t e1 f ≡ None
+  pub far_loose : (t : Flank) → owner t e1 f ≡ None
   far_loose t = ap (λ (o : Option EdgeSlot). node_in (place_in t o)) edge_here ∙ ap node_in (loose_place t)
 
   module _ (h : HandedOver Inward head e f n1 e1 n2 e2) (a : Moved Inward m e (λ l. l ++ e ∷ []) (Some m) n2 e2 n3 e3) where
-    first_out : SameSide Outward n1 e1 n2 e2
+    first_out : SameFlank Outward n1 e1 n2 e2
     first_out = same_kept Inward Outward n1 n2 e1 e2 out_not_in h.nodes_kept h.edges_kept
 
-    second_out : SameSide Outward n2 e2 n3 e3
+    second_out : SameFlank Outward n2 e2 n3 e3
     second_out = same_kept Inward Outward n2 n3 e2 e3 out_not_in a.nodes_kept a.edges_kept
 
-    pub middle_side : IsSideOf Outward n3 e3
-    middle_side = same_sound Outward n2 n3 e2 e3 second_out (same_sound Outward n1 n2 e1 e2 first_out (start_side Outward))
+    pub middle_flank : IsFlankOf Outward n3 e3
+    middle_flank = same_sound Outward n2 n3 e2 e3 second_out (same_sound Outward n1 n2 e1 e2 first_out (start_flank Outward))
 
     middle_keys : (v : ℕ) → keys Outward n3 e3 v ≡ keys Outward n0 e0 v
     middle_keys v = same_keys Outward n2 n3 e2 e3 second_out v ∙ (same_keys Outward n1 n2 e1 e2 first_out v ∙ start_keys Outward v)
@@ -359,7 +359,7 @@ module _ (n0 n1 n2 n3 n4 : Slab NodeSlot) (e0 e1 e2 e3 e4 : Slab EdgeSlot) (e m 
     middle_loose = middle_owner f ∙ far_loose Outward
 
     module _ (len : slab_len e1 ≡ slab_len e0 + 1) (room : slab_len e0 + 1 ≤ 2 ^ 62) (b : Moved Outward m f (λ l. l ++ f ∷ []) (Some m) n3 e3 n4 e4) where
-      last_in : SameSide Inward n3 e3 n4 e4
+      last_in : SameFlank Inward n3 e3 n4 e4
       last_in = same_kept Outward Inward n3 n4 e3 e4 in_not_out b.nodes_kept b.edges_kept
 
       split_live : (k : ℕ) → is_some (get e4 k) ≡ is_some (get e1 k)
@@ -377,25 +377,25 @@ module _ (n0 n1 n2 n3 n4 : Slab NodeSlot) (e0 e1 e2 e3 e4 : Slab EdgeSlot) (e m 
       far_head : owner Inward e4 f ≡ Some head
       far_head = last_in.owners f ∙ (a.others f (λ i. not_far (sym i)) ∙ h.owned)
 
-      split_owner : (t : Side) (k : ℕ) → k ≢ e → k ≢ f → owner t e4 k ≡ owner t e0 k
+      split_owner : (t : Flank) (k : ℕ) → k ≢ e → k ≢ f → owner t e4 k ≡ owner t e0 k
       split_owner t k d q =
-          by_side (λ t. owner t e4 k ≡ owner t e0 k)
+          by_flank (λ t. owner t e4 k ≡ owner t e0 k)
           (b.others k q ∙ (middle_owner k ∙ start_owner Outward k q))
           (last_in.owners k ∙ (a.others k d ∙ (h.others k d q ∙ start_owner Inward k q))) t
 
       pub split_sound : IsSound n4 e4
       split_sound =
           record {
-            sides = by_side (λ t. IsSideOf t n4 e4) b.sound (same_sound Inward n3 n4 e3 e4 last_in a.sound);
+            flanks = by_flank (λ t. IsFlankOf t n4 e4) b.sound (same_sound Inward n3 n4 e3 e4 last_in a.sound);
             ends = λ t k live. elim (cases_eq k e) [
               | inl same ↦
                   subst (λ (i : ℕ). IsSome (owner t e4 i)) (sym same)
-                  (by_side (λ q. IsSome (owner q e4 e)) (some_is (owner Outward e4 e) tail near_tail) (some_is (owner Inward e4 e) m near_head) t)
+                  (by_flank (λ q. IsSome (owner q e4 e)) (some_is (owner Outward e4 e) tail near_tail) (some_is (owner Inward e4 e) m near_head) t)
               | inr d ↦
                   elim (cases_eq k f) [
                     | inl same ↦
                         subst (λ (i : ℕ). IsSome (owner t e4 i)) (sym same)
-                        (by_side (λ q. IsSome (owner q e4 f)) (some_is (owner Outward e4 f) m b.owned) (some_is (owner Inward e4 f) head far_head) t)
+                        (by_flank (λ q. IsSome (owner q e4 f)) (some_is (owner Outward e4 f) m b.owned) (some_is (owner Inward e4 f) head far_head) t)
                     | inr q ↦ ap is_some (split_owner t k d q) ∙ s.ends t k (ap is_some (sym (edge_others k q)) ∙ (sym (split_live k) ∙ live))
                   ]
             ];
@@ -433,7 +433,7 @@ module _ (n0 n1 n2 n3 n4 : Slab NodeSlot) (e0 e1 e2 e3 e4 : Slab EdgeSlot) (e m 
 
 pub node_sound : (nodes n1 : Slab NodeSlot) (edges : Slab EdgeSlot) (v : ℕ) → get nodes v ≡ None → get n1 v ≡ Some empty_node → ((u : ℕ) → u ≢ v → get n1 u ≡ get nodes u) → IsSound nodes edges → IsSound n1 edges
 node_sound nodes n1 edges v free here there s =
-    record { sides = λ t. node_side t nodes n1 edges v free here there (s.sides t); ends = s.ends; small = s.small }
+    record { flanks = λ t. node_flank t nodes n1 edges v free here there (s.flanks t); ends = s.ends; small = s.small }
 
 pub node_added : (nodes n1 : Slab NodeSlot) (edges : Slab EdgeSlot) (v : ℕ) → get nodes v ≡ None → get n1 v ≡ Some empty_node → ((u : ℕ) → u ≢ v → get n1 u ≡ get nodes u) → AddsNode (graph_of nodes edges) (graph_of n1 edges) v
 node_added nodes n1 edges v free here there =

@@ -46,9 +46,9 @@ pub record RemovesEdge (old new : Graph) (e tail head : ℕ) : Type 0 where
   pub other_ins : (v : ℕ) → v ≢ head → in_list new v ≡ in_list old v
   pub same_nodes : (v : ℕ) → IsNode new v ↔ IsNode old v
 
--- an edge from tail to head was turned round: it left both its lists, and is last in the two others
+-- an edge from tail to head was reversed: it left both its lists, and is last in the two others
 pub record Reverses (old new : Graph) (e tail head : ℕ) : Type 0 where
-  pub turned : ends_at new e ≡ Some (record { tail = head; head = tail })
+  pub is_reversed : ends_at new e ≡ Some (record { tail = head; head = tail })
   pub other_edges : (k : ℕ) → k ≢ e → ends_at new k ≡ ends_at old k
   pub left_tail : tail ≢ head → out_list new tail ≡ without e (out_list old tail)
   pub left_head : tail ≢ head → in_list new head ≡ without e (in_list old head)

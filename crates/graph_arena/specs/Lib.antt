@@ -2,4 +2,4 @@ pub mod Graph
 pub mod Changes
 pub mod Paths
 pub mod Chain
-pub mod Sides
+pub mod Flanks

@@ -8,7 +8,7 @@ use crate::keys::{EdgeKey, NodeKey};
 use crate::relink::{
     end_at, insert_edge, new_node, reserve_both, split_edge, take_edge, take_node, turn_edge,
 };
-use crate::slots::{EdgeSlot, NodeSlot, Side, place_at, row_at};
+use crate::slots::{EdgeSlot, Flank, NodeSlot, place_at, row_at};
 use slab::Slab;
 use std::alloc::{AllocError, Global};
 use std::marker::Model;
@@ -16,6 +16,11 @@ use std::marker::Model;
 /// A directed graph with cycles, parallel edges and self-loops. Each edge stands in two lists, that of the edges
 /// that leave its tail and that of the edges that enter its head. A key is live from the call that gives it to the
 /// call that removes it.
+///
+/// Proved:
+/// - Each call on a cyclic graph says what changes, and that everything else stays in order.
+/// - Each edge stands once in its tail's out-list, once in its head's in-list and nowhere else.
+/// - Additions within reserved room succeed.
 #[derive(Drop)]
 pub struct Arena {
     nodes: Slab<NodeSlot>,
@@ -27,7 +32,7 @@ impl Model for Arena {
 
     ghost Value = { Graph };
 
-    ghost use Rattle.graph_arena.specs.Sides.{graph_of, IsSound};
+    ghost use Rattle.graph_arena.specs.Flanks.{graph_of, IsSound};
 
     ghost view = { λ a. graph_of a.nodes a.edges };
 
@@ -103,10 +108,10 @@ impl Arena {
         Ok((NodeKey { at: node }, EdgeKey { at: far }))
     }
 
-    /// The edge is turned round. It becomes the last of its two new lists.
+    /// The edge is reversed. It becomes the last of its two new lists.
     pub fn reverse(&mut self, edge: EdgeKey)
         requires { IsEdge self.old edge.at }
-        ensures turned { (x : Ends) → ends_at self.old edge.at ≡ Some x → Reverses self.old self.new edge.at x.tail x.head }
+        ensures is_reversed { (x : Ends) → ends_at self.old edge.at ≡ Some x → Reverses self.old self.new edge.at x.tail x.head }
         ensures room { LeavesRoom self.old self.new 0 0 }
     {
         turn_edge(&mut self.nodes, &mut self.edges, edge.at);
@@ -145,7 +150,7 @@ impl Arena {
         requires { IsNode self.now node.at }
         ensures { result ≡ edge_key (front (out_list self.now node.at)) }
     {
-        key_of(row_at(&self.nodes, Side::Outward, node.at).first)
+        key_of(row_at(&self.nodes, Flank::Outward, node.at).first)
     }
 
     /// The first edge that enters the node.
@@ -153,7 +158,7 @@ impl Arena {
         requires { IsNode self.now node.at }
         ensures { result ≡ edge_key (front (in_list self.now node.at)) }
     {
-        key_of(row_at(&self.nodes, Side::Inward, node.at).first)
+        key_of(row_at(&self.nodes, Flank::Inward, node.at).first)
     }
 
     /// The edge after this one among those that leave its tail.
@@ -161,7 +166,7 @@ impl Arena {
         requires { IsEdge self.now edge.at }
         ensures { (x : Ends) → ends_at self.now edge.at ≡ Some x → result ≡ edge_key (after (out_list self.now x.tail) edge.at) }
     {
-        key_of(place_at(&self.edges, Side::Outward, edge.at).next)
+        key_of(place_at(&self.edges, Flank::Outward, edge.at).next)
     }
 
     /// The edge after this one among those that enter its head.
@@ -169,7 +174,7 @@ impl Arena {
         requires { IsEdge self.now edge.at }
         ensures { (x : Ends) → ends_at self.now edge.at ≡ Some x → result ≡ edge_key (after (in_list self.now x.head) edge.at) }
     {
-        key_of(place_at(&self.edges, Side::Inward, edge.at).next)
+        key_of(place_at(&self.edges, Flank::Inward, edge.at).next)
     }
 
     /// The node that the edge leaves.
@@ -178,7 +183,7 @@ impl Arena {
         ensures { tail_in (ends_at self.now edge.at) ≡ Some result.at }
     {
         NodeKey {
-            at: end_at(&self.edges, Side::Outward, edge.at),
+            at: end_at(&self.edges, Flank::Outward, edge.at),
         }
     }
 
@@ -188,7 +193,7 @@ impl Arena {
         ensures { head_in (ends_at self.now edge.at) ≡ Some result.at }
     {
         NodeKey {
-            at: end_at(&self.edges, Side::Inward, edge.at),
+            at: end_at(&self.edges, Flank::Inward, edge.at),
         }
     }
 
@@ -197,8 +202,8 @@ impl Arena {
         requires { IsNode self.now node.at }
         ensures { result ≡ length (out_list self.now node.at) + length (in_list self.now node.at) }
     {
-        let outward = row_at(&self.nodes, Side::Outward, node.at).count;
-        let inward = row_at(&self.nodes, Side::Inward, node.at).count;
+        let outward = row_at(&self.nodes, Flank::Outward, node.at).count;
+        let inward = row_at(&self.nodes, Flank::Inward, node.at).count;
         outward + inward
     }
 

@@ -4,11 +4,11 @@ ghost use Rattle.std.specs.Prelude.{◌≡◌, ◌≤◌, ◌<◌, ◌+◌, ◌^
 ghost use Rattle.slab.specs.Slab.{ContainsKey, slab_len, HasRoomFor};
 ghost use Rattle.graph_arena.specs.Graph.{Ends, ends_at};
 ghost use Rattle.graph_arena.specs.Changes.{AddsEdge, IsSame, LeavesRoom, Peels, RemovesEdge, RemovesNode, Reverses, Splits};
-ghost use Rattle.graph_arena.specs.declared.slots.Side.TheVariants.{Outward, Inward};
-ghost use Rattle.graph_arena.specs.Sides.{owner, keys, Loosened, empty_node, loose_edge, IsSound, graph_of, HasEdgeRoom};
+ghost use Rattle.graph_arena.specs.declared.slots.Flank.TheVariants.{Outward, Inward};
+ghost use Rattle.graph_arena.specs.Flanks.{owner, keys, Loosened, empty_node, loose_edge, IsSound, graph_of, HasEdgeRoom};
 
 use crate::links::{attach, detach, hand_over};
-use crate::slots::{EdgeSlot, NodeSlot, Place, Row, Side, place_at, row_at};
+use crate::slots::{EdgeList, EdgeSlot, Flank, NodeSlot, Place, place_at, row_at};
 use slab::Slab;
 use std::alloc::AllocError;
 
@@ -18,7 +18,7 @@ const MOST_EDGES: usize = 1 << 62;
 pub(crate) fn new_node() -> NodeSlot
     ensures { result ≡ empty_node }
 {
-    let none = Row {
+    let none = EdgeList {
         first: None,
         last: None,
         count: 0,
@@ -44,12 +44,12 @@ fn new_edge() -> EdgeSlot
 }
 
 /// The node in whose list on a side the edge stands.
-pub(crate) fn end_at(edges: &Slab<EdgeSlot>, side: Side, edge: usize) -> usize
+pub(crate) fn end_at(edges: &Slab<EdgeSlot>, flank: Flank, edge: usize) -> usize
     requires live { ContainsKey edges.now edge }
-    requires tied { IsSome (owner side edges.now edge) }
-    ensures { owner side edges.now edge ≡ Some result }
+    requires tied { IsSome (owner flank edges.now edge) }
+    ensures { owner flank edges.now edge ≡ Some result }
 {
-    match place_at(edges, side, edge).node {
+    match place_at(edges, flank, edge).node {
         Some(node) => node,
         None => unreachable!(),
     }
@@ -103,8 +103,8 @@ fn insert_reserved(
     ensures room { LeavesRoom (graph_of nodes.old edges.old) (graph_of nodes.new edges.new) 0 1 }
 {
     let edge = edges.insert_reserved(new_edge());
-    attach(nodes, edges, Side::Outward, tail, edge);
-    attach(nodes, edges, Side::Inward, head, edge);
+    attach(nodes, edges, Flank::Outward, tail, edge);
+    attach(nodes, edges, Flank::Inward, head, edge);
     edge
 }
 
@@ -141,8 +141,8 @@ fn detach_both(
     requires head { owner Inward edges.old edge ≡ Some head }
     ensures { Loosened nodes.old edges.old nodes.new edges.new edge tail head }
 {
-    detach(nodes, edges, Side::Outward, tail, edge);
-    detach(nodes, edges, Side::Inward, head, edge);
+    detach(nodes, edges, Flank::Outward, tail, edge);
+    detach(nodes, edges, Flank::Inward, head, edge);
 }
 
 /// The edge goes.
@@ -154,8 +154,8 @@ pub(crate) fn take_edge(nodes: &mut Slab<NodeSlot>, edges: &mut Slab<EdgeSlot>, 
         → RemovesEdge (graph_of nodes.old edges.old) (graph_of nodes.new edges.new) edge x.tail x.head }
     ensures room { LeavesRoom (graph_of nodes.old edges.old) (graph_of nodes.new edges.new) 0 0 }
 {
-    let tail = end_at(edges, Side::Outward, edge);
-    let head = end_at(edges, Side::Inward, edge);
+    let tail = end_at(edges, Flank::Outward, edge);
+    let head = end_at(edges, Flank::Inward, edge);
     detach_both(nodes, edges, tail, head, edge);
     edges.remove(edge);
 }
@@ -165,15 +165,15 @@ pub(crate) fn turn_edge(nodes: &mut Slab<NodeSlot>, edges: &mut Slab<EdgeSlot>, 
     requires sound { IsSound nodes.old edges.old }
     requires edge { ContainsKey edges.old edge }
     ensures sound { IsSound nodes.new edges.new }
-    ensures turned { (x : Ends) → ends_at (graph_of nodes.old edges.old) edge ≡ Some x
+    ensures is_reversed { (x : Ends) → ends_at (graph_of nodes.old edges.old) edge ≡ Some x
         → Reverses (graph_of nodes.old edges.old) (graph_of nodes.new edges.new) edge x.tail x.head }
     ensures room { LeavesRoom (graph_of nodes.old edges.old) (graph_of nodes.new edges.new) 0 0 }
 {
-    let tail = end_at(edges, Side::Outward, edge);
-    let head = end_at(edges, Side::Inward, edge);
+    let tail = end_at(edges, Flank::Outward, edge);
+    let head = end_at(edges, Flank::Inward, edge);
     detach_both(nodes, edges, tail, head, edge);
-    attach(nodes, edges, Side::Outward, head, edge);
-    attach(nodes, edges, Side::Inward, tail, edge);
+    attach(nodes, edges, Flank::Outward, head, edge);
+    attach(nodes, edges, Flank::Inward, tail, edge);
 }
 
 /// The edge ends at a new node, and a new edge leads on from there in its place.
@@ -191,12 +191,12 @@ fn split_reserved(
         → Splits (graph_of nodes.old edges.old) (graph_of nodes.new edges.new) edge result.0 result.1 x.tail x.head }
     ensures room { LeavesRoom (graph_of nodes.old edges.old) (graph_of nodes.new edges.new) 1 1 }
 {
-    let head = end_at(edges, Side::Inward, edge);
+    let head = end_at(edges, Flank::Inward, edge);
     let node = nodes.insert_reserved(new_node());
     let far = edges.insert_reserved(new_edge());
-    hand_over(nodes, edges, Side::Inward, head, edge, far);
-    attach(nodes, edges, Side::Inward, node, edge);
-    attach(nodes, edges, Side::Outward, node, far);
+    hand_over(nodes, edges, Flank::Inward, head, edge, far);
+    attach(nodes, edges, Flank::Inward, node, edge);
+    attach(nodes, edges, Flank::Outward, node, far);
     (node, far)
 }
 
@@ -222,16 +222,16 @@ pub(crate) fn split_edge(
 }
 
 /// Takes out the node's edges on a side, one after the other.
-fn clear_side(nodes: &mut Slab<NodeSlot>, edges: &mut Slab<EdgeSlot>, side: Side, node: usize)
+fn clear_flank(nodes: &mut Slab<NodeSlot>, edges: &mut Slab<EdgeSlot>, flank: Flank, node: usize)
     requires sound { IsSound nodes.old edges.old }
     requires node { ContainsKey nodes.old node }
     ensures sound { IsSound nodes.new edges.new }
     ensures node { ContainsKey nodes.new node }
     ensures peeled { Peels (graph_of nodes.old edges.old) (graph_of nodes.new edges.new) node }
-    ensures empty { keys side nodes.new edges.new node ≡ [] }
+    ensures empty { keys flank nodes.new edges.new node ≡ [] }
     ensures room { LeavesRoom (graph_of nodes.old edges.old) (graph_of nodes.new edges.new) 0 0 }
 {
-    'edges: while let Some(edge) = row_at(nodes, side, node).first {
+    'edges: while let Some(edge) = row_at(nodes, flank, node).first {
         take_edge(nodes, edges, edge);
     }
 }
@@ -244,7 +244,7 @@ pub(crate) fn take_node(nodes: &mut Slab<NodeSlot>, edges: &mut Slab<EdgeSlot>, 
     ensures removed { RemovesNode (graph_of nodes.old edges.old) (graph_of nodes.new edges.new) node }
     ensures room { LeavesRoom (graph_of nodes.old edges.old) (graph_of nodes.new edges.new) 0 0 }
 {
-    clear_side(nodes, edges, Side::Outward, node);
-    clear_side(nodes, edges, Side::Inward, node);
+    clear_flank(nodes, edges, Flank::Outward, node);
+    clear_flank(nodes, edges, Flank::Inward, node);
     nodes.remove(node);
 }

@@ -2,20 +2,20 @@
 
 ghost use Rattle.std.specs.Prelude.{◌≡◌, ◌≢◌, ℕ, ◌+◌, ◌<◌, ◌^◌, ◌↔◌, Some, IsTrue};
 ghost use Rattle.slab.specs.Slab.{get, ContainsKey, with_value};
-ghost use Rattle.graph_arena.specs.Sides.{row_in, place_in, Sets, NextSet, PrevSet, IsLiveIfSome, pushed, pushed_row};
+ghost use Rattle.graph_arena.specs.Flanks.{row_in, place_in, Sets, NextSet, PrevSet, IsLiveIfSome, pushed, pushed_row};
 
 use slab::Slab;
 
 /// One of the two kinds of lists: the edges that leave a node, or those that enter it.
 #[derive(Clone, Copy)]
-pub(crate) enum Side {
+pub(crate) enum Flank {
     Outward,
     Inward,
 }
 
 /// One node's list of edges: its ends and its length.
 #[derive(Clone, Copy)]
-pub(crate) struct Row {
+pub(crate) struct EdgeList {
     pub(crate) first: Option<usize>,
     pub(crate) last: Option<usize>,
     pub(crate) count: usize,
@@ -32,8 +32,8 @@ pub(crate) struct Place {
 
 #[derive(Clone, Copy)]
 pub(crate) struct NodeSlot {
-    pub(crate) outward: Row,
-    pub(crate) inward: Row,
+    pub(crate) outward: EdgeList,
+    pub(crate) inward: EdgeList,
 }
 
 #[derive(Clone, Copy)]
@@ -71,36 +71,36 @@ fn set_edge_slot(edges: &mut Slab<EdgeSlot>, edge: usize, slot: EdgeSlot)
 }
 
 /// A node's list on a side.
-pub(crate) fn row_at(nodes: &Slab<NodeSlot>, side: Side, node: usize) -> Row
+pub(crate) fn row_at(nodes: &Slab<NodeSlot>, flank: Flank, node: usize) -> EdgeList
     requires { ContainsKey nodes.now node }
-    ensures { row_in side (get nodes.now node) ≡ Some result }
+    ensures { row_in flank (get nodes.now node) ≡ Some result }
 {
     let slot = node_slot(nodes, node);
-    match side {
-        Side::Outward => slot.outward,
-        Side::Inward => slot.inward,
+    match flank {
+        Flank::Outward => slot.outward,
+        Flank::Inward => slot.inward,
     }
 }
 
 /// An edge's end on a side.
-pub(crate) fn place_at(edges: &Slab<EdgeSlot>, side: Side, edge: usize) -> Place
+pub(crate) fn place_at(edges: &Slab<EdgeSlot>, flank: Flank, edge: usize) -> Place
     requires { ContainsKey edges.now edge }
-    ensures { place_in side (get edges.now edge) ≡ Some result }
+    ensures { place_in flank (get edges.now edge) ≡ Some result }
 {
     let slot = edge_slot(edges, edge);
-    match side {
-        Side::Outward => slot.outward,
-        Side::Inward => slot.inward,
+    match flank {
+        Flank::Outward => slot.outward,
+        Flank::Inward => slot.inward,
     }
 }
 
-pub(crate) fn set_row(nodes: &mut Slab<NodeSlot>, side: Side, node: usize, row: Row)
+pub(crate) fn set_row(nodes: &mut Slab<NodeSlot>, flank: Flank, node: usize, row: EdgeList)
     requires { ContainsKey nodes.old node }
-    ensures { Sets row_in side node row nodes.old nodes.new }
+    ensures { Sets row_in flank node row nodes.old nodes.new }
 {
     let slot = node_slot(nodes, node);
-    match side {
-        Side::Outward => {
+    match flank {
+        Flank::Outward => {
             set_node_slot(
                 nodes,
                 node,
@@ -110,7 +110,7 @@ pub(crate) fn set_row(nodes: &mut Slab<NodeSlot>, side: Side, node: usize, row: 
                 },
             );
         }
-        Side::Inward => {
+        Flank::Inward => {
             set_node_slot(
                 nodes,
                 node,
@@ -123,13 +123,13 @@ pub(crate) fn set_row(nodes: &mut Slab<NodeSlot>, side: Side, node: usize, row: 
     }
 }
 
-pub(crate) fn set_place(edges: &mut Slab<EdgeSlot>, side: Side, edge: usize, place: Place)
+pub(crate) fn set_place(edges: &mut Slab<EdgeSlot>, flank: Flank, edge: usize, place: Place)
     requires { ContainsKey edges.old edge }
-    ensures { Sets place_in side edge place edges.old edges.new }
+    ensures { Sets place_in flank edge place edges.old edges.new }
 {
     let slot = edge_slot(edges, edge);
-    match side {
-        Side::Outward => {
+    match flank {
+        Flank::Outward => {
             set_edge_slot(
                 edges,
                 edge,
@@ -139,7 +139,7 @@ pub(crate) fn set_place(edges: &mut Slab<EdgeSlot>, side: Side, edge: usize, pla
                 },
             );
         }
-        Side::Inward => {
+        Flank::Inward => {
             set_edge_slot(
                 edges,
                 edge,
@@ -155,18 +155,18 @@ pub(crate) fn set_place(edges: &mut Slab<EdgeSlot>, side: Side, edge: usize, pla
 /// What follows the edge, if there is one, is now `next`.
 pub(crate) fn set_next(
     edges: &mut Slab<EdgeSlot>,
-    side: Side,
+    flank: Flank,
     edge: Option<usize>,
     next: Option<usize>,
 )
     requires { IsLiveIfSome edges.old edge }
-    ensures { NextSet side edge next edges.old edges.new }
+    ensures { NextSet flank edge next edges.old edges.new }
 {
     match edge {
         None => {}
         Some(edge) => {
-            let place = place_at(edges, side, edge);
-            set_place(edges, side, edge, Place { next, ..place });
+            let place = place_at(edges, flank, edge);
+            set_place(edges, flank, edge, Place { next, ..place });
         }
     }
 }
@@ -174,18 +174,18 @@ pub(crate) fn set_next(
 /// What precedes the edge, if there is one, is now `prev`.
 pub(crate) fn set_prev(
     edges: &mut Slab<EdgeSlot>,
-    side: Side,
+    flank: Flank,
     edge: Option<usize>,
     prev: Option<usize>,
 )
     requires { IsLiveIfSome edges.old edge }
-    ensures { PrevSet side edge prev edges.old edges.new }
+    ensures { PrevSet flank edge prev edges.old edges.new }
 {
     match edge {
         None => {}
         Some(edge) => {
-            let place = place_at(edges, side, edge);
-            set_place(edges, side, edge, Place { prev, ..place });
+            let place = place_at(edges, flank, edge);
+            set_place(edges, flank, edge, Place { prev, ..place });
         }
     }
 }
@@ -211,11 +211,11 @@ fn first_of(first: Option<usize>, edge: usize) -> Option<usize>
 }
 
 /// The row with one more edge, which is its last.
-pub(crate) fn push_row(row: Row, edge: usize) -> Row
+pub(crate) fn push_row(row: EdgeList, edge: usize) -> EdgeList
     requires { row.count + 1 < 2 ^ 64 }
     ensures { result ≡ pushed_row row edge }
 {
-    Row {
+    EdgeList {
         first: first_of(row.first, edge),
         last: Some(edge),
         count: row.count + 1,

@@ -1,8 +1,8 @@
 //! What binds the nodes of a part to the layers that the engine found for them.
 
 use crate::bars::DEAREST;
-use crate::clusters::Clusters;
 use crate::parts::{Part, PartArc};
+use disjoint_sets::DisjointSets;
 use serde_json::Value;
 use std::alloc::{AllocError, Global};
 use std::collections::BTreeMap;
@@ -70,33 +70,45 @@ fn rows_of(alloc: Global, layers: &[usize]) -> Result<Vec<Vec<usize>>, AllocErro
     Ok(rows)
 }
 
-// Pairs of nodes in two neighbouring layers that join clusters.
-fn link_rows(
-    sets: &mut Clusters,
+// A pair of nodes, if it joins two sets.
+fn link(
+    sets: &mut DisjointSets,
     links: &mut Vec<(usize, usize)>,
-    row: &[usize],
-    next: &[usize],
+    tail: Option<&usize>,
+    head: Option<&usize>,
 ) -> Result<(), AllocError> {
-    if let (Some(first), Some(second)) = (row.first(), next.first()) {
-        for head in next {
-            if sets.join(*first, *head) {
-                links.push((*first, *head))?;
-            }
-        }
-        for tail in row {
-            if sets.join(*tail, *second) {
-                links.push((*tail, *second))?;
-            }
+    if let (Some(tail), Some(head)) = (tail, head) {
+        if sets.join(*tail, *head) {
+            links.push((*tail, *head))?;
         }
     }
     Ok(())
 }
 
-// Pairs of nodes in neighbouring layers that join all clusters.
+// Pairs of nodes in two neighbouring layers that join sets: first those at equal places, and then each node with the one behind
+// that. So nodes that no edge joins stand beside each other in their order.
+fn link_rows(
+    sets: &mut DisjointSets,
+    links: &mut Vec<(usize, usize)>,
+    row: &[usize],
+    next: &[usize],
+) -> Result<(), AllocError> {
+    let count = row.len().max(next.len());
+    for step in 0..2_usize {
+        for at in 0..count {
+            let tail = row.get(at).or(row.last());
+            let head = next.get(at.saturating_add(step)).or(next.last());
+            link(sets, links, tail, head)?;
+        }
+    }
+    Ok(())
+}
+
+// Pairs of nodes in neighbouring layers that join all sets.
 fn links_between(
     alloc: Global,
     layers: &[usize],
-    sets: &mut Clusters,
+    sets: &mut DisjointSets,
 ) -> Result<Vec<(usize, usize)>, AllocError> {
     let rows = rows_of(alloc, layers)?;
     let mut links = Vec::new(alloc);
@@ -127,7 +139,7 @@ pub(crate) fn bindings_of(
     part: &Part,
     layers: &[usize],
 ) -> Result<Bindings, AllocError> {
-    let mut sets = Clusters::of_one(alloc, part.nodes.len())?;
+    let mut sets = DisjointSets::singletons(alloc, part.nodes.len())?;
     let mut room = part.nodes.len();
     let mut dear = Vec::new(alloc);
     // No other edge gains as much by other layers as one of the dear ones loses.

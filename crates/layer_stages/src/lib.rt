@@ -12,7 +12,6 @@ mod asking;
 mod bars;
 mod binding;
 mod bindings;
-mod clusters;
 mod ends;
 mod parts;
 mod ranks;

@@ -1,8 +1,8 @@
 //! The parts of levels that are laid out together.
 
 use crate::arcs::{LevelArc, arcs_in};
-use crate::clusters::Clusters;
 use crate::ranks::{AskedRanks, FIRST, Ranks};
+use disjoint_sets::DisjointSets;
 use graph_draft::{Draft, Element, says};
 use std::alloc::{AllocError, Global};
 use std::collections::{BTreeMap, BTreeSet};
@@ -61,7 +61,7 @@ fn numbers_of(
     if !says(draft.sent_option(alloc, level, SPLIT)?.as_ref(), "TRUE") {
         return vec![in alloc; 0; count];
     }
-    let mut sets = Clusters::of_one(alloc, count)?;
+    let mut sets = DisjointSets::singletons(alloc, count)?;
     for arc in arcs {
         sets.join(arc.tail, arc.head);
     }

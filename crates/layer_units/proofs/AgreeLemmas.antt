@@ -13,7 +13,7 @@ use Rattle.port_order.specs.declared.children.Child.{Child}
 use Rattle.port_order.specs.Child.{is_pinned, port_at}
 use Rattle.port_order.specs.Sides.{is_mirrored, side_by_flow, side_of}
 use Rattle.port_order.specs.Order.{IsSpreadOn}
-use Rattle.port_order.specs.Places.{offset_of, place_in, spread_offset, turned_spread}
+use Rattle.port_order.specs.Places.{offset_of, place_in, spread_offset, rotated_spread}
 use Rattle.self_loops.specs.Loops.{is_upright}
 use Rattle.level_model.proofs.Lists.{filter_has}
 use Rattle.level_model.proofs.SpotLemmas.{spoke_there}
@@ -26,7 +26,7 @@ use Rattle.level_nets.proofs.ListLemmas.{filter_same}
 use Rattle.layer_units.specs.Laws.{NeedNoRows}
 use Rattle.layer_units.proofs.PlaceLemmas.{Holds}
 use Rattle.layer_units.proofs.SideLemmas.{order_long, port_place_same, port_there}
-use Rattle.layer_units.proofs.SpotLemmas.{enters_same, flow_plan, have_ports, same_ports, same_spots, side_same}
+use Rattle.layer_units.proofs.SpotLemmas.{enters_same, passing_plan, have_ports, same_ports, same_spots, side_same}
 
 -- ---- the rank of an end by its child, the child's rule and its port
 
@@ -86,24 +86,24 @@ pinned_offset : (c : Child) (side : Side) (k : ℕ) (order other : List ℕ) →
 pinned_offset c side k order other pinned =
     ap (λ b. offset_of c side b (Some k) order k) pinned ∙ sym (ap (λ b. offset_of c side b (Some k) other k) pinned)
 
-module _ (l : PlainLevel) (p q : PlainPlan) (o r : Orders) (turned : p.reversed ≡ q.reversed) where
+module _ (l : PlainLevel) (p q : PlainPlan) (o r : Orders) (is_reversed : p.reversed ≡ q.reversed) where
   link_side_same : (n : End) → link_side p n ≡ link_side q n
-  link_side_same n = ap (λ b. cond b West East) (enters_same l p q turned n)
+  link_side_same n = ap (λ b. cond b West East) (enters_same l p q is_reversed n)
 
   on_lane_same : (n : End) (side : Side) → lies_on_lane l p n side ≡ lies_on_lane l q n side
-  on_lane_same n side = ap (λ b. is_upright side || (not (is_loop l n.edge) && inverts side b)) (enters_same l p q turned n)
+  on_lane_same n side = ap (λ b. is_upright side || (not (is_loop l n.edge) && inverts side b)) (enters_same l p q is_reversed n)
 
   last_same : (c : ℕ) (side : Side) (rule : PortRule) → last_rank l p c side rule ≡ last_rank l q c side rule
   last_same c side Free = refl
   last_same c side FixedSide = refl
-  last_same c side FixedOrder = ap (λ x. length (ports_on l (flow_plan x) c side)) turned
-  last_same c side FixedPos = ap (λ x. length (pinned_on l (flow_plan x) c side)) turned
+  last_same c side FixedOrder = ap (λ x. length (ports_on l (passing_plan x) c side)) is_reversed
+  last_same c side FixedPos = ap (λ x. length (pinned_on l (passing_plan x) c side)) is_reversed
 
   last_here : (n : End) (c : ℕ) (rule : PortRule) → last_rank l p c (link_side p n) rule ≡ last_rank l q c (link_side q n) rule
   last_here n c rule = last_same c (link_side p n) rule ∙ ap (λ s. last_rank l q c s rule) (link_side_same n)
 
   port_side_same : (c k : ℕ) → side_of (child_at l c) (port_spot l p c k) ≡ side_of (child_at l c) (port_spot l q c k)
-  port_side_same c k = side_same l p q turned (child_at l c) (Some k) k _
+  port_side_same c k = side_same l p q is_reversed (child_at l c) (Some k) k _
 
   -- docks whose offsets are the same on one side
   dock_from : (c k : ℕ)
@@ -129,7 +129,7 @@ module _ (l : PlainLevel) (p q : PlainPlan) (o r : Orders) (turned : p.reversed 
   count_same c k side pinned =
       ap (λ (js : List ℕ). length js)
       (filter_same (λ j. offset_first l p o c j k) (λ j. offset_first l q r c j k) (pinned_on l p c side) (λ j h. first_same c j k (filter_has (is_pinned (child_at l c)) (ports_on l p c side) j h).1 pinned))
-      ∙ ap (λ x. length (filter (λ j. offset_first l q r c j k) (pinned_on l (flow_plan x) c side))) turned
+      ∙ ap (λ x. length (filter (λ j. offset_first l q r c j k) (pinned_on l (passing_plan x) c side))) is_reversed
 
   module _ (are : AreOrders l p o) (also : AreOrders l q r) (c : ℕ) (inside : c < length l.children) where
     on_side : (k : ℕ) (side : Side) → (child_at l c).rule ≡ FixedOrder → k < length (child_at l c).ports → side_of (child_at l c) (port_spot l p c k) ≡ side → Holds (o c side) k
@@ -139,18 +139,18 @@ module _ (l : PlainLevel) (p q : PlainPlan) (o r : Orders) (turned : p.reversed 
 
     pub place_same : (k : ℕ) (side : Side) → (child_at l c).rule ≡ FixedOrder → k < length (child_at l c).ports → side_of (child_at l c) (port_spot l p c k) ≡ side → place_in (o c side) k ≡ place_in (r c side) k
     place_same k side fixed less at =
-        port_place_same (child_at l c) side (spots l p c) (spots l q c) (o c side) (r c side) fixed (have_ports l p c) (have_ports l q c) (same_ports l p q turned c) (are c side inside) (also c side inside) k less
+        port_place_same (child_at l c) side (spots l p c) (spots l q c) (o c side) (r c side) fixed (have_ports l p c) (have_ports l q c) (same_ports l p q is_reversed c) (are c side inside) (also c side inside) k less
         (on_side k side fixed less at)
 
     long_same : (side : Side) → length (o c side) ≡ length (r c side)
-    long_same side = order_long (child_at l c) side (spots l p c) (spots l q c) (o c side) (r c side) (have_ports l p c) (have_ports l q c) (same_spots l p q turned c) (are c side inside) (also c side inside)
+    long_same side = order_long (child_at l c) side (spots l p c) (spots l q c) (o c side) (r c side) (have_ports l p c) (have_ports l q c) (same_spots l p q is_reversed c) (are c side inside) (also c side inside)
 
     fixed_dock_same : (k : ℕ) → (child_at l c).rule ≡ FixedOrder → k < length (child_at l c).ports → dock_of_spot l o c (port_spot l p c k) ≡ dock_of_spot l r c (port_spot l q c k)
     fixed_dock_same k fixed less =
         let side = side_of (child_at l c) (port_spot l p c k) in
         dock_from c k
         (fixed_offset (child_at l c) (side_of (child_at l c) (port_spot l p c k)) k (o c (side_of (child_at l c) (port_spot l p c k))) fixed
-        ∙ ap₂ (λ (m i : ℕ). turned_spread (is_mirrored (child_at l c).direction (side_of (child_at l c) (port_spot l p c k))) (size_along (side_of (child_at l c) (port_spot l p c k)) (child_at l c).size) m i)
+        ∙ ap₂ (λ (m i : ℕ). rotated_spread (is_mirrored (child_at l c).direction (side_of (child_at l c) (port_spot l p c k))) (size_along (side_of (child_at l c) (port_spot l p c k)) (child_at l c).size) m i)
         (long_same (side_of (child_at l c) (port_spot l p c k))) (place_same k (side_of (child_at l c) (port_spot l p c k)) fixed less refl)
         ∙ sym (fixed_offset (child_at l c) (side_of (child_at l c) (port_spot l p c k)) k (r c (side_of (child_at l c) (port_spot l p c k))) fixed))
 
@@ -193,6 +193,6 @@ module _ (l : PlainLevel) (p q : PlainPlan) (o r : Orders) (turned : p.reversed 
         by false pinned = subst (λ b. at_place l p o n c k b ≡ at_place l q r n c k b) (sym pinned) (ap (λ m. m + 1) (last_here n c FixedPos))
 
 pub need_no_rows : NeedNoRows
-need_no_rows l p q o r n level turned are also inside loop =
+need_no_rows l p q o r n level is_reversed are also inside loop =
     let there = spoke_there l n.edge n.at_source level inside in
-    same_by l p q o r turned are also (spoke l n).child there.child n (child_at l (spoke l n).child).rule (spoke l n).port loop refl there.port
+    same_by l p q o r is_reversed are also (spoke l n).child there.child n (child_at l (spoke l n).child).rule (spoke l n).port loop refl there.port

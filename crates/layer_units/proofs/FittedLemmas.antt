@@ -27,7 +27,7 @@ use Rattle.level_model.proofs.LinkLemmas.{head_ends, head_enters, tail_ends, tai
 use Rattle.dock_table.specs.Bounds.{AreNumbersIn}
 use Rattle.dock_table.specs.Lanes.{room}
 use Rattle.dock_table.proofs.ReadyLemmas.{have_children}
-use Rattle.dock_table.specs.Flows.{TurnsMarked}
+use Rattle.dock_table.specs.Courses.{ReversedAreMarked}
 use Rattle.layer_units.specs.Alike.{AreAlike, AreFlat, LanesStay, with_layered}
 use Rattle.layer_units.specs.Tabled.{IsTableOf}
 use Rattle.layer_units.specs.Fitted.{AreFitted, AreKept}
@@ -63,7 +63,7 @@ pub record IsTabled (l : PlainLevel) (p : PlainPlan) (o : Orders) (t : Table) (m
   pub node_node : p.layered.node_node ≡ l.spacing.node_node
   pub edge_node : p.layered.edge_node ≡ l.spacing.edge_node
   pub edge_edge : p.layered.edge_edge ≡ l.spacing.edge_edge
-  pub turned : TurnsMarked l marks p
+  pub is_reversed : ReversedAreMarked l marks p
   pub orders : AreOrders l p o
   pub table : IsTable l p o t
   pub numbers : AreNumbersIn t
@@ -92,7 +92,7 @@ module _ (l : PlainLevel) (p : PlainPlan) (o : Orders) (t : Table) (marks : List
         few_edges = made.level.few_edges;
         as_many_children = made.table.child_count;
         as_many_ends = made.table.end_count;
-        as_many_marks = made.turned.marks.as_many;
+        as_many_marks = made.is_reversed.marks.as_many;
         numbers = made.numbers;
         north = λ c h. let is = (made.table.children c (omega (arith, h, many))).north in let few = lanes_few l p o c North made.level in omega (arith, is, few);
         south = λ c h. let is = (made.table.children c (omega (arith, h, many))).south in let few = lanes_few l p o c South made.level in omega (arith, is, few);
@@ -104,14 +104,14 @@ module _ (l : PlainLevel) (p : PlainPlan) (o : Orders) (t : Table) (marks : List
     where
       step : (k : Option ℕ) → (unit_at p.layered.units u).child ≡ k → IfSome k (λ c. c < length t.children)
       step None e = tt
-      step (Some c) e = let less = have_children l p made.turned.layers made.turned.linked u c h e in let many = made.table.child_count in omega (arith, less, many)
+      step (Some c) e = let less = have_children l p made.is_reversed.layers made.is_reversed.linked u c h e in let many = made.table.child_count in omega (arith, less, many)
 
   pub links_in : (us : List LayerUnit) → length us ≡ length p.layered.units → (k : ℕ) → k < length p.layered.links → IsLinkIn l us (link_at p.layered.links k)
   links_in us many k h =
       let is = made.sound.links_are k h in
       let tail = is.tail in
       let head = is.head in
-      record { edge = (made.turned.linked.links k h).edge_in; tail = omega (arith, tail, many); head = omega (arith, head, many) }
+      record { edge = (made.is_reversed.linked.links k h).edge_in; tail = omega (arith, tail, many); head = omega (arith, head, many) }
 
 -- ---- what the code gives
 
@@ -178,8 +178,8 @@ module _ (l : PlainLevel) (p : PlainPlan) (o : Orders) (t : Table) (marks : List
     pub tabled_on : IsTableOf l (with_layered p (plain_with p us ks) tops) t
     tabled_on = record { orders = o; are_orders = orders_q; table = table_q; numbers = made.numbers }
 
-    linked_q : AreLinked l (with_layered p (plain_with p us ks) tops) made.turned.layers
-    linked_q = no_heights.linked l p (plain_with p us ks) tops made.turned.layers alike made.layers_are flat made.turned.linked
+    linked_q : AreLinked l (with_layered p (plain_with p us ks) tops) made.is_reversed.layers
+    linked_q = no_heights.linked l p (plain_with p us ks) tops made.is_reversed.layers alike made.layers_are flat made.is_reversed.linked
 
     -- a child's unit has room
     unit_is : (c : ℕ) → c < length l.children → unit_at us (unit_of q c) ≡ roomy l.spacing (child_in t.children c) (unit_at p.layered.units (unit_of q c))
@@ -250,19 +250,19 @@ module _ (l : PlainLevel) (p : PlainPlan) (o : Orders) (t : Table) (marks : List
 
     pub tail_pin : (k : ℕ) → k < length p.layered.links → (link_at ks k).tail_at ≡ below_top l q o (tail_line l q o k)
     tail_pin k h =
-        let is = made.turned.linked.links k h in
+        let is = made.is_reversed.linked.links k h in
         ap (λ (y : Link). y.tail_at) (links.each k h)
         ∙ (is_link_with l.spacing t us marks (link_at p.layered.links k)).tail_at
-        ∙ ap (λ m. pin_at l.spacing t (unit_at us (link_at p.layered.links k).tail) (link_at p.layered.links k).edge (not m) false) (made.turned.marks.each (link_at p.layered.links k).edge is.edge_in)
+        ∙ ap (λ m. pin_at l.spacing t (unit_at us (link_at p.layered.links k).tail) (link_at p.layered.links k).edge (not m) false) (made.is_reversed.marks.each (link_at p.layered.links k).edge is.edge_in)
         ∙ pin_line (link_at p.layered.links k).tail (link_at p.layered.links k).edge (not (holds p.reversed (link_at p.layered.links k).edge)) false is.edge_in is.no_loop (tail_leaves q (link_at p.layered.links k).edge)
         ∙ sym (ap₂ (λ u e. below_top l q o (cond (is_child (plain_with p us ks) u) (line_of_end l q o (tail_end q e)) (long_lane u))) (alike.tail_is k) (alike.edge_is k))
 
     pub head_pin : (k : ℕ) → k < length p.layered.links → (link_at ks k).head_at ≡ below_top l q o (head_line l q o k)
     head_pin k h =
-        let is = made.turned.linked.links k h in
+        let is = made.is_reversed.linked.links k h in
         ap (λ (y : Link). y.head_at) (links.each k h)
         ∙ (is_link_with l.spacing t us marks (link_at p.layered.links k)).head_at
-        ∙ ap (λ m. pin_at l.spacing t (unit_at us (link_at p.layered.links k).head) (link_at p.layered.links k).edge m true) (made.turned.marks.each (link_at p.layered.links k).edge is.edge_in)
+        ∙ ap (λ m. pin_at l.spacing t (unit_at us (link_at p.layered.links k).head) (link_at p.layered.links k).edge m true) (made.is_reversed.marks.each (link_at p.layered.links k).edge is.edge_in)
         ∙ pin_line (link_at p.layered.links k).head (link_at p.layered.links k).edge (holds p.reversed (link_at p.layered.links k).edge) true is.edge_in is.no_loop (head_enters q (link_at p.layered.links k).edge)
         ∙ sym (ap₂ (λ u e. below_top l q o (cond (is_child (plain_with p us ks) u) (line_of_end l q o (head_end q e)) (long_lane u))) (alike.head_is k) (alike.edge_is k))
 
@@ -289,7 +289,7 @@ module _ (l : PlainLevel) (p : PlainPlan) (o : Orders) (t : Table) (marks : List
   child_height u c less is h = ((linked_q []).children c h).alone u less is
 
   child_below : (u c : ℕ) → u < length us → (unit_at us u).child ≡ Some c → c < length l.children
-  child_below u c less is = let many = units.as_many in have_children l p made.turned.layers made.turned.linked u c (omega (arith, less, many)) (sym (alike.child_is u) ∙ is)
+  child_below u c less is = let many = units.as_many in have_children l p made.is_reversed.layers made.is_reversed.linked u c (omega (arith, less, many)) (sym (alike.child_is u) ∙ is)
 
   abbrev bound : ℕ → ℤ
   bound c = heights_of (child_at l c) +ℤ heights_of (child_at l c) +ℤ pos (2 ^ 37)
@@ -384,7 +384,7 @@ module _ (l : PlainLevel) (p : PlainPlan) (o : Orders) (t : Table) (marks : List
   sound_link : (k : ℕ) → k < length p.layered.links → IsSoundLink (plain_with p us ks) (link_at ks k)
   sound_link k h =
       let old = made.sound.links_are k h in
-      let is = made.turned.linked.links k h in
+      let is = made.is_reversed.linked.links k h in
       let many = units.as_many in
       let tail = alike.tail_is k in
       let head = alike.head_is k in
@@ -409,12 +409,12 @@ module _ (l : PlainLevel) (p : PlainPlan) (o : Orders) (t : Table) (marks : List
         tail_rank = omega (arith, tail_rank, tail_small);
         head_rank = omega (arith, head_rank, head_small);
         tail_at = end_in_unit (link_at ks k).tail (tail_end r (link_at ks k).edge) (link_at ks k).tail_at tail_less edge_in no_loop
-            (λ child. tail ∙ unit_of_end (tail_ends l p made.turned.layers made.level made.turned.linked made.sound made.layers_are k h) (sym (ap (is_child p.layered) tail) ∙ sym (child_same l p (plain_with p us ks) [] alike (link_at ks k).tail) ∙ child)
+            (λ child. tail ∙ unit_of_end (tail_ends l p made.is_reversed.layers made.level made.is_reversed.linked made.sound made.layers_are k h) (sym (ap (is_child p.layered) tail) ∙ sym (child_same l p (plain_with p us ks) [] alike (link_at ks k).tail) ∙ child)
             ∙ ap (λ e. unit_of p (spoke l (tail_end p e)).child) (sym edge)
             ∙ sym (unit_same l p (plain_with p us ks) [] alike (spoke l (tail_end p (link_at ks k).edge)).child))
             (tail_pin [] k h);
         head_at = end_in_unit (link_at ks k).head (head_end r (link_at ks k).edge) (link_at ks k).head_at head_less edge_in no_loop
-            (λ child. head ∙ unit_of_end (head_ends l p made.turned.layers made.level made.turned.linked made.sound made.layers_are k h) (sym (ap (is_child p.layered) head) ∙ sym (child_same l p (plain_with p us ks) [] alike (link_at ks k).head) ∙ child)
+            (λ child. head ∙ unit_of_end (head_ends l p made.is_reversed.layers made.level made.is_reversed.linked made.sound made.layers_are k h) (sym (ap (is_child p.layered) head) ∙ sym (child_same l p (plain_with p us ks) [] alike (link_at ks k).head) ∙ child)
             ∙ ap (λ e. unit_of p (spoke l (head_end p e)).child) (sym edge)
             ∙ sym (unit_same l p (plain_with p us ks) [] alike (spoke l (head_end p (link_at ks k).edge)).child))
             (head_pin [] k h);

@@ -33,8 +33,8 @@ count_more layers k n m kept over least are =
           least;
     }
 
-pub run_is : (s : Layering) (e first : ℕ) (turned : Bool) (run : Run) → run ≡ run_at s.level s.layers turned e first → turned ≡ holds s.reversed e → first ≡ first_lane s e → run ≡ run_of s e
-run_is s e first turned run made way begin =
+pub run_is : (s : Layering) (e first : ℕ) (is_reversed : Bool) (run : Run) → run ≡ run_at s.level s.layers is_reversed e first → is_reversed ≡ holds s.reversed e → first ≡ first_lane s e → run ≡ run_of s e
+run_is s e first is_reversed run made way begin =
     made ∙ ap (λ t. run_at s.level s.layers t e first) way ∙ ap (λ f. run_at s.level s.layers (holds s.reversed e) e f) begin
 
 pub units_more : (s : Layering) (e : ℕ) (us new : List LayerUnit) (run : Run) → us ≡ units_to s e → run ≡ run_of s e → new ≡ grown (lane_on run) us (run.gaps - 1) → new ≡ units_to s (e + 1)

@@ -27,7 +27,7 @@ pub mod RankCountLemmas
 pub mod SeenLemmas
 pub mod NoteLemmas
 pub mod RankReadLemmas
-pub mod FlowLemmas
+pub mod PassingLemmas
 pub mod MeaningLemmas
 pub mod RankedLemmas
 pub mod RankMadeLemmas

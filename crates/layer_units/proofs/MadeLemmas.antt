@@ -13,19 +13,19 @@ use Rattle.level_model.specs.Level.{Orders, PlainPlan}
 use Rattle.level_model.specs.Table.{IsTable}
 use Rattle.level_model.specs.Units.{AreOrders}
 use Rattle.dock_table.specs.Bounds.{AreNumbersIn}
-use Rattle.dock_table.specs.Flows.{TurnsMarked}
+use Rattle.dock_table.specs.Courses.{ReversedAreMarked}
 use Rattle.layer_units.specs.Marks.{listed}
 use Rattle.layer_units.specs.Reading.{AreFittedLinks, AreFittedUnits}
 use Rattle.layer_units.proofs.FittedLemmas.{IsTabled, plain_with}
 
 pub tabled : (level : LevelIn) (layered : Layered) (order : Order) (t : Table) (marks : List Bool) → IsLevel (plain_level level) → IsSound (plain layered) → AreRows (plain layered) (rows_of order)
     → layered.node_node ≡ level.spacing.node_node → layered.edge_node ≡ level.spacing.edge_node → layered.edge_edge ≡ level.spacing.edge_edge
-    → TurnsMarked (plain_level level) marks (plain_plan layered order [] (listed marks))
-    → ((reversed : List ℕ) → TurnsMarked (plain_level level) marks (plain_plan layered order [] reversed)
+    → ReversedAreMarked (plain_level level) marks (plain_plan layered order [] (listed marks))
+    → ((reversed : List ℕ) → ReversedAreMarked (plain_level level) marks (plain_plan layered order [] reversed)
     → (o : Orders) × AreOrders (plain_level level) (plain_plan layered order [] reversed) o × IsTable (plain_level level) (plain_plan layered order [] reversed) o t)
     → AreNumbersIn t → (o : Orders) × IsTabled (plain_level level) (plain_plan layered order [] (listed marks)) o t marks
-tabled level layered order t marks is sound rows node_node edge_node edge_edge turned made numbers =
-    let found = made (listed marks) turned in (
+tabled level layered order t marks is sound rows node_node edge_node edge_edge is_reversed made numbers =
+    let found = made (listed marks) is_reversed in (
       found.0,
       record {
         level = is;
@@ -35,7 +35,7 @@ tabled level layered order t marks is sound rows node_node edge_node edge_edge t
         node_node = node_node;
         edge_node = edge_node;
         edge_edge = edge_edge;
-        turned = turned;
+        is_reversed = is_reversed;
         orders = found.1;
         table = found.2;
         numbers = numbers;

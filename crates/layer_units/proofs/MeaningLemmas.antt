@@ -20,10 +20,10 @@ use Rattle.level_model.specs.Units.{AreOrders, last_rank, offset_first, pinned_o
 use Rattle.level_model.specs.Marks.{AreMarks}
 use Rattle.level_nets.proofs.ListLemmas.{filter_same}
 use Rattle.layer_units.specs.declared.ports.PortAt.{PortAt}
-use Rattle.layer_units.specs.Flows.{seen_spot}
+use Rattle.layer_units.specs.Passing.{seen_spot}
 use Rattle.layer_units.specs.Levels.{seen_spots}
 use Rattle.layer_units.specs.Ports.{AreRanksOf, PlainRanks, comes_before, counts, is_first, port_at, ranks_port}
-use Rattle.layer_units.proofs.FlowLemmas.{seen_at, seen_long, seen_same, seen_side}
+use Rattle.layer_units.proofs.PassingLemmas.{seen_at, seen_long, seen_same, seen_side}
 use Rattle.layer_units.proofs.SpotLemmas.{have_ports}
 use Rattle.level_nets.proofs.Gaps.{filter_mapped}
 

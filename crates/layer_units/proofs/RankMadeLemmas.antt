@@ -12,7 +12,7 @@ use Rattle.level_model.specs.Level.{Orders, PlainLevel, PlainPlan}
 use Rattle.level_model.specs.Table.{IsTable}
 use Rattle.level_model.specs.Units.{AreOrders}
 use Rattle.dock_table.specs.Bounds.{AreNumbersIn}
-use Rattle.dock_table.specs.Flows.{TurnsMarked}
+use Rattle.dock_table.specs.Courses.{ReversedAreMarked}
 use Rattle.layer_units.specs.Marks.{listed}
 use Rattle.layer_units.specs.declared.ports.PortRanks.{PortRanks}
 use Rattle.layer_units.specs.Levels.{AreRanksTo}
@@ -22,19 +22,19 @@ use Rattle.layer_units.specs.RankReading.{AreRankedLinks}
 use Rattle.layer_units.proofs.RankedLemmas.{IsMade, are_ranked, bare_ranked, bare_relinked, ranking, relinked, with_links}
 
 pub made_of : (level : LevelIn) (layered : Layered) (order : Order) (t : Table) (marks : List Bool) (ranks read : List PortRanks) → IsLevel (plain_level level) → IsSound (plain layered)
-    → TurnsMarked (plain_level level) marks (plain_plan layered order [] (listed marks))
-    → ((reversed : List ℕ) → TurnsMarked (plain_level level) marks (plain_plan layered order [] reversed)
+    → ReversedAreMarked (plain_level level) marks (plain_plan layered order [] (listed marks))
+    → ((reversed : List ℕ) → ReversedAreMarked (plain_level level) marks (plain_plan layered order [] reversed)
     → (o : Orders) × AreOrders (plain_level level) (plain_plan layered order [] reversed) o × IsTable (plain_level level) (plain_plan layered order [] reversed) o t)
     → AreNumbersIn t → AreRanksTo (plain_level level) marks (length level.children) (map plain_ranks ranks) → read ≡ ranks
     → (o : Orders) × IsMade (plain_level level) (plain_plan layered order [] (listed marks)) o t marks (map plain_ranks read)
-made_of level layered order t marks ranks read is sound turned made numbers ranked same =
-    let found = made (listed marks) turned in (
+made_of level layered order t marks ranks read is sound is_reversed made numbers ranked same =
+    let found = made (listed marks) is_reversed in (
       found.0,
       record {
         level = is;
         sound = sound;
         layers_are = refl;
-        turned = turned;
+        is_reversed = is_reversed;
         orders = found.1;
         table = found.2;
         numbers = numbers;

@@ -4,6 +4,7 @@ use Rattle.std.specs.Prelude.{Option, Some, is_some}
 use Rattle.std.proofs.lemmas.Bool.{cases_eq}
 use Rattle.std.proofs.lemmas.List.{get_or-map, get_or-set_other, get_or-set_same, length-set, get_or_append_left, get_or_push, length_push}
 use Rattle.port_order.specs.declared.children.Child.{Child}
+use Rattle.port_order.specs.declared.spots.Spot.{Spot}
 use Rattle.port_order.specs.Child.{is_pinned}
 use Rattle.elk_layers.specs.declared.units.Unit.{Unit as LayerUnit}
 use Rattle.elk_layers.specs.declared.units.Link.{Link}
@@ -17,8 +18,8 @@ use Rattle.dock_table.specs.Bounds.{AreNumbersIn, IsEndIn}
 use Rattle.dock_table.specs.Lanes.{side_by}
 use Rattle.layer_units.specs.Reading.{end_of, is_on_lane, mark_at}
 use Rattle.layer_units.specs.declared.ports.PortRanks.{PortRanks}
-use Rattle.layer_units.specs.Levels.{AreRanksTo, IsRankedChild}
-use Rattle.layer_units.specs.Ports.{PlainRanks, plain_ranks}
+use Rattle.layer_units.specs.Levels.{AreRanksTo, IsRankedChild, seen_spots}
+use Rattle.layer_units.specs.Ports.{AreRanksOf, PlainRanks, plain_ranks}
 use Rattle.layer_units.specs.Ranked.{AreBareLinks, bare_link}
 use Rattle.layer_units.proofs.ChangingLemmas.{each_next, rest_next}
 use Rattle.layer_units.specs.RankReading.{AreRankedLinks, child_rank, edge_rank, end_rank, last_in, link_with, port_rank, ranks_at, unit_rank}
@@ -88,6 +89,12 @@ edge_made l t vs e a b s x v end spoke_is child ranks end_is =
     ∙ ap (λ (d : EndAt). child_rank (child_at l s.child) (ranks_at vs s.child) d s.port b) end_is
     ∙ ap (λ (r : EdgeEnd). child_rank (child_at l r.child) (ranks_at vs r.child) (end_of t e a) r.port b) spoke_is
     ∙ sym (edge_is l t vs e a b)
+
+-- a child that is ranked by its spots
+pub ranks_seen : (l : PlainLevel) (marks : List Bool) (c : ℕ) (x : Child) (spots : List Spot) (v : PlainRanks) → x ≡ child_at l c → spots ≡ seen_spots l marks c → (is_fixed x.rule ≡ true → AreRanksOf x spots v) → IsRankedChild l marks c v
+ranks_seen l marks c x spots v child is ranks =
+    subst (λ (ss : List Spot). is_fixed (child_at l c).rule ≡ true → AreRanksOf (child_at l c) ss v) is
+    (subst (λ (y : Child). is_fixed y.rule ≡ true → AreRanksOf y spots v) child ranks)
 
 -- one more child
 pub ranks_pushed : (l : PlainLevel) (marks : List Bool) (n : ℕ) (vs : List PlainRanks) (v : PlainRanks) → IsRankedChild l marks n v → AreRanksTo l marks n vs → AreRanksTo l marks (n + 1) (vs ++ v ∷ [])

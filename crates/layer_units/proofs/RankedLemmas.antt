@@ -30,7 +30,7 @@ use Rattle.level_model.proofs.SpotLemmas.{spoke_there}
 use Rattle.dock_table.specs.Bounds.{AreNumbersIn}
 use Rattle.dock_table.specs.Lanes.{side_by}
 use Rattle.dock_table.proofs.AddLemmas.{ports_few}
-use Rattle.dock_table.specs.Flows.{TurnsMarked}
+use Rattle.dock_table.specs.Courses.{ReversedAreMarked}
 use Rattle.level_nets.proofs.ListLemmas.{filter_short}
 use Rattle.layer_units.specs.Alike.{AreAlike, AreFlat}
 use Rattle.layer_units.specs.Reading.{end_of, is_on_lane}
@@ -42,7 +42,7 @@ use Rattle.layer_units.specs.Ranked.{AreBareLinks, AreRanked, AreReranked, IsRan
 use Rattle.layer_units.specs.RankReading as reading
 use Rattle.layer_units.specs.RankReading.{AreRankedLinks, HasRanksIn, IsReadable, child_rank, edge_rank, last_in, link_with, ranks_at, unit_rank}
 use Rattle.layer_units.proofs.AgreeLemmas.{beside, either, implicit_beside, lies_on_lane, need_no_rows, off_lane, rank_by}
-use Rattle.layer_units.proofs.FlowLemmas.{seen_long}
+use Rattle.layer_units.proofs.PassingLemmas.{seen_long}
 use Rattle.layer_units.proofs.MeaningLemmas.{last_is, place_before, placed_before}
 use Rattle.layer_units.proofs.RankReadLemmas.{edge_is, free_child, is_link_with, ranked_child, unit_child, unit_lane}
 
@@ -51,7 +51,7 @@ pub record IsMade (l : PlainLevel) (p : PlainPlan) (o : Orders) (t : Table) (mar
   pub level : IsLevel l
   pub sound : IsSound p.layered
   pub layers_are : p.layers ≡ p.layered.layers
-  pub turned : TurnsMarked l marks p
+  pub is_reversed : ReversedAreMarked l marks p
   pub orders : AreOrders l p o
   pub table : IsTable l p o t
   pub numbers : AreNumbersIn t
@@ -99,7 +99,7 @@ module _ (l : PlainLevel) (p : PlainPlan) (o : Orders) (t : Table) (marks : List
         level = made.level;
         as_many_ends = made.table.end_count;
         as_many_ranks = made.ranks.as_many;
-        as_many_marks = made.turned.marks.as_many;
+        as_many_marks = made.is_reversed.marks.as_many;
         numbers = made.numbers;
         ranks = ranks_in;
       }
@@ -127,7 +127,7 @@ module _ (l : PlainLevel) (p : PlainPlan) (o : Orders) (t : Table) (marks : List
     side_way = ap (λ x. cond x West East) way
 
     last_of : (rule : PortRule) → (child_at l c).rule ≡ rule → is_fixed rule ≡ true → (rule ≡ FixedOrder) ⊎ (rule ≡ FixedPos) → last_in v b ≡ last_rank l p c (link_side p (end_at e a)) rule
-    last_of rule is fixed which = last_is l p o marks c made.turned.marks v (ranks_of rule is fixed) (link_side p (end_at e a)) b side_way rule is which
+    last_of rule is fixed which = last_is l p o marks c made.is_reversed.marks v (ranks_of rule is fixed) (link_side p (end_at e a)) b side_way rule is which
 
     -- an end at a port
     module _ (k : ℕ) (at : (spoke l (end_at e a)).port ≡ Some k) where
@@ -167,7 +167,7 @@ module _ (l : PlainLevel) (p : PlainPlan) (o : Orders) (t : Table) (marks : List
           ap (λ r. cond (is_spread_fixed r (Some k) (is_pinned (child_at l c) k)) (last_in v b + 1)
           (cond (is_on_lane (end_of t e a).dock.side b) (lane_rank (last_in v b) (side_by (child_at l c).size.height (end_of t e a).dock.side (end_of t e a).anchor.y)) (get_or v.before k 0 + 1))) is
           ∙ ported FixedOrder (last_of FixedOrder is refl (inl refl)) (place_in (o c (link_side p (end_at e a))) k + 1)
-          (λ on. ap (λ m. m + 1) (place_before l p o marks c made.turned.marks v (ranks_of FixedOrder is refl) k (link_side p (end_at e a)) b side_way is less on made.orders inside))
+          (λ on. ap (λ m. m + 1) (place_before l p o marks c made.is_reversed.marks v (ranks_of FixedOrder is refl) k (link_side p (end_at e a)) b side_way is less on made.orders inside))
 
       placed_port : (child_at l c).rule ≡ FixedPos → k < length (child_at l c).ports → reading.port_rank (child_at l c) v (end_of t e a) k b ≡ rank_by l p o (end_at e a) c FixedPos (Some k)
       placed_port is less =
@@ -186,7 +186,7 @@ module _ (l : PlainLevel) (p : PlainPlan) (o : Orders) (t : Table) (marks : List
               ≡ cond (not z) (last_rank l p c (link_side p (end_at e a)) FixedPos + 1)
               (cond (lies_on_lane l p (end_at e a) d.side) (lane_rank (last_rank l p c (link_side p (end_at e a)) FixedPos) (lane_side l d)) (port_rank l p o c (link_side p (end_at e a)) FixedPos (Some k) z))) (sym pinned)
               (ported FixedPos (last_of FixedPos is refl (inr refl)) (length (filter (λ j. offset_first l p o c j k) (pinned_on l p c (link_side p (end_at e a)))) + 1)
-              (λ on. ap (λ m. m + 1) (placed_before l p o marks c made.turned.marks v (ranks_of FixedPos is refl) k (link_side p (end_at e a)) is less pinned on)))
+              (λ on. ap (λ m. m + 1) (placed_before l p o marks c made.is_reversed.marks v (ranks_of FixedPos is refl) k (link_side p (end_at e a)) is less pinned on)))
           by false pinned =
               subst (λ z. cond (not z) (last_in v b + 1)
               (cond (is_on_lane (end_of t e a).dock.side b) (lane_rank (last_in v b) (side_by (child_at l c).size.height (end_of t e a).dock.side (end_of t e a).anchor.y)) (get_or v.before k 0 + 1))
@@ -352,27 +352,27 @@ module _ (l : PlainLevel) (p : PlainPlan) (o : Orders) (t : Table) (marks : List
 
   unit_rank_is : (u e : ℕ) (a b : Bool) (q : PlainPlan) (r : Orders) → p.reversed ≡ q.reversed → AreOrders l q r → e < length l.edges → is_loop l e ≡ false → enters p (end_at e a) ≡ b
       → unit_rank l t vs (unit_at p.layered.units u) e a b ≡ cond (is_some (unit_at p.layered.units u).child) (rank_of_end l q r (end_at e a)) 0
-  unit_rank_is u e a b q r turned are h loop way = step (is_some (unit_at p.layered.units u).child) refl
+  unit_rank_is u e a b q r is_reversed are h loop way = step (is_some (unit_at p.layered.units u).child) refl
     where
       step : (z : Bool) → is_some (unit_at p.layered.units u).child ≡ z → unit_rank l t vs (unit_at p.layered.units u) e a b ≡ cond z (rank_of_end l q r (end_at e a)) 0
-      step true is = unit_child l t vs (unit_at p.layered.units u) e a b is ∙ edge_rank_is l p o t marks vs made e a b h loop way ∙ need_no_rows l p q o r (end_at e a) made.level turned made.orders are h loop
+      step true is = unit_child l t vs (unit_at p.layered.units u) e a b is ∙ edge_rank_is l p o t marks vs made e a b h loop way ∙ need_no_rows l p q o r (end_at e a) made.level is_reversed made.orders are h loop
       step false is = unit_lane l t vs (unit_at p.layered.units u) e a b is
 
   pub are_ranked : AreRanked l (with_links p.layered ks) p.reversed
   are_ranked rows tops r k are less =
       let many = links.as_many in
       let h : k < length p.layered.links = omega (arith, less, many) in
-      let is = made.turned.linked.links k h in
+      let is = made.is_reversed.linked.links k h in
       let q = plan_of (with_links p.layered ks) rows tops p.reversed in
       record {
         tail = ap (λ (x : Link). x.tail_rank) (links.each k h)
             ∙ (is_link_with l t vs p.layered.units marks (link_at p.layered.links k)).tail_rank
-            ∙ ap (λ m. unit_rank l t vs (unit_at p.layered.units (link_at p.layered.links k).tail) (link_at p.layered.links k).edge (not m) false) (made.turned.marks.each (link_at p.layered.links k).edge is.edge_in)
+            ∙ ap (λ m. unit_rank l t vs (unit_at p.layered.units (link_at p.layered.links k).tail) (link_at p.layered.links k).edge (not m) false) (made.is_reversed.marks.each (link_at p.layered.links k).edge is.edge_in)
             ∙ unit_rank_is (link_at p.layered.links k).tail (link_at p.layered.links k).edge (not (holds p.reversed (link_at p.layered.links k).edge)) false (plan_of (with_links p.layered ks) rows tops p.reversed) r refl are is.edge_in is.no_loop (tail_leaves p (link_at p.layered.links k).edge)
             ∙ sym (ap₂ (λ u e. cond (is_some (unit_at p.layered.units u).child) (rank_of_end l (plan_of (with_links p.layered ks) rows tops p.reversed) r (end_at e (not (holds p.reversed e)))) 0) (relinked.tail_is k) (relinked.edge_is k));
         head = ap (λ (x : Link). x.head_rank) (links.each k h)
             ∙ (is_link_with l t vs p.layered.units marks (link_at p.layered.links k)).head_rank
-            ∙ ap (λ m. unit_rank l t vs (unit_at p.layered.units (link_at p.layered.links k).head) (link_at p.layered.links k).edge m true) (made.turned.marks.each (link_at p.layered.links k).edge is.edge_in)
+            ∙ ap (λ m. unit_rank l t vs (unit_at p.layered.units (link_at p.layered.links k).head) (link_at p.layered.links k).edge m true) (made.is_reversed.marks.each (link_at p.layered.links k).edge is.edge_in)
             ∙ unit_rank_is (link_at p.layered.links k).head (link_at p.layered.links k).edge (holds p.reversed (link_at p.layered.links k).edge) true (plan_of (with_links p.layered ks) rows tops p.reversed) r refl are is.edge_in is.no_loop (head_enters p (link_at p.layered.links k).edge)
             ∙ sym (ap₂ (λ u e. cond (is_some (unit_at p.layered.units u).child) (rank_of_end l (plan_of (with_links p.layered ks) rows tops p.reversed) r (end_at e (holds p.reversed e))) 0) (relinked.head_is k) (relinked.edge_is k));
       }

@@ -113,8 +113,8 @@ all_held c side s t p q same op oq i h =
     let once = oq.once at.0 (omega (arith, inside, many)) (spread_same c side (spot_at s at.0) (spot_at t at.0) (same.port_is at.0 at.1) (same.side_is at.0 at.1) at.3) in
     (once.place, once.inside, once.there ∙ sym (same.number_is at.0 at.1) ∙ at.2)
 
-turned : (c : Child) (s t : List Spot) → SameSpots c s t → SameSpots c t s
-turned c s t same =
+is_reversed : (c : Child) (s t : List Spot) → SameSpots c s t → SameSpots c t s
+is_reversed c s t same =
     let many = same.as_many in
     record {
       as_many = sym same.as_many;
@@ -127,7 +127,7 @@ turned c s t same =
 pub order_long : (c : Child) (side : Side) (s t : List Spot) (p q : List ℕ) → HavePorts c s → HavePorts c t → SameSpots c s t → IsOrderOfSide c side s p → IsOrderOfSide c side t q → length p ≡ length q
 order_long c side s t p q sp tp same op oq =
     let up = no_more p q (apart c side s p sp op) (all_held c side s t p q same op oq) in
-    let down = no_more q p (apart c side t q tp oq) (all_held c side t s q p (turned c s t same) oq op) in
+    let down = no_more q p (apart c side t q tp oq) (all_held c side t s q p (is_reversed c s t same) oq op) in
     omega (arith, up, down)
 
 -- a port that is not pinned is spread on its side

@@ -12,9 +12,9 @@ use Rattle.dock_table.proofs.RowLemmas.{row_long}
 use Rattle.dock_table.proofs.WholeLemmas.{number_port, row_implicit_there, spots_are, spots_row}
 use Rattle.layer_units.specs.Sides.{HavePorts, SamePorts, SameSpots}
 
--- a plan of which nothing is known but the edges that are turned round
-abbrev pub flow_plan : List ℕ → PlainPlan
-flow_plan reversed =
+-- a plan of which nothing is known but the edges that are reversed
+abbrev pub passing_plan : List ℕ → PlainPlan
+passing_plan reversed =
     record {
       layers = 0;
       layered = record { layers = 0; units = []; links = []; node_node = pos 0; edge_node = pos 0; edge_edge = pos 0 };
@@ -46,13 +46,13 @@ module _ (l : PlainLevel) (p : PlainPlan) (c : ℕ) where
         behind = λ k more h. ap (λ (s : Spot). s.port) (implicit_there k more h);
       }
 
-module _ (l : PlainLevel) (p q : PlainPlan) (turned : p.reversed ≡ q.reversed) where
+module _ (l : PlainLevel) (p q : PlainPlan) (is_reversed : p.reversed ≡ q.reversed) where
   pub enters_same : (n : End) → enters p n ≡ enters q n
-  enters_same n = ap (λ r. enters (flow_plan r) n) turned
+  enters_same n = ap (λ r. enters (passing_plan r) n) is_reversed
 
-  -- the side of a spot by the edges that are turned round
+  -- the side of a spot by the edges that are reversed
   pub side_same : (c : Child) (port : Option ℕ) (number : ℕ) (ns : List End) → side_of c (spot l p port number ns) ≡ side_of c (spot l q port number ns)
-  side_same c port number ns = ap (λ r. side_of c (spot l (flow_plan r) port number ns)) turned
+  side_same c port number ns = ap (λ r. side_of c (spot l (passing_plan r) port number ns)) is_reversed
 
   pub same_spots : (c : ℕ) → SameSpots (child_at l c) (spots l p c) (spots l q c)
   same_spots c =

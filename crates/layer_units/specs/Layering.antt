@@ -4,12 +4,12 @@ use Rattle.elk_layers.specs.Layered.{plain}
 use Rattle.elk_layers.specs.declared.units.Layered.{Layered}
 use Rattle.level_model.specs.Level.{PlainLevel, PlainPlan, end_at, spoke, holds, is_loop}
 
--- the children at which an edge begins and ends, where it may be turned round
+-- the children at which an edge begins and ends, where it may be reversed
 abbrev pub tail_child : PlainLevel → Bool → ℕ → ℕ
-tail_child l turned e = (spoke l (end_at e (not turned))).child
+tail_child l is_reversed e = (spoke l (end_at e (not is_reversed))).child
 
 abbrev pub head_child : PlainLevel → Bool → ℕ → ℕ
-head_child l turned e = (spoke l (end_at e turned)).child
+head_child l is_reversed e = (spoke l (end_at e is_reversed)).child
 
 abbrev pub layer_in : List ℕ → ℕ → ℕ
 layer_in layers c = slice_index_or layers c 0
@@ -21,7 +21,7 @@ pub record AreLayersOf (l : PlainLevel) (reversed layers : List ℕ) : Type 0 wh
   pub onward : (e : ℕ) → e < length l.edges → IsFalse (is_loop l e)
       → layer_in layers (tail_child l (holds reversed e) e) < layer_in layers (head_child l (holds reversed e) e)
 
--- a level, the edges that are turned round, and the layers of its children
+-- a level, the edges that are reversed, and the layers of its children
 pub record Layering : Type 0 where
   pub level : PlainLevel
   pub reversed : List ℕ

@@ -4,7 +4,7 @@ use Rattle.std.specs.List.{range_with_len}
 use Rattle.port_order.specs.declared.spots.Spot.{Spot}
 use Rattle.level_model.specs.Level.{PlainLevel, child_at}
 use Rattle.level_model.specs.Units.{is_fixed}
-use Rattle.layer_units.specs.Flows.{seen_spot}
+use Rattle.layer_units.specs.Passing.{seen_spot}
 use Rattle.layer_units.specs.Ports.{AreRanksOf, PlainRanks}
 use Rattle.layer_units.specs.RankReading.{ranks_at}
 

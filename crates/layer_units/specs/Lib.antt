@@ -9,7 +9,7 @@ pub mod Fitted
 pub mod Reading
 pub mod Ranked
 pub mod Sides
-pub mod Flows
+pub mod Passing
 pub mod Ports
 pub mod RankReading
 pub mod Levels

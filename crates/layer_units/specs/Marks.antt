@@ -1,4 +1,4 @@
--- The edges that marks say are turned round, as a list.
+-- The edges that marks say are reversed, as a list.
 use Rattle.std.specs.Prelude.{ℕ, Bool, false, List, length, slice_index_or}
 use Rattle.std.specs.List.{filter, range_with_len}
 

@@ -25,7 +25,7 @@ before f (suc n) = before f n + f n
 
 -- the gaps between the layers of an edge's ends, and its lanes: one for each layer between them
 abbrev pub gaps_at : PlainLevel → List ℕ → Bool → ℕ → ℕ
-gaps_at l layers turned e = layer_in layers (head_child l turned e) - layer_in layers (tail_child l turned e)
+gaps_at l layers is_reversed e = layer_in layers (head_child l is_reversed e) - layer_in layers (tail_child l is_reversed e)
 
 abbrev pub gaps_of : Layering → ℕ → ℕ
 gaps_of s e = gaps_at s.level s.layers (holds s.reversed e) e
@@ -42,13 +42,13 @@ first_link s e = before (gaps_of s) e
 
 -- the run of an edge
 abbrev pub run_at : PlainLevel → List ℕ → Bool → ℕ → ℕ → Run
-run_at l layers turned e first =
+run_at l layers is_reversed e first =
     record {
       edge = e;
-      tail = tail_child l turned e;
-      head = head_child l turned e;
-      layer = layer_in layers (tail_child l turned e);
-      gaps = gaps_at l layers turned e;
+      tail = tail_child l is_reversed e;
+      head = head_child l is_reversed e;
+      layer = layer_in layers (tail_child l is_reversed e);
+      gaps = gaps_at l layers is_reversed e;
       first = first;
     }
 

@@ -8,7 +8,7 @@ use Rattle.level_model.specs.Level.{Orders, PlainLevel, PlainPlan}
 use Rattle.level_model.specs.Units.{AreLinked, AreOrders, head_rank, is_fixed, tail_rank}
 use Rattle.layer_units.specs.Alike.{AreAlike}
 
--- a plan with these units and links, rows, tops and turned edges
+-- a plan with these units and links, rows, tops and reversed edges
 abbrev pub plan_of : Plain → List (List ℕ) → List ℤ → List ℕ → PlainPlan
 plan_of a rows tops reversed = record { layers = a.layers; layered = a; rows = rows; tops = tops; reversed = reversed }
 

@@ -1,14 +1,16 @@
 //! The ranks of the ports of a level's children.
-ghost use Rattle.std.specs.Prelude.{◌≡◌, ◌<◌, length, map, IfOk};
+ghost use Rattle.std.specs.Prelude.{◌≡◌, length, map, true, IfOk};
+ghost use Rattle.port_order.specs.Conditions.{IsChild};
 ghost use Rattle.level_model.specs.Conditions.{plain_level, IsLevel};
 ghost use Rattle.level_model.specs.Units as units;
-ghost use Rattle.layer_units.specs.Levels.{AreRanksTo, IsRankedChild};
-ghost use Rattle.layer_units.specs.Ports.{plain_ranks};
+ghost use Rattle.layer_units.specs.Levels.{AreRanksTo};
+ghost use Rattle.layer_units.specs.Ports.{ArePortSpots, AreRanksOf, plain_ranks};
 
-use crate::flows::port_spots;
+use crate::passing::port_spots;
 use crate::ports::{PortRanks, ranks_of};
 use elk_doc::document::PortRule;
 use level_model::LevelIn;
+use port_order::{Child, Spot};
 use std::alloc::{AllocError, Global};
 
 /// Whether a child's ports are ranked.
@@ -23,29 +25,20 @@ pub(crate) fn is_fixed(rule: PortRule) -> bool
     }
 }
 
-// The ranks of a child's ports, or none where they aren't ranked.
-fn ranks_of_child(
-    alloc: Global,
-    level: &LevelIn,
-    marks: &[bool],
-    child: u32,
-) -> Result<PortRanks, AllocError>
-    requires level { IsLevel (plain_level level.now) }
-    requires marks { length marks.now ≡ length level.now.edges }
-    requires child { child < length level.now.children }
-    ensures { IfOk result (λ v. IsRankedChild (plain_level level.now) marks.now child (plain_ranks v)) }
+// The ranks of a child's ports by their spots, or none where they aren't ranked.
+fn ranks_of_child(alloc: Global, child: &Child, spots: &[Spot]) -> Result<PortRanks, AllocError>
+    requires child { IsChild child.now }
+    requires spots { ArePortSpots child.now spots.now }
+    ensures { IfOk result (λ v. units.is_fixed child.now.rule ≡ true → AreRanksOf child.now spots.now (plain_ranks v)) }
 {
-    let found = level.children.at(child as usize);
-    if !is_fixed(found.rule) {
+    if !is_fixed(child.rule) {
         return Ok(PortRanks {
             before: Vec::new(alloc),
             west: 0,
             east: 0,
         });
     }
-    let count = found.ports.len();
-    let spots = port_spots(alloc, level.edges.as_slice(), marks, child, count)?;
-    let ranks = ranks_of(alloc, found, spots.as_slice())?;
+    let ranks = ranks_of(alloc, child, spots)?;
     Ok(ranks)
 }
 
@@ -59,10 +52,12 @@ pub(crate) fn ranks_of_children(
     requires marks { length marks.now ≡ length level.now.edges }
     ensures { IfOk result (λ vs. AreRanksTo (plain_level level.now) marks.now (length level.now.children) (map plain_ranks vs.items)) }
 {
+    let spots = port_spots(alloc, level, marks)?;
     let count = level.children.len();
     let mut ranks: Vec<PortRanks> = Vec::with_capacity(alloc, count)?;
     for c in 0..count {
-        let own = ranks_of_child(alloc, level, marks, c as u32)?;
+        let child = level.children.at(c);
+        let own = ranks_of_child(alloc, child, spots.at(c))?;
         ranks.push(own)?;
     }
     Ok(ranks)

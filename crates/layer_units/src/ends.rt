@@ -1,28 +1,28 @@
 //! The ranks of links' ends.
-ghost use Rattle.std.specs.Prelude.{◌≡◌, ℕ, ◌+ℤ◌, ◌<◌, ◌≤◌, length, map, int_lt, true, Some, IfSome};
-ghost use Rattle.elk_layers.specs.Layered.{link_at, unit_at};
+ghost use Rattle.std.specs.Prelude.{◌≡◌, ℕ, ◌<◌, ◌≤◌, length, map, true, Some, IfSome};
+ghost use Rattle.elk_layers.specs.Layered.{link_at};
 ghost use Rattle.port_order.specs.Child.{is_pinned};
 ghost use Rattle.level_model.specs.Conditions.{plain_level};
 ghost use Rattle.level_model.specs.Units as units;
 ghost use Rattle.dock_table.specs.Bounds.{IsEndIn};
 ghost use Rattle.dock_table.specs.Lanes.{side_by};
-ghost use Rattle.layer_units.specs.Reading as pins;
 ghost use Rattle.layer_units.specs.Reading.{IsLinkIn};
 ghost use Rattle.layer_units.specs.Ports.{plain_ranks};
 ghost use Rattle.layer_units.specs.RankReading as spec;
 ghost use Rattle.layer_units.specs.RankReading.{AreRankedLinks, HasRanksIn, IsReadable, last_in};
 
 use crate::children::is_fixed;
-use crate::pins::is_on_lane;
+use crate::pins::{end_of, is_on_lane};
 use crate::ports::PortRanks;
 use crate::runs::spoke_of;
+use dock_table::lane_side;
 use drawing_types::shape::Side;
 use elk_doc::document::PortRule;
 use elk_layers::{Link, Unit};
 use level_model::{EndAt, LevelIn, Table};
 use port_order::{Child, is_pinned};
 
-/// A level, its table, the ranks of its children's ports, and by edge whether it is turned round.
+/// A level, its table, the ranks of its children's ports, and by edge whether it is reversed.
 #[derive(Clone, Copy)]
 pub(crate) struct Ranking<'a> {
     pub level: &'a LevelIn,
@@ -31,37 +31,12 @@ pub(crate) struct Ranking<'a> {
     pub marks: &'a [bool],
 }
 
-// Whether the anchor of an end is in the lower half of its child's box.
-fn is_lower(child: &Child, end: EndAt) -> bool
-    requires { IsEndIn end }
-    ensures { result ≡ int_lt child.now.size.height (end.anchor.y +ℤ end.anchor.y) }
-{
-    child.size.height < end.anchor.y + end.anchor.y
-}
-
 // The side of the lane of an end's dock.
-fn lane_side(child: &Child, end: EndAt) -> Side
+fn end_side(child: &Child, end: EndAt) -> Side
     requires { IsEndIn end }
     ensures { result ≡ side_by child.now.size.height end.dock.side end.anchor.y }
 {
-    match end.dock.side {
-        Side::North => Side::North,
-        Side::East => {
-            if is_lower(child, end) {
-                Side::South
-            } else {
-                Side::North
-            }
-        }
-        Side::South => Side::South,
-        Side::West => {
-            if is_lower(child, end) {
-                Side::South
-            } else {
-                Side::North
-            }
-        }
-    }
+    lane_side(child.size.height, end.dock.side, end.anchor.y)
 }
 
 // The rank of an end on a lane: before all ports in the north, behind them in the south.
@@ -112,7 +87,7 @@ fn port_rank(child: &Child, ranks: &PortRanks, end: EndAt, port: u32, enters: bo
         return last + 1;
     }
     if is_on_lane(end.dock.side, enters) {
-        return lane_rank(last, lane_side(child, end));
+        return lane_rank(last, end_side(child, end));
     }
     ranks.before[port as usize] + 1
 }
@@ -145,17 +120,6 @@ fn child_rank(child: &Child, ranks: &PortRanks, end: EndAt, port: Option<u32>, e
     end_rank(child, ranks, end, port, enters)
 }
 
-// An end of an edge as the table has it.
-fn end_of(ranking: &Ranking<'_>, edge: u32, at_source: bool) -> EndAt
-    requires ranking { IsReadable (plain_level ranking.now.level.now) ranking.now.table.now (map plain_ranks ranking.now.ranks.now) ranking.now.marks.now }
-    requires edge { edge < length ranking.now.level.now.edges }
-    ensures { result ≡ pins.end_of ranking.now.table.now edge at_source }
-{
-    let first = 2 * edge as usize;
-    let place = if at_source { first } else { first + 1 };
-    *ranking.table.ends.at(place)
-}
-
 // The rank of a link's end, by its edge.
 fn edge_rank(ranking: &Ranking<'_>, edge: u32, at_source: bool, enters: bool) -> u32
     requires ranking { IsReadable (plain_level ranking.now.level.now) ranking.now.table.now (map plain_ranks ranking.now.ranks.now) ranking.now.marks.now }
@@ -166,7 +130,7 @@ fn edge_rank(ranking: &Ranking<'_>, edge: u32, at_source: bool, enters: bool) ->
     ensures few { result ≤ 4098 }
 {
     let spoke = spoke_of(ranking.level, edge, at_source);
-    let end = end_of(ranking, edge, at_source);
+    let end = end_of(ranking.table, edge, at_source);
     let child = ranking.level.children.at(spoke.child as usize);
     let ranks = &ranking.ranks[spoke.child as usize];
     child_rank(child, ranks, end, spoke.port, enters)
@@ -197,12 +161,12 @@ fn ranked_link(ranking: &Ranking<'_>, units: &[Unit], link: Link) -> Link
     ensures tail { result.tail_rank ≤ 4098 }
     ensures head { result.head_rank ≤ 4098 }
 {
-    let turned = ranking.marks[link.edge as usize];
+    let is_reversed = ranking.marks[link.edge as usize];
     let tail = units[link.tail as usize];
     let head = units[link.head as usize];
     let mut ranked = link;
-    ranked.tail_rank = unit_rank(ranking, tail, link.edge, !turned, false);
-    ranked.head_rank = unit_rank(ranking, head, link.edge, turned, true);
+    ranked.tail_rank = unit_rank(ranking, tail, link.edge, !is_reversed, false);
+    ranked.head_rank = unit_rank(ranking, head, link.edge, is_reversed, true);
     ranked
 }
 

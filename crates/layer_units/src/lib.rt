@@ -11,8 +11,8 @@
 mod children;
 mod ends;
 mod fitting;
-mod flows;
 mod heights;
+mod passing;
 mod pins;
 mod ports;
 mod ranking;

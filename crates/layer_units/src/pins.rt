@@ -1,5 +1,5 @@
 //! The heights at which links leave and enter their units.
-ghost use Rattle.std.specs.Prelude.{◌≡◌, ℕ, ◌<◌, length};
+ghost use Rattle.std.specs.Prelude.{◌≡◌, ℕ, ◌+◌, ◌*◌, ◌<◌, length};
 ghost use Rattle.elk_layers.specs.Layered.{link_at};
 ghost use Rattle.level_model.specs.Conditions.{plain_level};
 ghost use Rattle.level_model.specs.Table.{child_in};
@@ -11,7 +11,7 @@ use drawing_types::shape::Side;
 use elk_layers::{Link, Unit};
 use level_model::{ChildAt, EndAt, LevelIn, Table};
 
-/// A level, its table, and by edge whether it is turned round.
+/// A level, its table, and by edge whether it is reversed.
 #[derive(Clone, Copy)]
 pub(crate) struct Fitting<'a> {
     pub level: &'a LevelIn,
@@ -53,15 +53,14 @@ fn pin_of(fitting: &Fitting<'_>, end: EndAt, enters: bool) -> i64
     room(&fitting.level.spacing, child.north) - child.outline.y + end.anchor.y
 }
 
-// An end of an edge.
-fn end_of(fitting: &Fitting<'_>, edge: u32, at_source: bool) -> EndAt
-    requires fitting { IsReadable (plain_level fitting.now.level.now) fitting.now.table.now fitting.now.marks.now }
-    requires edge { edge < length fitting.now.level.now.edges }
-    ensures { result ≡ end_of fitting.now.table.now edge at_source }
+/// An end of an edge as the table has it.
+pub(crate) fn end_of(table: &Table, edge: u32, at_source: bool) -> EndAt
+    requires { 2 * edge + 1 < length table.now.ends }
+    ensures { result ≡ end_of table.now edge at_source }
 {
     let first = 2 * edge as usize;
     let place = if at_source { first } else { first + 1 };
-    *fitting.table.ends.at(place)
+    *table.ends.at(place)
 }
 
 // The height of an end of a link below the top of its unit.
@@ -73,7 +72,7 @@ fn pin_at(fitting: &Fitting<'_>, unit: Unit, edge: u32, at_source: bool, enters:
     match unit.child {
         None => 0,
         Some(_) => {
-            let end = end_of(fitting, edge, at_source);
+            let end = end_of(fitting.table, edge, at_source);
             pin_of(fitting, end, enters)
         }
     }
@@ -86,9 +85,15 @@ fn fitted_link(fitting: &Fitting<'_>, units: &[Unit], link: Link) -> Link
     ensures { result ≡ link_with fitting.now.level.now.spacing fitting.now.table.now units.now fitting.now.marks.now link }
 {
     let edge = link.edge;
-    let turned = fitting.marks[edge as usize];
-    let tail_at = pin_at(fitting, units[link.tail as usize], edge, !turned, false);
-    let head_at = pin_at(fitting, units[link.head as usize], edge, turned, true);
+    let is_reversed = fitting.marks[edge as usize];
+    let tail_at = pin_at(
+        fitting,
+        units[link.tail as usize],
+        edge,
+        !is_reversed,
+        false,
+    );
+    let head_at = pin_at(fitting, units[link.head as usize], edge, is_reversed, true);
     Link {
         edge,
         tail: link.tail,

@@ -4,7 +4,7 @@ ghost use Rattle.elk_layers.specs.Layered.{plain, rows_of, IsSound, AreRows};
 ghost use Rattle.level_model.specs.Conditions.{plain_level, plain_plan, IsLevel};
 ghost use Rattle.level_model.specs.Level.{PlainLevel};
 ghost use Rattle.level_model.specs.Units.{AreLinked};
-ghost use Rattle.dock_table.specs.Flows.{TurnsMarked};
+ghost use Rattle.dock_table.specs.Courses.{ReversedAreMarked};
 ghost use Rattle.layer_units.specs.Marks.{listed};
 ghost use Rattle.layer_units.specs.Ranked as spec;
 ghost use Rattle.layer_units.specs.Ranked.{AreBareLinks, AreRanked, AreReranked, IsRanking, plan_of};
@@ -69,21 +69,21 @@ fn by_table(
     level: &LevelIn,
     layered: Layered,
     order: &Order,
-    turned: &[bool],
+    is_reversed: &[bool],
 ) -> Result<Layered, AllocError>
     requires level { IsLevel (plain_level level.now) }
     requires sound { IsSound (plain layered) }
     requires rows { AreRows (plain layered) (rows_of order.now) }
-    requires turned { TurnsMarked (plain_level level.now) turned.now (plain_plan layered order.now [] (listed turned.now)) }
-    ensures { IfOk result (λ v. IsRanking (plain_level level.now) (plain layered) (plain v) (listed turned.now)) }
+    requires is_reversed { ReversedAreMarked (plain_level level.now) is_reversed.now (plain_plan layered order.now [] (listed is_reversed.now)) }
+    ensures { IfOk result (λ v. IsRanking (plain_level level.now) (plain layered) (plain v) (listed is_reversed.now)) }
 {
-    let table = table_of(alloc, level, &layered, order, turned)?;
-    let ranks = ranks_of_children(alloc, level, turned)?;
+    let table = table_of(alloc, level, &layered, order, is_reversed)?;
+    let ranks = ranks_of_children(alloc, level, is_reversed)?;
     let ranking = Ranking {
         level,
         table: &table,
         ranks: ranks.as_slice(),
-        marks: turned,
+        marks: is_reversed,
     };
     let mut ranked = layered;
     rank_links(
@@ -97,30 +97,36 @@ fn by_table(
 /// The units and links of a level with the ranks of links' ends: where an end stands among those of its child's side, from the
 /// top. Only children whose ports are in a fixed order or at fixed positions give ranks; all others are 0.
 ///
-/// `turned` marks the edges that are turned round. Ranks are the same for every order of the rows, so any order will do as
-/// `order`. All but ranks stays as it is. The only error is want of memory; what was given is dropped then.
+/// `is_reversed` marks the edges that are reversed. Ranks are the same for every order of the rows, so any order will do as
+/// `order`. All but ranks stays as it is. The only error is out of memory; what was given is dropped then.
+///
+/// Proved:
+/// - The ranks of links' ends. At a child with ports in a fixed order or at fixed positions, a rank is the place of an end among those
+///   of its side. At other children it is 0.
+/// - They hold for every order of the rows, all orders of the sides that follow from it, and all tops. (`ranks_need_no_rows`)
+/// - Everything except ranks stays the same, and units and links are sound again.
 pub fn ranked(
     alloc: Global,
     level: &LevelIn,
     layered: Layered,
     order: &Order,
-    turned: &[bool],
+    is_reversed: &[bool],
 ) -> Result<Layered, AllocError>
     requires level { IsLevel (plain_level level.now) }
     requires sound { IsSound (plain layered) }
     requires rows { AreRows (plain layered) (rows_of order.now) }
-    requires turned { TurnsMarked (plain_level level.now) turned.now (plain_plan layered order.now [] (listed turned.now)) }
-    ensures ranks { IfOk result (λ v. AreRanked (plain_level level.now) (plain v) (listed turned.now)) }
+    requires is_reversed { ReversedAreMarked (plain_level level.now) is_reversed.now (plain_plan layered order.now [] (listed is_reversed.now)) }
+    ensures ranks { IfOk result (λ v. AreRanked (plain_level level.now) (plain v) (listed is_reversed.now)) }
     ensures sound { IfOk result (λ v. IsSound (plain v)) }
     ensures rows { IfOk result (λ v. (rows : List (List ℕ)) → AreRows (plain layered) rows → AreRows (plain v) rows) }
     ensures linked { IfOk result
         (λ v. (rows : List (List ℕ)) (tops : List ℤ) (layers : List ℕ)
-        → AreLinked (plain_level level.now) (plain_plan layered order.now [] (listed turned.now)) layers
-        → AreLinked (plain_level level.now) (plan_of (plain v) rows tops (listed turned.now)) layers) }
+        → AreLinked (plain_level level.now) (plain_plan layered order.now [] (listed is_reversed.now)) layers
+        → AreLinked (plain_level level.now) (plan_of (plain v) rows tops (listed is_reversed.now)) layers) }
     ensures kept { IfOk result (λ v. AreReranked (plain layered) (plain v)) }
 {
     if has_ranks(level.children.as_slice()) {
-        by_table(alloc, level, layered, order, turned)
+        by_table(alloc, level, layered, order, is_reversed)
     } else {
         Ok(unranked(layered))
     }

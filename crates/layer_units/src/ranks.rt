@@ -8,6 +8,9 @@ pub fn ranks_need_no_rows()
 
 /// Units and links with heights, pins and ranks are all that a drawing asks of them, and ranks that are found before heights
 /// and pins are known hold after.
+///
+/// Proved:
+/// - Ranks, heights and pins together are all that `draw` asks of units and links.
 pub fn fitted_units_are_units()
     ensures { MakeUnits }
 {}

@@ -42,6 +42,9 @@ fn fill_rows(units: &[Unit], rows: &mut [Vec<u32>]) -> Result<(), AllocError>
 
 /// The rows to start with: each has the units of its layer in ascending order, so its children in document order before its
 /// lanes in the order of their edges.
+///
+/// Proved:
+/// - Rows to start with, in which the units of each layer stand in the order of their numbers.
 pub fn start_of(alloc: Global, layered: &Layered) -> Result<Order, AllocError>
     requires { IsSound (plain layered.now) }
     ensures rows { IfOk result (λ order. AreRows (plain layered.now) (rows_of order)) }

@@ -34,22 +34,22 @@ pub(crate) fn spoke_of(level: &LevelIn, edge: u32, at_source: bool) -> EdgeEnd
     }
 }
 
-/// The run of an edge, which may be turned round, through so many gaps.
+/// The run of an edge, which may be reversed, through so many gaps.
 pub(crate) fn run_of(
     level: &LevelIn,
     layers: &[u32],
-    turned: bool,
+    is_reversed: bool,
     edge: u32,
     gaps: u32,
     first: u32,
 ) -> Run
     requires edge { edge < length level.now.edges }
-    requires tail { tail_child (plain_level level.now) turned edge < length layers.now }
-    requires gaps { gaps ≡ gaps_at (plain_level level.now) layers.now turned edge }
-    ensures { result ≡ run_at (plain_level level.now) layers.now turned edge first }
+    requires tail { tail_child (plain_level level.now) is_reversed edge < length layers.now }
+    requires gaps { gaps ≡ gaps_at (plain_level level.now) layers.now is_reversed edge }
+    ensures { result ≡ run_at (plain_level level.now) layers.now is_reversed edge first }
 {
-    let tail = spoke_of(level, edge, !turned).child;
-    let head = spoke_of(level, edge, turned).child;
+    let tail = spoke_of(level, edge, !is_reversed).child;
+    let head = spoke_of(level, edge, is_reversed).child;
     Run {
         edge,
         tail,

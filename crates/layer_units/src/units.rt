@@ -123,15 +123,15 @@ fn grow(
     alloc: Global,
     level: &LevelIn,
     layers: &[u32],
-    turned: &[bool],
+    is_reversed: &[bool],
     keys: &[Option<EdgeKey>],
     chains: &Chains,
 ) -> Result<Layered, AllocError>
     requires level { IsLevel (plain_level level.now) }
-    requires layering { AreLayersOf (plain_level level.now) (listed turned.now) layers.now }
-    requires marks { length turned.now ≡ length level.now.edges }
-    requires chained { AreChained (layering (plain_level level.now) (listed turned.now) layers.now) keys.now chains.now }
-    ensures { IfOk result (λ v. AreGrown (layering (plain_level level.now) (listed turned.now) layers.now) (plain v)) }
+    requires layering { AreLayersOf (plain_level level.now) (listed is_reversed.now) layers.now }
+    requires marks { length is_reversed.now ≡ length level.now.edges }
+    requires chained { AreChained (layering (plain_level level.now) (listed is_reversed.now) layers.now) keys.now chains.now }
+    ensures { IfOk result (λ v. AreGrown (layering (plain_level level.now) (listed is_reversed.now) layers.now) (plain v)) }
 {
     let mut units = units_of_children(alloc, layers)?;
     let mut links = Vec::new(alloc);
@@ -140,7 +140,7 @@ fn grow(
         let run = run_of(
             level,
             layers,
-            turned[edge as usize],
+            is_reversed[edge as usize],
             edge,
             gaps,
             units.len() as u32,
@@ -158,32 +158,38 @@ fn grow(
     })
 }
 
-/// The units and links of a level whose children lie in these layers, without heights, pins and ranks. `turned` marks
-/// the edges that are turned round. They are read off the chains that the edges were split into, which are found by the key of
+/// The units and links of a level whose children lie in these layers, without heights, pins and ranks. `is_reversed` marks
+/// the edges that are reversed. They are read off the chains that the edges were split into, which are found by the key of
 /// each edge: a link for each edge of a chain, and a lane between two of them.
 ///
 /// Unit c is that of child c. The lanes of long edges follow by edge, and those of an edge from its tail on; so do links.
+///
+/// Proved:
+/// - The units and links of a level, from the layers of its children and the chains of its edges.
+/// - There is a unit for each child, and a lane for each layer that a long edge passes.
+/// - There is a chain of links for each edge that isn't a self-loop.
+/// - Units and links are numbered by child and edge.
 pub fn units_of(
     alloc: Global,
     level: &LevelIn,
     layers: &[u32],
-    turned: &[bool],
+    is_reversed: &[bool],
     keys: &[Option<EdgeKey>],
     chains: &Chains,
 ) -> Result<Layered, AllocError>
     requires level { IsLevel (plain_level level.now) }
-    requires layering { AreLayersOf (plain_level level.now) (listed turned.now) layers.now }
-    requires marks { length turned.now ≡ length level.now.edges }
-    requires chained { AreChained (layering (plain_level level.now) (listed turned.now) layers.now) keys.now chains.now }
+    requires layering { AreLayersOf (plain_level level.now) (listed is_reversed.now) layers.now }
+    requires marks { length is_reversed.now ≡ length level.now.edges }
+    requires chained { AreChained (layering (plain_level level.now) (listed is_reversed.now) layers.now) keys.now chains.now }
     ensures linked { IfOk result
-        (λ v. (rows : List (List ℕ)) (tops : List ℤ) → AreLinked (plain_level level.now) (plan_with v rows tops (listed turned.now)) layers.now) }
+        (λ v. (rows : List (List ℕ)) (tops : List ℤ) → AreLinked (plain_level level.now) (plan_with v rows tops (listed is_reversed.now)) layers.now) }
     ensures sound { IfOk result (λ v. IsSound (plain v)) }
-    ensures numbered { IfOk result (λ v. AreNumberedUnits (layering (plain_level level.now) (listed turned.now) layers.now) (plain v)) }
+    ensures numbered { IfOk result (λ v. AreNumberedUnits (layering (plain_level level.now) (listed is_reversed.now) layers.now) (plain v)) }
     ensures layers { IfOk result (λ v. IsLayerCount layers.now v.layers) }
     ensures few_layers { IfOk result (λ v. v.layers ≤ 2048) }
     ensures node_node { IfOk result (λ v. v.node_node ≡ level.now.spacing.node_node) }
     ensures edge_node { IfOk result (λ v. v.edge_node ≡ level.now.spacing.edge_node) }
     ensures edge_edge { IfOk result (λ v. v.edge_edge ≡ level.now.spacing.edge_edge) }
 {
-    grow(alloc, level, layers, turned, keys, chains)
+    grow(alloc, level, layers, is_reversed, keys, chains)
 }

@@ -10,7 +10,7 @@ use Rattle.elk_doc.proofs.SoundLaws.{node_of_end-in}
 use Rattle.layout_check.specs.Shapes.{Lists}
 use Rattle.layout_check.specs.Names.{AreNamesBelow, Renames, name_of}
 
--- paths, joined and turned round
+-- paths, joined and reversed
 pub reach_join : (P : ℕ → ℕ → Type 0) (a b c : ℕ) → Reaches P a b → Reaches P b c → Reaches P a c
 reach_join P a b c (stay _) s = s
 reach_join P a b c (go _ x _ t r) s = go a x c t (reach_join P x b c r s)

@@ -143,7 +143,7 @@ pub subst4 : {A B C D : Type 0} (P : A → B → C → D → Type 0) (a a2 : A) 
 subst4 P a a2 b b2 c c2 d d2 ea eb ec ed h =
     subst (λ x. P a2 b2 c2 x) ed (subst (λ x. P a2 b2 x d) ec (subst (λ x. P a2 x c d) eb (subst (λ x. P x b c d) ea h)))
 
--- a test that fails, turned round
+-- a test that fails, reversed
 pub not_true : (b : Bool) → not b ≡ true → b ≡ false
 not_true true e = absurd cc
 not_true false e = refl

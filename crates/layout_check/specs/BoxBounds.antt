@@ -11,16 +11,16 @@ use Rattle.drawing_types.specs.Shapes.{origin}
 use Rattle.elk_doc.specs.Level.{IsChild, IsEdge, source_node}
 use Rattle.elk_doc.specs.Drawing.{part_in, points_of, section_of}
 use Rattle.elk_doc.specs.Places.{outline_of}
-use Rattle.elk_doc.specs.Shapes.{turned}
+use Rattle.elk_doc.specs.Shapes.{rotated}
 use Rattle.drawing_types.specs.Shapes.{bottom_of, point_rect, right_of}
 use Rattle.layout_check.specs.declared.box_bounds.Bounds.{Bounds}
 
 -- the bounds hold a rectangle in the frame of a direction, with this room right of it and below
 pub record Encloses (gap : ℤ) (way : Direction) (b : Bounds) (r : Rect) : Type 0 where
-  pub left : b.left ≤ℤ (turned way r).x
-  pub top : b.top ≤ℤ (turned way r).y
-  pub right : (right_of (turned way r) +ℤ gap) ≤ℤ b.right
-  pub bottom : (bottom_of (turned way r) +ℤ gap) ≤ℤ b.bottom
+  pub left : b.left ≤ℤ (rotated way r).x
+  pub top : b.top ≤ℤ (rotated way r).y
+  pub right : (right_of (rotated way r) +ℤ gap) ≤ℤ b.right
+  pub bottom : (bottom_of (rotated way r) +ℤ gap) ≤ℤ b.bottom
 
 -- the outer bounds hold the inner ones
 pub record Covers (outer inner : Bounds) : Type 0 where

@@ -12,7 +12,7 @@ use Rattle.elk_doc.specs.Level.{IsChild, IsEdge, is_child, source_node}
 use Rattle.elk_doc.specs.Drawing.{part_in, points_of, section_of}
 use Rattle.elk_doc.specs.Places.{outline_of}
 use Rattle.elk_doc.specs.Numbers.{count_below}
-use Rattle.elk_doc.specs.Shapes.{turned}
+use Rattle.elk_doc.specs.Shapes.{rotated}
 use Rattle.drawing_types.specs.Shapes.{point_rect}
 use Rattle.elk_doc.specs.Content.{EachShapeOf}
 use Rattle.drawing_types.specs.Clearance.{IsLeftBy, IsAboveBy}
@@ -102,8 +102,8 @@ number_by d n names v = count_below (is_leader d n names) (name_of names v)
 
 -- one rectangle lies left of another in the frame of a direction, or above it
 abbrev pub IsBeyond : Bool → ℤ → Direction → Rect → Rect → Type 0
-IsBeyond true gap way r s = IsLeftBy gap (turned way r) (turned way s)
-IsBeyond false gap way r s = IsAboveBy gap (turned way r) (turned way s)
+IsBeyond true gap way r s = IsLeftBy gap (rotated way r) (rotated way s)
+IsBeyond false gap way r s = IsAboveBy gap (rotated way r) (rotated way s)
 
 -- one rectangle lies left of another or above it
 abbrev pub StandsClearIn : ℤ → Direction → Rect → Rect → Type 0

@@ -2,7 +2,7 @@
 ghost use Rattle.std.specs.Prelude.{◌≡◌, ◌↔◌, ◌+ℤ◌, ◌^◌, neg_ℤ, pos, IsTrue, true, false};
 ghost use Rattle.drawing_types.specs.Ranges.{IsWithin};
 ghost use Rattle.layout_check.specs.FirstApart.{IsBeyond, StandsClearIn};
-ghost use Rattle.elk_doc.specs.Shapes.{turned};
+ghost use Rattle.elk_doc.specs.Shapes.{rotated};
 ghost use Rattle.drawing_types.specs.Shapes.{bottom_of, right_of};
 
 use drawing_types::shape::Rect;
@@ -18,7 +18,7 @@ fn end_of(low: i64, size: i64) -> i128
 
 // The left border of a rectangle in the frame of a direction.
 pub(crate) fn left(way: Direction, r: Rect) -> i128
-    ensures value { result ≡ (turned way r).x }
+    ensures value { result ≡ (rotated way r).x }
     ensures small { IsWithin (neg_ℤ (pos (2 ^ 65))) (pos (2 ^ 65)) result }
 {
     match way {
@@ -31,7 +31,7 @@ pub(crate) fn left(way: Direction, r: Rect) -> i128
 
 // The right border of a rectangle in the frame of a direction.
 pub(crate) fn right(way: Direction, r: Rect) -> i128
-    ensures value { result ≡ right_of (turned way r) }
+    ensures value { result ≡ right_of (rotated way r) }
     ensures small { IsWithin (neg_ℤ (pos (2 ^ 65))) (pos (2 ^ 65)) result }
 {
     match way {
@@ -44,7 +44,7 @@ pub(crate) fn right(way: Direction, r: Rect) -> i128
 
 // The upper border of a rectangle in the frame of a direction.
 pub(crate) fn top(way: Direction, r: Rect) -> i64
-    ensures { result ≡ (turned way r).y }
+    ensures { result ≡ (rotated way r).y }
 {
     match way {
         Direction::Right => r.y,
@@ -56,7 +56,7 @@ pub(crate) fn top(way: Direction, r: Rect) -> i64
 
 // The lower border of a rectangle in the frame of a direction.
 pub(crate) fn bottom(way: Direction, r: Rect) -> i128
-    ensures value { result ≡ bottom_of (turned way r) }
+    ensures value { result ≡ bottom_of (rotated way r) }
     ensures small { IsWithin (neg_ℤ (pos (2 ^ 65))) (pos (2 ^ 65)) result }
 {
     match way {

@@ -65,6 +65,10 @@ fn first_no(
 }
 
 /// The verdict on a drawing that fits its document: yes exactly where the drawing obeys it.
+///
+/// Proved:
+/// - `check` says yes exactly if the drawing obeys its document, and then the spans are minimal.
+/// - Otherwise it names the lowest-numbered definition that fails at any level, at the first level, with the first places there.
 pub fn check(alloc: Global, doc: &Doc, placed: &Placed) -> Result<Verdict, AllocError>
     requires { Fits doc.now placed.now }
     ensures exact { IfOk result (λ verdict. (verdict ≡ Yes) ↔ Drawn doc.now placed.now) }

@@ -32,7 +32,7 @@ use Rattle.level_nets.specs.declared.routing.Routing.{Routing}
 use Rattle.level_nets.specs.Parts.{Parts, ArePlanned, EndAbove, plan_of}
 use Rattle.level_nets.specs.Held.{plain_gaps}
 use Rattle.level_nets.specs.Reach.{AreNetsIn, IsBelow}
-use Rattle.level_nets.specs.Read.{dock_at, end_number, is_one_dock, is_turned_back, unit_of_dock}
+use Rattle.level_nets.specs.Read.{dock_at, end_number, is_one_dock, dock_inverts, unit_of_dock}
 use Rattle.level_nets.specs.Routed.{AreGapsIn, AreGapsOf, AreLegs, drawn_with}
 use Rattle.level_nets.proofs.Gaps.{are_nets, nets_are}
 use Rattle.level_nets.proofs.Names.{child_below}
@@ -134,14 +134,14 @@ two a b h k = All-cons IsNearStep a (b ∷ []) h (one b k)
 three : (a b c : Step) → IsNearStep a → IsNearStep b → IsNearStep c → All IsNearStep (a ∷ b ∷ c ∷ [])
 three a b c h k m = All-cons IsNearStep a (b ∷ c ∷ []) h (two b c k m)
 
-turned_near : (a : Step) → IsNearStep a → IsNearStep (plan.turned_step a)
-turned_near (Lane h) w = w
-turned_near (Leg g n from_a) w = tt
+reversed_near : (a : Step) → IsNearStep a → IsNearStep (plan.reversed_step a)
+reversed_near (Lane h) w = w
+reversed_near (Leg g n from_a) w = tt
 
-map_near : (xs : List Step) → All IsNearStep xs → All IsNearStep (map plan.turned_step xs)
+map_near : (xs : List Step) → All IsNearStep xs → All IsNearStep (map plan.reversed_step xs)
 map_near [] h = All-nil IsNearStep
 map_near (x ∷ xs) h =
-    All-cons IsNearStep (plan.turned_step x) (map plan.turned_step xs) (turned_near x (All-head IsNearStep x xs h)) (map_near xs (All-tail IsNearStep x xs h))
+    All-cons IsNearStep (plan.reversed_step x) (map plan.reversed_step xs) (reversed_near x (All-head IsNearStep x xs h)) (map_near xs (All-tail IsNearStep x xs h))
 
 reverse_near : (xs : List Step) → All IsNearStep xs → All IsNearStep (reverse xs)
 reverse_near xs h =
@@ -192,9 +192,9 @@ module _ (s : Parts) (rows : List (List ℕ)) (o : Orders) (layers : List ℕ) (
     oriented_near e =
         All-append IsNearStep (read.steps_out s r (read.tail_of s e) ++ read.chain_steps s r (read.links_of s e)) (read.steps_in s r (read.head_of s e))
         (All-append IsNearStep (read.steps_out s r (read.tail_of s e)) (read.chain_steps s r (read.links_of s e))
-        (leaving_near (read.tail_of s e) (is_turned_back s (read.tail_of s e)) (is_upright (dock_at s (read.tail_of s e)).side))
+        (leaving_near (read.tail_of s e) (dock_inverts s (read.tail_of s e)) (is_upright (dock_at s (read.tail_of s e)).side))
         (chain_near (read.links_of s e)))
-        (entering_near (read.head_of s e) (is_turned_back s (read.head_of s e)) (is_upright (dock_at s (read.head_of s e)).side))
+        (entering_near (read.head_of s e) (dock_inverts s (read.head_of s e)) (is_upright (dock_at s (read.head_of s e)).side))
 
     north_near : (e : ℕ) → IsNearStep (read.loop_lane_step s e North)
     north_near e = height_sum _ _ (tops_near (unit_of_dock s (dock_at s (end_at e true)))) (loops_near s.table numbers e).north
@@ -231,14 +231,14 @@ module _ (s : Parts) (rows : List (List ℕ)) (o : Orders) (layers : List ℕ) (
     steps_near legs e h =
         cond_both (is_loop s.level e)
         (cond (has_one_dock s.level (plan_of s rows) o e) [] (plan.loop_steps s.level (plan_of s rows) o (pos 0) e (dock_of s.level (plan_of s rows) o (end_at e true)).side (dock_of s.level (plan_of s rows) o (end_at e false)).side))
-        (cond (holds s.reversed e) (plan.turned_steps (plan.oriented_steps s.level (plan_of s rows) o (pos 0) e)) (plan.oriented_steps s.level (plan_of s rows) o (pos 0) e))
+        (cond (holds s.reversed e) (plan.reversed_steps (plan.oriented_steps s.level (plan_of s rows) o (pos 0) e)) (plan.oriented_steps s.level (plan_of s rows) o (pos 0) e))
         (All IsNearStep)
         (λ loop. subst (All IsNearStep) (loop_steps_are s rows o layers planned r legs e h loop)
         (cond_both (is_one_dock s e) [] (read.loop_steps s r e (dock_at s (end_at e true)).side (dock_at s (end_at e false)).side) (All IsNearStep)
         (λ same. All-nil IsNearStep) (λ apart. loop_near e (dock_at s (end_at e true)).side (dock_at s (end_at e false)).side)))
         (λ plain. subst (All IsNearStep) (edge_steps_are s rows o layers planned r legs e h plain (λ k has. links_there e k has))
-        (cond_both (holds s.reversed e) (plan.turned_steps (read.oriented_steps s r e)) (read.oriented_steps s r e) (All IsNearStep)
-        (λ turned. reverse_near (map plan.turned_step (read.oriented_steps s r e)) (map_near (read.oriented_steps s r e) (oriented_near e))) (λ kept. oriented_near e)))
+        (cond_both (holds s.reversed e) (plan.reversed_steps (read.oriented_steps s r e)) (read.oriented_steps s r e) (All IsNearStep)
+        (λ is_reversed. reverse_near (map plan.reversed_step (read.oriented_steps s r e)) (map_near (read.oriented_steps s r e) (oriented_near e))) (λ kept. oriented_near e)))
 
   -- ---- gaps
 

@@ -7,7 +7,7 @@ use Rattle.level_model.specs.Table.{IsTable}
 use Rattle.level_model.specs.Units.{AreLinked, AreOrders, HasChain, IsLaneUnit, IsLinkOf, IsUnitOf}
 use Rattle.level_model.specs.Ready.{IsReady}
 use Rattle.dock_table.specs.Bounds.{AreNumbersIn}
-use Rattle.dock_table.specs.Flows.{TurnsMarked}
+use Rattle.dock_table.specs.Courses.{ReversedAreMarked}
 use Rattle.dock_table.specs.Tops.{with_tops}
 use Rattle.layer_units.specs.Tabled.{IsTableOf}
 use Rattle.level_nets.specs.Parts.{IsGiven, Parts, plan_of}
@@ -52,7 +52,7 @@ pub marked : (given rs : List ℕ) (count n : ℕ) (made ms : List Bool) → giv
 marked given rs count n made ms e f g h = subst (λ (xs : List ℕ). AreMarks xs n ms) e (subst (λ k. AreMarks given k ms) f (subst (λ (bs : List Bool). AreMarks given count bs) (sym g) h))
 
 -- a plan that can be drawn turns the marked edges round, wherever units stand
-pub turns : (l : PlainLevel) (p : PlainPlan) (layers : List ℕ) (marks : List Bool) → IsDrawable l p layers → AreMarks p.reversed (length l.edges) marks → TurnsMarked l marks (with_tops p [])
+pub turns : (l : PlainLevel) (p : PlainPlan) (layers : List ℕ) (marks : List Bool) → IsDrawable l p layers → AreMarks p.reversed (length l.edges) marks → ReversedAreMarked l marks (with_tops p [])
 turns l p layers marks can are = record { marks = are; layers = layers; linked = linked_kept l p [] layers can.ready.units.linked }
 
 -- a table that was made before places are known belongs to the plan

@@ -32,9 +32,9 @@ module _ (s : Parts) (rows : List (List ℕ)) (o : Orders) (layers : List ℕ) (
     where
       step : (b : Bool) → is_loop s.level e ≡ b
           → cond b (cond (is_one_dock s e) [] (read.loop_steps s r e (dock_at s (end_at e true)).side (dock_at s (end_at e false)).side))
-          (cond (holds s.reversed e) (plan.turned_steps (read.oriented_steps s r e)) (read.oriented_steps s r e))
+          (cond (holds s.reversed e) (plan.reversed_steps (read.oriented_steps s r e)) (read.oriented_steps s r e))
           ≡ cond b (cond (has_one_dock s.level (plan_of s rows) o e) [] (plan.loop_steps s.level (plan_of s rows) o (pos 0) e (dock_of s.level (plan_of s rows) o (end_at e true)).side (dock_of s.level (plan_of s rows) o (end_at e false)).side))
-          (cond (holds s.reversed e) (plan.turned_steps (plan.oriented_steps s.level (plan_of s rows) o (pos 0) e)) (plan.oriented_steps s.level (plan_of s rows) o (pos 0) e))
+          (cond (holds s.reversed e) (plan.reversed_steps (plan.oriented_steps s.level (plan_of s rows) o (pos 0) e)) (plan.oriented_steps s.level (plan_of s rows) o (pos 0) e))
       step true loop = loop_steps_are s rows o layers planned r legs e h loop
       step false loop = edge_steps_are s rows o layers planned r legs e h loop (λ k has. links_there e k has)
 

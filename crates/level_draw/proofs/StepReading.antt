@@ -18,7 +18,7 @@ use Rattle.level_nets.specs.declared.routing.Routing.{Routing}
 use Rattle.level_nets.specs.Parts.{Parts, plan_of, ArePlanned}
 use Rattle.level_nets.specs.Read.{gap_named}
 use Rattle.level_nets.specs.Routed.{AreLegs}
-use Rattle.level_nets.proofs.Names.{end_is, dock_is, turned_is, gap_is}
+use Rattle.level_nets.proofs.Names.{end_is, dock_is, inverted_is, gap_is}
 use Rattle.level_nets.proofs.Nets.{top_is}
 use Rattle.level_draw.specs.Read as read
 use Rattle.level_draw.proofs.Linking.{chain_same}
@@ -76,13 +76,13 @@ module _ (s : Parts) (rows : List (List ℕ)) (o : Orders) (layers : List ℕ) (
   out_is : (n : End) → n.edge < length s.level.edges → is_loop l n.edge ≡ false
       → read.steps_out s r n ≡ plan.leaving l p o (pos 0) n (is_inverted l p o n) (is_upright (dock_of l p o n).side)
   out_is n h loop =
-      ap₂ (read.leaving s r n) (turned_is s rows o layers planned n h) (ap (λ (d : Dock). is_upright d.side) (dock_is s rows o layers planned n h))
+      ap₂ (read.leaving s r n) (inverted_is s rows o layers planned n h) (ap (λ (d : Dock). is_upright d.side) (dock_is s rows o layers planned n h))
       ∙ leaving_is n h loop (is_inverted l p o n) (is_upright (dock_of l p o n).side) refl refl
 
   in_is : (n : End) → n.edge < length s.level.edges → is_loop l n.edge ≡ false
       → read.steps_in s r n ≡ plan.entering l p o (pos 0) n (is_inverted l p o n) (is_upright (dock_of l p o n).side)
   in_is n h loop =
-      ap₂ (read.entering s r n) (turned_is s rows o layers planned n h) (ap (λ (d : Dock). is_upright d.side) (dock_is s rows o layers planned n h))
+      ap₂ (read.entering s r n) (inverted_is s rows o layers planned n h) (ap (λ (d : Dock). is_upright d.side) (dock_is s rows o layers planned n h))
       ∙ entering_is n h loop (is_inverted l p o n) (is_upright (dock_of l p o n).side) refl refl
 
   -- the links between
@@ -110,7 +110,7 @@ module _ (s : Parts) (rows : List (List ℕ)) (o : Orders) (layers : List ℕ) (
       (in_is (head_end p e) h loop)
 
   pub edge_steps_are : (e : ℕ) → e < length s.level.edges → is_loop l e ≡ false → ((k : ℕ) → Has (plan.chain (plan_of s rows) e) k → k < length s.layered.links)
-      → cond (holds s.reversed e) (plan.turned_steps (read.oriented_steps s r e)) (read.oriented_steps s r e)
-      ≡ cond (holds s.reversed e) (plan.turned_steps (plan.oriented_steps l p o (pos 0) e)) (plan.oriented_steps l p o (pos 0) e)
+      → cond (holds s.reversed e) (plan.reversed_steps (read.oriented_steps s r e)) (read.oriented_steps s r e)
+      ≡ cond (holds s.reversed e) (plan.reversed_steps (plan.oriented_steps l p o (pos 0) e)) (plan.oriented_steps l p o (pos 0) e)
   edge_steps_are e h loop there =
-      ap₂ (λ (a b : List Step). cond (holds s.reversed e) a b) (ap plan.turned_steps (oriented_is e h loop there)) (oriented_is e h loop there)
+      ap₂ (λ (a b : List Step). cond (holds s.reversed e) a b) (ap plan.reversed_steps (oriented_is e h loop there)) (oriented_is e h loop there)

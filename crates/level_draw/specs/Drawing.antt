@@ -22,11 +22,11 @@ use Rattle.level_draw.specs.Traced.{plain_traces}
 use Rattle.layer_units.specs.Layering.{AreLayersOf, IsLayerCount}
 use Rattle.level_draw.specs.declared.drawing.LevelOut.{LevelOut}
 
--- the plan of these units, rows and tops, with the edges that a certificate says are turned round
+-- the plan of these units, rows and tops, with the edges that a certificate says are reversed
 abbrev pub plan_from : Certificate → Layered → Order → Lines → PlainPlan
 plan_from certificate layered order lines = plain_plan layered order lines.top.items certificate.reversed
 
--- What is asked of a level and its plan. The layers that are listed for its children are below 2,048, and each edge, turned round
+-- What is asked of a level and its plan. The layers that are listed for its children are below 2,048, and each edge, reversed
 -- where the plan says so, leads to a greater one. The units are those of the level in these layers, by the orders of its sides,
 -- with no layer after the last of them. The tops, which keep the distances, leave each unit above 2^49.
 pub record IsDrawable (l : PlainLevel) (p : PlainPlan) (layers : List ℕ) : Type 0 where

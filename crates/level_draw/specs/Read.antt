@@ -10,12 +10,12 @@ use Rattle.route_lines.specs.declared.Step.{Step}
 use Rattle.route_lines.specs.declared.Step.TheVariants.{Lane, Leg}
 use Rattle.route_lines.specs.Points.{PlainGap, gap_in}
 use Rattle.level_model.specs.Level.{End, end_at, is_loop, holds, spoke, tail_end, head_end}
-use Rattle.level_model.specs.Traces.{chain, turned_steps}
+use Rattle.level_model.specs.Traces.{chain, reversed_steps}
 use Rattle.level_model.specs.Table.{child_in, loop_in}
 use Rattle.level_nets.specs.declared.routing.Routing.{Routing}
 use Rattle.level_nets.specs.Parts.{Parts, plan_of}
 use Rattle.level_nets.specs.Held.{legs_at}
-use Rattle.level_nets.specs.Read.{at_end, dock_at, end_number, gap_at, below_unit, is_turned_back, is_one_dock}
+use Rattle.level_nets.specs.Read.{at_end, dock_at, end_number, gap_at, below_unit, dock_inverts, is_one_dock}
 
 -- the lane of an end's dock, and the net between that lane and the anchor
 abbrev pub dock_lane_step : Parts → End → Step
@@ -56,10 +56,10 @@ unfoldable pub links_of : Parts → ℕ → List ℕ
 links_of s e = chain (plan_of s []) e
 
 abbrev pub steps_out : Parts → Routing → End → List Step
-steps_out s r n = leaving s r n (is_turned_back s n) (is_upright (dock_at s n).side)
+steps_out s r n = leaving s r n (dock_inverts s n) (is_upright (dock_at s n).side)
 
 abbrev pub steps_in : Parts → Routing → End → List Step
-steps_in s r n = entering s r n (is_turned_back s n) (is_upright (dock_at s n).side)
+steps_in s r n = entering s r n (dock_inverts s n) (is_upright (dock_at s n).side)
 
 -- the end at which the oriented edge leaves, and the one at which it enters
 abbrev pub tail_of : Parts → ℕ → End
@@ -116,7 +116,7 @@ abbrev pub steps_of : Parts → Routing → ℕ → List Step
 steps_of s r e =
     cond (is_loop s.level e)
     (cond (is_one_dock s e) [] (loop_steps s r e (dock_at s (end_at e true)).side (dock_at s (end_at e false)).side))
-    (cond (holds s.reversed e) (turned_steps (oriented_steps s r e)) (oriented_steps s r e))
+    (cond (holds s.reversed e) (reversed_steps (oriented_steps s r e)) (oriented_steps s r e))
 
 -- the box of a child: its outline flush at the right border of the gap before its column, its top by its unit
 abbrev pub box_at : Parts → List PlainGap → ℕ → Point

@@ -52,7 +52,7 @@ struct Sketch {
 // The parts of a level's drawing, moved so that it begins at 0.
 fn sketch_of(alloc: Global, draft: &Draft<'_>, table: Table) -> Result<Sketch, AllocError>
     requires drawable { (layers : List ℕ) × IsDrawable (plain_level draft.now.level.now) (plan_in draft.now) layers }
-    requires marked { AreMarks draft.now.reversed.now (length draft.now.level.now.edges) draft.now.turned.now }
+    requires marked { AreMarks draft.now.reversed.now (length draft.now.level.now.edges) draft.now.is_reversed.now }
     requires table { IsTableOf (plain_level draft.now.level.now) (plan_in draft.now) table }
     ensures { IfOk result (IsSketch (plain_level draft.now.level.now) (plan_in draft.now)) }
 {
@@ -75,17 +75,23 @@ pub struct Basis {
 }
 
 /// The drawing of a level as [`draw`] has it, from a table of its docks, anchors and lanes that was made before, and the marks
-/// of the edges that are turned round.
+/// of the edges that are reversed.
+///
+/// Proved:
+/// - The drawing of a level from its units, links, rows and tops: columns, gaps, traces, boxes, ports and sections come from the plan.
+///   (`draw`)
+/// - Children keep their distances, ports their constraints and routes the rules. (`draw`)
+/// - It begins at 0 with a tight extent, for any tops that keep the distances of units. (`draw`)
 pub fn draw_by_table(
     alloc: Global,
     level: &LevelIn,
     certificate: Certificate,
     basis: Basis,
-    turned: &[bool],
+    is_reversed: &[bool],
     table: Table,
 ) -> Result<LevelOut, AllocError>
     requires drawable { IsDrawable (plain_level level.now) (plan_from certificate basis.layered basis.order basis.lines) certificate.layers }
-    requires marked { AreMarks certificate.reversed (length level.now.edges) turned.now }
+    requires marked { AreMarks certificate.reversed (length level.now.edges) is_reversed.now }
     requires table { IsTableOf (plain_level level.now) (plan_from certificate basis.layered basis.order basis.lines) table }
     ensures given { IfOk result (IsMadeFrom certificate basis.layered basis.start basis.order basis.lines) }
     ensures drawn { IfOk result (IsDrawn (plain_level level.now) (plan_from certificate basis.layered basis.order basis.lines) certificate.layers) }
@@ -96,7 +102,7 @@ pub fn draw_by_table(
         order: &basis.order,
         lines: &basis.lines,
         reversed: certificate.reversed.as_slice(),
-        turned,
+        is_reversed,
     };
     let sketch = sketch_of(alloc, &draft, table)?;
     let extent = sketch.extent;
@@ -123,7 +129,7 @@ pub fn draw_by_table(
 /// the rows began with and what the drawing is made from are kept in it.
 ///
 /// The tops need only keep the distances of units. No layer comes after the last that the certificate lists: it would be a column
-/// in which nothing stands, and this engine makes none. The only error is want of memory; what was given is dropped then.
+/// in which nothing stands, and this engine makes none. The only error is out of memory; what was given is dropped then.
 pub fn draw(
     alloc: Global,
     level: &LevelIn,
@@ -138,13 +144,13 @@ pub fn draw(
     ensures drawn { IfOk result (IsDrawn (plain_level level.now) (plan_from certificate layered order lines) certificate.layers) }
 {
     let marks = marks_of(alloc, certificate.reversed.as_slice(), level.edges.len())?;
-    let turned = marks.as_slice();
-    let table = table_of(alloc, level, &layered, &order, turned)?;
+    let is_reversed = marks.as_slice();
+    let table = table_of(alloc, level, &layered, &order, is_reversed)?;
     let basis = Basis {
         layered,
         start,
         order,
         lines,
     };
-    draw_by_table(alloc, level, certificate, basis, turned, table)
+    draw_by_table(alloc, level, certificate, basis, is_reversed, table)
 }

@@ -42,7 +42,7 @@ fn ports_of(alloc: Global, children: Vec<ChildAt>) -> Result<Vec<Items<Point>>, 
     Ok(ports)
 }
 
-/// A level, its units and links, its rows and lines, and the edges that are turned round, by list and by edge.
+/// A level, its units and links, its rows and lines, and the edges that are reversed, by list and by edge.
 #[derive(Clone, Copy)]
 pub(crate) struct Draft<'a> {
     pub level: &'a LevelIn,
@@ -50,13 +50,13 @@ pub(crate) struct Draft<'a> {
     pub order: &'a Order,
     pub lines: &'a Lines,
     pub reversed: &'a [u32],
-    pub turned: &'a [bool],
+    pub is_reversed: &'a [bool],
 }
 
 /// The parts of a level's drawing, where its first gap begins at 0 and its units stand at their tops.
 pub(crate) fn parts_of(alloc: Global, draft: &Draft<'_>, table: Table) -> Result<Parts, AllocError>
     requires drawable { (layers : List ℕ) × IsDrawable (plain_level draft.now.level.now) (plan_in draft.now) layers }
-    requires marked { AreMarks draft.now.reversed.now (length draft.now.level.now.edges) draft.now.turned.now }
+    requires marked { AreMarks draft.now.reversed.now (length draft.now.level.now.edges) draft.now.is_reversed.now }
     requires table { IsTableOf (plain_level draft.now.level.now) (plan_in draft.now) table }
     ensures { IfOk result (AreLevelParts (plain_level draft.now.level.now) (plan_in draft.now)) }
 {
@@ -65,7 +65,7 @@ pub(crate) fn parts_of(alloc: Global, draft: &Draft<'_>, table: Table) -> Result
         layered: draft.layered,
         tops: draft.lines.top.as_slice(),
         reversed: draft.reversed,
-        turned: draft.turned,
+        is_reversed: draft.is_reversed,
         table: &table,
     };
     let routing = gaps_of(alloc, &sheet)?;

@@ -3,7 +3,7 @@ ghost use Rattle.std.specs.Prelude.{◌≡◌, ◌++◌, ◌<◌, [], cond, leng
 ghost use Rattle.elk_layers.specs.Layered.{link_at};
 ghost use Rattle.self_loops.specs.Loops.{is_upright};
 ghost use Rattle.level_model.specs.Level.{end_at, is_loop, holds};
-ghost use Rattle.level_model.specs.Traces.{turned_step, turned_steps};
+ghost use Rattle.level_model.specs.Traces.{reversed_step, reversed_steps};
 ghost use Rattle.level_nets.specs.Read.{end_number};
 ghost use Rattle.level_nets.specs.Reach.{IsSheet, parts_in};
 ghost use Rattle.level_draw.specs.Chains.{AreNext, end_layer};
@@ -13,7 +13,7 @@ ghost use Rattle.level_draw.specs.Reach.{AreNumbersIn, HaveLegs, IsLinked};
 use crate::chains::Next;
 use drawing_types::shape::Side;
 use level_nets::Routing;
-use level_nets::reading::{below_unit, dock_gap, is_turned_back, link_gap};
+use level_nets::reading::{below_unit, dock_gap, dock_inverts, link_gap};
 use level_nets::sheet::{Sheet, child_at, end_at, link_at, top_of, unit_at};
 use route_lines::Step;
 use std::alloc::AllocError;
@@ -77,7 +77,7 @@ fn push_leaving(
     requires edge { edge < length sheet.now.level.now.edges }
     ensures { OnOk result (steps.new.items ≡ steps.old.items ++ read.steps_out (parts_in sheet.now) routing.now (end_at edge at_source)) }
 {
-    if is_turned_back(sheet, edge, at_source) {
+    if dock_inverts(sheet, edge, at_source) {
         steps.push(dock_leg(sheet, routing, edge, at_source, false))?;
         steps.push(dock_lane(sheet, edge, at_source))?;
         return Ok(());
@@ -102,7 +102,7 @@ fn push_entering(
     requires edge { edge < length sheet.now.level.now.edges }
     ensures { OnOk result (steps.new.items ≡ steps.old.items ++ read.steps_in (parts_in sheet.now) routing.now (end_at edge at_source)) }
 {
-    if is_turned_back(sheet, edge, at_source) {
+    if dock_inverts(sheet, edge, at_source) {
         steps.push(dock_lane(sheet, edge, at_source))?;
         steps.push(dock_leg(sheet, routing, edge, at_source, true))?;
         return Ok(());
@@ -140,13 +140,13 @@ fn end_layer(sheet: &Sheet<'_>, edge: u32, at_source: bool) -> u32
     .layer
 }
 
-// Whether an edge is turned round.
-fn is_turned(sheet: &Sheet<'_>, edge: u32) -> bool
+// Whether an edge is reversed.
+fn runs_reversed(sheet: &Sheet<'_>, edge: u32) -> bool
     requires sheet { IsSheet sheet.now }
     requires edge { edge < length sheet.now.level.now.edges }
     ensures { result ≡ holds (parts_in sheet.now).reversed edge }
 {
-    sheet.turned[edge as usize]
+    sheet.is_reversed[edge as usize]
 }
 
 // How many links the chain of an edge has.
@@ -157,8 +157,8 @@ fn chain_length(sheet: &Sheet<'_>, edge: u32) -> u32
     requires no_loop { IsFalse (is_loop (parts_in sheet.now).level edge) }
     ensures { result ≡ length (read.links_of (parts_in sheet.now) edge) }
 {
-    let turned = is_turned(sheet, edge);
-    end_layer(sheet, edge, turned) - end_layer(sheet, edge, !turned)
+    let is_reversed = runs_reversed(sheet, edge);
+    end_layer(sheet, edge, is_reversed) - end_layer(sheet, edge, !is_reversed)
 }
 
 // From a link over the lane that it enters to the link that leaves the lane.
@@ -225,16 +225,16 @@ fn push_oriented(
     requires no_loop { IsFalse (is_loop (parts_in sheet.now).level edge) }
     ensures { OnOk result (steps.new.items ≡ steps.old.items ++ read.oriented_steps (parts_in sheet.now) routing.now edge) }
 {
-    let turned = is_turned(sheet, edge);
-    push_leaving(steps, sheet, routing, edge, !turned)?;
+    let is_reversed = runs_reversed(sheet, edge);
+    push_leaving(steps, sheet, routing, edge, !is_reversed)?;
     push_chain(steps, sheet, routing, next, edge)?;
-    push_entering(steps, sheet, routing, edge, turned)?;
+    push_entering(steps, sheet, routing, edge, is_reversed)?;
     Ok(())
 }
 
 // A step the other way.
-fn turned_step(step: Step) -> Step
-    ensures { result ≡ turned_step step }
+fn reversed_step(step: Step) -> Step
+    ensures { result ≡ reversed_step step }
 {
     match step {
         Step::Lane(height) => Step::Lane(height),
@@ -248,16 +248,16 @@ fn turned_step(step: Step) -> Step
 
 // Each step the other way.
 fn turn_each(steps: &mut [Step])
-    ensures { steps.new ≡ map turned_step steps.old }
+    ensures { steps.new ≡ map reversed_step steps.old }
 {
     for i in 0..steps.len() {
-        steps[i] = turned_step(steps[i]);
+        steps[i] = reversed_step(steps[i]);
     }
 }
 
 // Steps the other way.
 fn turn_steps(steps: &mut [Step])
-    ensures { steps.new ≡ turned_steps steps.old }
+    ensures { steps.new ≡ reversed_steps steps.old }
 {
     turn_each(steps);
     steps.reverse();
@@ -282,11 +282,11 @@ pub(crate) fn push_steps(
     ensures { OnOk result
         (steps.new.items
         ≡ cond (holds sheet.now.reversed.now edge)
-        (turned_steps (read.oriented_steps (parts_in sheet.now) routing.now edge))
+        (reversed_steps (read.oriented_steps (parts_in sheet.now) routing.now edge))
         (read.oriented_steps (parts_in sheet.now) routing.now edge)) }
 {
     push_oriented(steps, sheet, routing, next, edge)?;
-    if is_turned(sheet, edge) {
+    if runs_reversed(sheet, edge) {
         turn_steps(steps.as_mut_slice());
     }
     Ok(())

@@ -183,9 +183,13 @@ fn routes_in(alloc: Global, sheet: &Sheet<'_>, routing: &Routing) -> Result<Rout
 /// The boxes and traces of a level, before the level is moved.
 ///
 /// `routing` has the level's gaps and the places of its nets in them, as `gaps_of` finds them by the same sheet.
+///
+/// Proved:
+/// - The place of each child's box is that of the plan.
+/// - For each edge the lanes and nets that its route passes, from the source's anchor to the target's, are those of the plan.
 pub fn routes_of(alloc: Global, sheet: &Sheet<'_>, routing: &Routing) -> Result<Routes, AllocError>
     requires given { IsGiven (parts_in sheet.now) }
-    requires marked { AreMarks sheet.now.reversed.now (length sheet.now.level.now.edges) sheet.now.turned.now }
+    requires marked { AreMarks sheet.now.reversed.now (length sheet.now.level.now.edges) sheet.now.is_reversed.now }
     requires numbers { AreNumbersIn sheet.now.table.now }
     requires gaps { AreGapsIn routing.now.gaps }
     requires count { length routing.now.gaps ≡ sheet.now.layered.now.layers + 1 }

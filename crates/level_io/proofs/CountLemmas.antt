@@ -9,7 +9,7 @@ use Rattle.elk_doc.specs.Numbers.{numbers_below, count_below}
 use Rattle.elk_doc.proofs.NumberLaws.{numbers_below-more, numbers_below-same, length-numbers_below}
 use Rattle.port_order.specs.declared.children.Child.{Child}
 use Rattle.level_model.specs.Conditions.{total_ports}
-use Rattle.working_frame.specs.Turned.{box_size, level_child, level_port, ports_of, is_port_of}
+use Rattle.working_frame.specs.Rotated.{box_size, level_child, level_port, ports_of, is_port_of}
 use Rattle.level_io.proofs.GroupLemmas.{count_few}
 
 -- the numbers whose key is below N + 1 are those whose key is below N, and those whose key is N

@@ -21,8 +21,8 @@ use Rattle.elk_doc.specs.Sides.{given_side, is_entered, is_leaf, is_left, side_b
 use Rattle.elk_doc.specs.Sound.{along}
 use Rattle.level_model.specs.FromPlan.{LevelDrawing}
 use Rattle.working_frame.specs.Numbered.{IsPortOf}
-use Rattle.working_frame.specs.Turned.{box_size, turned_size}
-use Rattle.turned_levels.specs.Framed.{AsksHeight, AsksWidth, IsFramed, start_of}
+use Rattle.working_frame.specs.Rotated.{box_size, rotated_size}
+use Rattle.rotated_levels.specs.Framed.{AsksHeight, AsksWidth, IsFramed, start_of}
 use Rattle.level_io.specs.Sizes.{Asks, IsNodeFramed, IsSizeRound, KeepsPinned, end_across, end_down, end_of, padded_height, padded_width, pinned_side, pinned_under, resized}
 use Rattle.level_io.specs.Canvas.{IsDrawingOf}
 
@@ -180,7 +180,7 @@ module _ (d : Document) (p : Placed) (n : ℕ) (o : LevelOptions) (compound : (n
   abbrev PinnedDown : ℤ → Type 0
   PinnedDown z = (k : ℕ) × IsPinnedOn d p n East West k × by_y k z
 
-  greatest_width : (extent : Size) (z : ℤ) → IsGreatestOf (Asks d true (padded_width o extent) n) z → IsGreatestOf (AsksWidth d p n o (turned_size o.direction extent)) z
+  greatest_width : (extent : Size) (z : ℤ) → IsGreatestOf (Asks d true (padded_width o extent) n) z → IsGreatestOf (AsksWidth d p n o (rotated_size o.direction extent)) z
   greatest_width extent z g =
       record {
         itself =
@@ -195,7 +195,7 @@ module _ (d : Document) (p : Placed) (n : ℕ) (o : LevelOptions) (compound : (n
             asks;
       }
 
-  greatest_height : (extent : Size) (z : ℤ) → IsGreatestOf (Asks d false (padded_height o extent) n) z → IsGreatestOf (AsksHeight d p n o (turned_size o.direction extent)) z
+  greatest_height : (extent : Size) (z : ℤ) → IsGreatestOf (Asks d false (padded_height o extent) n) z → IsGreatestOf (AsksHeight d p n o (rotated_size o.direction extent)) z
   greatest_height extent z g =
       record {
         itself =

@@ -23,25 +23,25 @@ use Rattle.port_order.specs.Conditions.{IsSmall}
 use Rattle.level_model.specs.declared.level.LevelEdge.{LevelEdge}
 use Rattle.level_model.specs.Conditions.{IsLevel, IsLevelChild, IsLevelEdge, IsSpoke, total_ports}
 use Rattle.level_model.specs.Level as plan
-use Rattle.working_frame.specs.Turned.{box_size, child_number, edge_number, level_child, level_edge, level_of, level_port, port_number, ports_of, spoke_of, turned_size}
+use Rattle.working_frame.specs.Rotated.{box_size, child_number, edge_number, level_child, level_edge, level_of, level_port, port_number, ports_of, spoke_of, rotated_size}
 use Rattle.working_frame.specs.Numbered.{IsPortOf}
 use Rattle.working_frame.proofs.NumberedLemmas.{ends_match, levels_are_listed, numbers_match}
 use Rattle.level_io.specs.Levels.{HasLeavesAlone, HasRoom, KeepsLeaves}
 use Rattle.level_io.proofs.ChildLemmas.{child_sound, kept_size}
 use Rattle.level_io.proofs.CountLemmas.{few_numbers, few_ports}
-use Rattle.level_io.proofs.ReadLemmas.{turned_sound}
+use Rattle.level_io.proofs.ReadLemmas.{rotated_sound}
 use Rattle.level_io.proofs.TotalLemmas.{AreCounted, IsCounted, Measure, height_by, part_below, total_by, total_short, width_by}
 
 -- ---- lengths
 
-box_solid : (way : Direction) (p : Placed) (c : ℕ) → IsSolid (box_of p c) → (pos 0 ≤ℤ (turned_size way (box_size p c)).width) × (pos 0 ≤ℤ (turned_size way (box_size p c)).height)
+box_solid : (way : Direction) (p : Placed) (c : ℕ) → IsSolid (box_of p c) → (pos 0 ≤ℤ (rotated_size way (box_size p c)).width) × (pos 0 ≤ℤ (rotated_size way (box_size p c)).height)
 box_solid Right p c h = (h.width, h.height)
 box_solid Left p c h = (h.width, h.height)
 box_solid Down p c h = (h.height, h.width)
 box_solid Up p c h = (h.height, h.width)
 
--- what a size turned from is within where its parts there are
-back_small : (way : Direction) (s : Size) → IsSmall (turned_size way s) → IsSmall s
+-- what a size rotated from is within where its parts there are
+back_small : (way : Direction) (s : Size) → IsSmall (rotated_size way s) → IsSmall s
 back_small Right s h = h
 back_small Left s h = h
 back_small Down s h = record { width = h.height; height = h.width }
@@ -54,7 +54,7 @@ port_short d way box c j s h =
     let inside : j < length (ports_of d c) = omega (arith, h, long) in
     let of = (numbers_match d c).ports.meant j inside in
     let e = get_or-map (level_port d way box) (ports_of d c) j 0 laid.no_port inside in
-    subst (λ (q : ChildPort). IsSoundSize q.size) (sym e) (turned_sound way (port_at d (port_number d c j)).size (s.ports.each (port_number d c j) of.port_in).size)
+    subst (λ (q : ChildPort). IsSoundSize q.size) (sym e) (rotated_sound way (port_at d (port_number d c j)).size (s.ports.each (port_number d c j) of.port_in).size)
 
 abbrev wide : Measure
 wide s = s.width
@@ -200,7 +200,7 @@ leaf_sizes : (d : Document) (p : Placed) (n : ℕ) (way : Direction) → IsSound
 leaf_sizes d p n way s leaves kept i h =
     let is = child_is d p n i way h in
     let c = child_number d n i in
-    subst (λ (x : Child). IsSoundSize x.size) (sym is.0) (turned_sound way (box_size p c) (leaf_solid d p c s is.1.node_in (leaves c is.1) (kept c is.1 (leaves c is.1))))
+    subst (λ (x : Child). IsSoundSize x.size) (sym is.0) (rotated_sound way (box_size p c) (leaf_solid d p c s is.1.node_in (leaves c is.1) (kept c is.1 (leaves c is.1))))
 
 pub levels_of_leaves_are_levels : (d : Document) (p : Placed) (n : ℕ) (o : LevelOptions) → IsSound d → IsSoundSpacing o.spacing → HasLeavesAlone d n → KeepsLeaves d p n → IsLevel (level_of d p n o)
 levels_of_leaves_are_levels d p n o s spacing leaves kept =

@@ -5,7 +5,7 @@ use Rattle.elk_doc.specs.Document.{Document, node_at, node_of_port}
 use Rattle.elk_doc.specs.Level.{children, edges_of, is_number, IsChild, IsEdge}
 use Rattle.elk_doc.proofs.NumberLaws.{is_true}
 use Rattle.working_frame.specs.Numbered.{AreNumbersOf, IsPortOf}
-use Rattle.working_frame.specs.Turned.{ports_of}
+use Rattle.working_frame.specs.Rotated.{ports_of}
 use Rattle.working_frame.proofs.NumberedLemmas.{numbers_match}
 use Rattle.level_io.specs.Changed.{AreDistinct, number_at}
 

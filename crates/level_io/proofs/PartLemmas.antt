@@ -12,7 +12,7 @@ use Rattle.drawing_types.specs.declared.section.Section.{Section}
 use Rattle.elk_doc.specs.Document.{Document, node_of_port}
 use Rattle.drawing_types.specs.Shapes.{origin}
 use Rattle.elk_doc.specs.Drawing.{no_rect, no_section}
-use Rattle.working_frame.specs.Turned.{ports_of}
+use Rattle.working_frame.specs.Rotated.{ports_of}
 use Rattle.level_io.specs.Back.{section_back}
 use Rattle.level_io.specs.Changed.{AreChanged, AreChangedTo, AreDistinct, number_at}
 use Rattle.level_io.specs.Written.{ArePortsByNode, ArePortsWritten, port_change, section_change}

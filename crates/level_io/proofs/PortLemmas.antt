@@ -17,63 +17,63 @@ use Rattle.elk_doc.specs.Sides.{side_by_place, side_from}
 use Rattle.elk_doc.specs.Sound.{IsOutside, IsSoundSize, along}
 use Rattle.drawing_types.specs.Ranges.{IsPlaceWithin, IsWithin}
 use Rattle.elk_doc.proofs.ShapeLaws.{half_of-bounds}
-use Rattle.drawing_laws.specs.Turning.{turned_side}
+use Rattle.drawing_laws.specs.Rotating.{rotated_side}
 use Rattle.port_order.specs.Conditions.{IsSmall}
 use Rattle.port_order.specs.Sides.{is_mirrored, side_of_place}
-use Rattle.port_order.proofs.TurnedLemmas.{directions_turn}
+use Rattle.port_order.proofs.RotatedLemmas.{directions_rotate}
 use Rattle.level_model.specs.Conditions.{IsNear}
-use Rattle.working_frame.specs.Turned.{half_along, turned_given, turned_place, turned_size}
+use Rattle.working_frame.specs.Rotated.{half_along, rotated_given, rotated_place, rotated_size}
 
 -- ---- sides
 
--- the side of a port's place is turned
-pub place_turned : (way : Direction) (box : Size) (place : Point) (size : Size)
-    → side_of_place way (turned_size way box) (turned_place way box size place) (turned_size way size) ≡ turned_given way (side_by_place box place size)
-place_turned way box place size = framed way box place size ∙ mapped way (side_by_place box place size)
+-- the side of a port's place is rotated
+pub place_rotated : (way : Direction) (box : Size) (place : Point) (size : Size)
+    → side_of_place way (rotated_size way box) (rotated_place way box size place) (rotated_size way size) ≡ rotated_given way (side_by_place box place size)
+place_rotated way box place size = framed way box place size ∙ mapped way (side_by_place box place size)
   where
-    mapped : (way : Direction) (o : Option Side) → option_map (turned_side way) o ≡ turned_given way o
+    mapped : (way : Direction) (o : Option Side) → option_map (rotated_side way) o ≡ rotated_given way o
     mapped way None = refl
     mapped way (Some s) = refl
 
     framed : (way : Direction) (box : Size) (place : Point) (size : Size)
-        → side_of_place way (turned_size way box) (turned_place way box size place) (turned_size way size) ≡ option_map (turned_side way) (side_by_place box place size)
-    framed Right box place size = directions_turn.side Right box place size
-    framed Left box place size = directions_turn.side Left box place size
-    framed Down box place size = directions_turn.side Down box place size
-    framed Up box place size = directions_turn.side Up box place size
+        → side_of_place way (rotated_size way box) (rotated_place way box size place) (rotated_size way size) ≡ option_map (rotated_side way) (side_by_place box place size)
+    framed Right box place size = directions_rotate.side Right box place size
+    framed Left box place size = directions_rotate.side Left box place size
+    framed Down box place size = directions_rotate.side Down box place size
+    framed Up box place size = directions_rotate.side Up box place size
 
--- the given side is turned, where that of the place is for a leaf
-pub from_turned : (way : Direction) (rule : PortRule) (asked : Option Side) (leaf : Bool) (there here : Option Side) → (leaf ≡ true → there ≡ turned_given way here)
-    → side_from rule (turned_given way asked) leaf there ≡ turned_given way (side_from rule asked leaf here)
-from_turned way Free asked leaf there here h = refl
-from_turned way FixedSide asked leaf there here h = refl
-from_turned way FixedOrder asked leaf there here h = refl
-from_turned way FixedPos (Some s) leaf there here h = refl
-from_turned way FixedPos None true there here h = h refl
-from_turned way FixedPos None false there here h = refl
+-- the given side is rotated, where that of the place is for a leaf
+pub from_rotated : (way : Direction) (rule : PortRule) (asked : Option Side) (leaf : Bool) (there here : Option Side) → (leaf ≡ true → there ≡ rotated_given way here)
+    → side_from rule (rotated_given way asked) leaf there ≡ rotated_given way (side_from rule asked leaf here)
+from_rotated way Free asked leaf there here h = refl
+from_rotated way FixedSide asked leaf there here h = refl
+from_rotated way FixedOrder asked leaf there here h = refl
+from_rotated way FixedPos (Some s) leaf there here h = refl
+from_rotated way FixedPos None true there here h = h refl
+from_rotated way FixedPos None false there here h = refl
 
-pub given_and : (way : Direction) (o : Option Side) (P Q : Side → Type 0) → ((s : Side) → P s → Q (turned_side way s)) → IsSomeAnd o P → IsSomeAnd (turned_given way o) Q
+pub given_and : (way : Direction) (o : Option Side) (P Q : Side → Type 0) → ((s : Side) → P s → Q (rotated_side way s)) → IsSomeAnd o P → IsSomeAnd (rotated_given way o) Q
 given_and way None P Q f h = absurd (search rules)
 given_and way (Some s) P Q f h = f s h
 
-pub outside_turned : (way : Direction) (box : Size) (place : Point) (size : Size) (s : Side) → IsOutside box place size s
-    → IsOutside (turned_size way box) (turned_place way box size place) (turned_size way size) (turned_side way s)
-outside_turned Right box place size North h = h
-outside_turned Right box place size East h = h
-outside_turned Right box place size South h = h
-outside_turned Right box place size West h = h
-outside_turned Left box place size North h = h
-outside_turned Left box place size East h = omega (arith, ints, h)
-outside_turned Left box place size South h = h
-outside_turned Left box place size West h = omega (arith, ints, h)
-outside_turned Down box place size North h = h
-outside_turned Down box place size East h = h
-outside_turned Down box place size South h = h
-outside_turned Down box place size West h = h
-outside_turned Up box place size North h = omega (arith, ints, h)
-outside_turned Up box place size East h = h
-outside_turned Up box place size South h = omega (arith, ints, h)
-outside_turned Up box place size West h = h
+pub outside_rotated : (way : Direction) (box : Size) (place : Point) (size : Size) (s : Side) → IsOutside box place size s
+    → IsOutside (rotated_size way box) (rotated_place way box size place) (rotated_size way size) (rotated_side way s)
+outside_rotated Right box place size North h = h
+outside_rotated Right box place size East h = h
+outside_rotated Right box place size South h = h
+outside_rotated Right box place size West h = h
+outside_rotated Left box place size North h = h
+outside_rotated Left box place size East h = omega (arith, ints, h)
+outside_rotated Left box place size South h = h
+outside_rotated Left box place size West h = omega (arith, ints, h)
+outside_rotated Down box place size North h = h
+outside_rotated Down box place size East h = h
+outside_rotated Down box place size South h = h
+outside_rotated Down box place size West h = h
+outside_rotated Up box place size North h = omega (arith, ints, h)
+outside_rotated Up box place size East h = h
+outside_rotated Up box place size South h = omega (arith, ints, h)
+outside_rotated Up box place size West h = h
 
 -- ---- lengths
 
@@ -85,7 +85,7 @@ mirrored_far w x s hw hx hs = record { above = omega (arith, ints, hw.above, hx.
 straight_far : (x : ℤ) → IsWithin (neg_ℤ (pos (2 ^ 53))) (pos (2 ^ 53)) x → IsWithin (neg_ℤ (pos (2 ^ 54))) (pos (2 ^ 54)) x
 straight_far x h = record { above = omega (arith, ints, h.above); below = omega (arith, ints, h.below) }
 
-pub place_far : (way : Direction) (box size : Size) (place : Point) → IsSmall box → IsSoundSize size → IsPlaceWithin (2 ^ 53) place → IsPlaceWithin (2 ^ 54) (turned_place way box size place)
+pub place_far : (way : Direction) (box size : Size) (place : Point) → IsSmall box → IsSoundSize size → IsPlaceWithin (2 ^ 53) place → IsPlaceWithin (2 ^ 54) (rotated_place way box size place)
 place_far Right box size place b s h = record { x = straight_far place.x h.x; y = straight_far place.y h.y }
 place_far Left box size place b s h = record { x = mirrored_far box.width place.x size.width b.width h.x s.width; y = straight_far place.y h.y }
 place_far Down box size place b s h = record { x = straight_far place.y h.y; y = straight_far place.x h.x }
@@ -99,7 +99,7 @@ straight_near w x hw hx = record { above = omega (arith, ints, hx.above); below 
 
 -- near along a side of the document is near along it in the frame
 pub along_near : (way : Direction) (s : Side) (box size : Size) (place : Point) → IsSmall box → IsSoundSize size → IsWithin (neg_ℤ (pos (2 ^ 20))) (pos (2 ^ 20)) (along s place)
-    → IsNear (size_along (turned_side way s) (turned_size way box)) (along (turned_side way s) (turned_place way box size place))
+    → IsNear (size_along (rotated_side way s) (rotated_size way box)) (along (rotated_side way s) (rotated_place way box size place))
 along_near Right North box size place b z h = straight_near box.width place.x b.width.above h
 along_near Right East box size place b z h = straight_near box.height place.y b.height.above h
 along_near Right South box size place b z h = straight_near box.width place.x b.width.above h
@@ -122,7 +122,7 @@ pub record IsNearPlace (box : Size) (place : Point) : Type 0 where
   pub x : IsNear box.width place.x
   pub y : IsNear box.height place.y
 
-pub place_near : (way : Direction) (box size : Size) (place : Point) → IsSmall box → IsSoundSize size → IsPlaceWithin (2 ^ 20) place → IsNearPlace (turned_size way box) (turned_place way box size place)
+pub place_near : (way : Direction) (box size : Size) (place : Point) → IsSmall box → IsSoundSize size → IsPlaceWithin (2 ^ 20) place → IsNearPlace (rotated_size way box) (rotated_place way box size place)
 place_near Right box size place b z h = record { x = straight_near box.width place.x b.width.above h.x; y = straight_near box.height place.y b.height.above h.y }
 place_near Left box size place b z h = record { x = mirrored_near box.width place.x size.width b.width.above h.x z.width; y = straight_near box.height place.y b.height.above h.y }
 place_near Down box size place b z h = record { x = straight_near box.height place.y b.height.above h.y; y = straight_near box.width place.x b.width.above h.x }

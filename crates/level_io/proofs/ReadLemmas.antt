@@ -13,15 +13,15 @@ use Rattle.port_order.specs.declared.children.Child.{Child}
 use Rattle.level_model.specs.declared.level.LevelEdge.{LevelEdge}
 use Rattle.level_model.specs.declared.level.EdgeEnd.{EdgeEnd}
 use Rattle.level_model.specs.Level.{PlainLevel}
-use Rattle.working_frame.specs.Turned.{level_child, level_edge, level_of, ports_of, spoke_of, turned_size}
+use Rattle.working_frame.specs.Rotated.{level_child, level_edge, level_of, ports_of, spoke_of, rotated_size}
 use Rattle.working_frame.proofs.NumberedLemmas.{ends_match, numbers_match}
 use Rattle.level_io.specs.Read.{HasSizes, child_with, sized_child}
 
-pub turned_sound : (way : Direction) (s : Size) → IsSoundSize s → IsSoundSize (turned_size way s)
-turned_sound Right s h = h
-turned_sound Left s h = h
-turned_sound Down s h = record { width = h.height; height = h.width }
-turned_sound Up s h = record { width = h.height; height = h.width }
+pub rotated_sound : (way : Direction) (s : Size) → IsSoundSize s → IsSoundSize (rotated_size way s)
+rotated_sound Right s h = h
+rotated_sound Left s h = h
+rotated_sound Down s h = record { width = h.height; height = h.width }
+rotated_sound Up s h = record { width = h.height; height = h.width }
 
 -- the numbers of the ports of a node, of its children and of the edges of its level name these
 pub port_numbers : (d : Document) (n : ℕ) (numbers : List ℕ) → numbers ≡ ports_of d n → (i : ℕ) → i < length numbers → slice_index numbers i < length d.ports

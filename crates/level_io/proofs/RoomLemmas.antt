@@ -26,12 +26,12 @@ use Rattle.working_frame.specs.Reach.{points_along, points_of}
 use Rattle.level_model.specs.Apart.{drawn_box, drawn_outline, drawn_outline_from, drawn_port}
 use Rattle.level_model.proofs.Lists.{Has, below_has, has_at, has_left, has_map, has_range, has_right, map_has}
 use Rattle.level_draw.specs.Drawing.{IsTight, outlines_in}
-use Rattle.working_frame.specs.Turned.{box_size, child_number, level_of, port_number, ports_of, turned_size}
+use Rattle.working_frame.specs.Rotated.{box_size, child_number, level_of, port_number, ports_of, rotated_size}
 use Rattle.working_frame.proofs.NumberedLemmas.{levels_are_listed, numbers_match}
-use Rattle.turned_levels.proofs.HullLemmas.{hulls}
-use Rattle.turned_levels.proofs.OutlineLemmas.{drawn_listed, drawn_port_box}
-use Rattle.turned_levels.proofs.ReachLemmas.{IsShape, Lies, lies}
-use Rattle.turned_levels.proofs.ShapeLemmas.{hulls_solid}
+use Rattle.rotated_levels.proofs.HullLemmas.{hulls}
+use Rattle.rotated_levels.proofs.OutlineLemmas.{drawn_listed, drawn_port_box}
+use Rattle.rotated_levels.proofs.ReachLemmas.{IsShape, Lies, lies}
+use Rattle.rotated_levels.proofs.ShapeLemmas.{hulls_solid}
 use Rattle.level_io.specs.declared.figure.LevelFigure.{LevelFigure}
 use Rattle.level_io.specs.Figure.{figure_in}
 use Rattle.level_io.specs.Ranges.{IsLong, IsLongBox, IsLongSize}
@@ -94,11 +94,11 @@ far_within b bs q s w low high wide low_too high_too wide_too l =
     let under = l.below in
     record { above = omega (arith, ints, low, high, wide, low_too, under); below = omega (arith, ints, low, high_too, wide_too, under) }
 
-turned_solid : (way : Direction) (s : Size) → pos 0 ≤ℤ s.width → pos 0 ≤ℤ s.height → (pos 0 ≤ℤ (turned_size way s).width) × (pos 0 ≤ℤ (turned_size way s).height)
-turned_solid Right s w h = (w, h)
-turned_solid Left s w h = (w, h)
-turned_solid Down s w h = (h, w)
-turned_solid Up s w h = (h, w)
+rotated_solid : (way : Direction) (s : Size) → pos 0 ≤ℤ s.width → pos 0 ≤ℤ s.height → (pos 0 ≤ℤ (rotated_size way s).width) × (pos 0 ≤ℤ (rotated_size way s).height)
+rotated_solid Right s w h = (w, h)
+rotated_solid Left s w h = (w, h)
+rotated_solid Down s w h = (h, w)
+rotated_solid Up s w h = (h, w)
 
 along_has : (ss : List Section) (s : Section) (q : Point) → Has ss s → Has (points_along s) q → Has (points_of ss) q
 unfolding points_of
@@ -128,8 +128,8 @@ module _ (d : Document) (p : Placed) (n : ℕ) (o : LevelOptions) (v : LevelFigu
   child_solid i h =
       let c = child_number d n i in
       let b = sizes c ((numbers_match d n).children.meant i h) in
-      let e : (child_at l i).size ≡ turned_size o.direction (box_size p c) = ap (λ x. x.size) ((levels_are_listed d p n o).child i h) in
-      let z = turned_solid o.direction (box_size p c) b.width.above b.height.above in
+      let e : (child_at l i).size ≡ rotated_size o.direction (box_size p c) = ap (λ x. x.size) ((levels_are_listed d p n o).child i h) in
+      let z = rotated_solid o.direction (box_size p c) b.width.above b.height.above in
       (subst (λ x. pos 0 ≤ℤ x.width) (sym e) z.0, subst (λ x. pos 0 ≤ℤ x.height) (sym e) z.1)
 
   port_solid : (i j : ℕ) → i < length (children d n) → j < length (ports_of d (child_number d n i))
@@ -138,8 +138,8 @@ module _ (d : Document) (p : Placed) (n : ℕ) (o : LevelOptions) (v : LevelFigu
       let c = child_number d n i in
       let m = port_number d c j in
       let s = (sound.ports.each m ((numbers_match d c).ports.meant j k).port_in).size in
-      let e : (laid.port_at (child_at l i) j).size ≡ turned_size o.direction (port_at d m).size = ap (λ x. x.size) ((levels_are_listed d p n o).port i j h k) in
-      let z = turned_solid o.direction (port_at d m).size s.width.above s.height.above in
+      let e : (laid.port_at (child_at l i) j).size ≡ rotated_size o.direction (port_at d m).size = ap (λ x. x.size) ((levels_are_listed d p n o).port i j h k) in
+      let z = rotated_solid o.direction (port_at d m).size s.width.above s.height.above in
       (subst (λ x. pos 0 ≤ℤ x.width) (sym e) z.0, subst (λ x. pos 0 ≤ℤ x.height) (sym e) z.1)
 
   shape_solid : (s : Rect) → IsShape (outlines_in l w) v.sections s → (pos 0 ≤ℤ s.width) × (pos 0 ≤ℤ s.height)

@@ -10,18 +10,18 @@ use Rattle.elk_doc.specs.declared.document.LevelOptions.{LevelOptions}
 use Rattle.elk_doc.specs.Document.{Document}
 use Rattle.elk_doc.specs.Fitted.{IsGreatestOf}
 use Rattle.working_frame.specs.Numbered.{IsPortOf}
-use Rattle.working_frame.specs.Turned.{place_of_port, ports_of, turned_size}
+use Rattle.working_frame.specs.Rotated.{place_of_port, ports_of, rotated_size}
 use Rattle.working_frame.proofs.NumberedLemmas.{numbers_match}
 use Rattle.level_io.specs.Changed.{number_at}
 use Rattle.level_io.specs.Ranges.{IsLongSize}
 use Rattle.level_io.specs.Sizes.{Asks, AsksListed, IsSizeListed, IsSizeRound, end_of, padded_height, padded_width, raised}
 
 -- a size that is long in the frame is long in the document
-pub turned_long : (way : Direction) (s : Size) → IsLongSize s → IsLongSize (turned_size way s)
-turned_long Right s h = h
-turned_long Left s h = h
-turned_long Down s h = record { width = h.height; height = h.width }
-turned_long Up s h = record { width = h.height; height = h.width }
+pub rotated_long : (way : Direction) (s : Size) → IsLongSize s → IsLongSize (rotated_size way s)
+rotated_long Right s h = h
+rotated_long Left s h = h
+rotated_long Down s h = record { width = h.height; height = h.width }
+rotated_long Up s h = record { width = h.height; height = h.width }
 
 -- a port among the first of a list that ends here
 abbrev Ends : Document → Bool → List ℕ → ℕ → ℤ → Type 0

@@ -8,15 +8,15 @@ use Rattle.elk_doc.specs.declared.drawing.Placed.{Placed}
 use Rattle.elk_doc.specs.Document.{Document, port_at}
 use Rattle.elk_doc.specs.Level.{children, edges_of, IsChild, IsEdge}
 use Rattle.elk_doc.specs.Drawing.{box_of, no_rect, no_section, section_of}
-use Rattle.elk_doc.specs.Shapes.{turned}
+use Rattle.elk_doc.specs.Shapes.{rotated}
 use Rattle.drawing_types.specs.Shapes.{rect_at}
 use Rattle.route_lines.specs.Points.{PlainGap}
 use Rattle.level_model.specs.FromPlan.{PlainTrace, point_or, section_at}
-use Rattle.working_frame.specs.Turned.{box_size, child_number, edge_number, port_number, turned_place, turned_size}
-use Rattle.working_frame.specs.Drawing.{IsTurnedChild, IsTurnedSection, plus}
+use Rattle.working_frame.specs.Rotated.{box_size, child_number, edge_number, port_number, rotated_place, rotated_size}
+use Rattle.working_frame.specs.Drawing.{IsRotatedChild, IsRotatedSection, plus}
 use Rattle.working_frame.specs.Kept.{AgreeAt}
 use Rattle.working_frame.proofs.NumberedLemmas.{numbers_match}
-use Rattle.turned_levels.specs.Framed.{start_of}
+use Rattle.rotated_levels.specs.Framed.{start_of}
 use Rattle.level_io.specs.declared.figure.LevelFigure.{LevelFigure}
 use Rattle.level_io.specs.Back.{size_of}
 use Rattle.level_io.specs.Changed.{AreChanged, number_at}
@@ -48,20 +48,20 @@ module _ (d : Document) (n : ℕ) (o : LevelOptions) (v : LevelFigure) (old now 
       (λ (s : StandsNowhere (children d n) c). ap size_of (w.boxes.others c s))
       (stands_or_not (children d n) c)
 
-  child : AreWritten → (gaps : List PlainGap) (traces : List PlainTrace) (left top : ℤ) (i : ℕ) → i < length (children d n) → IsTurnedChild d now o.direction (figure_in v gaps traces left top) by i (child_number d n i)
+  child : AreWritten → (gaps : List PlainGap) (traces : List PlainTrace) (left top : ℤ) (i : ℕ) → i < length (children d n) → IsRotatedChild d now o.direction (figure_in v gaps traces left top) by i (child_number d n i)
   child w gaps traces left top i h =
       let c = child_number d n i in
       record {
-        box = ap (turned o.direction) (w.boxes.at i h) ∙ box_there o.direction (plus by (point_or v.boxes i)) (get_or old.boxes c no_rect)
-            ∙ ap (λ s. rect_at (plus by (point_or v.boxes i)) (turned_size o.direction s)) (sym (sizes w c));
+        box = ap (rotated o.direction) (w.boxes.at i h) ∙ box_there o.direction (plus by (point_or v.boxes i)) (get_or old.boxes c no_rect)
+            ∙ ap (λ s. rect_at (plus by (point_or v.boxes i)) (rotated_size o.direction s)) (sym (sizes w c));
         ports = λ j k.
-            ap (turned_place o.direction (box_size now c) (port_at d (port_number d c j)).size) (w.ports.at i j h k)
+            ap (rotated_place o.direction (box_size now c) (port_at d (port_number d c j)).size) (w.ports.at i j h k)
             ∙ place_there o.direction (box_of now c) (port_at d (port_number d c j)).size (point_or (get_or v.ports i []) j);
       }
 
-  section : AreWritten → (gaps : List PlainGap) (traces : List PlainTrace) (left top : ℤ) (i : ℕ) → i < length (edges_of d n) → IsTurnedSection o.direction by (section_of now (edge_number d n i)) (section_at (figure_in v gaps traces left top) i)
+  section : AreWritten → (gaps : List PlainGap) (traces : List PlainTrace) (left top : ℤ) (i : ℕ) → i < length (edges_of d n) → IsRotatedSection o.direction by (section_of now (edge_number d n i)) (section_at (figure_in v gaps traces left top) i)
   section w gaps traces left top i h =
-      subst (λ (s : Section). IsTurnedSection o.direction by s (section_at (figure_in v gaps traces left top) i)) (sym (w.sections.at i h))
+      subst (λ (s : Section). IsRotatedSection o.direction by s (section_at (figure_in v gaps traces left top) i)) (sym (w.sections.at i h))
       (section_there o.direction by (section_at (figure_in v gaps traces left top) i))
 
   agrees : AreWritten → (m : ℕ) → m ≢ n → AgreeAt d old now m
@@ -104,7 +104,7 @@ module _ (d : Document) (n : ℕ) (o : LevelOptions) (v : LevelFigure) (old now 
   pub is_written : AreWritten → IsDrawingOf d old → n < length old.levels → IsWritten d n o v old now
   is_written w was h =
       record {
-        turned = λ gaps traces left top. record { children = child w gaps traces left top; sections = section w gaps traces left top };
+        rotated = λ gaps traces left top. record { children = child w gaps traces left top; sections = section w gaps traces left top };
         certificate = certificate w h;
         elsewhere = elsewhere w;
         complete = complete w was;

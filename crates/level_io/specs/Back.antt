@@ -1,4 +1,4 @@
--- The parts of a level's drawing, turned back from the frame of its direction into the document.
+-- The parts of a level's drawing, rotated back from the frame of its direction into the document.
 use Rattle.std.specs.Prelude.{map, ◌+ℤ◌, ◌-ℤ◌}
 use Rattle.drawing_types.specs.declared.shape.Point.{Point}
 use Rattle.drawing_types.specs.declared.shape.Size.{Size}
@@ -8,7 +8,7 @@ use Rattle.elk_doc.specs.declared.document.Direction.TheVariants.{Right, Left, D
 use Rattle.drawing_types.specs.declared.section.Section.{Section}
 use Rattle.drawing_types.specs.Shapes.{rect_at}
 use Rattle.drawing_laws.specs.Frames.{point_back, rect_back}
-use Rattle.working_frame.specs.Turned.{turned_size}
+use Rattle.working_frame.specs.Rotated.{rotated_size}
 use Rattle.working_frame.specs.Drawing.{plus}
 
 -- the size of a rectangle
@@ -17,9 +17,9 @@ size_of r = record { width = r.width; height = r.height }
 
 -- a box that keeps its size and whose corner in the frame is put here
 abbrev pub box_back : Direction → Point → Rect → Rect
-box_back way at r = rect_back way (rect_at at (turned_size way (size_of r)))
+box_back way at r = rect_back way (rect_at at (rotated_size way (size_of r)))
 
--- the place in its box of a port of this size that has this place in the turned box
+-- the place in its box of a port of this size that has this place in the rotated box
 abbrev pub place_back : Direction → Rect → Size → Point → Point
 place_back Right outer s q = q
 place_back Left outer s q = record { x = outer.width -ℤ (q.x +ℤ s.width); y = q.y }

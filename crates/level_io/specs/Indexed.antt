@@ -2,7 +2,7 @@
 use Rattle.std.specs.Prelude.{◌≡◌, ℕ, ◌<◌, List, Option, length, slice_index}
 use Rattle.elk_doc.specs.Document.{Document}
 use Rattle.elk_doc.specs.Level.{children, edges_of, IsChild, IsEdge, place_of_child, place_of_edge}
-use Rattle.working_frame.specs.Turned.{ports_of, place_of_port}
+use Rattle.working_frame.specs.Rotated.{ports_of, place_of_port}
 use Rattle.level_io.specs.declared.grouping.Groups.{Groups}
 use Rattle.level_io.specs.declared.index.Index.{Index}
 use Rattle.level_io.specs.Grouping.{key_at, row_at, rows_in}

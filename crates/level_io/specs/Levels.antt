@@ -8,7 +8,7 @@ use Rattle.elk_doc.specs.Fits.{IsSolid, KeepsSize}
 use Rattle.elk_doc.specs.Level.{IsChild}
 use Rattle.elk_doc.specs.Sound.{IsSound, IsSoundSpacing}
 use Rattle.level_model.specs.Conditions.{IsLevel, total_width, total_height}
-use Rattle.working_frame.specs.Turned.{level_of}
+use Rattle.working_frame.specs.Rotated.{level_of}
 
 -- The leaves among the children of n keep their sizes.
 abbrev pub KeepsLeaves : Document → Placed → ℕ → Type 0

@@ -1,4 +1,4 @@
--- Numbers that stay machine numbers when a level is turned back.
+-- Numbers that stay machine numbers when a level is rotated back.
 use Rattle.std.specs.Prelude.{◌^◌, ℤ, pos}
 use Rattle.drawing_types.specs.declared.shape.Size.{Size}
 use Rattle.drawing_types.specs.declared.shape.Rect.{Rect}

@@ -8,7 +8,7 @@ use Rattle.drawing_types.specs.Shapes.{no_size}
 use Rattle.elk_doc.specs.Level.{IsChild}
 use Rattle.port_order.specs.declared.children.Child.{Child}
 use Rattle.port_order.specs.Conditions.{IsSmall}
-use Rattle.working_frame.specs.Turned.{box_size, level_port, ports_of, turned_size}
+use Rattle.working_frame.specs.Rotated.{box_size, level_port, ports_of, rotated_size}
 
 -- the size of a node's box, where they are given by node
 abbrev pub size_at : List Size → ℕ → Size
@@ -18,7 +18,7 @@ size_at sizes c = slice_index_or sizes c no_size
 abbrev pub child_with : Document → Direction → Size → ℕ → Child
 child_with d way s c =
     record {
-      size = turned_size way s;
+      size = rotated_size way s;
       compound = is_some (node_at d c).level;
       rule = (node_at d c).rule;
       direction = way;

@@ -11,7 +11,7 @@ use Rattle.route_lines.specs.Points.{PlainGap}
 use Rattle.level_model.specs.Level.{PlainLevel, child_at}
 use Rattle.level_model.specs.FromPlan.{LevelDrawing, PlainTrace}
 use Rattle.level_draw.specs.Drawing.{IsTight}
-use Rattle.working_frame.specs.Turned.{level_of}
+use Rattle.working_frame.specs.Rotated.{level_of}
 use Rattle.level_io.specs.declared.figure.LevelFigure.{LevelFigure}
 use Rattle.level_io.specs.Figure.{figure_in}
 use Rattle.level_io.specs.Ranges.{IsLongBox, IsLongSize}

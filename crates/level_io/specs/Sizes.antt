@@ -23,8 +23,8 @@ use Rattle.elk_doc.specs.Sound.{along}
 use Rattle.level_model.specs.FromPlan.{LevelDrawing}
 use Rattle.working_frame.specs.Kept.{AgreeAt}
 use Rattle.working_frame.specs.Numbered.{IsPortOf}
-use Rattle.working_frame.specs.Turned.{box_size, turned_size}
-use Rattle.turned_levels.specs.Framed.{IsFramed, start_of}
+use Rattle.working_frame.specs.Rotated.{box_size, rotated_size}
+use Rattle.rotated_levels.specs.Framed.{IsFramed, start_of}
 use Rattle.level_io.specs.Changed.{number_at}
 use Rattle.level_io.specs.Canvas.{IsDrawingOf}
 
@@ -75,10 +75,10 @@ Asks d across base n z = (z ≡ base) ⊎ ((k : ℕ) × IsPortOf d n k × (end_o
 
 -- content of this extent in the frame with the padding on both sides
 abbrev pub padded_width : LevelOptions → Size → ℤ
-padded_width o extent = (o.padding.left +ℤ (turned_size o.direction extent).width) +ℤ o.padding.right
+padded_width o extent = (o.padding.left +ℤ (rotated_size o.direction extent).width) +ℤ o.padding.right
 
 abbrev pub padded_height : LevelOptions → Size → ℤ
-padded_height o extent = (o.padding.top +ℤ (turned_size o.direction extent).height) +ℤ o.padding.bottom
+padded_height o extent = (o.padding.top +ℤ (rotated_size o.direction extent).height) +ℤ o.padding.bottom
 
 -- a size round content of this extent and these ports
 pub record IsSizeListed (d : Document) (ports : List ℕ) (o : LevelOptions) (extent s : Size) : Type 0 where

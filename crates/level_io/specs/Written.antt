@@ -16,10 +16,10 @@ use Rattle.elk_doc.specs.Drawing.{box_of, certificate_of, no_rect, no_section, p
 use Rattle.route_lines.specs.Points.{PlainGap}
 use Rattle.level_model.specs.FromPlan.{PlainTrace, point_or}
 use Rattle.working_frame.specs.Ranges.{IsFarPoint, IsFarSection}
-use Rattle.working_frame.specs.Turned.{box_size, port_number, ports_of}
-use Rattle.working_frame.specs.Drawing.{IsNumberedAs, IsTurnedDrawing, plus}
+use Rattle.working_frame.specs.Rotated.{box_size, port_number, ports_of}
+use Rattle.working_frame.specs.Drawing.{IsNumberedAs, IsRotatedDrawing, plus}
 use Rattle.working_frame.specs.Kept.{AgreeAt}
-use Rattle.turned_levels.specs.Framed.{start_of}
+use Rattle.rotated_levels.specs.Framed.{start_of}
 use Rattle.level_io.specs.declared.figure.LevelFigure.{LevelFigure}
 use Rattle.level_io.specs.declared.writing.LevelNumbers.{LevelNumbers}
 use Rattle.level_io.specs.Canvas.{IsDrawingOf}
@@ -86,7 +86,7 @@ pub record ArePortsWritten (count : ℕ) (d : Document) (way : Direction) (child
   pub others : (k : ℕ) → ((i : ℕ) → i < count → number_at children i ≢ node_of_port d k)
       → slice_index_or now k origin ≡ slice_index_or old k origin
 
--- a certificate with other numbers of the edges that are turned round
+-- a certificate with other numbers of the edges that are reversed
 abbrev pub numbered_by : List ℕ → Certificate → Certificate
 numbered_by edges c =
     record { layers = c.layers; reversed = map (number_at edges) c.reversed; flow = c.flow; span = c.span; parts = c.parts }
@@ -110,8 +110,8 @@ pub record KeepsElsewhere (d : Document) (n : ℕ) (old now : Placed) : Type 0 w
 
 -- The level of n is drawn as in its own drawing, which begins at the padding, and has its certificate; all else stays.
 pub record IsWritten (d : Document) (n : ℕ) (o : LevelOptions) (v : LevelFigure) (old now : Placed) : Type 0 where
-  pub turned : (gaps : List PlainGap) (traces : List PlainTrace) (left top : ℤ)
-      → IsTurnedDrawing d now n o.direction (figure_in v gaps traces left top) (start_of o.direction o.padding v.extent)
+  pub rotated : (gaps : List PlainGap) (traces : List PlainTrace) (left top : ℤ)
+      → IsRotatedDrawing d now n o.direction (figure_in v gaps traces left top) (start_of o.direction o.padding v.extent)
   pub certificate : HasCertificate d n now v.certificate
   pub elsewhere : KeepsElsewhere d n old now
   pub complete : IsDrawingOf d now

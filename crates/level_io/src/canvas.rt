@@ -74,7 +74,10 @@ fn no_levels(alloc: Global, nodes: &[Node]) -> Result<Vec<Option<Certificate>>, 
 }
 
 /// A drawing in which nothing is placed: all is at the origin, boxes have the sizes that the document gives (none at a compound
-/// node), routes have no bends, and no level has a certificate. The only error is want of memory.
+/// node), routes have no bends, and no level has a certificate. The only error is out of memory.
+///
+/// Proved:
+/// - The drawing of a document while its levels are laid out. (`placed`)
 pub fn blank(alloc: Global, doc: &Doc) -> Result<Canvas, AllocError>
     ensures value { IfOk result (λ canvas. drawing_of canvas ≡ blank_drawing doc.now) }
     ensures complete { IfOk result (λ canvas. IsDrawingOf doc.now (drawing_of canvas)) }

@@ -20,6 +20,9 @@ pub struct LevelFigure {
 }
 
 /// The drawing of a level that comes from a plan, which is dropped. Nothing is copied.
+///
+/// Proved:
+/// - The drawing of a level without the plan from which it was made.
 pub fn figure_of(out: LevelOut) -> LevelFigure
     ensures { result ≡ figure_of out }
 {

@@ -53,7 +53,11 @@ fn levels_of_edges(alloc: Global, doc: &Doc) -> Result<Vec<Option<u32>>, AllocEr
 
 /// The index of a document, in one pass over its nodes, one over its ports and one over its edges.
 ///
-/// The only error is want of memory.
+/// The only error is out of memory.
+///
+/// Proved:
+/// - An index of a document: for each node its children, the edges of its level and its ports, and for each of these its place among
+///   them.
 pub fn index_of(alloc: Global, doc: &Doc) -> Result<Index, AllocError>
     ensures { IfOk result (IsIndex doc.now) }
 {

@@ -2,7 +2,7 @@
 //!
 //! A level is the children, edges and distances of a node, in the frame in which its direction runs to the right. An index of
 //! the document is made once, in one pass over its nodes, one over its ports and one over its edges, and by it each level is
-//! read in a time that follows its own size. A level's drawing is turned back from that frame, moved to begin at the padding of
+//! read in a time that follows its own size. A level's drawing is rotated back from that frame, moved to begin at the padding of
 //! its node, and written into the document's drawing; so is the size that a node needs round its content.
 #![tactic(auto)]
 
@@ -12,10 +12,10 @@ mod grouping;
 mod index;
 mod laws;
 mod reading;
+mod rotating;
+mod rotating_back;
 mod sizes;
 mod start;
-mod turning;
-mod turning_back;
 mod writable;
 mod writing;
 

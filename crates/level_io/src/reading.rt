@@ -5,12 +5,12 @@ ghost use Rattle.elk_doc.specs.Level.{IsChild, IsEdge, node_of_end};
 ghost use Rattle.elk_doc.specs.Sound.{IsEndIn};
 ghost use Rattle.port_order.specs.Conditions.{IsSmall};
 ghost use Rattle.level_model.specs.Conditions.{plain_level};
-ghost use Rattle.working_frame.specs.Turned.{level_edge, level_of, level_port, spoke_of};
+ghost use Rattle.working_frame.specs.Rotated.{level_edge, level_of, level_port, spoke_of};
 ghost use Rattle.level_io.specs.Indexed.{IsIndex};
 ghost use Rattle.level_io.specs.Read.{AreSizes, HasSizes, child_with, size_at, sized_child};
 
 use crate::index::Index;
-use crate::turning::{half_along, turned_given, turned_place};
+use crate::rotating::{half_along, rotated_given, rotated_place};
 use drawing_types::list::Items;
 use drawing_types::shape::Size;
 use elk_doc::document::{Direction, Doc, End, LevelOptions};
@@ -18,7 +18,7 @@ use elk_doc::sides::given_side;
 use level_model::{EdgeEnd, LevelEdge, LevelIn};
 use port_order::{Child, ChildPort};
 use std::alloc::{AllocError, Global};
-use working_frame::turned_size;
+use working_frame::rotated_size;
 
 // A document with its index.
 #[derive(Clone, Copy)]
@@ -34,13 +34,13 @@ fn read_port(doc: &Doc, way: Direction, outer: Size, port: u32) -> ChildPort
     ensures { result ≡ level_port doc.now way outer port }
 {
     let found = doc.port(port);
-    let size = turned_size(way, found.size);
-    let given = turned_given(way, given_side(doc, port));
+    let size = rotated_size(way, found.size);
+    let given = rotated_given(way, given_side(doc, port));
     ChildPort {
         size,
-        place: turned_place(way, outer, found.size, found.place),
+        place: rotated_place(way, outer, found.size, found.place),
         half: half_along(way, given, size),
-        side: turned_given(way, found.side),
+        side: rotated_given(way, found.side),
         index: found.index,
     }
 }
@@ -67,7 +67,10 @@ fn read_ports(
 /// A node as a child of a level, in the frame in which this direction runs to the right: its size, its rule and its ports in
 /// document order, all lengths in whole document units.
 ///
-/// `outer` is the size of the node's box in the document's frame. The only error is want of memory.
+/// `outer` is the size of the node's box in the document's frame. The only error is out of memory.
+///
+/// Proved:
+/// - Any node as a child of a level, by the size of its box.
 pub fn read_child(
     alloc: Global,
     doc: &Doc,
@@ -85,7 +88,7 @@ pub fn read_child(
     let ports = read_ports(alloc, doc, way, outer, numbers)?;
     let node = doc.node(child);
     Ok(Child {
-        size: turned_size(way, outer),
+        size: rotated_size(way, outer),
         compound: node.level.is_some(),
         rule: node.rule,
         direction: way,
@@ -172,7 +175,11 @@ fn read_edges(
 /// edges in document order, all lengths in whole document units.
 ///
 /// `sizes` has by node the size of its box in the document's frame; those of the node's children are read. A leaf's is its own,
-/// a compound node's that of its own level with the padding. The only error is want of memory.
+/// a compound node's that of its own level with the padding. The only error is out of memory.
+///
+/// Proved:
+/// - By this index, the level of any node in the frame in which its direction runs to the right.
+/// - It is the level of every drawing whose boxes have the given sizes at the node's children.
 pub fn level_in(
     alloc: Global,
     doc: &Doc,

@@ -4,7 +4,7 @@ ghost use Rattle.elk_doc.specs.Document.{node_at};
 ghost use Rattle.elk_doc.specs.Fitted.{IsGreatestOf};
 ghost use Rattle.elk_doc.specs.Sound.{IsLength, IsSoundPadding, IsSoundSize};
 ghost use Rattle.drawing_types.specs.Ranges.{IsPlaceWithin};
-ghost use Rattle.working_frame.specs.Turned as turned;
+ghost use Rattle.working_frame.specs.Rotated as rotated;
 ghost use Rattle.level_io.specs.Canvas.{IsDrawingOf, drawing_of};
 ghost use Rattle.level_io.specs.Changed.{AreDistinct};
 ghost use Rattle.level_io.specs.Ranges.{IsLong, IsLongSize};
@@ -16,15 +16,15 @@ use crate::canvas::Canvas;
 use crate::writing::LevelNumbers;
 use drawing_types::shape::{Point, Rect, Side, Size};
 use elk_doc::document::{Direction, Doc, LevelOptions, PortRule};
-use working_frame::turned_size;
+use working_frame::rotated_size;
 
 // The size in the document of content of this extent in the frame.
 fn content_size(way: Direction, extent: Size) -> Size
     requires { IsLongSize extent }
-    ensures value { result ≡ turned.turned_size way extent }
+    ensures value { result ≡ rotated.rotated_size way extent }
     ensures long { IsLongSize result }
 {
-    turned_size(way, extent)
+    rotated_size(way, extent)
 }
 
 // The side on which a port of a compound node is pinned.
@@ -170,6 +170,9 @@ fn frame_with(
 /// Gives a node the size that it needs round the drawing of its level, of which `extent` is the extent in the frame: the content
 /// with the padding on all sides, and more where a pinned port ends further. The node stays at its place, and all else stays.
 /// The ports of the node are not placed.
+///
+/// Proved:
+/// - The node gets the size that its content, its padding and its pinned ports need.
 pub fn frame_node(
     doc: &Doc,
     node: u32,

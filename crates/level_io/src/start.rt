@@ -2,7 +2,7 @@
 ghost use Rattle.std.specs.Prelude.{◌≡◌, ◌+ℤ◌, neg_ℤ};
 ghost use Rattle.elk_doc.specs.Sound.{IsLength, IsSoundPadding};
 ghost use Rattle.working_frame.specs.Ranges.{IsFar, IsFarPoint};
-ghost use Rattle.turned_levels.specs.Framed as framed;
+ghost use Rattle.rotated_levels.specs.Framed as framed;
 ghost use Rattle.level_io.specs.Ranges.{IsLong, IsLongSize};
 
 use drawing_types::shape::{Point, Size};

@@ -13,8 +13,8 @@ ghost use Rattle.level_io.specs.Written.{AreNumbersAt, ArePortPlaces, ArePortsBy
 
 use crate::canvas::Canvas;
 use crate::figure::LevelFigure;
+use crate::rotating_back::{box_back, place_back, section_back};
 use crate::start::start_of;
-use crate::turning_back::{box_back, place_back, section_back};
 use drawing_types::list::Items;
 use drawing_types::section::Section;
 use drawing_types::shape::{Point, Rect};
@@ -45,8 +45,11 @@ fn write_boxes(way: Direction, by: Point, children: &[u32], places: &[Point], bo
     }
 }
 
-/// Puts the ports of one node, by their numbers, at their places in its box: each place is turned back from the frame in which
+/// Puts the ports of one node, by their numbers, at their places in its box: each place is rotated back from the frame in which
 /// this direction runs to the right. All other ports stay. Takes no memory.
+///
+/// Proved:
+/// - The ports of a single node are written in the same way.
 pub fn write_ports_of(
     doc: &Doc,
     way: Direction,
@@ -176,8 +179,14 @@ fn write_with(
 }
 
 /// Writes the drawing of a node's level into the drawing of the document: the places of the children and of their ports, the
-/// sections of the edges and the certificate, all turned back from the frame of the level's direction and moved to begin at the
+/// sections of the edges and the certificate, all rotated back from the frame of the level's direction and moved to begin at the
 /// padding. All else stays. Takes no memory.
+///
+/// Proved:
+/// - The drawing of a level, in the frame of its direction, is written into the drawing of the document.
+/// - The boxes of the children, their ports, the routes of the edges and the certificate come from the level's own drawing, rotated
+///   back and moved to begin at the padding.
+/// - Everything else stays the same, so all other levels are drawn as before.
 pub fn write_level(
     doc: &Doc,
     node: u32,

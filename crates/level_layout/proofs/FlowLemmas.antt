@@ -13,7 +13,7 @@ use Rattle.level_layout.specs.Certificate.{flow_at, links, links_to, network}
 use Rattle.level_layout.specs.Flows.{AreFlows}
 use Rattle.network_parts.proofs.RangeLemmas.{map_same, one_more}
 use Rattle.level_layout.proofs.LowLayers.{layers_low}
-use Rattle.level_layout.proofs.NetLemmas.{ends_below, few_net, is_plain, link_no, link_yes, weight_low}
+use Rattle.level_layout.proofs.NetLemmas.{ends_below, few_network, is_plain, link_no, link_yes, weight_low}
 
 flow_left : (flows : List ℕ) (x e : ℕ) → e < length flows → flow_at (flows ++ x ∷ []) e ≡ flow_at flows e
 flow_left flows x e h = get_or_append_left flows (x ∷ []) 0 e h
@@ -99,7 +99,7 @@ span_low l rs layers flow total level s =
     natural_low (layer_of layers (net_at (network l rs) k).head -ℤ layer_of layers (net_at (network l rs) k).tail) 2048 (omega (arith, ints, low, high, children))
     in
     let most = weighed_low (rise layers) (network l rs) (λ k h. (weight_low l rs level k h).1) rises in
-    let few = few_net l rs in
+    let few = few_network l rs in
     let edges = level.few_edges in
     let is = s.cost_is in
     omega (arith, most, few, edges, is)

@@ -162,7 +162,7 @@ pins_small l c u v level ranked kept sound low =
     let numbered = numbered_through l c u v ranked kept in
     pins_low l c.reversed c.layers numbered.0 (plain v) level numbered.1 numbered.2 sound low
 
--- ---- with the list of turned edges as it is handed on
+-- ---- with the list of reversed edges as it is handed on
 
 pub pinned_by : (l : PlainLevel) (c : Certificate) (u v : Layered) (order : Order) (rs : List ℕ) → rs ≡ c.reversed
     → (o : Orders) × ((layers : List ℕ) (tops : List ℤ) → AreLinked l (plain_plan u order [] rs) layers → AreFitted l (plain_plan v order tops rs) o layers)

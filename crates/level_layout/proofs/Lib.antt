@@ -15,6 +15,6 @@ pub mod NetLemmas
 pub mod PinLemmas
 pub mod PinSums
 pub mod PlacedLemmas
+pub mod ReversedLemmas
 pub mod RowsLemmas
-pub mod TurnLemmas
 pub mod UnitsLemmas

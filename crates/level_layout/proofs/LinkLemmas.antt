@@ -9,7 +9,7 @@ use Rattle.network_laws.specs.Network.{edge_at}
 use Rattle.network_laws.specs.Layering.{layer_of}
 use Rattle.level_model.specs.Conditions.{IsLevel}
 use Rattle.level_model.specs.Level.{PlainLevel, holds}
-use Rattle.level_layout.specs.Certificate.{IsCertificateOf, net_edge, network}
+use Rattle.level_layout.specs.Certificate.{IsCertificateOf, network_edge, network}
 use Rattle.level_layout.proofs.NetLemmas.{ends_below, is_plain, link_at}
 use Rattle.layer_units.specs.Layering.{AreLayersOf, Layering, head_child, layer_in, layering, tail_child}
 use Rattle.layer_units.specs.Numbered.{AreNumberedUnits, before, gaps_of, lanes_of}
@@ -40,13 +40,13 @@ module _ (l : PlainLevel) (c : Certificate) (level : IsLevel l) (is : IsCertific
   abbrev is_step : ℕ → ℕ → Bool
   is_step j e = eqb (low e) j && eqb (gaps_of s e) 1
 
-  tail_layer : (k e : ℕ) → net k ≡ net_edge l c.reversed e → layer_of (map pos c.layers) (net k).tail ≡ pos (low e)
+  tail_layer : (k e : ℕ) → net k ≡ network_edge l c.reversed e → layer_of (map pos c.layers) (net k).tail ≡ pos (low e)
   tail_layer k e same =
-      ap (λ (x : NetEdge). layer_of (map pos c.layers) x.tail) same ∙ layer_is c.layers (net_edge l c.reversed e).tail ∙ ap (λ v. pos (layer_in c.layers v)) (tail_is l c.reversed e)
+      ap (λ (x : NetEdge). layer_of (map pos c.layers) x.tail) same ∙ layer_is c.layers (network_edge l c.reversed e).tail ∙ ap (λ v. pos (layer_in c.layers v)) (tail_is l c.reversed e)
 
-  head_layer : (k e : ℕ) → net k ≡ net_edge l c.reversed e → layer_of (map pos c.layers) (net k).head ≡ pos (high e)
+  head_layer : (k e : ℕ) → net k ≡ network_edge l c.reversed e → layer_of (map pos c.layers) (net k).head ≡ pos (high e)
   head_layer k e same =
-      ap (λ (x : NetEdge). layer_of (map pos c.layers) x.head) same ∙ layer_is c.layers (net_edge l c.reversed e).head ∙ ap (λ v. pos (layer_in c.layers v)) (head_is l c.reversed e)
+      ap (λ (x : NetEdge). layer_of (map pos c.layers) x.head) same ∙ layer_is c.layers (network_edge l c.reversed e).head ∙ ap (λ v. pos (layer_in c.layers v)) (head_is l c.reversed e)
 
   -- below the layer of an edge's head there is such an edge
   step_there : (j d : ℕ) → d < length l.edges → j < high d → (e : ℕ) × (e < length l.edges) × (low e ≡ j) × (gaps_of s e ≡ 1)

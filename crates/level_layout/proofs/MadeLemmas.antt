@@ -1,4 +1,4 @@
--- A certificate from the edges that are turned round and a solution of their network.
+-- A certificate from the edges that are reversed and a solution of their network.
 use Rattle.std.proofs.Common.{◌≡◌, ℕ, ◌<◌, ℤ, pos, ◌<ℤ◌, List, [], length, map, get_or, arith, sym, ap, subst, ◌∙◌, IsTrue}
 use Rattle.std.specs.List.{All}
 use Rattle.std.proofs.lemmas.Int.{ints}

@@ -9,7 +9,7 @@ use Rattle.network_laws.specs.Network.{edge_at as net_at, EndsBelow, HasEdge, Is
 use Rattle.level_model.specs.declared.level.LevelEdge.{LevelEdge}
 use Rattle.level_model.specs.Conditions.{IsLevel}
 use Rattle.level_model.specs.Level.{PlainLevel, edge_at, holds, is_loop}
-use Rattle.level_layout.specs.Certificate.{AreReversed, UnlistedStep, links, links_to, net_edge, network, oriented, source_of, target_of}
+use Rattle.level_layout.specs.Certificate.{AreReversed, UnlistedStep, links, links_to, network_edge, network, oriented, source_of, target_of}
 use Rattle.layer_units.specs.Marks.{is_marked, listed}
 use Rattle.level_layout.specs.Low.{IsPlainNetwork}
 use Rattle.network_parts.proofs.RangeLemmas.{few_picked, filter_no, filter_yes, pick}
@@ -32,15 +32,15 @@ link_yes l n h = filter_yes (λ e. not (is_loop l e)) n (not_from_false (is_loop
 pub link_no : (l : PlainLevel) (n : ℕ) → IsTrue (is_loop l n) → links_to l (n + 1) ≡ links_to l n
 link_no l n h = filter_no (λ e. not (is_loop l e)) n (not_from_true (is_loop l n) h)
 
-pub net_more : (l : PlainLevel) (marks : List Bool) (n : ℕ) (edges more : List NetEdge) (x : NetEdge) (edge : LevelEdge) (mark : Bool) → n < length marks → edge ≡ edge_at l n → mark ≡ is_marked marks n → IsFalse (is_loop l n)
-    → x ≡ oriented mark edge → edges ≡ map (net_edge l (listed marks)) (links_to l n) → more ≡ edges ++ x ∷ [] → more ≡ map (net_edge l (listed marks)) (links_to l (n + 1))
-net_more l marks n edges more x edge mark inside read on no_loop is before pushed =
-    let last : x ≡ net_edge l (listed marks) n = is ∙ ap (λ b. oriented b edge) (on ∙ sym (listed_at marks n inside)) ∙ ap (oriented (holds (listed marks) n)) read in
-    pushed ∙ ap (λ (es : List NetEdge). es ++ x ∷ []) before ∙ ap (λ (y : NetEdge). map (net_edge l (listed marks)) (links_to l n) ++ y ∷ []) last
-    ∙ sym (map_push (net_edge l (listed marks)) (links_to l n) n) ∙ ap (map (net_edge l (listed marks))) (sym (link_yes l n no_loop))
+pub network_more : (l : PlainLevel) (marks : List Bool) (n : ℕ) (edges more : List NetEdge) (x : NetEdge) (edge : LevelEdge) (mark : Bool) → n < length marks → edge ≡ edge_at l n → mark ≡ is_marked marks n → IsFalse (is_loop l n)
+    → x ≡ oriented mark edge → edges ≡ map (network_edge l (listed marks)) (links_to l n) → more ≡ edges ++ x ∷ [] → more ≡ map (network_edge l (listed marks)) (links_to l (n + 1))
+network_more l marks n edges more x edge mark inside read on no_loop is before pushed =
+    let last : x ≡ network_edge l (listed marks) n = is ∙ ap (λ b. oriented b edge) (on ∙ sym (listed_at marks n inside)) ∙ ap (oriented (holds (listed marks) n)) read in
+    pushed ∙ ap (λ (es : List NetEdge). es ++ x ∷ []) before ∙ ap (λ (y : NetEdge). map (network_edge l (listed marks)) (links_to l n) ++ y ∷ []) last
+    ∙ sym (map_push (network_edge l (listed marks)) (links_to l n) n) ∙ ap (map (network_edge l (listed marks))) (sym (link_yes l n no_loop))
 
-pub net_same : (l : PlainLevel) (marks : List Bool) (n : ℕ) (edges : List NetEdge) → IsTrue (is_loop l n) → edges ≡ map (net_edge l (listed marks)) (links_to l n) → edges ≡ map (net_edge l (listed marks)) (links_to l (n + 1))
-net_same l marks n edges loop before = before ∙ ap (map (net_edge l (listed marks))) (sym (link_no l n loop))
+pub network_same : (l : PlainLevel) (marks : List Bool) (n : ℕ) (edges : List NetEdge) → IsTrue (is_loop l n) → edges ≡ map (network_edge l (listed marks)) (links_to l n) → edges ≡ map (network_edge l (listed marks)) (links_to l (n + 1))
+network_same l marks n edges loop before = before ∙ ap (map (network_edge l (listed marks))) (sym (link_no l n loop))
 
 -- ---- each edge of the network is one of the level
 
@@ -48,11 +48,11 @@ pub record IsLink (l : PlainLevel) (rs : List ℕ) (x : NetEdge) : Type 0 where
   pub edge : ℕ
   pub of_level : edge < length l.edges
   pub no_loop : IsFalse (is_loop l edge)
-  pub is : x ≡ net_edge l rs edge
+  pub is : x ≡ network_edge l rs edge
 
 pub link_at : (l : PlainLevel) (rs : List ℕ) (k : ℕ) → k < length (network l rs) → IsLink l rs (net_at (network l rs) k)
 link_at l rs k h =
-    let long = length-map (links l) (net_edge l rs) in
+    let long = length-map (links l) (network_edge l rs) in
     let inside : k < length (links l) = omega (arith, h, long) in
     let found = pick (λ e. not (is_loop l e)) 0 (length l.edges) k inside in
     let high = found.1 in
@@ -60,15 +60,15 @@ link_at l rs k h =
       edge = get_or (links l) k 0;
       of_level = omega (arith, high);
       no_loop = true_not (is_loop l (get_or (links l) k 0)) found.2;
-      is = get_or-map (net_edge l rs) (links l) k 0 (record { tail = 0; head = 0; least = 0; weight = 0 }) inside;
+      is = get_or-map (network_edge l rs) (links l) k 0 (record { tail = 0; head = 0; least = 0; weight = 0 }) inside;
     }
 
 pub few_links : (l : PlainLevel) → length (links l) ≤ length l.edges
 few_links l = few_picked (λ e. not (is_loop l e)) (length l.edges)
 
-pub few_net : (l : PlainLevel) (rs : List ℕ) → length (network l rs) ≤ length l.edges
-few_net l rs =
-    let long = length-map (links l) (net_edge l rs) in
+pub few_network : (l : PlainLevel) (rs : List ℕ) → length (network l rs) ≤ length l.edges
+few_network l rs =
+    let long = length-map (links l) (network_edge l rs) in
     let few = few_links l in
     omega (arith, long, few)
 
@@ -144,7 +144,7 @@ sum_low g edges m low =
 
 pub is_network : (l : PlainLevel) (rs : List ℕ) → IsLevel l → AreReversed l rs → IsNetwork (length l.children) (network l rs)
 is_network l rs level reversed =
-    let few = few_net l rs in
+    let few = few_network l rs in
     let edges = level.few_edges in
     let children = level.few_children in
     let plain = is_plain l rs level in

@@ -1,4 +1,4 @@
--- The certificate of a level: which of its edges are turned round, the layers of its children, and the flow that shows that no
+-- The certificate of a level: which of its edges are reversed, the layers of its children, and the flow that shows that no
 -- layering of these edges has a smaller span.
 use Rattle.std.specs.Prelude.{◌≡◌, ◌≢◌, ◌<◌, ℕ, pos, Bool, not, cond, List, [], length, map, slice_index_or, IsTrue, IsFalse}
 use Rattle.std.specs.List.{All, filter, range_with_len}
@@ -33,18 +33,18 @@ pub record ClosesCycle (l : PlainLevel) (listed : List ℕ) (e : ℕ) : Type 0 w
   pub no_loop : IsFalse (is_loop l e)
   pub leads_back : Reaches (UnlistedStep l listed) (target_of l e) (source_of l e)
 
--- The edges that are turned round, in ascending order: each closes a cycle with unlisted edges, and these never lead round.
+-- The edges that are reversed, in ascending order: each closes a cycle with unlisted edges, and these never lead round.
 pub record AreReversed (l : PlainLevel) (listed : List ℕ) : Type 0 where
   pub ascending : IsAscending listed
   pub closes : (e : ℕ) → IsTrue (holds listed e) → ClosesCycle l listed e
   pub acyclic : (a b : ℕ) → UnlistedStep l listed a b → Reaches (UnlistedStep l listed) b a → ⊥
 
--- an edge of the level as one of a network, as given or turned round
+-- an edge of the level as one of a network, as given or reversed
 abbrev pub oriented : Bool → LevelEdge → NetEdge
-oriented turned e =
+oriented is_reversed e =
     record {
-      tail = cond turned e.target.child e.source.child;
-      head = cond turned e.source.child e.target.child;
+      tail = cond is_reversed e.target.child e.source.child;
+      head = cond is_reversed e.source.child e.target.child;
       least = 1;
       weight = e.weight;
     }
@@ -56,12 +56,12 @@ links_to l n = filter (λ e. not (is_loop l e)) (range_with_len 0 n)
 abbrev pub links : PlainLevel → List ℕ
 links l = links_to l (length l.edges)
 
--- the network of a level whose listed edges are turned round: its edges without the self-loops, each of length 1
-abbrev pub net_edge : PlainLevel → List ℕ → ℕ → NetEdge
-net_edge l listed e = oriented (holds listed e) (edge_at l e)
+-- the network of a level whose listed edges are reversed: its edges without the self-loops, each of length 1
+abbrev pub network_edge : PlainLevel → List ℕ → ℕ → NetEdge
+network_edge l listed e = oriented (holds listed e) (edge_at l e)
 
 abbrev pub network : PlainLevel → List ℕ → List NetEdge
-network l listed = map (net_edge l listed) (links l)
+network l listed = map (network_edge l listed) (links l)
 
 -- the flow of an edge of the level, and those of the network
 abbrev pub flow_at : List ℕ → ℕ → ℕ
@@ -70,7 +70,7 @@ flow_at flow e = slice_index_or flow e 0
 abbrev pub link_flows : PlainLevel → List ℕ → List ℕ
 link_flows l flow = map (flow_at flow) (links l)
 
--- What is answered for a level: the edges that are turned round; a layer for each child, below the number of children; a flow
+-- What is answered for a level: the edges that are reversed; a layer for each child, below the number of children; a flow
 -- for each edge, 0 at self-loops; and a span. Layers, flow and span are a solution of the level's network: each oriented edge
 -- leads to a higher layer, the least layer of each part is 0, the flow balances with the span as its value, and no layering of
 -- the same orientation costs less. In each connected part layers and flow are those that the chain of pivots gives for the part

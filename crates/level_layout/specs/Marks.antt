@@ -1,4 +1,4 @@
--- The graph of a level with its keys, and the marks of the edges that are turned round in it.
+-- The graph of a level with its keys, and the marks of the edges that are reversed in it.
 use Rattle.std.specs.Prelude.{◌≡◌, ◌<◌, ◌==◌, ℕ, Bool, not, Some, List, length, slice_index_or}
 use Rattle.graph_arena.specs.Graph.{Graph, Ends, ends_at, IsNode}
 use Rattle.graph_arena.specs.declared.keys.NodeKey.{NodeKey}

@@ -56,7 +56,7 @@ fn flows_of(alloc: Global, level: &LevelIn, flow: &[u64]) -> Result<Vec<u64>, Al
     Ok(flows)
 }
 
-// The certificate from the edges that are turned round and a solution of the network.
+// The certificate from the edges that are reversed and a solution of the network.
 fn certificate_from(
     alloc: Global,
     level: &LevelIn,
@@ -82,26 +82,26 @@ fn certificate_from(
     })
 }
 
-/// The certificate of a level, in the frame in which its direction runs to the right, by the marks of the edges that are turned
+/// The certificate of a level, in the frame in which its direction runs to the right, by the marks of the edges that are reversed
 /// round so that no cycle is left: these edges, by number and in ascending order; by child its layer, where each part of the
 /// level begins at layer 0; by edge its flow, 0 at self-loops; and the span, which no layering of these edges goes below. Each
 /// connected part is layered by itself, by network simplex (Gansner, Koutsofios, North, Vo 1993) with 64 pivots for each of its
 /// children and edges, and by the primal-dual flow where these don't suffice. Parts are left empty.
 ///
-/// The only error is want of memory.
+/// The only error is out of memory.
 pub fn certificate_for(
     alloc: Global,
     level: &LevelIn,
-    turned: &[bool],
+    is_reversed: &[bool],
 ) -> Result<Certificate, AllocError>
     requires level { IsLevel (plain_level level.now) }
-    requires marks { length turned.now ≡ length level.now.edges }
-    requires reversed { AreReversed (plain_level level.now) (listed turned.now) }
+    requires marks { length is_reversed.now ≡ length level.now.edges }
+    requires reversed { AreReversed (plain_level level.now) (listed is_reversed.now) }
     ensures certificate { IfOk result (IsCertificateOf (plain_level level.now)) }
-    ensures listed { IfOk result (λ c. c.reversed ≡ listed turned.now) }
+    ensures listed { IfOk result (λ c. c.reversed ≡ listed is_reversed.now) }
 {
-    let reversed = list_marked(alloc, turned)?;
-    let network = network_of(alloc, level, turned)?;
+    let reversed = list_marked(alloc, is_reversed)?;
+    let network = network_of(alloc, level, is_reversed)?;
     let solution = solve_parts(alloc, &network)?;
     certificate_from(alloc, level, reversed, solution)
 }

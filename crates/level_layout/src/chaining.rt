@@ -6,7 +6,7 @@ ghost use Rattle.level_model.specs.Level as plan;
 ghost use Rattle.level_layout.specs.Marks.{AreNodes, node_of};
 ghost use Rattle.level_layout.specs.Chained.{AddsLink, AreChained, AreLinks, HasChain, RisingEnds, head_by, tail_by};
 
-use crate::networks::net_edge;
+use crate::networks::network_edge;
 use crate::orienting::add_nodes;
 use graph_arena::{Arena, EdgeKey, NodeKey};
 use level_model::LevelIn;
@@ -45,18 +45,18 @@ fn add_links(
     arena: &mut Arena,
     nodes: &[NodeKey],
     level: &LevelIn,
-    turned: &[bool],
+    is_reversed: &[bool],
 ) -> Result<Vec<Option<EdgeKey>>, AllocError>
     requires level { IsLevel (plain_level level.now) }
-    requires turned { length turned.now ≡ length level.now.edges }
+    requires is_reversed { length is_reversed.now ≡ length level.now.edges }
     requires nodes { AreNodes arena.old (length level.now.children) nodes.now }
     requires no_edges { (k : ℕ) → ends_at arena.old k ≡ None }
     ensures nodes { IfOk result (λ keys. AreNodes arena.new (length level.now.children) nodes.now) }
-    ensures links { IfOk result (λ keys. AreLinks (plain_level level.now) turned.now nodes.now arena.new (length level.now.edges) keys.items) }
+    ensures links { IfOk result (λ keys. AreLinks (plain_level level.now) is_reversed.now nodes.now arena.new (length level.now.edges) keys.items) }
 {
     let mut keys = Vec::with_capacity(alloc, level.edges.len())?;
     for (e, edge) in level.edges.as_slice().iter().enumerate() {
-        let ends = net_edge(*edge, turned[e]);
+        let ends = network_edge(*edge, is_reversed[e]);
         keys.push(add_link(arena, nodes, ends)?)?;
     }
     Ok(keys)
@@ -105,27 +105,27 @@ fn split_by(
 }
 
 /// The chains of a level's edges: an oriented edge that is no self-loop becomes a chain of edges from its tail to its head, each of
-/// which leads to the next layer. `layers` has the layer of each child, and `turned` marks the edges that are turned round.
+/// which leads to the next layer. `layers` has the layer of each child, and `is_reversed` marks the edges that are reversed.
 ///
-/// The only error is want of memory.
+/// The only error is out of memory.
 pub fn chains_of(
     alloc: Global,
     level: &LevelIn,
     layers: &[u32],
-    turned: &[bool],
+    is_reversed: &[bool],
 ) -> Result<LevelChains, AllocError>
     requires level { IsLevel (plain_level level.now) }
     requires layers { length layers.now ≡ length level.now.children }
-    requires turned { length turned.now ≡ length level.now.edges }
+    requires is_reversed { length is_reversed.now ≡ length level.now.edges }
     requires onward { (e : ℕ) → e < length level.now.edges → IsFalse (plan.is_loop (plain_level level.now) e)
-        → slice_index layers.now (tail_by (plain_level level.now) turned.now e)
-        < slice_index layers.now (head_by (plain_level level.now) turned.now e) }
-    ensures { IfOk result (λ v. AreChained (plain_level level.now) layers.now turned.now v.keys.items v.chains) }
+        → slice_index layers.now (tail_by (plain_level level.now) is_reversed.now e)
+        < slice_index layers.now (head_by (plain_level level.now) is_reversed.now e) }
+    ensures { IfOk result (λ v. AreChained (plain_level level.now) layers.now is_reversed.now v.keys.items v.chains) }
 {
     let mut arena = Arena::new(alloc);
     let nodes = add_nodes(alloc, &mut arena, level.children.len())?;
     let children = nodes.as_slice();
-    let keys = add_links(alloc, &mut arena, children, level, turned)?;
+    let keys = add_links(alloc, &mut arena, children, level, is_reversed)?;
     let mut by_node: Vec<u32> = vec![in alloc; 0; arena.node_bound()]?;
     let room = by_node.as_mut_slice();
     let chains = split_by(alloc, &mut arena, children, layers, room)?;

@@ -16,18 +16,39 @@ use std::alloc::{AllocError, Global};
 ///
 /// Its edges are oriented so that no cycle is left, its children lie in layers of least span, rows have few crossings, and lines
 /// keep the distances: by alignment, or so that the links are least high together, as the level asks. The drawing begins at 0; it
-/// comes with its plan and its certificate. The only error is want of memory.
+/// comes with its plan and its certificate. The only error is out of memory.
 /// (The layered method of Sugiyama, Tagawa and Toda 1981.)
+///
+/// Proved:
+/// - The layout of every level has a certificate: the reversed edges close cycles with the others, which have none.
+/// - Its layers, flow and span are a solution of the network of the oriented edges that aren't self-loops, so no layering of them has
+///   a smaller span.
+/// - In each connected part, layers and flow are what net_simplex promises for the part's children and edges alone, in document order.
+///   The budget is 64 pivots for each of these, without self-loops.
+/// - Layers are below the number of children, and self-loops have no flow.
+/// - Units and links are numbered by child and edge, with ranks, heights and pins. The units of lanes have no height and no lanes
+///   above or below.
+/// - Each row starts in the order of its numbers.
+/// - If the level asks for the order of the document, the rows of the plan are those of the start.
+/// - Otherwise they have no more crossings than the start and its four sweep orders.
+/// - From the first of fewest crossings among these, exchanges of neighbours lower the crossings, row by row from the top. The rows
+///   are what these exchanges reach, or have fewer crossings than that.
+/// - No exchange of two neighbours has fewer crossings.
+/// - Lines keep the distances, and no unit ends lower than all units stacked.
+/// - By alignment the lines are those of the fixed sweep, or of the first of the four with the least height.
+/// - By network simplex they minimize the total height of the links, and a flow shows it.
+/// - The drawing is made from all of these. It keeps the distances of children, the constraints of ports and the rules for routes.
+/// - It begins at 0 and is as large as it needs to be.
 pub fn layout_level(alloc: Global, level: &LevelIn) -> Result<LevelOut, AllocError>
     requires { IsLevel (plain_level level.now) }
     ensures { IfOk result (IsLaidOut level.now) }
 {
     let marks = orientation(alloc, level)?;
-    let turned = marks.as_slice();
-    let certificate = certificate_for(alloc, level, turned)?;
-    let start = start_for(alloc, level, &certificate, turned)?;
+    let is_reversed = marks.as_slice();
+    let certificate = certificate_for(alloc, level, is_reversed)?;
+    let start = start_for(alloc, level, &certificate, is_reversed)?;
     let order = order_for(alloc, level, &start.layered, &start.rows)?;
-    let fitted = pinned(alloc, level, start.layered, &order, turned)?;
+    let fitted = pinned(alloc, level, start.layered, &order, is_reversed)?;
     let lines = lines_for(alloc, level, &fitted.layered, &order)?;
     let basis = Basis {
         layered: fitted.layered,
@@ -35,5 +56,5 @@ pub fn layout_level(alloc: Global, level: &LevelIn) -> Result<LevelOut, AllocErr
         order,
         lines,
     };
-    draw_by_table(alloc, level, certificate, basis, turned, fitted.table)
+    draw_by_table(alloc, level, certificate, basis, is_reversed, fitted.table)
 }

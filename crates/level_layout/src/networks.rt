@@ -31,35 +31,35 @@ pub(crate) fn is_loop(edge: LevelEdge) -> bool
     source == edge.target.child
 }
 
-/// The edge as one of a network, as given or turned round.
-pub(crate) fn net_edge(edge: LevelEdge, turned: bool) -> NetEdge
-    ensures { result ≡ oriented turned edge }
+/// The edge as one of a network, as given or reversed.
+pub(crate) fn network_edge(edge: LevelEdge, is_reversed: bool) -> NetEdge
+    ensures { result ≡ oriented is_reversed edge }
 {
     let source = edge.source.child;
     let target = edge.target.child;
     NetEdge {
-        tail: if turned { target } else { source },
-        head: if turned { source } else { target },
+        tail: if is_reversed { target } else { source },
+        head: if is_reversed { source } else { target },
         least: 1,
         weight: edge.weight,
     }
 }
 
-// The oriented edges that are no self-loops, where the marked ones are turned round.
-fn net_edges(alloc: Global, level: &LevelIn, marks: &[bool]) -> Result<Vec<NetEdge>, AllocError>
+// The oriented edges that are no self-loops, where the marked ones are reversed.
+fn network_edges(alloc: Global, level: &LevelIn, marks: &[bool]) -> Result<Vec<NetEdge>, AllocError>
     requires { length marks.now ≡ length level.now.edges }
     ensures { IfOk result (λ edges. edges.items ≡ network (plain_level level.now) (listed marks.now)) }
 {
     let mut edges = Vec::new(alloc);
     for (e, edge) in level.edges.as_slice().iter().enumerate() {
         if !is_loop(*edge) {
-            edges.push(net_edge(*edge, marks[e]))?;
+            edges.push(network_edge(*edge, marks[e]))?;
         }
     }
     Ok(edges)
 }
 
-/// The network of a level whose marked edges are turned round.
+/// The network of a level whose marked edges are reversed.
 pub(crate) fn network_of(
     alloc: Global,
     level: &LevelIn,
@@ -72,7 +72,7 @@ pub(crate) fn network_of(
     ensures edges { IfOk result (λ net. net.edges.items ≡ network (plain_level level.now) (listed marks.now)) }
     ensures network { IfOk result (λ net. IsNetwork net.nodes net.edges.items) }
 {
-    let edges = net_edges(alloc, level, marks)?;
+    let edges = network_edges(alloc, level, marks)?;
     let nodes = level.children.len() as u32;
     Ok(Network { nodes, edges })
 }

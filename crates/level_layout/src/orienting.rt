@@ -50,7 +50,7 @@ fn add_edges(
 }
 
 // Whether an edge leaves another node than that of its source.
-fn is_turned(arena: &Arena, nodes: &[NodeKey], key: EdgeKey, edge: LevelEdge) -> bool
+fn runs_reversed(arena: &Arena, nodes: &[NodeKey], key: EdgeKey, edge: LevelEdge) -> bool
     requires key { IsEdge arena.now key.at }
     requires source { edge.source.child < length nodes.now }
     ensures { (x : Ends) → ends_at arena.now key.at ≡ Some x → result ≡ not (x.tail == node_of nodes.now edge.source.child) }
@@ -58,8 +58,8 @@ fn is_turned(arena: &Arena, nodes: &[NodeKey], key: EdgeKey, edge: LevelEdge) ->
     arena.tail(key).at != nodes[edge.source.child as usize].at
 }
 
-// Marks the edges that were turned round.
-fn turned_marks(
+// Marks the edges that were reversed.
+fn reversed_marks(
     alloc: Global,
     arena: &Arena,
     nodes: &[NodeKey],
@@ -74,12 +74,12 @@ fn turned_marks(
 {
     let mut marks = Vec::with_capacity(alloc, keys.len())?;
     for (e, edge) in level.edges.as_slice().iter().enumerate() {
-        marks.push(is_turned(arena, nodes, keys[e], *edge))?;
+        marks.push(runs_reversed(arena, nodes, keys[e], *edge))?;
     }
     Ok(marks)
 }
 
-/// By edge, whether it is turned round.
+/// By edge, whether it is reversed.
 pub(crate) fn orientation(alloc: Global, level: &LevelIn) -> Result<Vec<bool>, AllocError>
     requires { IsLevel (plain_level level.now) }
     ensures len { IfOk result (λ marks. length marks.items ≡ length level.now.edges) }
@@ -89,5 +89,5 @@ pub(crate) fn orientation(alloc: Global, level: &LevelIn) -> Result<Vec<bool>, A
     let nodes = add_nodes(alloc, &mut arena, level.children.len())?;
     let keys = add_edges(alloc, &mut arena, nodes.as_slice(), level)?;
     let _reversed = orient(alloc, &mut arena)?;
-    turned_marks(alloc, &arena, nodes.as_slice(), keys.as_slice(), level)
+    reversed_marks(alloc, &arena, nodes.as_slice(), keys.as_slice(), level)
 }

@@ -26,26 +26,26 @@ pub(crate) struct Start {
     pub rows: Order,
 }
 
-/// The units and links of a level by its certificate, without heights and pins, and its rows in document order. `turned` marks
+/// The units and links of a level by its certificate, without heights and pins, and its rows in document order. `is_reversed` marks
 /// the certificate's reversed edges.
 pub(crate) fn start_for(
     alloc: Global,
     level: &LevelIn,
     certificate: &Certificate,
-    turned: &[bool],
+    is_reversed: &[bool],
 ) -> Result<Start, AllocError>
     requires level { IsLevel (plain_level level.now) }
     requires certificate { IsCertificateOf (plain_level level.now) certificate.now }
-    requires marks { length turned.now ≡ length level.now.edges }
-    requires listed { certificate.now.reversed ≡ listed turned.now }
+    requires marks { length is_reversed.now ≡ length level.now.edges }
+    requires listed { certificate.now.reversed ≡ listed is_reversed.now }
     ensures units { IfOk result (λ v. AreRankedUnits (plain_level level.now) certificate.now v.layered) }
     ensures rows { IfOk result (λ v. AreRows (plain v.layered) (rows_of v.rows)) }
     ensures start { IfOk result (λ v. IsStart (plain v.layered) (rows_of v.rows)) }
 {
     let layers = certificate.layers.as_slice();
-    let blank = units_for(alloc, level, layers, turned)?;
+    let blank = units_for(alloc, level, layers, is_reversed)?;
     let rows = start_of(alloc, &blank)?;
-    let layered = ranked(alloc, level, blank, &rows, turned)?;
+    let layered = ranked(alloc, level, blank, &rows, is_reversed)?;
     Ok(Start { layered, rows })
 }
 
@@ -85,7 +85,7 @@ fn order_by_keys(
     Ok(order)
 }
 
-/// The order of a start's rows that the usual search finds, in which units without keys are held.
+/// The order that the usual search finds from a start's rows. No unit has a key, so none is held.
 fn order_without_keys(
     alloc: Global,
     layered: &Layered,

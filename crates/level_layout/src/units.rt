@@ -19,22 +19,22 @@ pub(crate) fn units_for(
     alloc: Global,
     level: &LevelIn,
     layers: &[u32],
-    turned: &[bool],
+    is_reversed: &[bool],
 ) -> Result<Layered, AllocError>
     requires level { IsLevel (plain_level level.now) }
-    requires layering { AreLayersOf (plain_level level.now) (listed turned.now) layers.now }
-    requires marks { length turned.now ≡ length level.now.edges }
+    requires layering { AreLayersOf (plain_level level.now) (listed is_reversed.now) layers.now }
+    requires marks { length is_reversed.now ≡ length level.now.edges }
     ensures linked { IfOk result
-        (λ v. (rows : List (List ℕ)) (tops : List ℤ) → AreLinked (plain_level level.now) (plan_with v rows tops (listed turned.now)) layers.now) }
+        (λ v. (rows : List (List ℕ)) (tops : List ℤ) → AreLinked (plain_level level.now) (plan_with v rows tops (listed is_reversed.now)) layers.now) }
     ensures sound { IfOk result (λ v. IsSound (plain v)) }
-    ensures numbered { IfOk result (λ v. AreNumberedUnits (layering (plain_level level.now) (listed turned.now) layers.now) (plain v)) }
+    ensures numbered { IfOk result (λ v. AreNumberedUnits (layering (plain_level level.now) (listed is_reversed.now) layers.now) (plain v)) }
     ensures layers { IfOk result (λ v. IsLayerCount layers.now v.layers) }
     ensures few_layers { IfOk result (λ v. v.layers ≤ 2048) }
     ensures node_node { IfOk result (λ v. v.node_node ≡ level.now.spacing.node_node) }
     ensures edge_node { IfOk result (λ v. v.edge_node ≡ level.now.spacing.edge_node) }
     ensures edge_edge { IfOk result (λ v. v.edge_edge ≡ level.now.spacing.edge_edge) }
 {
-    let split = chains_of(alloc, level, layers, turned)?;
+    let split = chains_of(alloc, level, layers, is_reversed)?;
     let keys = split.keys.as_slice();
-    units_of(alloc, level, layers, turned, keys, &split.chains)
+    units_of(alloc, level, layers, is_reversed, keys, &split.chains)
 }

@@ -119,8 +119,8 @@ apart_x a b c d p q ha hb h hc hd m = let across = m.across in absurd (omega (ar
 apart_y : (a b c d : Point) (p q : ℤ) → a.y ≤ℤ p → b.y ≤ℤ p → p <ℤ q → q ≤ℤ c.y → q ≤ℤ d.y → SharedPiece a b c d → ⊥
 apart_y a b c d p q ha hb h hc hd m = let along = m.along in absurd (omega (arith, ints, clamps))
 
-pub turned_share : (a b c d : Point) → Share a b c d → Share c d a b
-turned_share a b c d m =
+pub reversed_share : (a b c d : Point) → Share a b c d → Share c d a b
+reversed_share a b c d m =
     record {
       one = m.one;
       other = m.other;
@@ -143,9 +143,9 @@ units_apart s u v a b c d st x y n m =
     (λ rest. ⊎_elim
     (λ same. ⊎_elim
     (λ l. apart_y a b c d _ _ x.a_bottom x.b_bottom l y.a_top y.b_top (Share-piece a b c d m))
-    (λ l. apart_y c d a b _ _ y.a_bottom y.b_bottom l x.a_top x.b_top (Share-piece c d a b (turned_share a b c d m)))
+    (λ l. apart_y c d a b _ _ y.a_bottom y.b_bottom l x.a_top x.b_top (Share-piece c d a b (reversed_share a b c d m)))
     (st.column u v x.unit y.unit n same))
-    (λ more. columns_apart s v u c d a b st y x more (turned_share a b c d m))
+    (λ more. columns_apart s v u c d a b st y x more (reversed_share a b c d m))
     rest)
     (three_ways (s.layer u) (s.layer v))
 
@@ -229,4 +229,4 @@ gaps_apart s e f a b c d st p q less m =
     let x = net_before s e p.gap a b st p (omega arith) in_range in
     let y = net_after s f p.gap c d st q less in_range in
     let ordered = st.row.columns p.gap in_range in
-    left_piece c d a b (s.col_left p.gap) x.0 x.1 (le_trans _ _ _ ordered y.0) (le_trans _ _ _ ordered y.1) x.2 (Share-piece c d a b (turned_share a b c d m))
+    left_piece c d a b (s.col_left p.gap) x.0 x.1 (le_trans _ _ _ ordered y.0) (le_trans _ _ _ ordered y.1) x.2 (Share-piece c d a b (reversed_share a b c d m))

@@ -38,7 +38,7 @@ pub record LevelDrawing : Type 0 where
 abbrev pub counts : List PlainGap → ℕ → ℕ
 counts gaps g = (gap_in gaps g).count
 
--- the slots of a gap are as few as its level asks for, or such that its nets cross no more often than they have to
+-- what the slots of a gap keep to: few of them, or no more crossings than the nets have to have
 abbrev pub AreSlots : Slotting → List Net → ℕ → List NetRoute → Type 0
 AreSlots Fewest = AreFewest
 AreSlots Uncrossed = AreUncrossed

@@ -28,7 +28,7 @@ pub record PlainLevel : Type 0 where
   pub spacing : Spacing
   pub choices : Choices
 
--- what a drawing is made from: units and links, rows, tops, and the edges that are turned round
+-- what a drawing is made from: units and links, rows, tops, and the edges that are reversed
 pub record PlainPlan : Type 0 where
   pub layers : ℕ
   pub layered : Plain

@@ -60,12 +60,12 @@ oriented_steps l p o shift e =
     ++ entering l p o shift (head_end p e) (is_inverted l p o (head_end p e)) (is_upright (dock_of l p o (head_end p e)).side)
 
 -- the steps the other way
-abbrev pub turned_step : Step → Step
-turned_step (Lane h) = Lane h
-turned_step (Leg g n from_a) = Leg g n (not from_a)
+abbrev pub reversed_step : Step → Step
+reversed_step (Lane h) = Lane h
+reversed_step (Leg g n from_a) = Leg g n (not from_a)
 
-abbrev pub turned_steps : List Step → List Step
-turned_steps steps = reverse (map turned_step steps)
+abbrev pub reversed_steps : List Step → List Step
+reversed_steps steps = reverse (map reversed_step steps)
 
 -- the steps of a self-loop, by the sides of its two docks
 abbrev pub loop_steps : PlainLevel → PlainPlan → Orders → ℤ → ℕ → Side → Side → List Step
@@ -91,4 +91,4 @@ abbrev pub steps_of : PlainLevel → PlainPlan → Orders → ℤ → ℕ → Li
 steps_of l p o shift e =
     cond (is_loop l e)
     (cond (has_one_dock l p o e) [] (loop_steps l p o shift e (dock_of l p o (end_at e true)).side (dock_of l p o (end_at e false)).side))
-    (cond (holds p.reversed e) (turned_steps (oriented_steps l p o shift e)) (oriented_steps l p o shift e))
+    (cond (holds p.reversed e) (reversed_steps (oriented_steps l p o shift e)) (oriented_steps l p o shift e))

@@ -23,7 +23,10 @@ fn mark_all(marks: &mut [bool], numbers: &[u32])
     }
 }
 
-/// For each number below a count, whether a list holds it: of a level's edges, which are turned round.
+/// For each number below a count, whether a list holds it: of a level's edges, which are reversed.
+///
+/// Proved:
+/// - The marks of a list say of each number whether it is listed, for example of edges whether they are reversed.
 pub fn marks_of(alloc: Global, numbers: &[u32], count: usize) -> Result<Vec<bool>, AllocError>
     ensures { IfOk result (λ marks. AreMarks numbers.now count marks.items) }
 {

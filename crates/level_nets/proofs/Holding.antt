@@ -11,7 +11,7 @@ use Rattle.route_lines.specs.Points.{PlainGap, gap_in}
 use Rattle.level_model.specs.Level.{End, end_at, ends_of_edges, all_ends}
 use Rattle.level_model.specs.Nets.{Name, of_link, of_dock, of_loop, if_passed}
 use Rattle.level_nets.specs.Parts.{Parts}
-use Rattle.level_nets.specs.Read.{HoldNets, net_named, gap_named, in_gap, leg_behind, link_names, dock_names, passing_names, passes_west, passes_east, is_turned_back, names_of}
+use Rattle.level_nets.specs.Read.{HoldNets, net_named, gap_named, in_gap, leg_behind, link_names, dock_names, passing_names, passes_west, passes_east, dock_inverts, names_of}
 use Rattle.level_nets.specs.Held.{with_net, AreFew, behind_docks, behind_loops}
 use Rattle.level_nets.proofs.ListLemmas.{filter_append, filter_short}
 
@@ -83,7 +83,7 @@ ends_append [] fs = refl
 ends_append (e ∷ es) fs = ap (λ ns. end_at e true ∷ end_at e false ∷ ns) (ends_append es fs)
 
 pub dock_names_append : (s : Parts) (ns ms : List End) → dock_names s (ns ++ ms) ≡ dock_names s ns ++ dock_names s ms
-dock_names_append s ns ms = ap (map of_dock) (filter_append (is_turned_back s) ns ms) ∙ map-append of_dock (filter (is_turned_back s) ns) (filter (is_turned_back s) ms)
+dock_names_append s ns ms = ap (map of_dock) (filter_append (dock_inverts s) ns ms) ∙ map-append of_dock (filter (dock_inverts s) ns) (filter (dock_inverts s) ms)
 
 passing_append : (s : Parts) (es fs : List ℕ) → passing_names s (es ++ fs) ≡ passing_names s es ++ passing_names s fs
 passing_append s [] fs = refl
@@ -134,8 +134,8 @@ ends_long (e ∷ es) = let rest = ends_long es in omega (arith, rest)
 
 pub docks_short : (s : Parts) (ns : List End) → length (dock_names s ns) ≤ length ns
 docks_short s ns =
-    let short = filter_short (is_turned_back s) ns in
-    let same = length-map (filter (is_turned_back s) ns) of_dock in
+    let short = filter_short (dock_inverts s) ns in
+    let same = length-map (filter (dock_inverts s) ns) of_dock in
     omega (arith, short, same)
 
 pub passed_short : (b : Bool) (e : ℕ) (side : Side) → length (if_passed b e side) ≤ 1
@@ -179,9 +179,9 @@ loops_few s e =
     omega (arith, links, docks, ends, edges, range, passing, two, all)
 
 -- the names of one end and of one passage
-pub dock_held : (s : Parts) (names : List Name) (n : End) (gaps : List PlainGap) → is_turned_back s n ≡ true → HoldNets s (names ++ of_dock n ∷ []) gaps → HoldNets s (names ++ dock_names s (n ∷ [])) gaps
-dock_held s names n gaps turned held =
-    subst (λ (b : Bool). HoldNets s (names ++ map of_dock (cond b (n ∷ []) [])) gaps) (sym turned) held
+pub dock_held : (s : Parts) (names : List Name) (n : End) (gaps : List PlainGap) → dock_inverts s n ≡ true → HoldNets s (names ++ of_dock n ∷ []) gaps → HoldNets s (names ++ dock_names s (n ∷ [])) gaps
+dock_held s names n gaps is_reversed held =
+    subst (λ (b : Bool). HoldNets s (names ++ map of_dock (cond b (n ∷ []) [])) gaps) (sym is_reversed) held
 
 pub passage_held : (s : Parts) (names : List Name) (b : Bool) (e : ℕ) (side : Side) (gaps : List PlainGap) → b ≡ true → HoldNets s (names ++ of_loop e side ∷ []) gaps → HoldNets s (names ++ if_passed b e side) gaps
 passage_held s names b e side gaps passes held = subst (λ (c : Bool). HoldNets s (names ++ if_passed c e side) gaps) (sym passes) held

@@ -15,7 +15,7 @@ use Rattle.level_model.specs.Table.{IsEndAt, child_in}
 use Rattle.level_model.proofs.Lists.{Has, range_has}
 use Rattle.level_model.proofs.SpotLemmas.{spoke_there}
 use Rattle.level_nets.specs.Parts.{Parts, plan_of, ArePlanned}
-use Rattle.level_nets.specs.Read.{at_end, dock_at, unit_of_dock, is_turned_back, is_one_dock, passes_west, passes_east, link_names, dock_names, passing_names, names_of, gap_at, gap_named}
+use Rattle.level_nets.specs.Read.{at_end, dock_at, unit_of_dock, dock_inverts, is_one_dock, passes_west, passes_east, link_names, dock_names, passing_names, names_of, gap_at, gap_named}
 use Rattle.level_nets.specs.Routed.{is_passing_left, is_passing_right}
 use Rattle.level_model.proofs.NameLemmas.{IsName, ends_edge}
 use Rattle.level_nets.proofs.ListLemmas.{filter_same}
@@ -38,8 +38,8 @@ module _ (s : Parts) (rows : List (List ℕ)) (o : Orders) (layers : List ℕ) (
   pub dock_is : (n : End) → n.edge < length s.level.edges → dock_at s n ≡ dock_of s.level (plan_of s rows) o n
   dock_is n h = (end_is n h).dock
 
-  pub turned_is : (n : End) → n.edge < length s.level.edges → is_turned_back s n ≡ is_inverted s.level (plan_of s rows) o n
-  turned_is n h = ap (λ (d : Dock). not (is_loop s.level n.edge) && inverts d.side (enters (plan_of s rows) n)) (dock_is n h)
+  pub inverted_is : (n : End) → n.edge < length s.level.edges → dock_inverts s n ≡ is_inverted s.level (plan_of s rows) o n
+  inverted_is n h = ap (λ (d : Dock). not (is_loop s.level n.edge) && inverts d.side (enters (plan_of s rows) n)) (dock_is n h)
 
   -- the two docks of a self-loop are one where their sides and offsets are
   pub one_dock_is : (e : ℕ) → e < length s.level.edges → is_loop s.level e ≡ true → is_one_dock s e ≡ has_one_dock s.level (plan_of s rows) o e
@@ -75,7 +75,7 @@ module _ (s : Parts) (rows : List (List ℕ)) (o : Orders) (layers : List ℕ) (
           ∙ ap (passes_right (dock_of s.level (plan_of s rows) o (end_at e true)).side (dock_of s.level (plan_of s rows) o (end_at e false)).side) (one_dock_is e h loop)
 
   pub dock_names_are : (ns : List End) → ((n : End) → Has ns n → n.edge < length s.level.edges) → dock_names s ns ≡ map of_dock (filter (is_inverted s.level (plan_of s rows) o) ns)
-  dock_names_are ns below = ap (map of_dock) (filter_same (is_turned_back s) (is_inverted s.level (plan_of s rows) o) ns (λ n k. turned_is n (below n k)))
+  dock_names_are ns below = ap (map of_dock) (filter_same (dock_inverts s) (is_inverted s.level (plan_of s rows) o) ns (λ n k. inverted_is n (below n k)))
 
   pub passing_names_are : (es : List ℕ) → ((e : ℕ) → Has es e → e < length s.level.edges) → passing_names s es ≡ loop_names s.level (plan_of s rows) o es
   passing_names_are [] below = refl

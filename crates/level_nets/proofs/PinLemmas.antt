@@ -10,7 +10,7 @@ use Rattle.self_loops.specs.Loops.{is_upright}
 use Rattle.level_model.specs.Level.{End, enters, is_loop}
 use Rattle.level_model.specs.Nets.{inverts}
 use Rattle.level_nets.specs.Parts.{Parts, plan_of}
-use Rattle.level_nets.specs.Read.{pin, dock_at, is_turned_back, passes_on}
+use Rattle.level_nets.specs.Read.{pin, dock_at, dock_inverts, passes_on}
 use Rattle.level_model.proofs.NameLemmas.{inverts_level}
 
 pub pin_is : (b c : Bool) (r z : ℤ) → FitsSigned w64 r → b ≡ c → r ≡ z → (let q : Pin = record { on_left = b; height = to_z w64 (of_z w64 r) } in q) ≡ pin c z
@@ -22,8 +22,8 @@ net_from a b c d e f =
     let h : Pin → Net = λ z. record { a = c; b = z } in
     ap g e ∙ ap h f
 
-pub turned_beside : (s : Parts) (n : End) → is_turned_back s n ≡ true → is_upright (dock_at s n).side ≡ false
-turned_beside s n h =
+pub reversed_beside : (s : Parts) (n : End) → dock_inverts s n ≡ true → is_upright (dock_at s n).side ≡ false
+reversed_beside s n h =
     inverts_level (dock_at s n).side (enters (plan_of s []) n) (and_parts (not (is_loop s.level n.edge)) (inverts (dock_at s n).side (enters (plan_of s []) n)) h).1
 
 pub passes_beside : (s : Parts) (e : ℕ) (side : Side) → passes_on s e side ≡ true → is_upright side ≡ false

@@ -12,7 +12,7 @@ use Rattle.level_model.specs.Level.{end_at}
 use Rattle.level_model.specs.Nets.{of_link, of_dock, if_passed}
 use Rattle.level_nets.specs.declared.pushing.LoopLegs.{LoopLegs}
 use Rattle.level_nets.specs.Parts.{Parts}
-use Rattle.level_nets.specs.Read.{HoldNets, link_names, dock_names, is_turned_back, passes_west, end_number, leg_behind}
+use Rattle.level_nets.specs.Read.{HoldNets, link_names, dock_names, dock_inverts, passes_west, end_number, leg_behind}
 use Rattle.level_nets.specs.Held.{plain_gaps, with_net, AreFew, AreLinkLegs, AreDockLegs, IsLoopLegs, AreLoopLegs, behind_docks, behind_loops, before_dock}
 use Rattle.level_nets.proofs.Holding.{few_held, links_long, docks_short, docks_few, loops_few, passed_short}
 use Rattle.level_nets.proofs.BorderLemmas.{gap_read}
@@ -80,24 +80,24 @@ second : (legs : List ℕ) (a b i : ℕ) → length legs + 1 ≡ i → get_or ((
 second legs a b i h = get_or_push (legs ++ a ∷ []) b 0 i (length_push legs a ∙ h)
 
 pub dock_legs_more : (s : Parts) (e : ℕ) (legs new : List ℕ) (a b : ℕ) → new ≡ (legs ++ a ∷ []) ++ b ∷ [] → AreDockLegs s e legs
-    → (is_turned_back s (end_at e true) ≡ true → a ≡ leg_behind s (before_dock s e true) (of_dock (end_at e true)))
-    → (is_turned_back s (end_at e false) ≡ true → b ≡ leg_behind s (before_dock s e false) (of_dock (end_at e false))) → AreDockLegs s (e + 1) new
+    → (dock_inverts s (end_at e true) ≡ true → a ≡ leg_behind s (before_dock s e true) (of_dock (end_at e true)))
+    → (dock_inverts s (end_at e false) ≡ true → b ≡ leg_behind s (before_dock s e false) (of_dock (end_at e false))) → AreDockLegs s (e + 1) new
 dock_legs_more s e legs new a b same are source target =
     record {
       as_many = ap length same ∙ length_push (legs ++ a ∷ []) b ∙ ap (λ n. n + 1) (length_push legs a) ∙ (let long = are.as_many in omega (arith, long));
-      each = λ f t h turned.
+      each = λ f t h is_reversed.
           ap (λ (ns : List ℕ). get_or ns (end_number (end_at f t)) 0) same
           ∙ ⊎_elim
           (λ (own : f ≡ e).
           subst (λ k. get_or ((legs ++ a ∷ []) ++ b ∷ []) (end_number (end_at k t)) 0 ≡ leg_behind s (before_dock s k t) (of_dock (end_at k t))) (sym own)
-          (here t (subst (λ k. is_turned_back s (end_at k t) ≡ true) own turned)))
-          (λ (other : f ≡ e → ⊥). early legs a b (end_number (end_at f t)) (inside f t (omega (arith, h, other))) ∙ are.each f t (omega (arith, h, other)) turned)
+          (here t (subst (λ k. dock_inverts s (end_at k t) ≡ true) own is_reversed)))
+          (λ (other : f ≡ e → ⊥). early legs a b (end_number (end_at f t)) (inside f t (omega (arith, h, other))) ∙ are.each f t (omega (arith, h, other)) is_reversed)
           (cases_eq f e);
     }
   where
-    here : (t : Bool) → is_turned_back s (end_at e t) ≡ true → get_or ((legs ++ a ∷ []) ++ b ∷ []) (end_number (end_at e t)) 0 ≡ leg_behind s (before_dock s e t) (of_dock (end_at e t))
-    here true turned = first legs a b (2 * e) are.as_many ∙ source turned
-    here false turned = second legs a b (2 * e + 1) (ap (λ n. n + 1) are.as_many) ∙ target turned
+    here : (t : Bool) → dock_inverts s (end_at e t) ≡ true → get_or ((legs ++ a ∷ []) ++ b ∷ []) (end_number (end_at e t)) 0 ≡ leg_behind s (before_dock s e t) (of_dock (end_at e t))
+    here true is_reversed = first legs a b (2 * e) are.as_many ∙ source is_reversed
+    here false is_reversed = second legs a b (2 * e + 1) (ap (λ n. n + 1) are.as_many) ∙ target is_reversed
 
     inside : (f : ℕ) (t : Bool) → f < e → end_number (end_at f t) < length legs
     inside f true less = let long = are.as_many in omega (arith, long, less)

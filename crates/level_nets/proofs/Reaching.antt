@@ -23,7 +23,7 @@ use Rattle.level_nets.specs.declared.sheet.Sheet.{Sheet}
 use Rattle.level_nets.specs.Parts.{Parts, plan_of, ArePlanned, EndAbove, IsGiven}
 use Rattle.level_nets.specs.Read.{dock_at, child_of, unit_of_dock, passes_on}
 use Rattle.level_nets.specs.Reach.{IsBeside, IsBelow, IsDockIn, IsEndIn, IsPassing, AreInReach, IsSheet, parts_in}
-use Rattle.level_nets.proofs.Names.{dock_is, turned_is, west_is, east_is, child_below, unit_is}
+use Rattle.level_nets.proofs.Names.{dock_is, inverted_is, west_is, east_is, child_below, unit_is}
 use Rattle.level_nets.proofs.Nets.{anchor_is, lane_is, loop_lane_is, laned_source, laned_target}
 
 is_below : (z h t : ℤ) → pos 0 ≤ℤ z → z ≤ℤ h → pos 0 ≤ℤ t → (t +ℤ h) <ℤ pos (2 ^ 49) → IsBelow z
@@ -89,8 +89,8 @@ module _ (s : Parts) (rows : List (List ℕ)) (o : Orders) (layers : List ℕ) (
   end_in_reach n h =
       record {
         dock = dock_in n h;
-        lane = λ turned.
-            let inverted : is_inverted s.level (plan_of s rows) o n ≡ true = sym (turned_is s rows o layers planned n h) ∙ turned in
+        lane = λ is_reversed.
+            let inverted : is_inverted s.level (plan_of s rows) o n ≡ true = sym (inverted_is s rows o layers planned n h) ∙ is_reversed in
             subst IsBelow (sym (lane_is s rows o layers planned n h inverted))
             (line_below n.edge (dock_lane (dock_of s.level (plan_of s rows) o n)) (a_line_is s.level (plan_of s rows) o layers planned.ready (of_dock n) (h, inverted)));
       }
@@ -145,7 +145,7 @@ module _ (s : Parts) (rows : List (List ℕ)) (o : Orders) (layers : List ℕ) (
       }
 
 -- what is asked of a level, with its marks, is what its nets are read with
-pub given_sheet : (t : Sheet) → IsGiven (parts_in t) → AreMarks t.reversed.now (length t.level.now.edges) t.turned.now → IsSheet t
+pub given_sheet : (t : Sheet) → IsGiven (parts_in t) → AreMarks t.reversed.now (length t.level.now.edges) t.is_reversed.now → IsSheet t
 given_sheet t given marks =
     let plan = given.plan in
     let many = marks.as_many in

@@ -13,12 +13,12 @@ use Rattle.level_model.specs.Nets.{of_link, of_dock, of_loop, first_slot}
 use Rattle.level_nets.specs.declared.routing.Places.{Places}
 use Rattle.level_nets.specs.declared.routing.Routing.{Routing}
 use Rattle.level_nets.specs.Parts.{Parts, IsGiven}
-use Rattle.level_nets.specs.Read.{HoldNets, names_of, end_number, left_of, in_gap, passes_west, passes_east, is_turned_back}
+use Rattle.level_nets.specs.Read.{HoldNets, names_of, end_number, left_of, in_gap, passes_west, passes_east, dock_inverts}
 use Rattle.level_nets.specs.Held.{plain_gaps, legs_at, before_dock}
 use Rattle.level_nets.specs.Reach.{AreNetsIn, AreColumnsIn}
 use Rattle.level_nets.specs.Placed.{HaveBorders, counts_of}
 use Rattle.level_nets.specs.Routed.{AreEmpty, ArePlaces, AreRouted, AreGapsOf, AreLegsOf, AreGapsIn}
-use Rattle.level_nets.proofs.Names.{turned_is, west_is, east_is}
+use Rattle.level_nets.proofs.Names.{inverted_is, west_is, east_is}
 use Rattle.level_nets.proofs.Gaps.{gap_of_plan, place_is, are_nets}
 use Rattle.level_nets.proofs.Splits.{link_splits, dock_splits, west_splits, east_splits}
 use Rattle.level_nets.proofs.BorderLemmas.{left_range, right_range}
@@ -73,8 +73,8 @@ module _ (s : Parts) (v : Places) (r : Routing) (places : ArePlaces s v) (links 
         loop_count = ap length loops ∙ places.loops.as_many;
         links = λ k h. ap (λ ns. get_or ns k 0) links ∙ places.links.each k h ∙ place_is s rows o layers planned _ (of_link k) (link_splits s k h);
         docks = λ e t h inverted.
-            let turned : is_turned_back s (end_at e t) ≡ true = turned_is s rows o layers planned (end_at e t) h ∙ inverted in
-            ap (λ ns. get_or ns (end_number (end_at e t)) 0) docks ∙ places.docks.each e t h turned ∙ place_is s rows o layers planned (before_dock s e t) (of_dock (end_at e t)) (dock_splits s e h t turned);
+            let is_reversed : dock_inverts s (end_at e t) ≡ true = inverted_is s rows o layers planned (end_at e t) h ∙ inverted in
+            ap (λ ns. get_or ns (end_number (end_at e t)) 0) docks ∙ places.docks.each e t h is_reversed ∙ place_is s rows o layers planned (before_dock s e t) (of_dock (end_at e t)) (dock_splits s e h t is_reversed);
         west = λ e h passes.
             let here : passes_west s e ≡ true = west_is s rows o layers planned e h ∙ passes in
             ap (λ ls. (legs_at ls e).west) loops ∙ (places.loops.each e h).west here ∙ place_is s rows o layers planned _ (of_loop e West) (west_splits s e h here);

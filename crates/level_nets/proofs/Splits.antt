@@ -11,7 +11,7 @@ use Rattle.level_model.specs.Nets.{Name, of_link, of_dock, of_loop, name_eq, if_
 use Rattle.level_model.proofs.Lists.{Has, map_has, append_has, filter_has, range_has}
 use Rattle.level_model.proofs.NameLemmas.{ends_edge}
 use Rattle.level_nets.specs.Parts.{Parts}
-use Rattle.level_nets.specs.Read.{link_names, dock_names, passing_names, names_of, is_turned_back, passes_west, passes_east}
+use Rattle.level_nets.specs.Read.{link_names, dock_names, passing_names, names_of, dock_inverts, passes_west, passes_east}
 use Rattle.level_nets.specs.Held.{behind_docks, behind_loops, before_dock}
 use Rattle.level_nets.proofs.ListLemmas.{range_at}
 use Rattle.level_nets.proofs.Holding.{dock_names_append, ends_append}
@@ -48,8 +48,8 @@ link_has k m h =
 
 dock_has : (s : Parts) (ns : List End) (m : Name) → Has (dock_names s ns) m → (n : End) × Has ns n × (of_dock n ≡ m)
 dock_has s ns m h =
-    let at = map_has of_dock (filter (is_turned_back s) ns) m h in
-    (at.0, (filter_has (is_turned_back s) ns at.0 at.1).0, at.2)
+    let at = map_has of_dock (filter (dock_inverts s) ns) m h in
+    (at.0, (filter_has (dock_inverts s) ns at.0 at.1).0, at.2)
 
 passed_has : (b : Bool) (e : ℕ) (side : Side) (m : Name) → Has (if_passed b e side) m → of_loop e side ≡ m
 passed_has true e side m h = ⊎_elim (λ same. same) (λ none. absurd none) h
@@ -90,8 +90,8 @@ link_splits s k h =
       self = eq-eqb k k refl;
     }
 
-dock_first : (s : Parts) (n : End) (ns : List End) → is_turned_back s n ≡ true → dock_names s (n ∷ ns) ≡ of_dock n ∷ dock_names s ns
-dock_first s n ns turned = ap (λ (b : Bool). map of_dock (cond b (n ∷ filter (is_turned_back s) ns) (filter (is_turned_back s) ns))) turned
+dock_first : (s : Parts) (n : End) (ns : List End) → dock_inverts s n ≡ true → dock_names s (n ∷ ns) ≡ of_dock n ∷ dock_names s ns
+dock_first s n ns is_reversed = ap (λ (b : Bool). map of_dock (cond b (n ∷ filter (dock_inverts s) ns) (filter (dock_inverts s) ns))) is_reversed
 
 module _ (s : Parts) (e : ℕ) (there : e < length s.level.edges) where
   abbrev links : List Name
@@ -127,26 +127,26 @@ module _ (s : Parts) (e : ℕ) (there : e < length s.level.edges) where
       subst (λ z. name_eq z (of_dock n) ≡ false) at.2 (other_edge at.0 n (λ same. omega (arith, same, own, low))))
       (append_has links (dock_names s earlier) m has)
 
-  source_splits : is_turned_back s (end_at e true) ≡ true → Splits (names_of s) (behind_docks s e) (of_dock (end_at e true))
+  source_splits : dock_inverts s (end_at e true) ≡ true → Splits (names_of s) (behind_docks s e) (of_dock (end_at e true))
   unfolding behind_docks
-  source_splits turned =
+  source_splits is_reversed =
       record {
         after = dock_names s (end_at e false ∷ ends_of_edges later) ++ loops;
-        is = names_are ∙ ap (λ (ns : List Name). (links ++ dock_names s earlier) ++ (ns ++ loops)) (dock_first s (end_at e true) (end_at e false ∷ ends_of_edges later) turned);
+        is = names_are ∙ ap (λ (ns : List Name). (links ++ dock_names s earlier) ++ (ns ++ loops)) (dock_first s (end_at e true) (end_at e false ∷ ends_of_edges later) is_reversed);
         other = earlier_other (end_at e true) refl;
         self = end_self (end_at e true);
       }
 
-  target_splits : is_turned_back s (end_at e false) ≡ true → Splits (names_of s) (behind_docks s e ++ dock_names s (end_at e true ∷ [])) (of_dock (end_at e false))
+  target_splits : dock_inverts s (end_at e false) ≡ true → Splits (names_of s) (behind_docks s e ++ dock_names s (end_at e true ∷ [])) (of_dock (end_at e false))
   unfolding behind_docks
-  target_splits turned =
+  target_splits is_reversed =
       let own = dock_names s (end_at e true ∷ []) in
       let rest = dock_names s (ends_of_edges later) in
       record {
         after = rest ++ loops;
         is = names_are
             ∙ ap (λ (ns : List Name). (links ++ dock_names s earlier) ++ (ns ++ loops))
-            (dock_names_append s (end_at e true ∷ []) (end_at e false ∷ ends_of_edges later) ∙ ap (λ (ns : List Name). own ++ ns) (dock_first s (end_at e false) (ends_of_edges later) turned))
+            (dock_names_append s (end_at e true ∷ []) (end_at e false ∷ ends_of_edges later) ∙ ap (λ (ns : List Name). own ++ ns) (dock_first s (end_at e false) (ends_of_edges later) is_reversed))
             ∙ ap (λ (ns : List Name). (links ++ dock_names s earlier) ++ ns) (append_assoc own (of_dock (end_at e false) ∷ rest) loops)
             ∙ sym (append_assoc (links ++ dock_names s earlier) own (of_dock (end_at e false) ∷ (rest ++ loops)));
         other = λ m has.
@@ -160,9 +160,9 @@ module _ (s : Parts) (e : ℕ) (there : e < length s.level.edges) where
         self = end_self (end_at e false);
       }
 
-  pub dock_splits : (t : Bool) → is_turned_back s (end_at e t) ≡ true → Splits (names_of s) (before_dock s e t) (of_dock (end_at e t))
-  dock_splits true turned = source_splits turned
-  dock_splits false turned = target_splits turned
+  pub dock_splits : (t : Bool) → dock_inverts s (end_at e t) ≡ true → Splits (names_of s) (before_dock s e t) (of_dock (end_at e t))
+  dock_splits true is_reversed = source_splits is_reversed
+  dock_splits false is_reversed = target_splits is_reversed
 
   -- self-loops
   abbrev front : List Name

@@ -10,7 +10,7 @@ use Rattle.level_model.specs.Level.{end_at, ends_of_edges, all_ends}
 use Rattle.level_model.specs.Nets.{Name, of_link, of_dock, of_loop, if_passed}
 use Rattle.level_nets.specs.declared.pushing.LoopLegs.{LoopLegs}
 use Rattle.level_nets.specs.Parts.{Parts}
-use Rattle.level_nets.specs.Read.{link_names, dock_names, passing_names, passes_west, passes_east, is_turned_back, leg_behind, end_number}
+use Rattle.level_nets.specs.Read.{link_names, dock_names, passing_names, passes_west, passes_east, dock_inverts, leg_behind, end_number}
 
 abbrev pub plain_gaps : List Gap → List PlainGap
 plain_gaps gaps = map plain_gap gaps
@@ -44,7 +44,7 @@ pub record AreLinkLegs (s : Parts) (n : ℕ) (legs : List ℕ) : Type 0 where
 -- the numbers of the inverted docks of the first n edges, by end
 pub record AreDockLegs (s : Parts) (n : ℕ) (legs : List ℕ) : Type 0 where
   pub as_many : length legs ≡ 2 * n
-  pub each : (e : ℕ) (at_source : Bool) → e < n → IsTrue (is_turned_back s (end_at e at_source))
+  pub each : (e : ℕ) (at_source : Bool) → e < n → IsTrue (dock_inverts s (end_at e at_source))
       → slice_index legs (end_number (end_at e at_source)) ≡ leg_behind s (before_dock s e at_source) (of_dock (end_at e at_source))
 
 -- the numbers of an edge's passages

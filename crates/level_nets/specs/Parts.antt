@@ -1,5 +1,5 @@
--- What the nets of a level are read off: its children and edges, its units and links, their tops, the edges that are turned
--- round, and the table of its docks, anchors and lanes.
+-- What the nets of a level are read off: its children and edges, its units and links, their tops, the edges that are reversed
+-- and the table of its docks, anchors and lanes.
 use Rattle.std.specs.Prelude.{ℕ, ◌<◌, ◌≤◌, ◌^◌, List, ℤ, pos, ◌+ℤ◌, ◌<ℤ◌, length}
 use Rattle.elk_layers.specs.declared.units.Layered.{Layered}
 use Rattle.elk_layers.specs.Layered.{Plain, plain, unit_at}

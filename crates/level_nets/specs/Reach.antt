@@ -15,7 +15,7 @@ use Rattle.level_model.specs.Table.{loop_in, child_in}
 use Rattle.level_nets.specs.declared.sheet.Sheet.{Sheet}
 use Rattle.elk_layers.specs.Lines.{top_of}
 use Rattle.level_nets.specs.Parts.{Parts, parts, EndAbove}
-use Rattle.level_nets.specs.Read.{columns_of, at_end, dock_at, child_of, unit_of_dock, is_turned_back, passes_on, lane_of_loop}
+use Rattle.level_nets.specs.Read.{columns_of, at_end, dock_at, child_of, unit_of_dock, dock_inverts, passes_on, lane_of_loop}
 
 abbrev pub parts_in : Sheet → Parts
 parts_in t = parts t.level.now t.layered.now t.tops.now t.reversed.now t.table.now
@@ -37,7 +37,7 @@ pub record IsDockIn (s : Parts) (d : Dock) : Type 0 where
 
 pub record IsEndIn (s : Parts) (n : End) : Type 0 where
   pub dock : IsDockIn s (dock_at s n)
-  pub lane : IsTrue (is_turned_back s n) → IsBelow (at_end s n).lane
+  pub lane : IsTrue (dock_inverts s n) → IsBelow (at_end s n).lane
 
 -- an end of a self-loop that passes the gap on a side comes there by its anchor or by a lane in range
 abbrev pub IsPassing : Parts → ℕ → Side → Dock → Type 0
@@ -69,9 +69,9 @@ pub record AreNetsIn (nets : List Net) : Type 0 where
 abbrev pub AreColumnsIn : Parts → Type 0
 AreColumnsIn s = (g : ℕ) → g ≤ s.layered.layers + 1 → IsFromZero (columns_of s g) (pos (2 ^ 48))
 
--- a sheet of such a level, with a mark at each edge that is turned round
+-- a sheet of such a level, with a mark at each edge that is reversed
 pub record IsSheet (t : Sheet) : Type 0 where
   pub sound : IsSound (plain t.layered.now)
   pub reach : AreInReach (parts_in t)
-  pub as_many_marks : length t.turned.now ≡ length t.level.now.edges
-  pub marks : (e : ℕ) → e < length t.turned.now → slice_index_or t.turned.now e false ≡ holds t.reversed.now e
+  pub as_many_marks : length t.is_reversed.now ≡ length t.level.now.edges
+  pub marks : (e : ℕ) → e < length t.is_reversed.now → slice_index_or t.is_reversed.now e false ≡ holds t.reversed.now e

@@ -40,8 +40,8 @@ abbrev pub unit_of_dock : Parts → Dock → ℕ
 unit_of_dock s d = (child_of s d).unit
 
 -- whether an end's dock is inverted for its edge
-abbrev pub is_turned_back : Parts → End → Bool
-is_turned_back s n = not (is_loop s.level n.edge) && inverts (dock_at s n).side (enters (plan_of s []) n)
+abbrev pub dock_inverts : Parts → End → Bool
+dock_inverts s n = not (is_loop s.level n.edge) && inverts (dock_at s n).side (enters (plan_of s []) n)
 
 -- whether the two ends of a self-loop have one dock, and whether an edge passes a gap as a self-loop
 abbrev pub is_one_dock : Parts → ℕ → Bool
@@ -67,7 +67,7 @@ abbrev pub link_names : ℕ → List Name
 link_names n = map of_link (range_with_len 0 n)
 
 abbrev pub dock_names : Parts → List End → List Name
-dock_names s ns = map of_dock (filter (is_turned_back s) ns)
+dock_names s ns = map of_dock (filter (dock_inverts s) ns)
 
 abbrev pub passing_names : Parts → List ℕ → List Name
 passing_names s [] = []

@@ -138,8 +138,8 @@ fn first_slot(level: &LevelIn, gap: u32) -> i64
     }
 }
 
-// Slots for the nets of a gap, as the level asks for them. Lines that needn't run side by side nearer than edges keep don't,
-// where it costs no crossing and, by the fewest slots, none of these.
+// Slots for the nets of a gap, as the level asks for them. Lines are kept `edge_edge` apart if that costs no crossing and, under
+// FEWEST, no slot.
 fn slots_for(alloc: Global, level: &LevelIn, nets: &[Net]) -> Result<Slots, AllocError>
     requires few { length nets.now ≤ net_limit }
     requires pins { All IsNet nets.now }

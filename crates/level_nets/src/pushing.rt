@@ -3,12 +3,12 @@ ghost use Rattle.std.specs.Prelude.{◌≡◌, ℕ, ◌+◌, ◌<◌, ◌^◌, L
 ghost use Rattle.route_lines.specs.Points.{gap_in};
 ghost use Rattle.level_model.specs.Level.{end_at};
 ghost use Rattle.level_model.specs.Nets.{Name, of_link, of_dock, of_loop, if_passed};
-ghost use Rattle.level_nets.specs.Read.{HoldNets, names_of, dock_names, is_turned_back, passes_on, leg_behind};
+ghost use Rattle.level_nets.specs.Read.{HoldNets, names_of, dock_names, dock_inverts, passes_on, leg_behind};
 ghost use Rattle.level_nets.specs.Held.{plain_gaps, with_net, AreFew, AreLinkLegs, AreDockLegs, IsLoopLegs, AreLoopLegs, behind_docks, behind_loops};
 ghost use Rattle.level_nets.specs.Reach.{IsSheet, parts_in};
 
 use crate::reading::{
-    dock_gap, dock_net, is_turned_back, link_gap, link_net, loop_gap, loop_net, passes,
+    dock_gap, dock_inverts, dock_net, link_gap, link_net, loop_gap, loop_net, passes,
 };
 use crate::sheet::Sheet;
 use drawing_types::shape::Side;
@@ -64,9 +64,9 @@ fn push_dock(
     ensures held { OnOk result ((names : List Name) → HoldNets (parts_in sheet.now) names (plain_gaps gaps.old)
         → HoldNets (parts_in sheet.now) (names ++ dock_names (parts_in sheet.now) (end_at edge at_source ∷ [])) (plain_gaps gaps.new)) }
     ensures leg { IfOk result (λ leg. (names : List Name) → HoldNets (parts_in sheet.now) names (plain_gaps gaps.old)
-        → IsTrue (is_turned_back (parts_in sheet.now) (end_at edge at_source)) → leg ≡ leg_behind (parts_in sheet.now) names (of_dock (end_at edge at_source))) }
+        → IsTrue (dock_inverts (parts_in sheet.now) (end_at edge at_source)) → leg ≡ leg_behind (parts_in sheet.now) names (of_dock (end_at edge at_source))) }
 {
-    if !is_turned_back(sheet, edge, at_source) {
+    if !dock_inverts(sheet, edge, at_source) {
         return Ok(0);
     }
     push_net(

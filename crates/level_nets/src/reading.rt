@@ -111,15 +111,15 @@ pub fn enters(sheet: &Sheet<'_>, edge: u32, at_source: bool) -> bool
     requires edge { edge < length sheet.now.level.now.edges }
     ensures { result ≡ enters (plan_of (parts_in sheet.now) []) (end_at edge at_source) }
 {
-    let turned = sheet.turned[edge as usize];
-    if at_source { turned } else { !turned }
+    let is_reversed = sheet.is_reversed[edge as usize];
+    if at_source { is_reversed } else { !is_reversed }
 }
 
 /// Whether an end's dock is inverted for its edge.
-pub fn is_turned_back(sheet: &Sheet<'_>, edge: u32, at_source: bool) -> bool
+pub fn dock_inverts(sheet: &Sheet<'_>, edge: u32, at_source: bool) -> bool
     requires sheet { IsSheet sheet.now }
     requires edge { edge < length sheet.now.level.now.edges }
-    ensures { result ≡ read.is_turned_back (parts_in sheet.now) (end_at edge at_source) }
+    ensures { result ≡ read.dock_inverts (parts_in sheet.now) (end_at edge at_source) }
 {
     if is_loop(sheet, edge) {
         return false;
@@ -134,7 +134,7 @@ pub fn is_turned_back(sheet: &Sheet<'_>, edge: u32, at_source: bool) -> bool
 pub fn dock_net(sheet: &Sheet<'_>, edge: u32, at_source: bool) -> Net
     requires sheet { IsSheet sheet.now }
     requires edge { edge < length sheet.now.level.now.edges }
-    requires turned { IsTrue (read.is_turned_back (parts_in sheet.now) (end_at edge at_source)) }
+    requires is_reversed { IsTrue (read.dock_inverts (parts_in sheet.now) (end_at edge at_source)) }
     ensures { result ≡ read.net_named (parts_in sheet.now) (of_dock (end_at edge at_source)) }
 {
     let end = end_at(sheet, edge, at_source);

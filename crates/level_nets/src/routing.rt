@@ -92,9 +92,15 @@ fn fill_and_place(alloc: Global, sheet: &Sheet<'_>, gaps: &mut [Gap]) -> Result<
 /// those of the sheet.
 ///
 /// The nets of a gap are those of links, of inverted docks and of self-loops, in this order, each in document order.
+///
+/// Proved:
+/// - The gaps of a level with their nets, slots and borders. The slots keep the promise that the level asks for, FEWEST or UNCROSSED
+///   (see route_slots).
+/// - Which net of its gap each link, each inverted dock and each passage of a self-loop is.
+/// - All these are those of the plan, and in range.
 pub fn gaps_of(alloc: Global, sheet: &Sheet<'_>) -> Result<Routing, AllocError>
     requires given { IsGiven (parts_in sheet.now) }
-    requires marked { AreMarks sheet.now.reversed.now (length sheet.now.level.now.edges) sheet.now.turned.now }
+    requires marked { AreMarks sheet.now.reversed.now (length sheet.now.level.now.edges) sheet.now.is_reversed.now }
     ensures count { IfOk result (λ r. length r.gaps ≡ sheet.now.layered.now.layers + 1) }
     ensures gaps { IfOk result (λ r. AreGapsOf (parts_in sheet.now) r.gaps) }
     ensures legs { IfOk result (λ r. AreLegsOf (parts_in sheet.now) r) }

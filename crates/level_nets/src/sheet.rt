@@ -10,14 +10,14 @@ ghost use Rattle.level_nets.specs.Reach.{IsSheet, parts_in};
 use elk_layers::{Layered, Link, Unit};
 use level_model::{ChildAt, EndAt, LevelIn, LoopAt, Table};
 
-/// A level with its units and links, their tops, the edges that are turned round, by list and by edge, and its table.
+/// A level with its units and links, their tops, the edges that are reversed, by list and by edge, and its table.
 #[derive(Clone, Copy)]
 pub struct Sheet<'a> {
     pub level: &'a LevelIn,
     pub layered: &'a Layered,
     pub tops: &'a [i64],
     pub reversed: &'a [u32],
-    pub turned: &'a [bool],
+    pub is_reversed: &'a [bool],
     pub table: &'a Table,
 }
 

@@ -125,8 +125,8 @@ module _ (l : PlainLevel) (numbers : List ℕ) (k : ℕ) (pp pl : PlainPlan) (in
   port_up j t h = ap (λ (s : EdgeEnd). s.port) (spoke_is j t h)
 
   enters_up : (j : ℕ) (t : Bool) → j < many → enters pp (end_at j t) ≡ enters pl (lifted (end_at j t))
-  enters_up j true h = alike.turned j h
-  enters_up j false h = ap not (alike.turned j h)
+  enters_up j true h = alike.is_reversed j h
+  enters_up j false h = ap not (alike.is_reversed j h)
 
   child_back : (i : ℕ) → i < some → place_of numbers (child_of i) ≡ i
   child_back i h = place_node numbers k i h

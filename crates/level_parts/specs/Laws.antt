@@ -12,7 +12,7 @@ use Rattle.level_parts.specs.Parts.{AreParts}
 -- Two plans, that of part k and that of the level, turn the same edges round, and have the same orders of the sides of each
 -- child of the part.
 pub record AreAlike (l : PlainLevel) (numbers : List ℕ) (k : ℕ) (part plan : PlainPlan) (inner outer : Orders) : Type 0 where
-  pub turned : (j : ℕ) → j < length (members (edge_keys l numbers) k)
+  pub is_reversed : (j : ℕ) → j < length (members (edge_keys l numbers) k)
       → holds part.reversed j ≡ holds plan.reversed (edge_number l numbers k j)
   pub orders : (i : ℕ) (side : Side) → i < length (members numbers k) → inner i side ≡ outer (child_number numbers k i) side
 

@@ -6,8 +6,12 @@ pub fn parts_are_levels()
     ensures { PartsAreLevels }
 {}
 
-/// Ports, outlines, docks and anchors of a part's children and ends are those of the level, where the same edges are turned
+/// Ports, outlines, docks and anchors of a part's children and ends are those of the level, where the same edges are reversed
 /// round and the sides have the same orders.
+///
+/// Proved:
+/// - If the same edges are reversed and the sides have the same orders, then ports, outlines, docks and anchors of a part are those of
+///   the level.
 pub fn parts_say_the_same()
     ensures { PartsSayTheSame }
 {}

@@ -89,7 +89,11 @@ fn seats(groups: Groups) -> Seats
 /// The connected parts of a level, numbered from 0 by their least children. Each is a level of its own, with the children and
 /// edges of the part in the order that they have in the whole, and the options of the whole.
 ///
-/// The only error is want of memory.
+/// The only error is out of memory.
+///
+/// Proved:
+/// - The connected parts of a level, numbered by their least children.
+/// - Each part is a level of its own, with its children and edges in their order. (`parts_are_levels`)
 pub fn split(alloc: Global, level: &LevelIn) -> Result<PartLevels, AllocError>
     requires { IsLevel (plain_level level.now) }
     ensures split { IfOk result (IsSplit level.now) }

@@ -13,10 +13,10 @@ use Rattle.drawing_types.specs.Shapes.{Holds}
 use Rattle.elk_doc.specs.Sound.{IsDistance}
 use Rattle.box_pack.specs.Boxes.{EachSize, IsSize, point_at}
 use Rattle.box_pack.specs.Spaced.{AreSpaced, gapped, height_at, width_at}
-use Rattle.turned_levels.proofs.PartLemmas.{outline_at}
-use Rattle.turned_levels.proofs.JoinedReachLemmas as reach
-use Rattle.turned_levels.specs.Extents.{IsBounded, outline_heights, outline_widths, room_between}
-use Rattle.turned_levels.proofs.Sums.{first_le, over, over_same, part, parts_within}
+use Rattle.rotated_levels.proofs.PartLemmas.{outline_at}
+use Rattle.rotated_levels.proofs.JoinedReachLemmas as reach
+use Rattle.rotated_levels.specs.Extents.{IsBounded, outline_heights, outline_widths, room_between}
+use Rattle.rotated_levels.proofs.Sums.{first_le, over, over_same, part, parts_within}
 use Rattle.level_draw.specs.declared.drawing.LevelOut.{LevelOut}
 use Rattle.layer_units.proofs.TotalLemmas.{first}
 use Rattle.level_model.specs.declared.level.LevelIn.{LevelIn}
@@ -29,7 +29,7 @@ use Rattle.network_parts.proofs.RangeLemmas.{few_picked}
 use Rattle.level_parts.specs.Divided.{child_number, edge_keys, members, part_level}
 use Rattle.level_parts.specs.Split.{part_in}
 use Rattle.level_parts.proofs.LevelLemmas.{many_children, many_edges, many_keys}
-use Rattle.turned_levels.specs.Outlines.{shifted}
+use Rattle.rotated_levels.specs.Outlines.{shifted}
 use Rattle.level_split.specs.declared.layout.PartsOut.{PartsOut}
 use Rattle.level_split.specs.Gathered.{extents_of}
 use Rattle.level_split.specs.Laws.{PartsAreBounded, room_apart}

@@ -22,8 +22,8 @@ use Rattle.dock_table.proofs.NarrowLemmas.{box_near, given_near, narrow, pinned_
 use Rattle.level_draw.specs.declared.drawing.LevelOut.{LevelOut}
 use Rattle.level_draw.specs.Drawing.{drawn_in, plan_from}
 use Rattle.level_layout.specs.Layout.{IsLaidOut}
-use Rattle.turned_levels.proofs.SizeLemmas.{heights_low, widths_low}
-use Rattle.turned_levels.proofs.Sums.{over, over_least}
+use Rattle.rotated_levels.proofs.SizeLemmas.{heights_low, widths_low}
+use Rattle.rotated_levels.proofs.Sums.{over, over_least}
 use Rattle.level_split.specs.Outlines.{AreOutlines, ArePorted, child_in, outline_from, outline_of, ports_in, rect_in}
 
 -- a part of a sum

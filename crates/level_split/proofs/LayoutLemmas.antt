@@ -16,18 +16,18 @@ use Rattle.level_model.specs.Conditions.{IsLevel, plain_level}
 use Rattle.level_draw.specs.declared.drawing.LevelOut.{LevelOut}
 use Rattle.level_layout.specs.Layout.{IsLaidOut}
 use Rattle.working_frame.specs.Ranges.{IsFarPoint}
-use Rattle.working_frame.specs.Turned.{turned_size}
+use Rattle.working_frame.specs.Rotated.{rotated_size}
 use Rattle.level_split.specs.Boxes.{HasRoom, IsBoxesLayout, alone}
 use Rattle.level_split.specs.Outlines.{AreOutlines, outline_size}
 use Rattle.level_split.specs.Placing.{StandInRows, AreRoomy, IsBroad}
 use Rattle.level_split.proofs.BoxesOutLemmas.{high_small, wide_small}
 use Rattle.level_split.proofs.RoomLemmas.{roomy, sizes_small}
 
-turned_broad : (way : Direction) (s : Size) → IsBroad s → IsBroad (turned_size way s)
-turned_broad Right s h = h
-turned_broad Left s h = h
-turned_broad Down s h = record { width = h.height; height = h.width }
-turned_broad Up s h = record { width = h.height; height = h.width }
+rotated_broad : (way : Direction) (s : Size) → IsBroad s → IsBroad (rotated_size way s)
+rotated_broad Right s h = h
+rotated_broad Left s h = h
+rotated_broad Down s h = record { width = h.height; height = h.width }
+rotated_broad Up s h = record { width = h.height; height = h.width }
 
 -- a level, what it is without edges, a layout of that, and outlines by the children and ports that are handed on
 module _ (level own : LevelIn) (way : Direction) (out : LevelOut) (outlines : List Rect) (whole : IsLevel (plain_level level)) (is : own ≡ alone level) (laid : IsLaidOut own out)
@@ -58,7 +58,7 @@ module _ (level own : LevelIn) (way : Direction) (out : LevelOut) (outlines : Li
         roomy (map (outline_size way) outlines) own.spacing.node_node squarest.limit squarest.rows (omega (arith, many, few)) (λ i h. sizes i no_size h) distance best.rows
         outlines many (λ i h. are.near i (inside i h))
 
-    module _ (boxes : List Point) (extent : Size) (placed : StandInRows way squarest.rows outlines (length outlines) boxes) (turned : extent ≡ turned_size way squarest.rows.extent) where
+    module _ (boxes : List Point) (extent : Size) (placed : StandInRows way squarest.rows outlines (length outlines) boxes) (rotated : extent ≡ rotated_size way squarest.rows.extent) where
       pub laid_out : IsBoxesLayout level way (record { boxes = boxes; ports = out.ports; extent = extent })
       laid_out =
           let there : (i : ℕ) → i < length level.children → i < length outlines = λ i h. omega (arith, h, same_children, count) in
@@ -72,7 +72,7 @@ module _ (level own : LevelIn) (way : Direction) (out : LevelOut) (outlines : Li
             is_squarest = subst (λ (l : LevelIn). IsSquarest (map (outline_size way) outlines) l.spacing.node_node squarest) is best;
             box_count = placed.as_many ∙ count ∙ same_children;
             boxes = λ i h. (placed.each i (there i h)).stands;
-            extent = turned;
+            extent = rotated;
           }
 
       pub has_room : HasRoom (record { boxes = boxes; ports = out.ports; extent = extent })
@@ -80,5 +80,5 @@ module _ (level own : LevelIn) (way : Direction) (out : LevelOut) (outlines : Li
           let many = placed.as_many in
           record {
             boxes = λ i z h. subst IsFarPoint (get_or_default boxes i origin z h) (placed.each i (omega (arith, h, many))).far;
-            extent = subst IsBroad (sym turned) (turned_broad way squarest.rows.extent rows_roomy.extent);
+            extent = subst IsBroad (sym rotated) (rotated_broad way squarest.rows.extent rows_roomy.extent);
           }

@@ -12,7 +12,7 @@ use Rattle.elk_doc.specs.Drawing.{no_rect}
 use Rattle.elk_doc.specs.Sound.{IsDistance}
 use Rattle.drawing_types.specs.Ranges.{IsPlaceWithin, IsWithin}
 use Rattle.working_frame.specs.Ranges.{IsFar}
-use Rattle.working_frame.specs.Turned.{turned_place}
+use Rattle.working_frame.specs.Rotated.{rotated_place}
 use Rattle.dock_table.specs.Narrow.{IsNearRect}
 use Rattle.box_pack.specs.declared.packing.Rows.{Rows}
 use Rattle.box_pack.specs.Boxes.{AreSizes, IsGreatest, IsSize, point_at, right_of, bottom_of, size_at}
@@ -151,11 +151,11 @@ same_point : (a b x y : ℤ) → a ≡ x → b ≡ y → (let l : Point = record
 same_point a b x y p q = cc
 
 -- a box whose outline is put at a place
-pub box_stands : (way : Direction) (extent : Size) (place : Point) (r : Rect) (size : Size) (turned : Point) (x y : ℤ) → IsNearRect r → size ≡ outline_size way r → turned ≡ turned_place way extent size place
-    → IsPlaceWithin (2 ^ 59 + 2 ^ 50) turned → x ≡ turned.x -ℤ r.x → y ≡ turned.y -ℤ r.y → IsBoxAt way extent place r (record { x = x; y = y })
-box_stands way extent place r size turned x y near outline at far p q =
-    let whole : turned ≡ turned_place way extent (outline_size way r) place = at ∙ ap (λ s. turned_place way extent s place) outline in
+pub box_stands : (way : Direction) (extent : Size) (place : Point) (r : Rect) (size : Size) (rotated : Point) (x y : ℤ) → IsNearRect r → size ≡ outline_size way r → rotated ≡ rotated_place way extent size place
+    → IsPlaceWithin (2 ^ 59 + 2 ^ 50) rotated → x ≡ rotated.x -ℤ r.x → y ≡ rotated.y -ℤ r.y → IsBoxAt way extent place r (record { x = x; y = y })
+box_stands way extent place r size rotated x y near outline at far p q =
+    let whole : rotated ≡ rotated_place way extent (outline_size way r) place = at ∙ ap (λ s. rotated_place way extent s place) outline in
     record {
-      stands = same_point _ _ _ _ (back turned.x r.x x p) (back turned.y r.y y q) ∙ whole;
-      far = record { x = far_by turned.x r.x x p far.x near.across.low_end; y = far_by turned.y r.y y q far.y near.along.low_end };
+      stands = same_point _ _ _ _ (back rotated.x r.x x p) (back rotated.y r.y y q) ∙ whole;
+      far = record { x = far_by rotated.x r.x x p far.x near.across.low_end; y = far_by rotated.y r.y y q far.y near.along.low_end };
     }

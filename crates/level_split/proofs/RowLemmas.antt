@@ -11,10 +11,10 @@ use Rattle.box_pack.specs.Boxes.{EachSize, IsSize, point_at}
 use Rattle.box_pack.specs.Packed.{AreRows}
 use Rattle.box_pack.specs.Spaced.{AreSolid, gapped, height_at, width_at}
 use Rattle.box_pack.proofs.SpacedLemmas.{rows_are_spaced}
-use Rattle.turned_levels.specs.Extents.{outline_heights, outline_widths}
-use Rattle.turned_levels.proofs.Bounded.{extents_bounded, extents_small}
-use Rattle.turned_levels.proofs.SizeLemmas.{heights_low, widths_low}
-use Rattle.turned_levels.proofs.Sums.{over, over_same}
+use Rattle.rotated_levels.specs.Extents.{outline_heights, outline_widths}
+use Rattle.rotated_levels.proofs.Bounded.{extents_bounded, extents_small}
+use Rattle.rotated_levels.proofs.SizeLemmas.{heights_low, widths_low}
+use Rattle.rotated_levels.proofs.Sums.{over, over_same}
 use Rattle.level_draw.specs.declared.drawing.LevelOut.{LevelOut}
 use Rattle.level_draw.specs.Drawing.{drawn_in, plan_from}
 use Rattle.level_layout.specs.Layout.{IsLaidOut}

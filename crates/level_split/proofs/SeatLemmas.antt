@@ -14,14 +14,14 @@ use Rattle.elk_doc.specs.Sound.{IsDistance}
 use Rattle.box_pack.specs.declared.packing.Rows.{Rows}
 use Rattle.box_pack.specs.Packed.{AreRows}
 use Rattle.box_pack.specs.Boxes.{AreSizes, EachSize, IsSize, point_at}
-use Rattle.turned_levels.specs.CertificateJoined as certificates
-use Rattle.turned_levels.specs.CertificateJoined.{AreCertificates, spans_to, turns}
-use Rattle.turned_levels.proofs.ListLemmas.{filter_alike}
-use Rattle.turned_levels.proofs.CertificateWholeLemmas.{certificates_join}
-use Rattle.turned_levels.specs.Joined.{moved_section}
-use Rattle.turned_levels.proofs.PlanLemmas.{many_over, over_range}
-use Rattle.turned_levels.proofs.JoinedReachLemmas.{IsReached, LiesIn, at_lower, at_upper, box_held, lower, on_route, reached_has, tight_lies, upper}
-use Rattle.turned_levels.proofs.Bounded.{extents_small}
+use Rattle.rotated_levels.specs.CertificateJoined as certificates
+use Rattle.rotated_levels.specs.CertificateJoined.{AreCertificates, spans_to, rotates}
+use Rattle.rotated_levels.proofs.ListLemmas.{filter_alike}
+use Rattle.rotated_levels.proofs.CertificateWholeLemmas.{certificates_join}
+use Rattle.rotated_levels.specs.Joined.{moved_section}
+use Rattle.rotated_levels.proofs.PlanLemmas.{many_over, over_range}
+use Rattle.rotated_levels.proofs.JoinedReachLemmas.{IsReached, LiesIn, at_lower, at_upper, box_held, lower, on_route, reached_has, tight_lies, upper}
+use Rattle.rotated_levels.proofs.Bounded.{extents_small}
 use Rattle.level_draw.specs.declared.drawing.LevelOut.{LevelOut}
 use Rattle.level_draw.specs.Drawing.{drawn_in, plan_from}
 use Rattle.level_layout.specs.Certificate.{IsCertificateOf, link_flows}
@@ -42,7 +42,7 @@ use Rattle.level_parts.specs.Divided.{edge_keys, part_level}
 use Rattle.level_parts.specs.Split.{IsSplit, part_at, part_in}
 use Rattle.level_parts.proofs.LevelLemmas.{many_children, many_edges, many_keys}
 use Rattle.level_parts.proofs.SplitLemmas.{keys_below}
-use Rattle.turned_levels.proofs.EdgeLemmas.{has_holds}
+use Rattle.rotated_levels.proofs.EdgeLemmas.{has_holds}
 use Rattle.working_frame.specs.Drawing.{plus}
 use Rattle.level_split.specs.declared.layout.Joined.{Joined}
 use Rattle.level_split.specs.Gathered.{AreLayouts, ArePartDrawings, AreSeated, IsInPart, IsSectionInPart, certificate_at, drawing_at, extents_of}
@@ -265,7 +265,7 @@ module _ (level : LevelIn) (split : PartLevels) (outs : List LevelOut) (sound : 
   made =
       record {
         layers = map (λ a. slice_index (certificate_at outs (slice_index numbers a)).layers (place_of numbers a)) (range_with_len 0 (length whole.children));
-        reversed = filter (turns whole numbers (certificate_at outs)) (range_with_len 0 (length whole.edges));
+        reversed = filter (rotates whole numbers (certificate_at outs)) (range_with_len 0 (length whole.edges));
         flow = map (λ e. slice_index (certificate_at outs (slice_index keys e)).flow (place_of keys e)) (range_with_len 0 (length whole.edges));
         span = spans_to (certificate_at outs) count;
         parts = numbers;
@@ -341,7 +341,7 @@ module _ (level : LevelIn) (split : PartLevels) (outs : List LevelOut) (sound : 
               ∙ ap₂ (λ k x. slice_index (certificate_at outs k).flow x) (ap (λ (ks : List ℕ). slice_index ks e) keys_are) (edge_place e (in_keys e h));
           reversed = certificate.reversed
               ∙ ap (λ n. filter (λ e. holds (certificate_at outs (slice_index split.edges.parts e)).reversed (slice_index split.edges.places e)) (range_with_len 0 n)) edges_long
-              ∙ filter_alike (λ e. holds (certificate_at outs (slice_index split.edges.parts e)).reversed (slice_index split.edges.places e)) (turns whole numbers (certificate_at outs)) (range_with_len 0 (length whole.edges))
+              ∙ filter_alike (λ e. holds (certificate_at outs (slice_index split.edges.parts e)).reversed (slice_index split.edges.places e)) (rotates whole numbers (certificate_at outs)) (range_with_len 0 (length whole.edges))
               (λ e has. let h = below_has (length whole.edges) e has in
               ap₂ (λ k x. holds (certificate_at outs k).reversed x) (ap (λ (ks : List ℕ). slice_index ks e) keys_are) (edge_place e (in_keys e h)));
           span = certificate.span;

@@ -10,8 +10,8 @@ use Rattle.drawing_types.specs.declared.section.Section.{Section}
 use Rattle.drawing_types.specs.declared.shape.Size.{Size}
 use Rattle.drawing_types.specs.Shapes.{no_size, origin}
 use Rattle.box_pack.specs.Boxes.{size_at}
-use Rattle.turned_levels.specs.CertificateJoined.{spans_to}
-use Rattle.turned_levels.proofs.ListLemmas.{filter_alike}
+use Rattle.rotated_levels.specs.CertificateJoined.{spans_to}
+use Rattle.rotated_levels.proofs.ListLemmas.{filter_alike}
 use Rattle.level_draw.specs.declared.drawing.LevelOut.{LevelOut}
 use Rattle.level_layout.specs.Layout.{IsLaidOut}
 use Rattle.level_model.specs.FromPlan.{LevelDrawing, section_at}
@@ -21,8 +21,8 @@ use Rattle.network_parts.proofs.RangeLemmas.{filter_no, filter_yes}
 use Rattle.level_parts.specs.declared.levels.PartLevel.{PartLevel}
 use Rattle.level_parts.specs.declared.levels.PartLevels.{PartLevels}
 use Rattle.level_parts.specs.Split.{part_at}
-use Rattle.turned_levels.proofs.EdgeLemmas.{has_holds}
-use Rattle.level_split.specs.Gathered.{AreFlows, AreLayers, AreLayouts, AreMarked, AreTurned, certificate_at, drawing_at, drawing_of, is_marked, marks_in, no_certificate, no_drawing}
+use Rattle.rotated_levels.proofs.EdgeLemmas.{has_holds}
+use Rattle.level_split.specs.Gathered.{AreFlows, AreLayers, AreLayouts, AreMarked, AreReversals, certificate_at, drawing_at, drawing_of, is_marked, marks_in, no_certificate, no_drawing}
 use Rattle.level_split.specs.Limits.{area_of, area_to}
 use Rattle.level_split.specs.Steps.{CanCertify, IsCertificateIn}
 
@@ -157,9 +157,9 @@ mark_held listed count marks are q h =
           ]
     ]
 
-pub turned_more : (outs : List LevelOut) (many : ℕ → ℕ) (i : ℕ) (old new : List (Vec Bool Global)) (m : Vec Bool Global) (listed : List ℕ) (count : ℕ) → AreTurned outs many i (marks_in old) → new ≡ old ++ m ∷ []
-    → listed ≡ (certificate_at outs i).reversed → count ≡ many i → AreMarked listed count (length listed) m.items → AreTurned outs many (i + 1) (marks_in new)
-turned_more outs many i old new m listed count are is same_list same_count marked =
+pub rotated_more : (outs : List LevelOut) (many : ℕ → ℕ) (i : ℕ) (old new : List (Vec Bool Global)) (m : Vec Bool Global) (listed : List ℕ) (count : ℕ) → AreReversals outs many i (marks_in old) → new ≡ old ++ m ∷ []
+    → listed ≡ (certificate_at outs i).reversed → count ≡ many i → AreMarked listed count (length listed) m.items → AreReversals outs many (i + 1) (marks_in new)
+rotated_more outs many i old new m listed count are is same_list same_count marked =
     let all : marks_in new ≡ marks_in old ++ m.items ∷ [] = ap marks_in is ∙ map_push (λ (r : Vec Bool Global). r.items) old m in
     record {
       as_many = one_longer (marks_in old) (marks_in new) m.items i are.as_many all;
@@ -184,7 +184,7 @@ reversed_no test i old before off = before ∙ sym (filter_no test i off)
 
 -- ---- the certificate
 
-module _ (split : PartLevels) (outs : List LevelOut) (can : CanCertify split outs) (marks : List (List Bool)) (turned : AreTurned outs (λ k. length (part_at split.parts k).edges) (length split.parts) marks) where
+module _ (split : PartLevels) (outs : List LevelOut) (can : CanCertify split outs) (marks : List (List Bool)) (is_reversed : AreReversals outs (λ k. length (part_at split.parts k).edges) (length split.parts) marks) where
   abbrev parts : List ℕ
   parts = split.edges.parts
 
@@ -192,7 +192,7 @@ module _ (split : PartLevels) (outs : List LevelOut) (can : CanCertify split out
   places = split.edges.places
 
   marked : (e : ℕ) → e < length parts → is_marked marks parts places e ≡ holds (certificate_at outs (slice_index parts e)).reversed (slice_index places e)
-  marked e h = turned.each (slice_index parts e) (slice_index places e) (subst (λ n. slice_index parts e < n) can.as_many (can.edges.part e h)) (can.edges.place e h)
+  marked e h = is_reversed.each (slice_index parts e) (slice_index places e) (subst (λ n. slice_index parts e < n) can.as_many (can.edges.part e h)) (can.edges.place e h)
 
   pub certificate_in : (layers flow reversed numbers : List ℕ) (span : ℕ) → AreLayers outs split.children.parts split.children.places (length split.children.parts) layers → AreFlows outs parts places (length parts) flow
       → reversed ≡ filter (is_marked marks parts places) (range_with_len 0 (length parts)) → span ≡ spans_to (certificate_at outs) (length outs) → numbers ≡ split.children.parts

@@ -6,16 +6,16 @@ use Rattle.elk_doc.specs.declared.drawing.Certificate.{Certificate}
 use Rattle.drawing_types.specs.declared.shape.Point.{Point}
 use Rattle.drawing_types.specs.declared.section.Section.{Section}
 use Rattle.box_pack.specs.Boxes.{point_at, size_at}
-use Rattle.turned_levels.specs.CertificateJoined.{AreCertificates}
-use Rattle.turned_levels.proofs.JoinedEdgeLemmas.{turned_at}
-use Rattle.turned_levels.proofs.CertificateWholeLemmas.{certificates_join}
-use Rattle.turned_levels.specs.Joined.{AreDrawn, AreInRows, IsJoinedDrawing, IsWholeDrawing, moved_section, part_rect}
-use Rattle.turned_levels.proofs.PartLemmas.{by_child, in_part, ports_at, same_child, there}
-use Rattle.turned_levels.proofs.JoinedReachLemmas as reach
-use Rattle.turned_levels.proofs.JoinedWholeLemmas.{drawings_join}
+use Rattle.rotated_levels.specs.CertificateJoined.{AreCertificates}
+use Rattle.rotated_levels.proofs.JoinedEdgeLemmas.{rotated_at}
+use Rattle.rotated_levels.proofs.CertificateWholeLemmas.{certificates_join}
+use Rattle.rotated_levels.specs.Joined.{AreDrawn, AreInRows, IsJoinedDrawing, IsWholeDrawing, moved_section, part_rect}
+use Rattle.rotated_levels.proofs.PartLemmas.{by_child, in_part, ports_at, same_child, there}
+use Rattle.rotated_levels.proofs.JoinedReachLemmas as reach
+use Rattle.rotated_levels.proofs.JoinedWholeLemmas.{drawings_join}
 use Rattle.box_pack.specs.Spaced.{AreSpaced}
-use Rattle.turned_levels.specs.Extents.{IsBounded}
-use Rattle.turned_levels.proofs.Bounded.{extents_bounded}
+use Rattle.rotated_levels.specs.Extents.{IsBounded}
+use Rattle.rotated_levels.proofs.Bounded.{extents_bounded}
 use Rattle.level_draw.specs.declared.drawing.LevelOut.{LevelOut}
 use Rattle.level_draw.specs.Drawing.{IsDrawing, drawn_in, plan_from}
 use Rattle.level_layout.specs.Certificate.{IsCertificateOf}
@@ -109,10 +109,10 @@ module _ (level : LevelIn) (component : ℤ) (v : PartsOut) (laid : IsPartsLayou
       subst (λ (c : Certificate). IsDrawing (part_level l v.parts k) (plan_by k (inl h)) c.layers (own_by k (inl h))) (sym (certificate_is v.outs k h)) (laid_at k h).drawn.drawing
   drawing_by k (inr m) less = absurd (omega (arith, m, less))
 
-  turned_by : (k : ℕ) (t : Known k) → k < count → (plan_by k t).reversed ≡ (certificate_at v.outs k).reversed
+  reversed_by : (k : ℕ) (t : Known k) → k < count → (plan_by k t).reversed ≡ (certificate_at v.outs k).reversed
   unfolding plan_by
-  turned_by k (inl h) less = ap (λ (c : Certificate). c.reversed) (sym (certificate_is v.outs k h))
-  turned_by k (inr m) less = absurd (omega (arith, m, less))
+  reversed_by k (inl h) less = ap (λ (c : Certificate). c.reversed) (sym (certificate_is v.outs k h))
+  reversed_by k (inr m) less = absurd (omega (arith, m, less))
 
   pub are_drawn : AreDrawn l v.parts count plans orders layers own v.certificate.reversed
   are_drawn =
@@ -122,8 +122,8 @@ module _ (level : LevelIn) (component : ℤ) (v : PartsOut) (laid : IsPartsLayou
         counted = laid.counted;
         ready = λ k h. ready_by k (cases_lt k count) h;
         drawing = λ k h. drawing_by k (cases_lt k count) h;
-        turned = λ k j h less. ap (λ (r : List ℕ). holds r j) (turned_by k (cases_lt k count) h)
-            ∙ sym (turned_at l v.parts count (certificate_at v.outs) v.certificate certificates laid.certificate k j less);
+        is_reversed = λ k j h less. ap (λ (r : List ℕ). holds r j) (reversed_by k (cases_lt k count) h)
+            ∙ sym (rotated_at l v.parts count (certificate_at v.outs) v.certificate certificates laid.certificate k j less);
       }
 
   pub bounded_by : (k : ℕ) (t : Known k) → k < count → IsBounded (part_level l v.parts k) (own_by k t)

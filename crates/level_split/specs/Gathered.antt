@@ -9,7 +9,7 @@ use Rattle.drawing_types.specs.declared.section.Section.{Section}
 use Rattle.drawing_types.specs.Shapes.{no_size}
 use Rattle.drawing_types.specs.Ranges.{IsWithin}
 use Rattle.box_pack.specs.Boxes.{point_at}
-use Rattle.turned_levels.specs.Joined.{moved_section}
+use Rattle.rotated_levels.specs.Joined.{moved_section}
 use Rattle.level_draw.specs.declared.drawing.LevelOut.{LevelOut}
 use Rattle.level_draw.specs.Drawing.{drawn_in}
 use Rattle.level_layout.specs.Layout.{IsLaidOut}
@@ -111,8 +111,8 @@ pub record AreMarked (listed : List ℕ) (count n : ℕ) (marks : List Bool) : T
   pub held : (q : ℕ) → q < count → (i : ℕ) → i < n → slice_index listed i ≡ q → slice_index_or marks q false ≡ true
   pub found : (q : ℕ) → q < count → slice_index_or marks q false ≡ true → (i : ℕ) × (i < n) × (slice_index listed i ≡ q)
 
--- so for each part the edges that are turned round
-pub record AreTurned (outs : List LevelOut) (many : ℕ → ℕ) (n : ℕ) (marks : List (List Bool)) : Type 0 where
+-- so for each part the edges that are reversed
+pub record AreReversals (outs : List LevelOut) (many : ℕ → ℕ) (n : ℕ) (marks : List (List Bool)) : Type 0 where
   pub as_many : length marks ≡ n
   pub long : (k : ℕ) → k < n → length (slice_index_or marks k []) ≡ many k
   pub each : (k q : ℕ) → k < n → q < many k → slice_index_or (slice_index_or marks k []) q false ≡ holds (certificate_at outs k).reversed q

@@ -5,8 +5,8 @@ use Rattle.drawing_types.specs.Clearance.{StandsClear}
 use Rattle.drawing_types.specs.Shapes.{Holds, point_rect}
 use Rattle.elk_doc.specs.Sound.{IsDistance}
 use Rattle.drawing_types.specs.Ranges.{IsWithin}
-use Rattle.turned_levels.specs.Extents.{outline_heights, outline_widths}
-use Rattle.turned_levels.specs.Joined.{KeepsRules}
+use Rattle.rotated_levels.specs.Extents.{outline_heights, outline_widths}
+use Rattle.rotated_levels.specs.Joined.{KeepsRules}
 use Rattle.level_model.specs.declared.level.LevelIn.{LevelIn}
 use Rattle.level_model.specs.Conditions.{plain_level}
 use Rattle.level_model.specs.Level.{PlainLevel, child_at}
@@ -14,7 +14,7 @@ use Rattle.plan_laws.specs.Routes.{route_count, route_point}
 use Rattle.level_model.specs.Apart.{ChildrenApart, drawn_outline}
 use Rattle.level_parts.specs.Divided.{edge_keys}
 use Rattle.level_parts.specs.Parts.{AreParts}
-use Rattle.turned_levels.specs.Certified.{IsProofOf}
+use Rattle.rotated_levels.specs.Certified.{IsProofOf}
 use Rattle.level_split.specs.declared.layout.PartsOut.{PartsOut}
 use Rattle.level_split.specs.Parts.{IsPartsLayout, whole_drawing}
 

@@ -14,7 +14,7 @@ use Rattle.port_order.specs.declared.children.Child.{Child}
 use Rattle.port_order.specs.Child.{port_at}
 use Rattle.level_model.specs.FromPlan.{point_or}
 use Rattle.dock_table.specs.Narrow.{IsNearRect}
-use Rattle.working_frame.specs.Turned.{turned_size}
+use Rattle.working_frame.specs.Rotated.{rotated_size}
 
 -- the box of a port at its place
 abbrev pub port_rect : Child → List Point → ℕ → Rect
@@ -30,7 +30,7 @@ outline_of c ports = outline_from c ports (range_with_len 0 (length c.ports))
 
 -- the size in the document of an outline in the frame
 abbrev pub outline_size : Direction → Rect → Size
-outline_size way r = turned_size way (record { width = r.width; height = r.height })
+outline_size way r = rotated_size way (record { width = r.width; height = r.height })
 
 -- a child with places for its ports, near enough to be joined
 pub record IsPorted (c : Child) (ports : List Point) : Type 0 where

@@ -2,8 +2,8 @@
 use Rattle.std.specs.Prelude.{◌<◌, ℕ, [], ℤ, pos, length, slice_index_or}
 use Rattle.box_pack.specs.Boxes.{point_at}
 use Rattle.box_pack.specs.Packed.{AreRows}
-use Rattle.turned_levels.specs.CertificateJoined as certificates
-use Rattle.turned_levels.specs.Joined as drawings
+use Rattle.rotated_levels.specs.CertificateJoined as certificates
+use Rattle.rotated_levels.specs.Joined as drawings
 use Rattle.level_draw.specs.declared.drawing.LevelOut.{LevelOut}
 use Rattle.level_layout.specs.Layout.{IsLaidOut}
 use Rattle.level_model.specs.declared.level.LevelIn.{LevelIn}

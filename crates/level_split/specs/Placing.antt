@@ -1,4 +1,4 @@
--- Outlines that stand in rows in the document, turned into the frame.
+-- Outlines that stand in rows in the document, rotated into the frame.
 use Rattle.std.specs.Prelude.{◌≡◌, ℕ, ◌<◌, ◌^◌, List, length, pos}
 use Rattle.drawing_types.specs.declared.shape.Point.{Point}
 use Rattle.drawing_types.specs.declared.shape.Rect.{Rect}
@@ -11,7 +11,7 @@ use Rattle.dock_table.specs.Narrow.{IsNearRect}
 use Rattle.level_model.specs.FromPlan.{point_or}
 use Rattle.working_frame.specs.Ranges.{IsFarPoint}
 use Rattle.working_frame.specs.Drawing.{plus}
-use Rattle.working_frame.specs.Turned.{turned_place}
+use Rattle.working_frame.specs.Rotated.{rotated_place}
 use Rattle.level_split.specs.Outlines.{outline_size, rect_in}
 
 -- from 0 to 2^59 each way
@@ -41,12 +41,12 @@ corner r = record { x = r.x; y = r.y }
 
 -- The outline r, given from the corner of its box, stands in the frame where the turn of content of this extent takes it from
 -- its place in the document.
-abbrev pub StandsTurned : Direction → Size → Point → Rect → Point → Type 0
-StandsTurned way extent place r box = plus box (corner r) ≡ turned_place way extent (outline_size way r) place
+abbrev pub StandsRotated : Direction → Size → Point → Rect → Point → Type 0
+StandsRotated way extent place r box = plus box (corner r) ≡ rotated_place way extent (outline_size way r) place
 
 -- so does a box that is not far away
 pub record IsBoxAt (way : Direction) (extent : Size) (place : Point) (r : Rect) (box : Point) : Type 0 where
-  pub stands : StandsTurned way extent place r box
+  pub stands : StandsRotated way extent place r box
   pub far : IsFarPoint box
 
 -- the boxes of the first n outlines

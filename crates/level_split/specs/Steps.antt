@@ -5,7 +5,7 @@ use Rattle.elk_doc.specs.declared.drawing.Certificate.{Certificate}
 use Rattle.drawing_types.specs.declared.shape.Point.{Point}
 use Rattle.box_pack.specs.declared.packing.Rows.{Rows}
 use Rattle.box_pack.specs.Packed.{AreRows}
-use Rattle.turned_levels.specs.CertificateJoined.{spans_to}
+use Rattle.rotated_levels.specs.CertificateJoined.{spans_to}
 use Rattle.level_draw.specs.declared.drawing.LevelOut.{LevelOut}
 use Rattle.level_model.specs.Level.{holds}
 use Rattle.level_parts.specs.declared.levels.PartLevels.{PartLevels}
@@ -37,7 +37,7 @@ pub record CanCertify (split : PartLevels) (outs : List LevelOut) : Type 0 where
       → slice_index (certificate_at outs k).reversed i < length (part_at split.parts k).edges
   pub spans : spans_to (certificate_at outs) (length outs) < 2 ^ 64
 
--- the certificate of the whole: edges are turned round where their parts' certificates say so
+-- the certificate of the whole: edges are reversed where their parts' certificates say so
 pub record IsCertificateIn (split : PartLevels) (outs : List LevelOut) (c : Certificate) : Type 0 where
   pub layers : AreLayers outs split.children.parts split.children.places (length split.children.parts) c.layers
   pub flow : AreFlows outs split.edges.parts split.edges.places (length split.edges.parts) c.flow

@@ -16,7 +16,7 @@ use elk_doc::document::Direction;
 use level_layout::layout_level;
 use level_model::LevelIn;
 use std::alloc::{AllocError, Global};
-use working_frame::turned_size;
+use working_frame::rotated_size;
 
 /// A level of boxes as it is drawn: boxes and ports by child, ports as places in their child's box.
 #[derive(Drop)]
@@ -59,7 +59,13 @@ fn rows_of(
 /// The layout of a level as one of boxes, in whole document units and in the frame in which its direction runs to the right.
 ///
 /// Ports are placed as in the layout of the level's children without its edges. In the document, where the level's direction is
-/// the given one, the outlines of the children stand in the squarest rows, in document order. The only error is want of memory.
+/// the given one, the outlines of the children stand in the squarest rows, in document order. The only error is out of memory.
+///
+/// Proved:
+/// - In the layout of a level of boxes, ports stand as in a layout of its children without edges.
+/// - In the document the outlines of the children stand in the rows that come closest to a square, in document order, with the gap
+///   between nodes.
+/// - The extent is that of the rows.
 pub fn layout_boxes(alloc: Global, level: LevelIn, way: Direction) -> Result<BoxesOut, AllocError>
     requires { IsLevel (plain_level level) }
     ensures boxes { IfOk result (IsBoxesLayout level way) }
@@ -74,6 +80,6 @@ pub fn layout_boxes(alloc: Global, level: LevelIn, way: Direction) -> Result<Box
     Ok(BoxesOut {
         boxes: Items::from_vec(boxes),
         ports,
-        extent: turned_size(way, squarest.rows.extent),
+        extent: rotated_size(way, squarest.rows.extent),
     })
 }

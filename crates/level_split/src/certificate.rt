@@ -2,8 +2,8 @@
 ghost use Rattle.std.specs.Prelude.{◌≡◌, ◌<◌, ◌≤◌, ◌^◌, [], ℕ, length, slice_index, slice_index_or, IfOk};
 ghost use Rattle.std.specs.List.{filter, range_with_len};
 ghost use Rattle.level_parts.specs.Split.{part_at};
-ghost use Rattle.turned_levels.specs.CertificateJoined.{spans_to};
-ghost use Rattle.level_split.specs.Gathered.{AreFlows, AreLayers, AreMarked, AreSeated, AreTurned, certificate_at, is_marked, marks_in};
+ghost use Rattle.rotated_levels.specs.CertificateJoined.{spans_to};
+ghost use Rattle.level_split.specs.Gathered.{AreFlows, AreLayers, AreMarked, AreSeated, AreReversals, certificate_at, is_marked, marks_in};
 
 use level_draw::LevelOut;
 use level_parts::PartLevel;
@@ -73,8 +73,8 @@ fn listed_marks(alloc: Global, listed: &[u32], count: usize) -> Result<Vec<bool>
     Ok(marks)
 }
 
-/// For each part marks at the edges that are turned round.
-pub(crate) fn turned_of(
+/// For each part marks at the edges that are reversed.
+pub(crate) fn reversals_of(
     alloc: Global,
     parts: &[PartLevel],
     outs: &[LevelOut],
@@ -82,7 +82,7 @@ pub(crate) fn turned_of(
     requires same { length outs.now ≡ length parts.now }
     requires listed { (k i : ℕ) → k < length outs.now → i < length (certificate_at outs.now k).reversed
         → slice_index (certificate_at outs.now k).reversed i < length (part_at parts.now k).edges }
-    ensures { IfOk result (λ marks. AreTurned outs.now (λ k. length (part_at parts.now k).edges) (length parts.now) (marks_in marks.items)) }
+    ensures { IfOk result (λ marks. AreReversals outs.now (λ k. length (part_at parts.now k).edges) (length parts.now) (marks_in marks.items)) }
 {
     let mut marks = Vec::with_capacity(alloc, parts.len())?;
     for i in 0..parts.len() {
@@ -92,7 +92,7 @@ pub(crate) fn turned_of(
     Ok(marks)
 }
 
-/// The edges that are turned round, in ascending order.
+/// The edges that are reversed, in ascending order.
 pub(crate) fn reversed_of(
     alloc: Global,
     marks: &[Vec<bool>],

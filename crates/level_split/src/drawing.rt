@@ -2,7 +2,7 @@
 ghost use Rattle.std.specs.Prelude.{◌≡◌, ◌<◌, [], length, map, slice_index_or, IfOk};
 ghost use Rattle.std.specs.List.{All};
 ghost use Rattle.box_pack.specs.Boxes.{point_at};
-ghost use Rattle.turned_levels.specs.Joined.{moved_section};
+ghost use Rattle.rotated_levels.specs.Joined.{moved_section};
 ghost use Rattle.level_model.specs.FromPlan.{point_or, section_at};
 ghost use Rattle.working_frame.specs.Drawing.{plus};
 ghost use Rattle.level_split.specs.Gathered.{AreBoxes, ArePartDrawings, ArePorts, AreSeated, AreSections, IsInPart, IsPartPlace, IsSectionInPart, drawing_at};

@@ -7,7 +7,7 @@ ghost use Rattle.level_split.specs.Gathered.{ArePartDrawings, AreSeated, drawing
 ghost use Rattle.level_split.specs.Parts.{IsPartsLayout};
 ghost use Rattle.level_split.specs.Steps.{CanCertify, IsCertificateIn, IsDrawingIn, IsStanding};
 
-use crate::certificate::{flow_of, layers_of, reversed_of, total_span, turned_of};
+use crate::certificate::{flow_of, layers_of, reversals_of, reversed_of, total_span};
 use crate::drawing::{boxes_of, ports_of, sections_of};
 use crate::layouts::{extents_of, layouts_of};
 use crate::limit::row_limit;
@@ -94,7 +94,7 @@ fn joined_certificate(
     let edge_places = split.edges.places.as_slice();
     let layers = layers_of(alloc, outs, children, split.children.places.as_slice())?;
     let flow = flow_of(alloc, outs, edges, edge_places)?;
-    let marks = turned_of(alloc, split.parts.as_slice(), outs)?;
+    let marks = reversals_of(alloc, split.parts.as_slice(), outs)?;
     let reversed = reversed_of(alloc, marks.as_slice(), edges, edge_places)?;
     Ok(Certificate {
         layers: Items::from_vec(layers),
@@ -111,6 +111,14 @@ fn joined_certificate(
 /// Each part is laid out by itself. The drawings of the parts stand in rows, in the order of their least children, and at least
 /// `component` apart; a row is no wider than the widest part, or than a square of about the size of all parts. The only error is want
 /// of memory.
+///
+/// Proved:
+/// - In the layout of a level with separate parts, children have the numbers of their parts.
+/// - Each part is laid out as a level of its own.
+/// - The extents of the parts stand in rows, in the order of their numbers, with the requested gap.
+/// - The width limit of rows is the greater of two: the widest part, and the side of the largest square that all parts with the gap
+///   fill.
+/// - Boxes, ports and sections are those of the parts, moved, and the certificate is joined from theirs.
 pub fn layout_parts(alloc: Global, level: &LevelIn, component: i64) -> Result<PartsOut, AllocError>
     requires level { IsLevel (plain_level level.now) }
     requires component { IsDistance component }

@@ -1,8 +1,8 @@
-//! Outlines that stand in rows in the document, turned into the frame.
+//! Outlines that stand in rows in the document, rotated into the frame.
 ghost use Rattle.std.specs.Prelude.{◌≡◌, ◌+◌, ◌-◌, ◌^◌, map, length, pos, neg_ℤ, ◌+ℤ◌, ◌-ℤ◌, IfOk};
 ghost use Rattle.drawing_types.specs.Ranges.{IsPlaceWithin, IsWithin};
 ghost use Rattle.dock_table.specs.Narrow.{IsNearRect};
-ghost use Rattle.working_frame.specs.Turned as turned;
+ghost use Rattle.working_frame.specs.Rotated as rotated;
 ghost use Rattle.level_split.specs.Outlines.{outline_size};
 ghost use Rattle.level_split.specs.Placing.{StandInRows, AreRoomy, IsBroad, IsBoxAt, IsNearSize, IsRoomyPlace};
 
@@ -10,7 +10,7 @@ use box_pack::Rows;
 use drawing_types::shape::{Point, Rect, Size};
 use elk_doc::document::Direction;
 use std::alloc::{AllocError, Global};
-use working_frame::turned_size;
+use working_frame::rotated_size;
 
 // Where a stretch begins that lies at `low` in one of this length, when both are mirrored.
 fn mirrored(length: i64, low: i64, size: i64) -> i64
@@ -32,11 +32,11 @@ fn less(a: i64, b: i64) -> i64
 }
 
 // The place in the frame of something of this size that stands here in content of the given extent.
-fn turned_place(way: Direction, extent: Size, size: Size, place: Point) -> Point
+fn rotated_place(way: Direction, extent: Size, size: Size, place: Point) -> Point
     requires extent { IsBroad extent }
     requires size { IsNearSize size }
     requires place { IsRoomyPlace place }
-    ensures value { result ≡ turned.turned_place way extent size place }
+    ensures value { result ≡ rotated.rotated_place way extent size place }
     ensures near { IsPlaceWithin (2 ^ 59 + 2 ^ 50) result }
 {
     match way {
@@ -64,7 +64,7 @@ fn outline_size(way: Direction, outline: Rect) -> Size
         width: outline.width,
         height: outline.height,
     };
-    turned_size(way, size)
+    rotated_size(way, size)
 }
 
 /// The sizes in the document of outlines in the frame.
@@ -89,7 +89,7 @@ fn box_at(way: Direction, extent: Size, place: Point, outline: Rect) -> Point
     requires outline { IsNearRect outline }
     ensures { IsBoxAt way extent place outline result }
 {
-    let corner = turned_place(way, extent, outline_size(way, outline), place);
+    let corner = rotated_place(way, extent, outline_size(way, outline), place);
     Point {
         x: less(corner.x, outline.x),
         y: less(corner.y, outline.y),

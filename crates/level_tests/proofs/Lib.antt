@@ -1,3 +1,3 @@
 pub mod ChainedDrawn
+pub mod RotatingLemmas
 pub mod SmallLevels
-pub mod TurningLemmas

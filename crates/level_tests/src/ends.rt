@@ -81,8 +81,8 @@ fn west_table(alloc: Global) -> Result<Table, AllocError> {
     let level = west_level(alloc)?;
     let layered = west_layered(alloc)?;
     let order = west_rows(alloc)?;
-    let turned = marks_of(alloc, &[], level.edges.len())?;
-    table_of(alloc, &level, &layered, &order, turned.as_slice())
+    let is_reversed = marks_of(alloc, &[], level.edges.len())?;
+    table_of(alloc, &level, &layered, &order, is_reversed.as_slice())
 }
 
 #[test]

@@ -10,13 +10,13 @@ fn routing(alloc: Global) -> Result<Routing, AllocError> {
     let level = parallel(alloc)?;
     let layered = parallel_layered(alloc)?;
     let table = parallel_table(alloc)?;
-    let turned = marks_of(alloc, &[], level.edges.len())?;
+    let is_reversed = marks_of(alloc, &[], level.edges.len())?;
     let sheet = Sheet {
         level: &level,
         layered: &layered,
         tops: &[0, 0],
         reversed: &[],
-        turned: turned.as_slice(),
+        is_reversed: is_reversed.as_slice(),
         table: &table,
     };
     gaps_of(alloc, &sheet)

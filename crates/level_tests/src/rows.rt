@@ -9,7 +9,7 @@ fn parts_drawn(alloc: Global) -> Result<PartsOut, AllocError> {
     layout_parts(alloc, &level, 20)
 }
 
-// One edge of the second part is turned round; its places are those in the level.
+// One edge of the second part is reversed; its places are those in the level.
 #[test]
 fn parts_keep_their_edges(rt: HostRuntime) -> Result<(), Fail> {
     let drawn = parts_drawn(rt.alloc())?;

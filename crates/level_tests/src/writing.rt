@@ -2,7 +2,7 @@
 //! size of a node round its content.
 ghost use Rattle.std.specs.Prelude.{◌≡◌, IfOk};
 ghost use Rattle.level_io.specs.Written.{rows_in};
-ghost use Rattle.level_tests.specs.Turning as turning;
+ghost use Rattle.level_tests.specs.Rotating as rotating;
 
 use drawing_types::list::Items;
 use drawing_types::section::Section;
@@ -17,7 +17,7 @@ use std::test::Fail;
 
 // The root, with another padding on each side.
 fn make_root(way: Direction) -> Node
-    ensures { result ≡ turning.root way }
+    ensures { result ≡ rotating.root way }
 {
     let padding = Padding {
         top: 1,
@@ -43,7 +43,7 @@ fn make_root(way: Direction) -> Node
 
 // A leaf of 30 by 50.
 fn make_leaf() -> Node
-    ensures { result ≡ turning.leaf }
+    ensures { result ≡ rotating.leaf }
 {
     Node {
         id: Some(Id::Whole(1)),
@@ -60,7 +60,7 @@ fn make_leaf() -> Node
 
 // Its port, of 10 by 7.
 fn make_port() -> Port
-    ensures { result ≡ turning.port }
+    ensures { result ≡ rotating.port }
 {
     Port {
         id: Id::Whole(2),
@@ -77,7 +77,7 @@ fn make_port() -> Port
 
 // A root over a leaf with a port and a loop.
 fn make_document(alloc: Global, way: Direction) -> Result<Doc, AllocError>
-    ensures { IfOk result (λ d. d ≡ turning.turning way) }
+    ensures { IfOk result (λ d. d ≡ rotating.rotating way) }
 {
     let mut nodes = Vec::new(alloc);
     nodes.push(make_root(way))?;
@@ -96,7 +96,7 @@ fn make_document(alloc: Global, way: Direction) -> Result<Doc, AllocError>
 
 // A drawing of the root's level, in which the port has this place.
 fn make_figure(alloc: Global, x: u8, y: u8) -> Result<LevelFigure, AllocError>
-    ensures { IfOk result (λ f. f ≡ turning.figure x y) }
+    ensures { IfOk result (λ f. f ≡ rotating.figure x y) }
 {
     let place = Point {
         x: i64::from(x),
@@ -129,7 +129,7 @@ fn make_figure(alloc: Global, x: u8, y: u8) -> Result<LevelFigure, AllocError>
 
 // The ports of each node.
 fn port_numbers(alloc: Global) -> Result<Vec<Vec<u32>>, AllocError>
-    ensures { IfOk result (λ rows. rows_in rows.items ≡ turning.port_rows) }
+    ensures { IfOk result (λ rows. rows_in rows.items ≡ rotating.port_rows) }
 {
     let one = vec![in alloc; 0]?;
     Ok(vec![in alloc; Vec::new(alloc), one]?)

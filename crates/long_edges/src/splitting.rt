@@ -165,6 +165,10 @@ fn reserved(alloc: Global, arena: &mut Arena, heights: &[u32]) -> Result<Found, 
 /// between them. `layer` has the layer of each node at its key; each edge leads to a higher layer, so that none is
 /// a self-loop. An edge keeps its tail and is the first of its chain; at its head the last of the chain takes its
 /// place. Where memory is wanting the arena stays as it was. (Sugiyama, Tagawa, Toda 1981.)
+///
+/// Proved:
+/// - Each edge becomes a chain of edges from its old tail to its old head, through one new node for each layer between, in order.
+/// - Nothing else changes.
 pub fn split_all(alloc: Global, arena: &mut Arena, layer: &[u32]) -> Result<Chains, AllocError>
     requires { IsLayered arena.old layer.now }
     ensures chains { IfOk result (λ c. AreChains arena.old arena.new layer.now c.lanes (chain_at c)) }

@@ -5,7 +5,7 @@ use Rattle.std.proofs.lemmas.Int.{ints, clamps}
 use Rattle.net_routes.specs.declared.Pin.{Pin}
 use Rattle.net_routes.specs.declared.Net.{Net}
 use Rattle.net_routes.specs.declared.NetRoute.TheVariants.{One}
-use Rattle.net_routes.specs.GapFree.{HasPin, IsNet, IsLevelNet}
+use Rattle.net_routes.specs.GapFree.{HasPin, IsNet, IsStraightNet}
 use Rattle.net_routes.specs.Standing.{StretchesOverlap}
 use Rattle.net_routes.specs.Crossings.{is_over, passes, one, pin_cut, cuts, cut, upright}
 use Rattle.net_routes.specs.Uncrossed.{take_turns, alternate, asked, in_order}
@@ -101,19 +101,19 @@ pub asked_is : (m n : Net) (b : Bool) → alternate m n ≡ b → asked m n ≡ 
 unfolding asked
 asked_is m n b e = ap one e
 
-or_turned : (a b : Bool) → (a || b) ≡ (b || a)
-or_turned true true = refl
-or_turned true false = refl
-or_turned false true = refl
-or_turned false false = refl
+or_flipped : (a b : Bool) → (a || b) ≡ (b || a)
+or_flipped true true = refl
+or_flipped true false = refl
+or_flipped false true = refl
+or_flipped false false = refl
 
-pub alternate_turned : (m n : Net) → alternate m n ≡ alternate n m
+pub alternate_flipped : (m n : Net) → alternate m n ≡ alternate n m
 unfolding alternate
-alternate_turned m n = or_turned (take_turns m n) (take_turns n m)
+alternate_flipped m n = or_flipped (take_turns m n) (take_turns n m)
 
-pub asked_turned : (m n : Net) → asked m n ≡ asked n m
+pub asked_flipped : (m n : Net) → asked m n ≡ asked n m
 unfolding asked
-asked_turned m n = ap one (alternate_turned m n)
+asked_flipped m n = ap one (alternate_flipped m n)
 
 -- no left pin of the first net is as high as a right one of the second
 abbrev pub AreUnmet : Net → Net → Type 0
@@ -160,7 +160,7 @@ pub least_cut : (m n : Net) (s t : ℕ) → s < t → AreUnmet n m → asked m n
 least_cut m n s t l u = let same = slots_count m n s t l in let order = order_count m n in let few = least m n u in omega arith
 
 -- a net that is not straight leads from one height to another
-pub uneven : (n : Net) → IsNet n → (IsLevelNet n → ⊥) → n.a.height ≢ n.b.height
+pub uneven : (n : Net) → IsNet n → (IsStraightNet n → ⊥) → n.a.height ≢ n.b.height
 uneven n proper bent e = by n.a.on_left n.b.on_left refl refl
   where
     by : (a b : Bool) → n.a.on_left ≡ a → n.b.on_left ≡ b → ⊥
@@ -169,25 +169,25 @@ uneven n proper bent e = by n.a.on_left n.b.on_left refl refl
     by false true f g = bent (λ h. true_false (sym g ∙ sym h ∙ f), e)
     by false false f g = proper (same_pin n.a n.b (f ∙ sym g) e)
 
-overlap_turned : (x y z w : ℤ) → StretchesOverlap z w x y → StretchesOverlap x y z w
-overlap_turned x y z w o = let l = o in omega (arith, ints, clamps)
+overlap_flipped : (x y z w : ℤ) → StretchesOverlap z w x y → StretchesOverlap x y z w
+overlap_flipped x y z w o = let l = o in omega (arith, ints, clamps)
 
-second_turned : (x y z w : ℤ) → StretchesOverlap x y w z → StretchesOverlap x y z w
-second_turned x y z w o = let l = o in omega (arith, ints, clamps)
+second_flipped : (x y z w : ℤ) → StretchesOverlap x y w z → StretchesOverlap x y z w
+second_flipped x y z w o = let l = o in omega (arith, ints, clamps)
 
 -- nets in one slot
 pub in_one_slot : (m n : Net) (s : ℕ) → m.a.height ≢ m.b.height → n.a.height ≢ n.b.height → AreUnmet n m → (StretchesOverlap m.a.height m.b.height n.a.height n.b.height → ⊥)
     → cut m (One s) n (One s) + cut n (One s) m (One s) ≡ asked m n
 in_one_slot m n s mu nu u o =
-    let turned : StretchesOverlap n.a.height n.b.height m.a.height m.b.height → ⊥ = λ t. o (overlap_turned m.a.height m.b.height n.a.height n.b.height t) in
+    let flipped : StretchesOverlap n.a.height n.b.height m.a.height m.b.height → ⊥ = λ t. o (overlap_flipped m.a.height m.b.height n.a.height n.b.height t) in
     slot_count m n s
     ∙ sym (asked_none m n
     (never m n
     (record {
-      x_out = λ e. apart_out n.a.height n.b.height m.a.height m.b.height turned mu;
-      y_out = λ e. apart_out n.a.height n.b.height m.b.height m.a.height (λ t. turned (second_turned n.a.height n.b.height m.a.height m.b.height t)) (λ f. mu (sym f));
+      x_out = λ e. apart_out n.a.height n.b.height m.a.height m.b.height flipped mu;
+      y_out = λ e. apart_out n.a.height n.b.height m.b.height m.a.height (λ t. flipped (second_flipped n.a.height n.b.height m.a.height m.b.height t)) (λ f. mu (sym f));
       p_out = λ e. apart_out m.a.height m.b.height n.a.height n.b.height o nu;
-      q_out = λ e. apart_out m.a.height m.b.height n.b.height n.a.height (λ t. o (second_turned m.a.height m.b.height n.a.height n.b.height t)) (λ f. nu (sym f));
+      q_out = λ e. apart_out m.a.height m.b.height n.b.height n.a.height (λ t. o (second_flipped m.a.height m.b.height n.a.height n.b.height t)) (λ f. nu (sym f));
       px = λ e f. u n.a m.a (inl refl) (inl refl) e f;
       py = λ e f. u n.a m.b (inl refl) (inr refl) e f;
       qx = λ e f. u n.b m.a (inr refl) (inl refl) e f;

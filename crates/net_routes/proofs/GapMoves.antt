@@ -7,8 +7,8 @@ use Rattle.net_routes.specs.declared.Pin.{Pin}
 use Rattle.net_routes.specs.declared.Net.{Net}
 use Rattle.net_routes.specs.declared.NetRoute.{NetRoute}
 use Rattle.net_routes.specs.declared.NetRoute.TheVariants.{Straight, One, Two}
-use Rattle.net_routes.specs.Pieces.{Corner, corner, corners, corner_at, net_at, route_at, LevelOverlap, UprightOverlap, Overlap, RoutesOverlap, left_border}
-use Rattle.net_routes.specs.GapFree.{HasPin, CommonPin, IsLevelNet, StandsIn, IsAtHeight, IsNearPins, IsFresh, GapFree}
+use Rattle.net_routes.specs.Pieces.{Corner, corner, corners, corner_at, net_at, route_at, HorizontalOverlap, UprightOverlap, Overlap, RoutesOverlap, left_border}
+use Rattle.net_routes.specs.GapFree.{HasPin, CommonPin, IsStraightNet, StandsIn, IsAtHeight, IsNearPins, IsFresh, GapFree}
 use Rattle.net_routes.specs.Moved.{moved_pin, moved_net, moved_route}
 
 -- numbers
@@ -117,7 +117,7 @@ corners_move y n (Two s h t) = refl
 overlap_back : (y : ℤ) (count : ℕ) (a b c d : Corner) → Overlap count (moved_corner y a) (moved_corner y b) (moved_corner y c) (moved_corner y d) → Overlap count a b c d
 overlap_back y count a b c d o =
     ⊎_elim
-    (λ (v : LevelOverlap count (moved_corner y a) (moved_corner y b) (moved_corner y c) (moved_corner y d)). inl (record {
+    (λ (v : HorizontalOverlap count (moved_corner y a) (moved_corner y b) (moved_corner y c) (moved_corner y d)). inl (record {
       first = same_height a.height b.height y v.first;
       second = same_height c.height d.height y v.second;
       same = same_height a.height c.height y v.same;
@@ -215,15 +215,15 @@ module _ (y : ℤ) (nets : List Net) (count : ℕ) (routes : List NetRoute) (fre
         near = subst (IsNearPins nets') (sym from.moves) (near_moves from.height was.near);
       }
 
-  straight_moves : (k : ℕ) → k < length nets' → (route_at routes' k ≡ Straight) ↔ IsLevelNet (net_at nets' k)
+  straight_moves : (k : ℕ) → k < length nets' → (route_at routes' k ≡ Straight) ↔ IsStraightNet (net_at nets' k)
   straight_moves k h =
       let h' = inside k h in
       let was = free.straight k h' in (
         λ e.
             let v = was.0 (straight_back y (route_at routes k) (sym (route_is k h') ∙ e)) in
-            subst IsLevelNet (sym (net_is k h')) (v.0, ap (λ z. z -ℤ y) v.1),
+            subst IsStraightNet (sym (net_is k h')) (v.0, ap (λ z. z -ℤ y) v.1),
         λ v.
-            let here : IsLevelNet (moved_net y (net_at nets k)) = subst IsLevelNet (net_is k h') v in
+            let here : IsStraightNet (moved_net y (net_at nets k)) = subst IsStraightNet (net_is k h') v in
             route_is k h' ∙ ap (moved_route y) (was.1 (here.0, same_height (net_at nets k).a.height (net_at nets k).b.height y here.1)),
       )
 

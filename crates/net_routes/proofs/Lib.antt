@@ -1,10 +1,10 @@
 pub mod Asking
 pub mod Borders
 pub mod CountMoves
+pub mod Flipping
 pub mod GapMoves
 pub mod Lists
 pub mod SlotMoves
 pub mod Straight
 pub mod Summing
-pub mod Turning
 pub mod Turns

@@ -8,8 +8,8 @@ use Rattle.net_routes.specs.declared.Net.{Net}
 use Rattle.net_routes.specs.declared.NetRoute.{NetRoute}
 use Rattle.net_routes.specs.declared.NetRoute.TheVariants.{Straight, One, Two}
 use Rattle.net_routes.specs.Pieces.{net_at, route_at}
-use Rattle.net_routes.specs.GapFree.{HasPin, IsLevelNet}
-use Rattle.net_routes.specs.Conflicts.{Conflict, AreInConflict, HasNoConflict, HasOneConflict, SplitsOnCycles}
+use Rattle.net_routes.specs.GapFree.{HasPin, IsStraightNet}
+use Rattle.net_routes.specs.Conflicts.{Conflict, AreInConflict, HasNoConflict, HasAtMostOneConflict, SplitsOnCycles}
 use Rattle.net_routes.specs.Density.{Contains, MeetAt, IsDensity}
 use Rattle.net_routes.specs.Standing.{StandsAt, IsUpright, StretchesOverlap, AreApart}
 use Rattle.net_routes.specs.Crossings.{sum_to, cut_at, crossings}
@@ -90,11 +90,11 @@ route_moves y (r ∷ rs) (suc k) = route_moves y rs k
 
 -- conflicts
 
-level_back : (y : ℤ) (n : Net) → IsLevelNet (moved_net y n) → IsLevelNet n
-level_back y n v = (v.0, same_height n.a.height n.b.height y v.1)
+straight_from : (y : ℤ) (n : Net) → IsStraightNet (moved_net y n) → IsStraightNet n
+straight_from y n v = (v.0, same_height n.a.height n.b.height y v.1)
 
-bent_moves : (y : ℤ) (nets : List Net) (k : ℕ) → k < length nets → (IsLevelNet (net_at nets k) → ⊥) → IsLevelNet (net_at (moved_nets y nets) k) → ⊥
-bent_moves y nets k h bent v = bent (level_back y (net_at nets k) (subst IsLevelNet (net_moves y nets k h) v))
+bent_moves : (y : ℤ) (nets : List Net) (k : ℕ) → k < length nets → (IsStraightNet (net_at nets k) → ⊥) → IsStraightNet (net_at (moved_nets y nets) k) → ⊥
+bent_moves y nets k h bent v = bent (straight_from y (net_at nets k) (subst IsStraightNet (net_moves y nets k h) v))
 
 conflict_moves : (y : ℤ) (nets : List Net) (j k : ℕ) → Conflict nets j k → Conflict (moved_nets y nets) j k
 conflict_moves y nets j k c =
@@ -120,7 +120,7 @@ round_moves y nets j (i ∷ is) k c = (conflict_moves y nets j i c.0, round_move
 none_back : (y : ℤ) (nets : List Net) → HasNoConflict (moved_nets y nets) → HasNoConflict nets
 none_back y nets none j k c = none j k (conflict_moves y nets j k c)
 
-one_back : (y : ℤ) (nets : List Net) → HasOneConflict (moved_nets y nets) → HasOneConflict nets
+one_back : (y : ℤ) (nets : List Net) → HasAtMostOneConflict (moved_nets y nets) → HasAtMostOneConflict nets
 one_back y nets one j k m n c e = one j k m n (conflict_moves y nets j k c) (conflict_moves y nets m n e)
 
 splits_move : (y : ℤ) (nets : List Net) (routes : List NetRoute) → SplitsOnCycles nets routes → SplitsOnCycles (moved_nets y nets) (moved_routes y routes)
@@ -178,7 +178,7 @@ contains_moves : (y : ℤ) (n : Net) (h : ℤ) → Contains n h → Contains (mo
 contains_moves y n h c =
     let high = c.high in
     record {
-      bent = λ v. c.bent (level_back y n v);
+      bent = λ v. c.bent (straight_from y n v);
       low = less_min n.a.height n.b.height h y c.low;
       high = omega (arith, ints, clamps, high);
     }
@@ -297,7 +297,6 @@ uncrossed_moves y nets count routes u =
       apart = apart_moves y nets routes u.apart;
       splits = splits_move y nets routes u.splits;
       uncrossed = λ ranked. as_asked_moves y nets routes (u.uncrossed (orderable_back y nets ranked));
-      no_conflict = λ none. as_asked_moves y nets routes (u.no_conflict (none_back y nets none));
       one_conflict = λ one. as_asked_moves y nets routes (u.one_conflict (one_back y nets one));
       exchanges = λ few. no_better_moves y nets count routes (u.exchanges (few_back y nets exchange_limit few));
     }

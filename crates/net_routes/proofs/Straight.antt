@@ -6,7 +6,7 @@ use Rattle.std.proofs.lemmas.Bool.{false_from_ne_true, and_parts}
 use Rattle.std.proofs.lemmas.Int.{ints, clamps, by_lt_z}
 use Rattle.net_routes.specs.declared.Pin.{Pin}
 use Rattle.net_routes.specs.declared.Net.{Net}
-use Rattle.net_routes.specs.GapFree.{HasPin, CommonPin, IsLevelNet}
+use Rattle.net_routes.specs.GapFree.{HasPin, CommonPin, IsStraightNet}
 use Rattle.net_routes.specs.Crossings.{is_over}
 use Rattle.net_routes.specs.Uncrossed.{is_before, first_pin, last_pin, alternate}
 use Rattle.net_routes.proofs.Turns.{lt_less, Comes, comes, before, over, ends, Turns, either, either_back, not_itself}
@@ -56,8 +56,8 @@ pins_are n p q has e =
     has
 
 -- a straight net's pins
-level_pins : (n : Net) → IsLevelNet n → (first_pin n ≡ pin true n.a.height) × (last_pin n ≡ pin false n.a.height)
-level_pins n v = by n.a.on_left n.b.on_left refl refl
+straight_pins : (n : Net) → IsStraightNet n → (first_pin n ≡ pin true n.a.height) × (last_pin n ≡ pin false n.a.height)
+straight_pins n v = by n.a.on_left n.b.on_left refl refl
   where
     by : (a b : Bool) → n.a.on_left ≡ a → n.b.on_left ≡ b → (first_pin n ≡ pin true n.a.height) × (last_pin n ≡ pin false n.a.height)
     by true true f g = absurd (v.0 (f ∙ sym g))
@@ -98,15 +98,15 @@ second_leads a x true y h f g k = absurd k
 abbrev pub Amid : ℤ → ℤ → ℤ → Type 0
 Amid x y h = ((x <ℤ h) × (h <ℤ y)) ⊎ ((y <ℤ h) × (h <ℤ x))
 
-amid_turned : (x y h : ℤ) → Amid x y h → Amid y x h
-amid_turned x y h c = ⊎_elim (λ w. inr w) (λ w. inl w) c
+amid_flipped : (x y h : ℤ) → Amid x y h → Amid y x h
+amid_flipped x y h c = ⊎_elim (λ w. inr w) (λ w. inl w) c
 
 ends_over : (m : Net) (h : ℤ) → Amid (first_pin m).height (last_pin m).height h → is_over m.a.height m.b.height h ≡ true
 ends_over m h c =
     over m.a.height m.b.height h
     (⊎_elim
     (λ (e : (first_pin m ≡ m.a) × (last_pin m ≡ m.b)). subst (λ (z : Pin). Amid z.height m.b.height h) e.0 (subst (λ (z : Pin). Amid (first_pin m).height z.height h) e.1 c))
-    (λ (e : (first_pin m ≡ m.b) × (last_pin m ≡ m.a)). amid_turned m.b.height m.a.height h (subst (λ (z : Pin). Amid z.height m.a.height h) e.0 (subst (λ (z : Pin). Amid (first_pin m).height z.height h) e.1 c)))
+    (λ (e : (first_pin m ≡ m.b) × (last_pin m ≡ m.a)). amid_flipped m.b.height m.a.height h (subst (λ (z : Pin). Amid z.height m.a.height h) e.0 (subst (λ (z : Pin). Amid (first_pin m).height z.height h) e.1 c)))
     (ends m))
 
 pub over_parts : (x y h : ℤ) → is_over x y h ≡ true → Amid x y h
@@ -139,21 +139,21 @@ over_turns m n low high h has at l r = by low.on_left high.on_left refl refl
         (before_by (pin true h) high true false refl f tt) (before_by high (pin false h) false false f refl r) (before_by (pin false h) low false false refl e l))
 
 -- the pins of a straight net alternate with those of a net whose stretch holds its height
-pub alternate_level : (m n : Net) → IsLevelNet n → alternate m n ≡ is_over m.a.height m.b.height n.a.height
-alternate_level m n v =
+pub alternate_straight : (m n : Net) → IsStraightNet n → alternate m n ≡ is_over m.a.height m.b.height n.a.height
+alternate_straight m n v =
     same_bool (alternate m n) (is_over m.a.height m.b.height n.a.height)
     (λ e. ⊎_elim
-    (λ t. let w = turns_to m n (first_pin m) (last_pin m) (pin true n.a.height) (pin false n.a.height) (refl, refl) (level_pins n v) t in
+    (λ t. let w = turns_to m n (first_pin m) (last_pin m) (pin true n.a.height) (pin false n.a.height) (refl, refl) (straight_pins n v) t in
     ends_over m n.a.height
     (inl (first_leads (first_pin m).on_left (first_pin m).height (last_pin m).on_left (last_pin m).height n.a.height (comes (first_pin m) (pin true n.a.height) w.0) (comes (pin true n.a.height) (last_pin m) w.1) (comes (last_pin m) (pin false n.a.height) w.2))))
-    (λ t. let w = turns_to n m (pin true n.a.height) (pin false n.a.height) (first_pin m) (last_pin m) (level_pins n v) (refl, refl) t in
+    (λ t. let w = turns_to n m (pin true n.a.height) (pin false n.a.height) (first_pin m) (last_pin m) (straight_pins n v) (refl, refl) t in
     ends_over m n.a.height
     (inr (second_leads (first_pin m).on_left (first_pin m).height (last_pin m).on_left (last_pin m).height n.a.height (comes (pin true n.a.height) (first_pin m) w.0) (comes (first_pin m) (pin false n.a.height) w.1) (comes (pin false n.a.height) (last_pin m) w.2))))
     (either m n e))
     (λ e. either_back m n
     (⊎_elim
-    (λ w. over_turns m n m.a m.b n.a.height (inl (refl, refl)) (level_pins n v) w.0 w.1)
-    (λ w. over_turns m n m.b m.a n.a.height (inr (refl, refl)) (level_pins n v) w.0 w.1)
+    (λ w. over_turns m n m.a m.b n.a.height (inl (refl, refl)) (straight_pins n v) w.0 w.1)
+    (λ w. over_turns m n m.b m.a n.a.height (inr (refl, refl)) (straight_pins n v) w.0 w.1)
     (over_parts m.a.height m.b.height n.a.height e)))
 
 pub both_ends : (n : Net) (p : Pin) → HasPin n p → (first_pin n ≡ p) ⊎ (last_pin n ≡ p)

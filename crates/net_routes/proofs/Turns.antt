@@ -74,8 +74,8 @@ over x y h c = ⊎_elim (λ w. over_up x y h w.0 w.1) (λ w. over_down x y h w.0
 pub out : (x y h : ℤ) → is_over x y h ≡ false → Out x y h
 out x y h e = (λ l m. true_false (sym (over_up x y h l m) ∙ e), λ l m. true_false (sym (over_down x y h l m) ∙ e))
 
-out_turned : (x y h : ℤ) → Out x y h → Out y x h
-out_turned x y h o = (o.1, o.0)
+out_flipped : (x y h : ℤ) → Out x y h → Out y x h
+out_flipped x y h o = (o.1, o.0)
 
 -- Nets with the pins x, y and p, q: no right pin of the first lies inside the second's stretch, no left pin of the second
 -- inside the first's, and none of these is as high as one of those.
@@ -89,24 +89,24 @@ pub record Clear (a : Bool) (x : ℤ) (b : Bool) (y : ℤ) (c : Bool) (p : ℤ) 
   pub qx : d ≡ true → a ≡ false → q ≢ x
   pub qy : d ≡ true → b ≡ false → q ≢ y
 
-first_turned : (a : Bool) (x : ℤ) (b : Bool) (y : ℤ) (c : Bool) (p : ℤ) (d : Bool) (q : ℤ) → Clear a x b y c p d q → Clear b y a x c p d q
-first_turned a x b y c p d q k =
+first_flipped : (a : Bool) (x : ℤ) (b : Bool) (y : ℤ) (c : Bool) (p : ℤ) (d : Bool) (q : ℤ) → Clear a x b y c p d q → Clear b y a x c p d q
+first_flipped a x b y c p d q k =
     record {
       x_out = k.y_out;
       y_out = k.x_out;
-      p_out = λ e. out_turned x y p (k.p_out e);
-      q_out = λ e. out_turned x y q (k.q_out e);
+      p_out = λ e. out_flipped x y p (k.p_out e);
+      q_out = λ e. out_flipped x y q (k.q_out e);
       px = k.py;
       py = k.px;
       qx = k.qy;
       qy = k.qx;
     }
 
-second_turned : (a : Bool) (x : ℤ) (b : Bool) (y : ℤ) (c : Bool) (p : ℤ) (d : Bool) (q : ℤ) → Clear a x b y c p d q → Clear a x b y d q c p
-second_turned a x b y c p d q k =
+second_flipped : (a : Bool) (x : ℤ) (b : Bool) (y : ℤ) (c : Bool) (p : ℤ) (d : Bool) (q : ℤ) → Clear a x b y c p d q → Clear a x b y d q c p
+second_flipped a x b y c p d q k =
     record {
-      x_out = λ e. out_turned p q x (k.x_out e);
-      y_out = λ e. out_turned p q y (k.y_out e);
+      x_out = λ e. out_flipped p q x (k.x_out e);
+      y_out = λ e. out_flipped p q y (k.y_out e);
       p_out = k.q_out;
       q_out = k.p_out;
       px = k.qx;
@@ -167,7 +167,7 @@ abbrev pub AreClear : Net → Net → Type 0
 AreClear m n = ArePinsClear m.a m.b n.a n.b
 
 in_turn : (m n : Net) → AreClear m n → ArePinsClear (first_pin m) (last_pin m) (first_pin n) (last_pin n)
-in_turn m n k = ⊎_elim (λ e. second e.0 e.1 k) (λ e. second e.0 e.1 (first_turned _ _ _ _ _ _ _ _ k)) (ends m)
+in_turn m n k = ⊎_elim (λ e. second e.0 e.1 k) (λ e. second e.0 e.1 (first_flipped _ _ _ _ _ _ _ _ k)) (ends m)
   where
     second : {x y : Pin} → first_pin m ≡ x → last_pin m ≡ y → ArePinsClear x y n.a n.b → ArePinsClear (first_pin m) (last_pin m) (first_pin n) (last_pin n)
     second {x = x} {y = y} e f l =
@@ -175,7 +175,7 @@ in_turn m n k = ⊎_elim (λ e. second e.0 e.1 k) (λ e. second e.0 e.1 (first_t
         (subst (λ z. ArePinsClear x z (first_pin n) (last_pin n)) (sym f)
         (⊎_elim
         (λ (g : (first_pin n ≡ n.a) × (last_pin n ≡ n.b)). subst (λ z. ArePinsClear x y z (last_pin n)) (sym g.0) (subst (λ z. ArePinsClear x y n.a z) (sym g.1) l))
-        (λ (g : (first_pin n ≡ n.b) × (last_pin n ≡ n.a)). subst (λ z. ArePinsClear x y z (last_pin n)) (sym g.0) (subst (λ z. ArePinsClear x y n.b z) (sym g.1) (second_turned _ _ _ _ _ _ _ _ l)))
+        (λ (g : (first_pin n ≡ n.b) × (last_pin n ≡ n.a)). subst (λ z. ArePinsClear x y z (last_pin n)) (sym g.0) (subst (λ z. ArePinsClear x y n.b z) (sym g.1) (second_flipped _ _ _ _ _ _ _ _ l)))
         (ends n)))
 
 abbrev pub Turns : Net → Net → Type 0

@@ -5,7 +5,7 @@ use Rattle.net_routes.specs.declared.Net.{Net}
 use Rattle.net_routes.specs.declared.NetRoute.{NetRoute}
 use Rattle.net_routes.specs.declared.NetRoute.TheVariants.{Two}
 use Rattle.net_routes.specs.Pieces.{net_at, route_at}
-use Rattle.net_routes.specs.GapFree.{HasPin, IsLevelNet}
+use Rattle.net_routes.specs.GapFree.{HasPin, IsStraightNet}
 
 -- The first net has a pin on the left at a height where the second has one on the right: the first one's piece must come
 -- first. Straight nets have no pieces.
@@ -13,8 +13,8 @@ pub record Conflict (nets : List Net) (j k : ℕ) : Type 0 where
   pub j_in : j < length nets
   pub k_in : k < length nets
   pub two : j ≢ k
-  pub j_bent : IsLevelNet (net_at nets j) → ⊥
-  pub k_bent : IsLevelNet (net_at nets k) → ⊥
+  pub j_bent : IsStraightNet (net_at nets j) → ⊥
+  pub k_bent : IsStraightNet (net_at nets k) → ⊥
   pub left : Pin
   pub right : Pin
   pub has_left : HasPin (net_at nets j) left
@@ -37,8 +37,8 @@ abbrev pub HasNoConflict : List Net → Type 0
 HasNoConflict nets = (j k : ℕ) → Conflict nets j k → ⊥
 
 -- at most one net conflicts, with one other
-abbrev pub HasOneConflict : List Net → Type 0
-HasOneConflict nets = (j k m n : ℕ) → Conflict nets j k → Conflict nets m n → (j ≡ m) × (k ≡ n)
+abbrev pub HasAtMostOneConflict : List Net → Type 0
+HasAtMostOneConflict nets = (j k m n : ℕ) → Conflict nets j k → Conflict nets m n → (j ≡ m) × (k ≡ n)
 
 -- each net that is split lies on a cycle of conflicts
 abbrev pub SplitsOnCycles : List Net → List NetRoute → Type 0

@@ -35,7 +35,7 @@ pin_cut p t u = if passes p.on_left t u.slot then one (is_over u.from u.to p.hei
 unfoldable pub bar_cut : ℕ → ℤ → ℕ → Upright → ℕ
 bar_cut s h t u = if is_between s t u.slot then one (is_over u.from u.to h) else 0
 
--- how many times the level lines of a net cross an upright piece
+-- how many times the horizontal lines of a net cross an upright piece
 unfoldable pub cuts : Net → NetRoute → Upright → ℕ
 cuts n Straight u = one (is_over u.from u.to n.a.height)
 cuts n (One t) u = pin_cut n.a t u + pin_cut n.b t u
@@ -44,7 +44,7 @@ cuts n (Two s h t) u = pin_cut n.a s u + pin_cut n.b t u + bar_cut s h t u
 abbrev pub upright : ℕ → ℤ → ℤ → Upright
 upright s x y = record { slot = s; from = x; to = y }
 
--- how many times the level lines of the second net cross upright pieces of the first
+-- how many times the horizontal lines of the second net cross upright pieces of the first
 unfoldable pub cut : Net → NetRoute → Net → NetRoute → ℕ
 cut m Straight n q = 0
 cut m (One s) n q = cuts n q (upright s m.a.height m.b.height)
@@ -53,6 +53,6 @@ cut m (Two s h t) n q = cuts n q (upright s m.a.height h) + cuts n q (upright t 
 abbrev pub cut_at : List Net → List NetRoute → ℕ → ℕ → ℕ
 cut_at nets routes j k = cut (net_at nets j) (route_at routes j) (net_at nets k) (route_at routes k)
 
--- all crossings of the gap: each net's upright pieces with each net's level lines
+-- all crossings of the gap: each net's upright pieces with each net's horizontal lines
 abbrev pub crossings : List Net → List NetRoute → ℕ
 crossings nets routes = sum_to (λ j. sum_to (cut_at nets routes j) (length nets)) (length nets)

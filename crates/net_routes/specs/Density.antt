@@ -3,11 +3,11 @@ use Rattle.std.specs.Prelude.{◌≡◌, ◌≢◌, ℕ, ◌<◌, ◌≤◌, Lis
 use Rattle.std.specs.Int.{int_min, int_max}
 use Rattle.net_routes.specs.declared.Net.{Net}
 use Rattle.net_routes.specs.Pieces.{net_at}
-use Rattle.net_routes.specs.GapFree.{IsLevelNet}
+use Rattle.net_routes.specs.GapFree.{IsStraightNet}
 
 -- the net is not straight, and the height lies between its pins or at one
 pub record Contains (n : Net) (h : ℤ) : Type 0 where
-  pub bent : IsLevelNet n → ⊥
+  pub bent : IsStraightNet n → ⊥
   pub low : int_min n.a.height n.b.height ≤ℤ h
   pub high : h ≤ℤ int_max n.a.height n.b.height
 

@@ -30,8 +30,8 @@ pub record AreHeights (n : Net) : Type 0 where
   pub b : IsHeight n.b.height
 
 -- the pins are on both sides at one height
-abbrev pub IsLevelNet : Net → Type 0
-IsLevelNet n = (n.a.on_left ≢ n.b.on_left) × (n.a.height ≡ n.b.height)
+abbrev pub IsStraightNet : Net → Type 0
+IsStraightNet n = (n.a.on_left ≢ n.b.on_left) × (n.a.height ≡ n.b.height)
 
 -- the route stands in this slot
 abbrev pub StandsIn : NetRoute → ℕ → Type 0
@@ -62,7 +62,7 @@ pub record GapFree (nets : List Net) (count : ℕ) (routes : List NetRoute) : Ty
   pub as_many : length routes ≡ length nets
   pub slots_in : (k s : ℕ) → k < length nets → StandsIn (route_at routes k) s → s < count
   pub slots_used : (s : ℕ) → s < count → (k : ℕ) × (k < length nets) × StandsIn (route_at routes k) s
-  pub straight : (k : ℕ) → k < length nets → (route_at routes k ≡ Straight) ↔ IsLevelNet (net_at nets k)
+  pub straight : (k : ℕ) → k < length nets → (route_at routes k ≡ Straight) ↔ IsStraightNet (net_at nets k)
   pub fresh : (k s : ℕ) (h : ℤ) (t : ℕ) → k < length nets → route_at routes k ≡ Two s h t → IsFresh nets routes k s h t
   pub free : (j k : ℕ) → j < length nets → k < length nets → j ≢ k
       → RoutesOverlap count (corners (net_at nets j) (route_at routes j)) (corners (net_at nets k) (route_at routes k))

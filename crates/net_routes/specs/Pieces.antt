@@ -51,7 +51,7 @@ abbrev pub route_at : List NetRoute → ℕ → NetRoute
 route_at routes k = slice_index_or routes k Straight
 
 -- two level pieces at one height have a stretch in common
-pub record LevelOverlap (count : ℕ) (a b c d : Corner) : Type 0 where
+pub record HorizontalOverlap (count : ℕ) (a b c d : Corner) : Type 0 where
   pub first : a.height ≡ b.height
   pub second : c.height ≡ d.height
   pub same : a.height ≡ c.height
@@ -69,7 +69,7 @@ pub record UprightOverlap (a b c d : Corner) : Type 0 where
       <ℤ int_min (int_max a.height b.height) (int_max c.height d.height)
 
 abbrev pub Overlap : ℕ → Corner → Corner → Corner → Corner → Type 0
-Overlap count a b c d = LevelOverlap count a b c d ⊎ UprightOverlap a b c d
+Overlap count a b c d = HorizontalOverlap count a b c d ⊎ UprightOverlap a b c d
 
 -- some piece of one net and some piece of another have a stretch in common
 pub record RoutesOverlap (count : ℕ) (cs ds : List Corner) : Type 0 where
@@ -85,7 +85,7 @@ pub record IsPieceOf (cs : List Corner) (a b : Corner) : Type 0 where
   pub i_in : i + 1 < length cs
   pub ends : ((corner_at cs i ≡ a) × (corner_at cs (i + 1) ≡ b)) ⊎ ((corner_at cs i ≡ b) × (corner_at cs (i + 1) ≡ a))
 
--- a level piece, or an upright one in a slot
+-- a horizontal piece, or an upright one in a slot
 abbrev pub IsStraightPiece : Corner → Corner → Type 0
 IsStraightPiece a b = (a.height ≡ b.height) ⊎ ((s : ℕ) × (a.at ≡ slot s) × (b.at ≡ slot s))
 

@@ -1,10 +1,10 @@
--- All that is promised of the slots of a gap: one record for the fewest slots, and one for the fewest crossings.
+-- All that is promised of the slots of a gap: one record for few slots, and one for few crossings.
 use Rattle.std.specs.Prelude.{ℕ, ◌≤◌, List, length}
 use Rattle.net_routes.specs.declared.Net.{Net}
 use Rattle.net_routes.specs.declared.NetRoute.{NetRoute}
 use Rattle.net_routes.specs.GapFree.{GapFree}
 use Rattle.net_routes.specs.Limits.{exchange_limit}
-use Rattle.net_routes.specs.Conflicts.{HasNoConflict, HasOneConflict, SplitsOnCycles}
+use Rattle.net_routes.specs.Conflicts.{HasNoConflict, HasAtMostOneConflict, SplitsOnCycles}
 use Rattle.net_routes.specs.Density.{IsDensity}
 use Rattle.net_routes.specs.Standing.{AreApart}
 use Rattle.net_routes.specs.Exchanges.{NoBetterExchange}
@@ -27,6 +27,5 @@ pub record AreUncrossed (nets : List Net) (count : ℕ) (routes : List NetRoute)
   pub apart : AreApart nets routes
   pub splits : SplitsOnCycles nets routes
   pub uncrossed : IsOrderable nets → CrossAsAsked nets routes
-  pub no_conflict : HasNoConflict nets → CrossAsAsked nets routes
-  pub one_conflict : HasOneConflict nets → CrossAsAsked nets routes
+  pub one_conflict : HasAtMostOneConflict nets → CrossAsAsked nets routes
   pub exchanges : length nets ≤ exchange_limit → NoBetterExchange nets count routes

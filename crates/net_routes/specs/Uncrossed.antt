@@ -5,7 +5,7 @@ use Rattle.net_routes.specs.declared.Net.{Net}
 use Rattle.net_routes.specs.declared.NetRoute.{NetRoute}
 use Rattle.net_routes.specs.declared.NetRoute.TheVariants.{One}
 use Rattle.net_routes.specs.Pieces.{net_at}
-use Rattle.net_routes.specs.GapFree.{IsLevelNet}
+use Rattle.net_routes.specs.GapFree.{IsStraightNet}
 use Rattle.net_routes.specs.Conflicts.{Conflict}
 use Rattle.net_routes.specs.Crossings.{one, cut, cut_at}
 
@@ -43,8 +43,8 @@ pub record CrossMore (nets : List Net) (j k : ℕ) : Type 0 where
   pub j_in : j < length nets
   pub k_in : k < length nets
   pub two : j ≢ k
-  pub j_bent : IsLevelNet (net_at nets j) → ⊥
-  pub k_bent : IsLevelNet (net_at nets k) → ⊥
+  pub j_bent : IsStraightNet (net_at nets j) → ⊥
+  pub k_bent : IsStraightNet (net_at nets k) → ⊥
   pub more : asked (net_at nets j) (net_at nets k) < in_order (net_at nets k) (net_at nets j)
 
 -- with k before j the two would overlap, or cross more often than they have to

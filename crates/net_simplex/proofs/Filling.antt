@@ -4,7 +4,7 @@ use Rattle.std.proofs.lemmas.Bool.{cases_eq, cases_lt}
 use Rattle.std.proofs.lemmas.Bool.Decides.{nat_tests}
 use Rattle.std.proofs.lemmas.List.{get_or-set_same, get_or-set_other, length-set}
 use Rattle.net_simplex.specs.Walks.{moved, first_place}
-use Rattle.net_simplex.specs.Turning.{AreDistinct, Plants, Settles}
+use Rattle.net_simplex.specs.Rerooting.{AreDistinct, Plants, Settles}
 
 -- different places have different nodes
 pub distinct : (nodes : ℕ) (order was : List ℕ) → AreDistinct nodes order was → (i j : ℕ) → i < length order → j < length order → get_or order i 0 ≡ get_or order j 0 → i ≡ j

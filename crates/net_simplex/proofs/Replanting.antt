@@ -6,7 +6,7 @@ use Rattle.network_laws.specs.Network.{edge_at, EndsBelow}
 use Rattle.network_laws.specs.Linked.{is_marked}
 use Rattle.net_simplex.specs.Rooted.{beyond, above, HangsBy, IsRooted, all_held}
 use Rattle.net_simplex.specs.Walks.{part, IsWalk, moved, first_place}
-use Rattle.net_simplex.specs.Turning.{Exchanges, AreResized, AreDistinct, IsTurned, IsTurnedTo, IsWayUp, Settles}
+use Rattle.net_simplex.specs.Rerooting.{Exchanges, AreResized, AreDistinct, IsRerooted, IsRerootedTo, IsWayUp, Settles}
 use Rattle.net_simplex.proofs.Hanging.{beyond_is_end, beyond_back, parent_once}
 use Rattle.net_simplex.proofs.Planting.{holding_all}
 use Rattle.net_simplex.proofs.Walking.{clash, is_between, between_is, between_not, before_it, behind_it, same_test, own, alone, root_at, is_root, earlier, passes, within}
@@ -122,7 +122,7 @@ module _ (nodes : ℕ) (edges : List NetEdge) (old tree : List Bool) (order plac
   pub all_distinct : AreDistinct nodes order place
   all_distinct = record { nodes_are = λ p l. let n = w.order_each in w.in_order p (omega (arith, l, n)) }
 
-  module _ (resized place1 size' parent' next1 : List ℕ) (sizes : AreResized nodes place size m (up child) to resized) (t : IsTurnedTo nodes place size parent (above edges parent) child from base by child resized place1 size' parent' next1) (order' place' : List ℕ) (s : Settles nodes order place1 next1 (at child) m (at to + 1) order' place') where
+  module _ (resized place1 size' parent' next1 : List ℕ) (sizes : AreResized nodes place size m (up child) to resized) (t : IsRerootedTo nodes place size parent (above edges parent) child from base by child resized place1 size' parent' next1) (order' place' : List ℕ) (s : Settles nodes order place1 next1 (at child) m (at to + 1) order' place') where
     abbrev up' : ℕ → ℕ
     up' v = above edges parent' v
 
@@ -329,7 +329,7 @@ module _ (nodes : ℕ) (edges : List NetEdge) (old tree : List Bool) (order plac
         ]
 
     -- a node of the way, which hangs on z now
-    module _ (v : ℕ) (lv : v < nodes) (inside : D child v ≡ true) (z : ℕ) (i : IsTurned nodes place size parent (above edges parent) child from base child v z place1 size' parent') where
+    module _ (v : ℕ) (lv : v < nodes) (inside : D child v ≡ true) (z : ℕ) (i : IsRerooted nodes place size parent (above edges parent) child from base child v z place1 size' parent') where
       way_place : at' v ≡ base + wide z
       way_place = place_in v lv inside ∙ i.place_is
 
@@ -374,7 +374,7 @@ module _ (nodes : ℕ) (edges : List NetEdge) (old tree : List Bool) (order plac
       inside : D child v ≡ true
       on : D v from ≡ true
       z : ℕ
-      turned : IsTurned nodes place size parent (above edges parent) child from base child v z place1 size' parent'
+      rerooted : IsRerooted nodes place size parent (above edges parent) child from base child v z place1 size' parent'
 
     abbrev Kind : ℕ → Type 0
     Kind v = (D child v ≡ false) ⊎ ((v ≡ from) ⊎ (Way v ⊎ ((D child v ≡ true) × (D v from ≡ false))))
@@ -385,7 +385,7 @@ module _ (nodes : ℕ) (edges : List NetEdge) (old tree : List Bool) (order plac
       | inl h ↦ inr (elim (cases_eq v from) [
         | inl e ↦ inl e
         | inr ne ↦ inr (elim (cases_Bool (D v from)) [
-          | inl k ↦ inl (let o = t.way v lv h k ne in record { inside = h; on = k; z = o.0; turned = o.1 })
+          | inl k ↦ inl (let o = t.way v lv h k ne in record { inside = h; on = k; z = o.0; rerooted = o.1 })
           | inr k ↦ inr (h, k)
         ])
       ])
@@ -430,7 +430,7 @@ module _ (nodes : ℕ) (edges : List NetEdge) (old tree : List Bool) (order plac
       | inr r ↦ elim r [
         | inl e ↦ subst (λ y. up' y < nodes) (sym e) (subst (λ y. y < nodes) (sym up_from) to_there)
         | inr q ↦ elim q [
-          | inl y ↦ subst (λ z. z < nodes) (sym (way_up u lu y.inside y.z y.turned)) y.turned.there
+          | inl y ↦ subst (λ z. z < nodes) (sym (way_up u lu y.inside y.z y.rerooted)) y.rerooted.there
           | inr y ↦ subst (λ z. z < nodes) (sym (up_off u lu y.0 y.1)) (w.up_there u lu l)
         ]
       ]
@@ -442,7 +442,7 @@ module _ (nodes : ℕ) (edges : List NetEdge) (old tree : List Bool) (order plac
       | inr r ↦ elim r [
         | inl f ↦ clash (D child to) (ap (D child) (sym up_from ∙ (ap up' (sym f) ∙ (e ∙ f))) ∙ x.from_below) x.by_outside
         | inr q ↦ elim q [
-          | inl y ↦ way_other u lu y.inside y.z y.turned (sym (way_up u lu y.inside y.z y.turned) ∙ e)
+          | inl y ↦ way_other u lu y.inside y.z y.rerooted (sym (way_up u lu y.inside y.z y.rerooted) ∙ e)
           | inr y ↦ w.up_other u lu l (sym (up_off u lu y.0 y.1) ∙ e)
         ]
       ]
@@ -454,7 +454,7 @@ module _ (nodes : ℕ) (edges : List NetEdge) (old tree : List Bool) (order plac
       | inr r ↦ elim r [
         | inl e ↦ absurd (ne e)
         | inr q ↦ elim q [
-          | inl y ↦ ap (D child) (way_up u lu y.inside y.z y.turned) ∙ y.turned.in_part
+          | inl y ↦ ap (D child) (way_up u lu y.inside y.z y.rerooted) ∙ y.rerooted.in_part
           | inr y ↦ ap (D child) (up_off u lu y.0 y.1) ∙ (sym (w.climbs child u x.child_there lu (late u h) (not_child u y.1)) ∙ h)
         ]
       ]
@@ -472,7 +472,7 @@ module _ (nodes : ℕ) (edges : List NetEdge) (old tree : List Bool) (order plac
       | inr r ↦ elim r [
         | inl e ↦ ap (λ y. D' y u) e ∙ start_out u lu n
         | inr q ↦ elim q [
-          | inl y ↦ way_out v lv y.inside y.z y.turned u lu n
+          | inl y ↦ way_out v lv y.inside y.z y.rerooted u lu n
           | inr y ↦ off_out v lv y.0 y.1 u lu n
         ]
       ]
@@ -482,7 +482,7 @@ module _ (nodes : ℕ) (edges : List NetEdge) (old tree : List Bool) (order plac
     law_way : (v u : ℕ) (y : Way v) → v < nodes → u < nodes → D child u ≡ true → u ≢ v → u ≢ from → D' v u ≡ D' v (up' u)
     law_way v u y lv lu h ne nf =
         let z = y.z in
-        let i = y.turned in
+        let i = y.rerooted in
         let lp = up_there' u lu (late u h) in
         let step : D z u ≡ D z (up' u) = elim (kind u lu) [
           | inl n ↦ clash (D child u) h n
@@ -490,7 +490,7 @@ module _ (nodes : ℕ) (edges : List NetEdge) (old tree : List Bool) (order plac
             | inl e ↦ absurd (nf e)
             | inr q ↦ elim q [
               | inl g ↦
-                  let k = g.turned in
+                  let k = g.rerooted in
                   let other : g.z ≢ z = λ e. ne (sym k.up_is ∙ (ap up e ∙ i.up_is)) in
                   ap (D z) (sym k.up_is) ∙ (sym (w.climbs z g.z i.there k.there (late g.z k.in_part) other) ∙ ap (D z) (sym (way_up u lu g.inside g.z k)))
               | inr g ↦
@@ -510,7 +510,7 @@ module _ (nodes : ℕ) (edges : List NetEdge) (old tree : List Bool) (order plac
             | inl e ↦ absurd (nf e)
             | inr q ↦ elim q [
               | inl g ↦
-                  let k = g.turned in
+                  let k = g.rerooted in
                   let other : g.z ≢ v = λ e. clash (D v from) (ap (λ j. D j from) (sym e) ∙ k.on_way) off in
                   ap (D v) (sym k.up_is) ∙ (sym (w.climbs v g.z lv k.there (late g.z k.in_part) other) ∙ ap (D v) (sym (way_up u lu g.inside g.z k)))
               | inr g ↦ w.climbs v u lv lu (late u h) ne ∙ ap (D v) (sym (up_off u lu g.0 g.1))
@@ -526,7 +526,7 @@ module _ (nodes : ℕ) (edges : List NetEdge) (old tree : List Bool) (order plac
       | inr r ↦ elim r [
         | inl e ↦ absurd (ne (sym e))
         | inr q ↦ elim q [
-          | inl y ↦ way_in v lv y.inside y.z y.turned from x.from_there x.from_below ∙ (ap not y.turned.on_way ∙ sym (way_out v lv y.inside y.z y.turned to to_there x.by_outside))
+          | inl y ↦ way_in v lv y.inside y.z y.rerooted from x.from_there x.from_below ∙ (ap not y.rerooted.on_way ∙ sym (way_out v lv y.inside y.z y.rerooted to to_there x.by_outside))
           | inr y ↦ off_in v lv y.0 y.1 from x.from_there x.from_below ∙ (y.1 ∙ sym (off_out v lv y.0 y.1 to to_there x.by_outside))
         ]
       ]
@@ -573,7 +573,7 @@ module _ (nodes : ℕ) (edges : List NetEdge) (old tree : List Bool) (order plac
       | inr r ↦ elim r [
         | inl e ↦ subst (λ y. D' y y ≡ true) (sym e) (start_in from x.from_there x.from_below)
         | inr q ↦ elim q [
-          | inl y ↦ way_in v lv y.inside y.z y.turned v lv y.inside ∙ ap not (way_below v lv y.inside y.z y.turned)
+          | inl y ↦ way_in v lv y.inside y.z y.rerooted v lv y.inside ∙ ap not (way_below v lv y.inside y.z y.rerooted)
           | inr y ↦ off_in v lv y.0 y.1 v lv y.0 ∙ own nodes order place size up w v lv
         ]
       ]
@@ -587,7 +587,7 @@ module _ (nodes : ℕ) (edges : List NetEdge) (old tree : List Bool) (order plac
           | inr r ↦ elim r [
             | inl e ↦ subst (λ y. at' y + wide' y ≤ nodes) (sym e) (let a = from_place.0 in let b = from_place.1 in omega (arith, a, b, f))
             | inr q ↦ elim q [
-              | inl y ↦ let a = way_place v lv y.inside y.z y.turned in let b = y.turned.size_is in omega (arith, a, b, f)
+              | inl y ↦ let a = way_place v lv y.inside y.z y.rerooted in let b = y.rerooted.size_is in omega (arith, a, b, f)
               | inr y ↦ let a = off_end v lv y.0 y.1 in let b = off_size v lv y.0 y.1 in omega (arith, a, b, f)
             ]
           ]
@@ -685,7 +685,7 @@ module _ (nodes : ℕ) (edges : List NetEdge) (old tree : List Bool) (order plac
         | inr q ↦ elim q [
           | inr y ↦ as_before v lv l (not_child v y.1) (t.off v lv y.0 y.1).1
           | inl y ↦
-              let i = y.turned in
+              let i = y.rerooted in
               let h = x.rooted.hangs y.z i.there refl (late y.z i.in_part) in
               subst (λ k. HangsBy edges tree all_held place' v k) (sym i.parent_is) (record {
                 is_there = h.is_there;

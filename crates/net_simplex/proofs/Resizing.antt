@@ -3,7 +3,7 @@ use Rattle.std.proofs.Common.{◌≡◌, ◌≢◌, ℕ, ◌+◌, ◌-◌, ◌<�
 use Rattle.std.proofs.lemmas.Bool.{cases_eq}
 use Rattle.std.proofs.lemmas.List.{get_or-set_same, get_or-set_other, length-set}
 use Rattle.net_simplex.specs.Walks.{part, IsWalk}
-use Rattle.net_simplex.specs.Turning.{AreResized, AreResizedTo}
+use Rattle.net_simplex.specs.Rerooting.{AreResized, AreResizedTo}
 use Rattle.net_simplex.proofs.Walking.{before_it, own, alone, earlier, passes}
 use Rattle.network_laws.proofs.PathSums.{cond_le}
 

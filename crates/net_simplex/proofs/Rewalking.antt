@@ -1,11 +1,11 @@
--- The way up from the edge that enters to the one that leaves turns round: part after part is planted.
+-- The way up from the edge that enters to the one that leaves reverses: part after part is planted.
 use Rattle.std.proofs.Common.{◌≡◌, ◌≢◌, ℕ, ◌+◌, ◌-◌, ◌<◌, ◌≤◌, Bool, true, false, ◌⊎◌, List, length, set, get_or, arith, refl, sym, ap, subst, ◌∙◌, inl, inr}
 use Rattle.std.proofs.lemmas.Bool.{cases_eq, cases_lt, cases_Bool}
 use Rattle.std.proofs.lemmas.List.{get_or-set_same, get_or-set_other, length-set}
 use Rattle.network_laws.specs.declared.network.NetEdge.{NetEdge}
 use Rattle.net_simplex.specs.Rooted.{above}
 use Rattle.net_simplex.specs.Walks.{part, IsWalk}
-use Rattle.net_simplex.specs.Turning.{AreDistinct, Plants, IsTurned, IsTurnedTo, IsWayUp, TurnsNext}
+use Rattle.net_simplex.specs.Rerooting.{AreDistinct, Plants, IsRerooted, IsRerootedTo, IsWayUp, RerootsNext}
 use Rattle.net_simplex.proofs.Walking.{clash, is_between, between_is, between_not, before_it, own, alone, earlier, passes, within}
 
 module _ (nodes : ℕ) (order place size : List ℕ) (up : ℕ → ℕ) (w : IsWalk nodes order place size up) where
@@ -43,7 +43,7 @@ module _ (nodes : ℕ) (order place size : List ℕ) (up : ℕ → ℕ) (w : IsW
 
   module _ (parent : List ℕ) (child from base by : ℕ) (lc : child < nodes) (late : 0 < at child) (lf : from < nodes) (holds : D child from ≡ true) (resized : List ℕ) where
     abbrev To : ℕ → List ℕ → List ℕ → List ℕ → List ℕ → Type 0
-    To v place' size' parent' next' = IsTurnedTo nodes place size parent up child from base by v resized place' size' parent' next'
+    To v place' size' parent' next' = IsRerootedTo nodes place size parent up child from base by v resized place' size' parent' next'
 
     -- the part of `from` is planted first
     module _ (next place' next' size' : List ℕ) (p : Plants order (at from) (at from + wide from) base next place next' place') (ln : length next ≡ nodes) (room : base + wide from ≤ nodes) (ls : length resized ≡ nodes) (lp : length parent ≡ nodes) where
@@ -357,8 +357,8 @@ module _ (nodes : ℕ) (order place size : List ℕ) (up : ℕ → ℕ) (w : IsW
         parent3 = set parent1 x (get_or parent v 0)
 
         -- x hangs on v now
-        next_turned : IsTurned nodes place size parent up child from base x x v place3 size3 parent3
-        next_turned = record {
+        next_rerooted : IsRerooted nodes place size parent up child from base x x v place3 size3 parent3
+        next_rerooted = record {
           there = t.there;
           in_part = t.in_part;
           on_way = t.on_way;
@@ -375,8 +375,8 @@ module _ (nodes : ℕ) (order place size : List ℕ) (up : ℕ → ℕ) (w : IsW
           last = λ u lu h n. new_behind u lu h n;
         }
 
-        still_turned : (y z : ℕ) → y < nodes → D v y ≡ true → y ≢ x → IsTurned nodes place size parent up child from base v y z place1 size1 parent1 → D v z ≡ true → IsTurned nodes place size parent up child from base x y z place3 size3 parent3
-        still_turned y z ly h other i zin = record {
+        still_rerooted : (y z : ℕ) → y < nodes → D v y ≡ true → y ≢ x → IsRerooted nodes place size parent up child from base v y z place1 size1 parent1 → D v z ≡ true → IsRerooted nodes place size parent up child from base x y z place3 size3 parent3
+        still_rerooted y z ly h other i zin = record {
           there = i.there;
           in_part = i.in_part;
           on_way = i.on_way;
@@ -443,15 +443,15 @@ module _ (nodes : ℕ) (order place size : List ℕ) (up : ℕ → ℕ) (w : IsW
             | inl i ↦
                 let o = t.way y ly i k no in
                 let other : y ≢ x = λ e. clash (D v x) (ap (D v) (sym e) ∙ i) next_not_on in
-                (o.0, still_turned y o.0 ly i other o.1 (held_below y o.0 ly i o.1))
+                (o.0, still_rerooted y o.0 ly i other o.1 (held_below y o.0 ly i o.1))
             | inr i ↦
                 let e = only_next y ly h k i in
-                (v, subst (λ z. IsTurned nodes place size parent up child from base x z v place3 size3 parent3) (sym e) next_turned)
+                (v, subst (λ z. IsRerooted nodes place size parent up child from base x z v place3 size3 parent3) (sym e) next_rerooted)
           ];
         }
           where
             -- what y hung on by is in the part of v as y is
-            held_below : (y z : ℕ) → y < nodes → D v y ≡ true → IsTurned nodes place size parent up child from base v y z place1 size1 parent1 → D v z ≡ true
+            held_below : (y z : ℕ) → y < nodes → D v y ≡ true → IsRerooted nodes place size parent up child from base v y z place1 size1 parent1 → D v z ≡ true
             held_below y z ly h i = elim (cases_eq z v) [
               | inl e ↦ ap (D v) e ∙ own nodes order place size up w v t.there
               | inr other ↦
@@ -479,15 +479,15 @@ module _ (nodes : ℕ) (edges : List NetEdge) (order place size parent : List �
       omega (arith, a, b, c, d)
 
   module _ (base by : ℕ) where
-    pub way_begins : (next place' next' : List ℕ) → length next ≡ nodes → base + get_or resized child 0 ≤ nodes → Plants order (get_or place from 0) (get_or place from 0 + get_or resized from 0) base next place next' place' → IsTurnedTo nodes place size parent (above edges parent) child from base by from resized place' (set resized from (get_or resized child 0)) (set parent from by) next'
+    pub way_begins : (next place' next' : List ℕ) → length next ≡ nodes → base + get_or resized child 0 ≤ nodes → Plants order (get_or place from 0) (get_or place from 0 + get_or resized from 0) base next place next' place' → IsRerootedTo nodes place size parent (above edges parent) child from base by from resized place' (set resized from (get_or resized child 0)) (set parent from by) next'
     way_begins next place' next' ln room p =
         let f = y.as_before from y.from_there y.from_below in
         let c = y.as_before child y.child_there own_child in
         let s = way_small from y.from_there y.from_below in
-        subst (λ m. IsTurnedTo nodes place size parent (above edges parent) child from base by from resized place' (set resized from m) (set parent from by) next') (sym c)
+        subst (λ m. IsRerootedTo nodes place size parent (above edges parent) child from base by from resized place' (set resized from m) (set parent from by) next') (sym c)
         (way_start nodes order place size above_v y.walk parent child from base by y.child_there y.child_hangs y.from_there y.from_below resized next place' next' resized (subst (λ m. Plants order (get_or place from 0) (get_or place from 0 + m) base next place next' place') f p) ln (omega (arith, f, s, room)) y.resized_each y.parent_each)
 
-    module _ (v : ℕ) (place1 size1 parent1 next1 : List ℕ) (t : IsTurnedTo nodes place size parent (above edges parent) child from base by v resized place1 size1 parent1 next1) (ne : v ≢ child) where
+    module _ (v : ℕ) (place1 size1 parent1 next1 : List ℕ) (t : IsRerootedTo nodes place size parent (above edges parent) child from base by v resized place1 size1 parent1 next1) (ne : v ≢ child) where
       abbrev upper_v : ℕ
       upper_v = above edges parent v
 
@@ -523,7 +523,7 @@ module _ (nodes : ℕ) (edges : List NetEdge) (order place size parent : List �
           let l = y.child_hangs in
           y.edges_there v t.there (omega (arith, b, l))
 
-      pub way_goes_on : (z link low held many : ℕ) (place3 size3 parent3 next3 : List ℕ) → z ≡ upper_v → link ≡ get_or parent v 0 → low ≡ get_or place v 0 → held ≡ get_or size v 0 → many ≡ get_or size child 0 → TurnsNext order z link low held base many place1 size1 parent1 next1 place3 size3 parent3 next3 → IsTurnedTo nodes place size parent (above edges parent) child from base by z resized place3 size3 parent3 next3
+      pub way_goes_on : (z link low held many : ℕ) (place3 size3 parent3 next3 : List ℕ) → z ≡ upper_v → link ≡ get_or parent v 0 → low ≡ get_or place v 0 → held ≡ get_or size v 0 → many ≡ get_or size child 0 → RerootsNext order z link low held base many place1 size1 parent1 next1 place3 size3 parent3 next3 → IsRerootedTo nodes place size parent (above edges parent) child from base by z resized place3 size3 parent3 next3
       way_goes_on z link low held many place3 size3 parent3 next3 ez el eo eh em r =
           let r1 = rw (ez, el, eo, eh, em) at r in
           let p = rw up_place at r1.before in

@@ -14,7 +14,7 @@ use Rattle.net_simplex.specs.Rooted.{beyond, above, IsRooted, IsBelow, part_from
 use Rattle.net_simplex.specs.Walks.{part as part_of, IsWalk}
 use Rattle.net_simplex.specs.Cuts.{AreCutValues}
 use Rattle.net_simplex.specs.Grown.{IsSmall}
-use Rattle.net_simplex.specs.Turning.{Exchanges}
+use Rattle.net_simplex.specs.Rerooting.{Exchanges}
 use Rattle.net_simplex.specs.Kept.{kept_state, IsKept, StandsFor}
 use Rattle.net_simplex.proofs.Choosing.{Chosen, least_chosen, none_chosen}
 use Rattle.net_simplex.proofs.Cutting.{tail_parts_cut}
@@ -378,17 +378,17 @@ module _ (nodes : ℕ) (edges : List NetEdge) (net : IsNetwork nodes edges) (tre
           side = elim (cases_Bool root_in) [
             | inl r ↦
                 let is_as : (v : ℕ) → part v ≡ not (below v) = λ v. ap (λ b. cond b (not (below v)) (below v)) r in
-                inl (r, turned (below f.tail) true (sym (is_as f.tail) ∙ crosses.0), turned (below f.head) false (sym (is_as f.head) ∙ crosses.1))
+                inl (r, flipped (below f.tail) true (sym (is_as f.tail) ∙ crosses.0), flipped (below f.head) false (sym (is_as f.head) ∙ crosses.1))
             | inr r ↦
                 let is_as : (v : ℕ) → part v ≡ below v = λ v. ap (λ b. cond b (not (below v)) (below v)) r in
                 inr (r, sym (is_as f.tail) ∙ crosses.0, sym (is_as f.head) ∙ crosses.1)
           ]
             where
-              turned : (a b : Bool) → not a ≡ not b → a ≡ b
-              turned true true h = refl
-              turned false false h = refl
-              turned true false h = absurd cc
-              turned false true h = absurd cc
+              flipped : (a b : Bool) → not a ≡ not b → a ≡ b
+              flipped true true h = refl
+              flipped false false h = refl
+              flipped true false h = absurd cc
+              flipped false true h = absurd cc
 
           other_end : f.tail ≢ f.head
           other_end q = elim side [

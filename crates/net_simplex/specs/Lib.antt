@@ -6,7 +6,7 @@ pub mod Rooted
 pub mod Walks
 pub mod Cuts
 pub mod Chosen
-pub mod Turning
+pub mod Rerooting
 pub mod Grown
 pub mod Kept
 pub mod Outcome

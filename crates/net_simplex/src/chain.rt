@@ -15,9 +15,9 @@ ghost use Rattle.net_simplex.specs.Rooted.{Hangs};
 use crate::choice::lower;
 use crate::entering::entering;
 use crate::passing::change_cuts;
+use crate::rerooting::reroot;
 use crate::rooted::child_of;
 use crate::tree::{Tree, Walk};
-use crate::turning::turn;
 use network_laws::NetEdge;
 
 fn is_negative(cut: i64) -> bool
@@ -120,7 +120,7 @@ pub fn pivot(
             shift(layers, tree, walk, child, move_by(root_in, choice.slack));
             tree.marks[out as usize] = false;
             tree.marks[by as usize] = true;
-            turn(edges, tree, walk, child, from, by);
+            reroot(edges, tree, walk, child, from, by);
         }
         None => {}
     }

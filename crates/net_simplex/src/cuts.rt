@@ -75,12 +75,12 @@ fn tally(edges: &[NetEdge], excess: &mut [i64])
     }
 }
 
-fn turned(turn: bool, number: i64) -> i64
+fn signed(kept_sign: bool, number: i64) -> i64
     requires { size_of number < 2 ^ 63 }
-    ensures as_is { turn ≡ true → result ≡ number }
-    ensures opposite { turn ≡ false → result ≡ pos 0 -ℤ number }
+    ensures as_is { kept_sign ≡ true → result ≡ number }
+    ensures opposite { kept_sign ≡ false → result ≡ pos 0 -ℤ number }
 {
-    if turn {
+    if kept_sign {
         return number;
     }
     opposite(number)
@@ -104,7 +104,7 @@ fn lift(edges: &[NetEdge], tree: &Tree, v: u32, excess: &mut [i64], cut: &mut [i
     let more = number_at(excess, v);
     put(excess, v, 0);
     put(excess, u, plus(number_at(excess, u), more));
-    put(cut, k, turned(e.tail == v, more));
+    put(cut, k, signed(e.tail == v, more));
 }
 
 fn lift_all(edges: &[NetEdge], tree: &Tree, excess: &mut [i64], cut: &mut [i64])

@@ -9,10 +9,10 @@ mod first_walk;
 mod growing;
 mod laws;
 mod passing;
+mod rerooting;
 mod rooted;
 mod solving;
 mod tree;
-mod turning;
 mod waiting;
 
 pub use laws::{

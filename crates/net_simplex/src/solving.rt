@@ -173,6 +173,11 @@ fn run_on(
 /// edges on, a tree edge of negative cut value leaves and the edge of least slack that leads back enters, until no cut
 /// value is negative (Gansner, Koutsofios, North, Vo 1993). The lowest-numbered edge leaves, and ties go to the lowest
 /// number. Where a cut value is still negative after `budget` pivots, the primal-dual flow finds the layering.
+///
+/// Proved:
+/// - The promise of flow_dual for every connected network, by pivots.
+/// - The method of flow_dual is used exactly if a cut value is still negative after the budget of pivots.
+/// - Otherwise the layers are those of the first tree without a negative cut value, lowered to 0, and the flow is its cut values.
 pub fn solve(alloc: Global, net: &Network, budget: u64) -> Result<Solved, AllocError>
     requires network { IsNetwork net.now.nodes net.now.edges.items }
     requires some { 0 < net.now.nodes }

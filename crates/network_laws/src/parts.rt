@@ -127,6 +127,9 @@ fn number_nodes(edges: &[NetEdge], names: &mut [u32], numbers: &mut [u32])
 }
 
 /// The number of each node's connected part. The parts are numbered 0, 1, 2 in the order of their least nodes.
+///
+/// Proved:
+/// - Parts are numbered by least node.
 pub fn part_numbers(alloc: Global, nodes: u32, edges: &[NetEdge]) -> Result<Vec<u32>, AllocError>
     requires few_nodes { nodes ≤ 2 ^ 23 }
     requires few { length edges.now ≤ 2 ^ 24 }

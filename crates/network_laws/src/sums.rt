@@ -83,6 +83,9 @@ fn raise_along(edges: &[NetEdge], order: &[u32], sums: &mut [u64])
 }
 
 /// For each node the greatest sum of `least` over the paths that end there.
+///
+/// Proved:
+/// - The layering of greatest path sums.
 pub fn greatest_sums(alloc: Global, nodes: u32, edges: &[NetEdge]) -> Result<Vec<u64>, AllocError>
     requires network { IsNetwork nodes edges.now }
     ensures greatest { IfOk result (λ sums. AreGreatestSums nodes edges.now (map pos sums.items)) }

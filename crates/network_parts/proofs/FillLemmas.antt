@@ -37,34 +37,34 @@ counted_same numbers n count are low =
 
 -- ---- one read, and one write
 
-pub size_read : (nets : List Network) (k : ℕ) (net : Network) → k < length nets → net ≡ get_or nets k net → net.nodes ≡ get_or (sizes_of nets) k 0
-size_read nets k net h is = ap (λ (n : Network). n.nodes) is ∙ sym (get_or-map (λ (n : Network). n.nodes) nets k net 0 h)
+pub size_read : (networks : List Network) (k : ℕ) (net : Network) → k < length networks → net ≡ get_or networks k net → net.nodes ≡ get_or (sizes_of networks) k 0
+size_read networks k net h is = ap (λ (n : Network). n.nodes) is ∙ sym (get_or-map (λ (n : Network). n.nodes) networks k net 0 h)
 
-pub row_read : (nets : List Network) (k : ℕ) (net : Network) → k < length nets → net ≡ get_or nets k net → net.edges.items ≡ row_at (rows_of nets) k
-row_read nets k net h is = ap (λ (n : Network). n.edges.items) is ∙ sym (get_or-map (λ (n : Network). n.edges.items) nets k net [] h)
+pub row_read : (networks : List Network) (k : ℕ) (net : Network) → k < length networks → net ≡ get_or networks k net → net.edges.items ≡ row_at (rows_of networks) k
+row_read networks k net h is = ap (λ (n : Network). n.edges.items) is ∙ sym (get_or-map (λ (n : Network). n.edges.items) networks k net [] h)
 
-pub size_written : (nets : List Network) (k : ℕ) (d : Network) (edges : Vec NetEdge Global) → k < length nets → sizes_of (set nets k (record { nodes = (get_or nets k d).nodes + 1; edges = edges })) ≡ set (sizes_of nets) k (get_or (sizes_of nets) k 0 + 1)
-size_written nets k d edges h =
-    map-set (λ (net : Network). net.nodes) nets k (record { nodes = (get_or nets k d).nodes + 1; edges = edges })
-    ∙ ap (λ n. set (sizes_of nets) k (n + 1)) (sym (get_or-map (λ (net : Network). net.nodes) nets k d 0 h))
+pub size_written : (networks : List Network) (k : ℕ) (d : Network) (edges : Vec NetEdge Global) → k < length networks → sizes_of (set networks k (record { nodes = (get_or networks k d).nodes + 1; edges = edges })) ≡ set (sizes_of networks) k (get_or (sizes_of networks) k 0 + 1)
+size_written networks k d edges h =
+    map-set (λ (net : Network). net.nodes) networks k (record { nodes = (get_or networks k d).nodes + 1; edges = edges })
+    ∙ ap (λ n. set (sizes_of networks) k (n + 1)) (sym (get_or-map (λ (net : Network). net.nodes) networks k d 0 h))
 
-pub sizes_kept : (nets : List Network) (k : ℕ) (d : Network) (edges : Vec NetEdge Global) → k < length nets → sizes_of (set nets k (record { nodes = (get_or nets k d).nodes; edges = edges })) ≡ sizes_of nets
-sizes_kept nets k d edges h =
-    map-set (λ (net : Network). net.nodes) nets k (record { nodes = (get_or nets k d).nodes; edges = edges })
-    ∙ ap (set (sizes_of nets) k) (sym (get_or-map (λ (net : Network). net.nodes) nets k d 0 h))
-    ∙ set-get_or (sizes_of nets) k 0
+pub sizes_kept : (networks : List Network) (k : ℕ) (d : Network) (edges : Vec NetEdge Global) → k < length networks → sizes_of (set networks k (record { nodes = (get_or networks k d).nodes; edges = edges })) ≡ sizes_of networks
+sizes_kept networks k d edges h =
+    map-set (λ (net : Network). net.nodes) networks k (record { nodes = (get_or networks k d).nodes; edges = edges })
+    ∙ ap (set (sizes_of networks) k) (sym (get_or-map (λ (net : Network). net.nodes) networks k d 0 h))
+    ∙ set-get_or (sizes_of networks) k 0
 
-pub rows_kept : (nets : List Network) (k n : ℕ) (d : Network) → k < length nets → rows_of (set nets k (record { nodes = n; edges = (get_or nets k d).edges })) ≡ rows_of nets
-rows_kept nets k n d h =
-    map-set (λ (net : Network). net.edges.items) nets k (record { nodes = n; edges = (get_or nets k d).edges })
-    ∙ ap (set (rows_of nets) k) (sym (get_or-map (λ (net : Network). net.edges.items) nets k d [] h))
-    ∙ set-get_or (rows_of nets) k []
+pub rows_kept : (networks : List Network) (k n : ℕ) (d : Network) → k < length networks → rows_of (set networks k (record { nodes = n; edges = (get_or networks k d).edges })) ≡ rows_of networks
+rows_kept networks k n d h =
+    map-set (λ (net : Network). net.edges.items) networks k (record { nodes = n; edges = (get_or networks k d).edges })
+    ∙ ap (set (rows_of networks) k) (sym (get_or-map (λ (net : Network). net.edges.items) networks k d [] h))
+    ∙ set-get_or (rows_of networks) k []
 
-pub row_written : (nets : List Network) (k n : ℕ) (d : Network) (edge : NetEdge) (edges : Vec NetEdge Global) → k < length nets → edges.items ≡ (get_or nets k d).edges.items ++ edge ∷ []
-    → rows_of (set nets k (record { nodes = n; edges = edges })) ≡ set (rows_of nets) k (row_at (rows_of nets) k ++ edge ∷ [])
-row_written nets k n d edge edges h pushed =
-    map-set (λ (net : Network). net.edges.items) nets k (record { nodes = n; edges = edges })
-    ∙ ap (set (rows_of nets) k) (pushed ∙ ap (λ (es : List NetEdge). es ++ edge ∷ []) (sym (get_or-map (λ (net : Network). net.edges.items) nets k d [] h)))
+pub row_written : (networks : List Network) (k n : ℕ) (d : Network) (edge : NetEdge) (edges : Vec NetEdge Global) → k < length networks → edges.items ≡ (get_or networks k d).edges.items ++ edge ∷ []
+    → rows_of (set networks k (record { nodes = n; edges = edges })) ≡ set (rows_of networks) k (row_at (rows_of networks) k ++ edge ∷ [])
+row_written networks k n d edge edges h pushed =
+    map-set (λ (net : Network). net.edges.items) networks k (record { nodes = n; edges = edges })
+    ∙ ap (set (rows_of networks) k) (pushed ∙ ap (λ (es : List NetEdge). es ++ edge ∷ []) (sym (get_or-map (λ (net : Network). net.edges.items) networks k d [] h)))
 
 -- ---- networks without nodes
 
@@ -74,13 +74,13 @@ default_more d x [] is h (suc k) = refl
 default_more d x (y ∷ ys) is h zero = h 0
 default_more d x (y ∷ ys) is h (suc k) = default_more d x ys is (λ j. h (suc j)) k
 
-pub sizes_more : (nets new : List Network) (net : Network) → new ≡ nets ++ net ∷ [] → net.nodes ≡ 0 → ((k : ℕ) → get_or (sizes_of nets) k 0 ≡ 0) → (k : ℕ) → get_or (sizes_of new) k 0 ≡ 0
-sizes_more nets new net pushed is none k =
-    ap (λ (ns : List Network). get_or (sizes_of ns) k 0) pushed ∙ ap (λ (xs : List ℕ). get_or xs k 0) (map_push (λ (n : Network). n.nodes) nets net) ∙ default_more 0 net.nodes (sizes_of nets) is none k
+pub sizes_more : (networks new : List Network) (net : Network) → new ≡ networks ++ net ∷ [] → net.nodes ≡ 0 → ((k : ℕ) → get_or (sizes_of networks) k 0 ≡ 0) → (k : ℕ) → get_or (sizes_of new) k 0 ≡ 0
+sizes_more networks new net pushed is none k =
+    ap (λ (ns : List Network). get_or (sizes_of ns) k 0) pushed ∙ ap (λ (xs : List ℕ). get_or xs k 0) (map_push (λ (n : Network). n.nodes) networks net) ∙ default_more 0 net.nodes (sizes_of networks) is none k
 
-pub rows_more : (nets new : List Network) (net : Network) → new ≡ nets ++ net ∷ [] → net.edges.items ≡ [] → ((k : ℕ) → row_at (rows_of nets) k ≡ []) → (k : ℕ) → row_at (rows_of new) k ≡ []
-rows_more nets new net pushed is none k =
-    ap (λ (ns : List Network). row_at (rows_of ns) k) pushed ∙ ap (λ rs. row_at rs k) (map_push (λ (n : Network). n.edges.items) nets net) ∙ default_more [] net.edges.items (rows_of nets) is none k
+pub rows_more : (networks new : List Network) (net : Network) → new ≡ networks ++ net ∷ [] → net.edges.items ≡ [] → ((k : ℕ) → row_at (rows_of networks) k ≡ []) → (k : ℕ) → row_at (rows_of new) k ≡ []
+rows_more networks new net pushed is none k =
+    ap (λ (ns : List Network). row_at (rows_of ns) k) pushed ∙ ap (λ rs. row_at rs k) (map_push (λ (n : Network). n.edges.items) networks net) ∙ default_more [] net.edges.items (rows_of networks) is none k
 
 -- ---- one node or edge more
 

@@ -12,10 +12,10 @@ pub record AreCounted (numbers : List ℕ) (n count : ℕ) : Type 0 where
 
 -- the numbers of nodes and the edges of networks
 abbrev pub sizes_of : List Network → List ℕ
-sizes_of nets = map (λ net. net.nodes) nets
+sizes_of networks = map (λ net. net.nodes) networks
 
 abbrev pub rows_of : List Network → List (List NetEdge)
-rows_of nets = map (λ net. net.edges.items) nets
+rows_of networks = map (λ net. net.edges.items) networks
 
 abbrev pub row_at : List (List NetEdge) → ℕ → List NetEdge
 row_at rows k = slice_index_or rows k []

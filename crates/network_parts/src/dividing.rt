@@ -24,30 +24,30 @@ pub fn count_parts(numbers: &[u32]) -> u32
 
 /// So many networks without nodes.
 pub(crate) fn empty_networks(alloc: Global, count: u32) -> Result<Vec<Network>, AllocError>
-    ensures as_many { IfOk result (λ nets. length nets.items ≡ count) }
-    ensures nodes { IfOk result (λ nets. (numbers : List ℕ) → HoldNodes numbers 0 (sizes_of nets.items)) }
-    ensures edges { IfOk result (λ nets. (numbers : List ℕ) (edges : List EdgeOf) → HoldEdges numbers edges 0 (rows_of nets.items)) }
+    ensures as_many { IfOk result (λ networks. length networks.items ≡ count) }
+    ensures nodes { IfOk result (λ networks. (numbers : List ℕ) → HoldNodes numbers 0 (sizes_of networks.items)) }
+    ensures edges { IfOk result (λ networks. (numbers : List ℕ) (edges : List EdgeOf) → HoldEdges numbers edges 0 (rows_of networks.items)) }
 {
-    let mut nets = Vec::with_capacity(alloc, count as usize)?;
+    let mut networks = Vec::with_capacity(alloc, count as usize)?;
     for _ in 0..count {
-        nets.push(Network {
+        networks.push(Network {
             nodes: 0,
             edges: Vec::new(alloc),
         })?;
     }
-    Ok(nets)
+    Ok(networks)
 }
 
 // Adds a node to one of the networks, and gives its number there.
-fn add_node(nets: &mut [Network], part: u32) -> u32
-    requires there { part < length nets.old }
-    requires few { slice_index (sizes_of nets.old) part < 2 ^ 23 }
-    ensures place { result ≡ slice_index (sizes_of nets.old) part }
-    ensures sizes { sizes_of nets.new ≡ slice_set (sizes_of nets.old) part (slice_index (sizes_of nets.old) part + 1) }
-    ensures edges { rows_of nets.new ≡ rows_of nets.old }
+fn add_node(networks: &mut [Network], part: u32) -> u32
+    requires there { part < length networks.old }
+    requires few { slice_index (sizes_of networks.old) part < 2 ^ 23 }
+    ensures place { result ≡ slice_index (sizes_of networks.old) part }
+    ensures sizes { sizes_of networks.new ≡ slice_set (sizes_of networks.old) part (slice_index (sizes_of networks.old) part + 1) }
+    ensures edges { rows_of networks.new ≡ rows_of networks.old }
 {
-    let place = nets[part as usize].nodes;
-    nets[part as usize].nodes = place + 1;
+    let place = networks[part as usize].nodes;
+    networks[part as usize].nodes = place + 1;
     place
 }
 
@@ -55,29 +55,29 @@ fn add_node(nets: &mut [Network], part: u32) -> u32
 pub(crate) fn place_nodes(
     alloc: Global,
     numbers: &[u32],
-    nets: &mut [Network],
+    networks: &mut [Network],
 ) -> Result<Vec<u32>, AllocError>
     requires few { length numbers.now ≤ 2 ^ 23 }
-    requires below { (v : ℕ) → v < length numbers.now → slice_index numbers.now v < length nets.old }
-    requires empty { HoldNodes numbers.now 0 (sizes_of nets.old) }
+    requires below { (v : ℕ) → v < length numbers.now → slice_index numbers.now v < length networks.old }
+    requires empty { HoldNodes numbers.now 0 (sizes_of networks.old) }
     ensures places { IfOk result (λ places. ArePlaces numbers.now (length numbers.now) places.items) }
-    ensures nodes { OnOk result (HoldNodes numbers.now (length numbers.now) (sizes_of nets.new)) }
-    ensures edges { OnOk result (rows_of nets.new ≡ rows_of nets.old) }
+    ensures nodes { OnOk result (HoldNodes numbers.now (length numbers.now) (sizes_of networks.new)) }
+    ensures edges { OnOk result (rows_of networks.new ≡ rows_of networks.old) }
 {
     let mut places = Vec::with_capacity(alloc, numbers.len())?;
     for number in numbers {
-        places.push(add_node(nets, *number))?;
+        places.push(add_node(networks, *number))?;
     }
     Ok(places)
 }
 
 // Adds an edge to one of the networks.
-fn add_edge(nets: &mut [Network], part: u32, edge: NetEdge) -> Result<(), AllocError>
-    requires { part < length nets.old }
-    ensures sizes { OnOk result (sizes_of nets.new ≡ sizes_of nets.old) }
-    ensures edges { OnOk result (rows_of nets.new ≡ slice_set (rows_of nets.old) part (row_at (rows_of nets.old) part ++ edge ∷ [])) }
+fn add_edge(networks: &mut [Network], part: u32, edge: NetEdge) -> Result<(), AllocError>
+    requires { part < length networks.old }
+    ensures sizes { OnOk result (sizes_of networks.new ≡ sizes_of networks.old) }
+    ensures edges { OnOk result (rows_of networks.new ≡ slice_set (rows_of networks.old) part (row_at (rows_of networks.old) part ++ edge ∷ [])) }
 {
-    nets[part as usize].edges.push(edge)?;
+    networks[part as usize].edges.push(edge)?;
     Ok(())
 }
 
@@ -100,18 +100,18 @@ pub(crate) fn give_edges(
     numbers: &[u32],
     places: &[u32],
     edges: &[NetEdge],
-    nets: &mut [Network],
+    networks: &mut [Network],
 ) -> Result<(), AllocError>
     requires ends { EndsBelow (length numbers.now) edges.now }
     requires places { ArePlaces numbers.now (length numbers.now) places.now }
-    requires below { (v : ℕ) → v < length numbers.now → slice_index numbers.now v < length nets.old }
-    requires empty { HoldEdges numbers.now edges.now 0 (rows_of nets.old) }
-    ensures nodes { OnOk result (sizes_of nets.new ≡ sizes_of nets.old) }
-    ensures edges { OnOk result (HoldEdges numbers.now edges.now (length edges.now) (rows_of nets.new)) }
+    requires below { (v : ℕ) → v < length numbers.now → slice_index numbers.now v < length networks.old }
+    requires empty { HoldEdges numbers.now edges.now 0 (rows_of networks.old) }
+    ensures nodes { OnOk result (sizes_of networks.new ≡ sizes_of networks.old) }
+    ensures edges { OnOk result (HoldEdges numbers.now edges.now (length edges.now) (rows_of networks.new)) }
 {
     for edge in edges {
         let part = numbers[edge.tail as usize];
-        add_edge(nets, part, renumber(places, *edge))?;
+        add_edge(networks, part, renumber(places, *edge))?;
     }
     Ok(())
 }

@@ -33,12 +33,12 @@ fn solve_alone(alloc: Global, net: &Network) -> Result<Solution, AllocError>
 }
 
 // The layerings of connected networks.
-fn solve_each(alloc: Global, nets: &[Network]) -> Result<Vec<Solution>, AllocError>
-    requires { AreWhole (sizes_of nets.now) (rows_of nets.now) }
-    ensures { IfOk result (λ solutions. AreSolved (sizes_of nets.now) (rows_of nets.now) (length nets.now) solutions.items) }
+fn solve_each(alloc: Global, networks: &[Network]) -> Result<Vec<Solution>, AllocError>
+    requires { AreWhole (sizes_of networks.now) (rows_of networks.now) }
+    ensures { IfOk result (λ solutions. AreSolved (sizes_of networks.now) (rows_of networks.now) (length networks.now) solutions.items) }
 {
-    let mut solutions = Vec::with_capacity(alloc, nets.len())?;
-    for net in nets {
+    let mut solutions = Vec::with_capacity(alloc, networks.len())?;
+    for net in networks {
         solutions.push(solve_alone(alloc, net)?)?;
     }
     Ok(solutions)
@@ -71,19 +71,19 @@ fn solve_in(
     alloc: Global,
     numbers: &[u32],
     edges: &[NetEdge],
-    nets: &mut [Network],
+    networks: &mut [Network],
 ) -> Result<Solution, AllocError>
     requires network { IsNetwork (length numbers.now) edges.now }
     requires parts { ArePartNumbers (length numbers.now) edges.now numbers.now }
-    requires count { AreCounted numbers.now (length numbers.now) (length nets.old) }
-    requires nodes { HoldNodes numbers.now 0 (sizes_of nets.old) }
-    requires edges { HoldEdges numbers.now edges.now 0 (rows_of nets.old) }
+    requires count { AreCounted numbers.now (length numbers.now) (length networks.old) }
+    requires nodes { HoldNodes numbers.now 0 (sizes_of networks.old) }
+    requires edges { HoldEdges numbers.now edges.now 0 (rows_of networks.old) }
     ensures solution { IfOk result (λ s. IsSolution (length numbers.now) edges.now s.layer.items s.flow.items s.cost) }
     ensures parts { IfOk result (λ s. IsSolvedByParts (length numbers.now) edges.now s.layer.items s.flow.items) }
 {
-    let places = place_nodes(alloc, numbers, nets)?;
-    give_edges(numbers, places.as_slice(), edges, nets)?;
-    let solutions = solve_each(alloc, nets)?;
+    let places = place_nodes(alloc, numbers, networks)?;
+    give_edges(numbers, places.as_slice(), edges, networks)?;
+    let solutions = solve_each(alloc, networks)?;
     join_all(
         alloc,
         numbers,
@@ -97,18 +97,23 @@ fn solve_in(
 /// own, its nodes and edges in the order of their numbers, by network simplex with 64 pivots for each node and each edge of
 /// the part, and by the primal-dual flow where these don't suffice. The least layer of each part is 0.
 ///
-/// Layers are by node and flows by edge. The only error is want of memory.
+/// Layers are by node and flows by edge. The only error is out of memory.
+///
+/// Proved:
+/// - The promise of flow_dual for every network.
+/// - In each connected part, what net_simplex promises of the part alone, with its nodes and edges in the order of their numbers.
+/// - The budget is 64 pivots for each node and each edge. If they don't suffice, any minimal layering may be the answer.
 pub fn solve_parts(alloc: Global, net: &Network) -> Result<Solution, AllocError>
     requires { IsNetwork net.now.nodes net.now.edges.items }
     ensures solution { IfOk result (λ s. IsSolution net.now.nodes net.now.edges.items s.layer.items s.flow.items s.cost) }
     ensures parts { IfOk result (λ s. IsSolvedByParts net.now.nodes net.now.edges.items s.layer.items s.flow.items) }
 {
     let numbers = parts(alloc, net)?;
-    let mut nets = empty_networks(alloc, count_parts(numbers.as_slice()))?;
+    let mut networks = empty_networks(alloc, count_parts(numbers.as_slice()))?;
     solve_in(
         alloc,
         numbers.as_slice(),
         net.edges.as_slice(),
-        nets.as_mut_slice(),
+        networks.as_mut_slice(),
     )
 }

@@ -39,7 +39,8 @@ impl NodeLabels {
     }
 }
 
-fn placement_of(draft: &Draft, node: usize, label: usize) -> Option<&Value> {
+/// What tells where a label of a node stands: its own placement, or that of its node.
+pub fn placement_of(draft: &Draft, node: usize, label: usize) -> Option<&Value> {
     match draft.option(Element::Label(label), "nodeLabels.placement") {
         None | Some(Value::Null) => draft.option(Element::Node(node), "nodeLabels.placement"),
         placement => placement,
@@ -81,6 +82,14 @@ fn spot_of(draft: &Draft, node: usize, label: usize) -> Option<Spot> {
         side: Some(side),
         ..inside
     })
+}
+
+/// Whether a label of a node is placed beyond one of its sides.
+pub fn is_outside(draft: &Draft, node: usize, label: usize) -> bool {
+    match spot_of(draft, node, label) {
+        Some(spot) => spot.side.is_some(),
+        None => false,
+    }
 }
 
 // There are no more groups than spots.

@@ -21,7 +21,7 @@ mod sizes;
 pub use at_ports::{
     InnerLabels, PortLabels, beside_port, place_port_labels, port_labels_of, raise_port_labels,
 };
-pub use groups::{NodeLabels, node_labels_of};
+pub use groups::{NodeLabels, is_outside, node_labels_of, placement_of};
 pub use outside::keep_outside;
 pub use placing::{PlacedLabels, place_node_labels, raise_node_labels};
 pub use sizes::{Lacks, SizedNodes, lacks_of, padding_of, size_nodes};

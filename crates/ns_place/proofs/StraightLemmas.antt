@@ -1,4 +1,4 @@
--- Links that are level have no height, and weigh by it.
+-- Links that are horizontal have no height, and weigh by it.
 use Rattle.std.proofs.Common.{◌≡◌, ◌≢◌, ℕ, ◌<◌, ◌≤◌, cond, ℤ, pos, ◌-ℤ◌, List, length, map, replicate, Bool, true, false, None, arith, refl, ◌∙◌, inl, inr, eq-eqb, ne_eqb}
 use Rattle.std.proofs.lemmas.Int.{ints}
 use Rattle.std.proofs.lemmas.Bool.{cases_eq}
@@ -9,7 +9,7 @@ use Rattle.elk_layers.specs.Layered.{Plain, link_at}
 use Rattle.bk_place.specs.Placement.{AreLinesOf}
 use Rattle.ns_place.specs.Heights.{size, link_height}
 use Rattle.ns_place.specs.Weighed.{greatest_weight, weight_at, AreWeights}
-use Rattle.ns_place.specs.Straight.{weight_for, WeighByLevel, AreStraightWeights}
+use Rattle.ns_place.specs.Straight.{weight_for, WeighStraight, AreStraightWeights}
 use Rattle.ns_place.proofs.CostLemmas.{size_is}
 use Rattle.ns_place.proofs.PlacingLemmas.{even_one, even_weigh}
 
@@ -19,14 +19,14 @@ flat_ends t h e = elim (size_is (h -ℤ t)) [
   | inr s ↦ omega (arith, ints, e, s)
 ]
 
-level_ends : (t h : ℤ) → t ≡ h → size (h -ℤ t) ≡ 0
-level_ends t h e = elim (size_is (h -ℤ t)) [
+horizontal_ends : (t h : ℤ) → t ≡ h → size (h -ℤ t) ≡ 0
+horizontal_ends t h e = elim (size_is (h -ℤ t)) [
   | inl s ↦ omega (arith, ints, e, s)
   | inr s ↦ omega (arith, ints, e, s)
 ]
 
-level_weight : (straightness : ℕ) (tops : List ℤ) (link : Link) → link_height tops link ≡ 0 → weight_for straightness tops link ≡ straightness
-level_weight straightness tops link e = rw (eq-eqb (link_height tops link) 0 e) refl
+horizontal_weight : (straightness : ℕ) (tops : List ℤ) (link : Link) → link_height tops link ≡ 0 → weight_for straightness tops link ≡ straightness
+horizontal_weight straightness tops link e = rw (eq-eqb (link_height tops link) 0 e) refl
 
 other_weight : (straightness : ℕ) (tops : List ℤ) (link : Link) → link_height tops link ≢ 0 → weight_for straightness tops link ≡ 1
 other_weight straightness tops link ne = rw (ne_eqb (link_height tops link) 0 ne) refl
@@ -42,14 +42,14 @@ module _ (l : Plain) (straightness : ℕ) (tops : List ℤ) where
   weight_is : (k : ℕ) → k < length l.links → weight_at (map (weight_for straightness tops) l.links) k ≡ weight_for straightness tops (link_at l.links k)
   weight_is k h = get_or-map (weight_for straightness tops) l.links k (record { edge = 0; tail = 0; head = 0; tail_rank = 0; head_rank = 0; tail_at = pos 0; head_at = pos 0 }) 0 h
 
-  weigh_by_level : WeighByLevel l straightness tops (map (weight_for straightness tops) l.links)
-  weigh_by_level k h = elim (cases_eq (link_height tops (link_at l.links k)) 0) [
+  weigh_straight : WeighStraight l straightness tops (map (weight_for straightness tops) l.links)
+  weigh_straight k h = elim (cases_eq (link_height tops (link_at l.links k)) 0) [
     | inl e ↦ record {
-      level = λ _. weight_is k h ∙ level_weight straightness tops (link_at l.links k) e;
+      horizontal = λ _. weight_is k h ∙ horizontal_weight straightness tops (link_at l.links k) e;
       other = λ n. absurd (n (flat_ends _ _ e));
     }
     | inr ne ↦ record {
-      level = λ e. absurd (ne (level_ends _ _ e));
+      horizontal = λ e. absurd (ne (horizontal_ends _ _ e));
       other = λ _. weight_is k h ∙ other_weight straightness tops (link_at l.links k) ne;
     }
   ]
@@ -70,7 +70,7 @@ module _ (l : Plain) (straightness : ℕ) (tops : List ℤ) where
       record {
         one_each = length-map l.links (weight_for straightness tops);
         by_one = λ e. absurd (ne e);
-        by_more = λ _. record { aligned = tops; are_lines = lines; by_level = weigh_by_level };
+        by_more = λ _. record { aligned = tops; are_lines = lines; by_straightness = weigh_straight };
       }
 
 pub even_weights_are : (l : Plain) (rows : List (List ℕ)) (straightness : ℕ) → straightness ≡ 1 → AreStraightWeights l rows straightness (replicate (length l.links) 1)

@@ -17,7 +17,7 @@ use crate::least::LeastPlacing;
 use crate::network::network_of;
 use crate::pairs::pairs_of;
 use crate::start::{first_layers, layers_at};
-use crate::straight::{even_weights, weigh_by_level};
+use crate::straight::{even_weights, weigh_straight};
 use bk_place::place;
 use elk_layers::{Layered, Lines, Order};
 use flow_dual::solve_from;
@@ -98,6 +98,12 @@ fn place_even(alloc: Global, layered: &Layered, order: &Order) -> Result<LeastPl
 
 /// Tops of units that keep all distances of the order and make the links least high together, with a flow that
 /// proves it and that can be added up by hand. No unit ends further down than all heights and spacings together.
+///
+/// Proved:
+/// - Tops that keep all distances and minimize the total height of the links among all such tops, with that height.
+/// - A number from -1 to 1 on each link, and a flow on each pair of units that a distance holds apart. They balance at each unit and
+///   add up to the height.
+/// - No unit ends further down than all heights and spacings together. (`place_straight`)
 pub fn place_least(
     alloc: Global,
     layered: &Layered,
@@ -115,9 +121,15 @@ pub fn place_least(
 }
 
 /// Tops of units that keep all distances of the order and make the links least high together, with a flow that
-/// proves it. A link that alignment keeps level counts `straightness` times: it stays straight unless bending it
+/// proves it. A link that alignment keeps horizontal counts `straightness` times: it stays straight unless bending it
 /// saves more than that elsewhere. (Alignment is the sweep of least height.) With a straightness of 1 this is
 /// `place_least`; with 0 such links may be as high as they like.
+///
+/// Proved:
+/// - Tops that keep all distances and minimize the total weighted height of the links among all such tops, with that height. A link
+///   that the lowest alignment keeps horizontal weighs `straightness`, any other link 1.
+/// - A number on each link, from minus its weight to its weight, and a flow on each such pair. They balance at each unit and add up to
+///   the weighted height.
 pub fn place_straight(
     alloc: Global,
     layered: &Layered,
@@ -138,7 +150,7 @@ pub fn place_straight(
     }
     let lines = place(alloc, layered, order, None)?;
     let top = lines.top.as_slice();
-    let weights = weigh_by_level(alloc, straightness, top, layered.links.as_slice())?;
+    let weights = weigh_straight(alloc, straightness, top, layered.links.as_slice())?;
     let first = layers_at(alloc, layered, top)?;
     place_weighed(alloc, layered, order, weights.as_slice(), first)
 }

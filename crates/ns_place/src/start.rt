@@ -1,4 +1,4 @@
-//! The layers from which the network is solved: the tops of an alignment, in which most links are level.
+//! The layers from which the network is solved: the tops of an alignment, in which most links are horizontal.
 
 ghost use Rattle.std.specs.Prelude.{◌≡◌, ℕ, ◌<◌, ◌≤◌, ◌^◌, ◌++◌, pos, ◌+ℤ◌, ◌-ℤ◌, ◌≤ℤ◌, map, length, IfOk};
 ghost use Rattle.std.specs.Int.{int_min};

@@ -1,4 +1,4 @@
-//! The weights of links: more for those that are level.
+//! The weights of links: more for those that are horizontal.
 
 ghost use Rattle.std.specs.Prelude.{◌≡◌, map, IfOk, replicate};
 ghost use Rattle.std.specs.List.{All};
@@ -28,8 +28,8 @@ fn weight_for(straightness: u32, top: &[i64], link: Link) -> u32
     }
 }
 
-/// By link, `straightness` if it is level at these tops, and else 1.
-pub(crate) fn weigh_by_level(
+/// By link, `straightness` if it is horizontal at these tops, and else 1.
+pub(crate) fn weigh_straight(
     alloc: Global,
     straightness: u32,
     top: &[i64],

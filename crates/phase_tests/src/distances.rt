@@ -9,7 +9,7 @@ ghost use Rattle.elk_layers.specs.Examples.{two_by_two, two_rows, five_by_five, 
 use elk_layers::{Layered, Unit, body_room, room};
 use std::test::Fail;
 
-// Two links that cross, until the second row is turned round.
+// Two links that cross, until the second row is reversed.
 fn two_units_beside_two()
     ensures crossing { crossings two_by_two two_rows ≡ 1 }
     ensures exchanged { crossings two_by_two (exchanged two_rows 1 0) ≡ 0 }

@@ -34,7 +34,7 @@ fn one_beside_two(rt: HostRuntime) -> Result<(), Fail> {
     Ok(())
 }
 
-// Two links pull the single unit down. The third, which alignment keeps level, stays straight if bending it costs more
+// Two links pull the single unit down. The third, which alignment keeps horizontal, stays straight if bending it costs more
 // than bending the two.
 #[test]
 fn weights_decide_which_links_bend(rt: HostRuntime) -> Result<(), Fail> {

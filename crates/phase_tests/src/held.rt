@@ -52,8 +52,8 @@ fn held_units_keep_their_order(rt: HostRuntime) -> Result<(), Fail> {
     let alloc = rt.alloc();
     let by_key = order_by(alloc, Some(-5), Some(5))?;
     assert!(rt; has_second(&by_key, [2, 3].as_slice()));
-    let turned = order_by(alloc, Some(5), Some(-5))?;
-    assert!(rt; has_second(&turned, [3, 2].as_slice()));
+    let flipped = order_by(alloc, Some(5), Some(-5))?;
+    assert!(rt; has_second(&flipped, [3, 2].as_slice()));
     let equal = order_by(alloc, Some(5), Some(5))?;
     assert!(rt; has_second(&equal, [2, 3].as_slice()));
     let free = order_by(alloc, None, Some(5))?;

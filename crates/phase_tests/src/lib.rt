@@ -27,9 +27,9 @@ mod heights;
 #[cfg(test)]
 mod held;
 #[cfg(test)]
-mod incidence;
+mod horizontal;
 #[cfg(test)]
-mod levelled;
+mod incidence;
 #[cfg(test)]
 mod lines;
 #[cfg(test)]

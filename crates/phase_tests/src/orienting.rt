@@ -24,8 +24,8 @@ pub fn sorted(alloc: Global, arena: &Arena) -> Result<Option<usize>, AllocError>
     }
 }
 
-/// How many edges are turned round so that there is one.
-pub fn turned(alloc: Global, arena: &mut Arena) -> Result<usize, AllocError> {
+/// How many edges are reversed so that there is one.
+pub fn reversed_count(alloc: Global, arena: &mut Arena) -> Result<usize, AllocError> {
     let reversed = orient(alloc, arena)?;
     Ok(reversed.edges.len())
 }

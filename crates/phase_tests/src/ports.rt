@@ -71,14 +71,14 @@ fn leaf(
 
 // Whether edges enter and leave a spot, and its mean as a sum and a count.
 #[derive(Clone, Copy)]
-struct Flow {
+struct Passing {
     enters: bool,
     leaves: bool,
     sum: u64,
     count: u32,
 }
 
-const QUIET: Flow = Flow {
+const QUIET: Passing = Passing {
     enters: false,
     leaves: false,
     sum: 0,
@@ -86,20 +86,20 @@ const QUIET: Flow = Flow {
 };
 
 // The mean, if it counts something.
-fn mean_of(flow: Flow) -> Option<Mean>
+fn mean_of(passing: Passing) -> Option<Mean>
     ensures { IfSome result (λ m. 1 ≤ m.count) }
 {
-    if flow.count == 0 {
+    if passing.count == 0 {
         return None;
     }
     Some(Mean {
-        sum: flow.sum,
-        count: flow.count,
+        sum: passing.sum,
+        count: passing.count,
     })
 }
 
 // The spot of a port.
-fn port_spot(port: u32, flow: Flow) -> Spot
+fn port_spot(port: u32, passing: Passing) -> Spot
     ensures port { result.port ≡ Some port }
     ensures number { result.number ≡ port }
     ensures mean { IfSome result.mean (λ m. 1 ≤ m.count) }
@@ -107,14 +107,14 @@ fn port_spot(port: u32, flow: Flow) -> Spot
     Spot {
         port: Some(port),
         number: port,
-        leaves: flow.leaves,
-        enters: flow.enters,
-        mean: mean_of(flow),
+        leaves: passing.leaves,
+        enters: passing.enters,
+        mean: mean_of(passing),
     }
 }
 
 // An implicit end that an edge leaves.
-fn leaving_end(flow: Flow) -> Spot
+fn leaving_end(passing: Passing) -> Spot
     ensures port { result.port ≡ None }
     ensures number { result.number ≡ 3 }
     ensures mean { IfSome result.mean (λ m. 1 ≤ m.count) }
@@ -125,7 +125,7 @@ fn leaving_end(flow: Flow) -> Spot
         number: 3,
         leaves: true,
         enters: false,
-        mean: mean_of(flow),
+        mean: mean_of(passing),
     }
 }
 
@@ -134,7 +134,7 @@ fn order_of(
     alloc: Global,
     child: &Child,
     side: Side,
-    flows: [Flow; 4],
+    flows: [Passing; 4],
 ) -> Result<Vec<u32>, AllocError>
     requires child { IsChild child.now }
     requires ports { length child.now.ports ≡ 3 }
@@ -168,7 +168,7 @@ fn fixed_orders_run_clockwise_in_the_document(rt: HostRuntime) -> Result<(), Fai
 
 #[test]
 fn implicit_ends_stand_after_ports(rt: HostRuntime) -> Result<(), Fail> {
-    let first = Flow {
+    let first = Passing {
         enters: false,
         leaves: true,
         sum: 0,
@@ -191,8 +191,8 @@ fn implicit_ends_stand_after_ports(rt: HostRuntime) -> Result<(), Fail> {
 }
 
 // A flow out of a spot, with its mean.
-fn leaving(sum: u64, count: u32) -> Flow {
-    Flow {
+fn leaving(sum: u64, count: u32) -> Passing {
+    Passing {
         enters: false,
         leaves: true,
         sum,
@@ -233,7 +233,7 @@ fn spots_below_stand_by_their_flow(rt: HostRuntime) -> Result<(), Fail> {
         [0, 0, 0],
     )?;
     let out = leaving(0, 0);
-    let into = Flow {
+    let into = Passing {
         enters: true,
         leaves: false,
         sum: 0,

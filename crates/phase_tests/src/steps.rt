@@ -5,7 +5,7 @@ use crate::incidence::{
     remove_edge, remove_node, reserve, reverse, split,
 };
 use crate::networks::{number_or, numbers};
-use crate::orienting::{is_way, sorted, turned};
+use crate::orienting::{is_way, reversed_count, sorted};
 use graph_arena::{Arena, EdgeKey, NodeKey};
 use std::alloc::{AllocError, Global};
 use std::test::Fail;
@@ -94,7 +94,7 @@ fn lists(alloc: Global, arena: &Arena, word: &str, numbers: &[u32]) -> Result<bo
     }
 }
 
-// Whether the word names an order of so many nodes, no order, a number of edges that are turned so that there is one, or a way from
+// Whether the word names an order of so many nodes, no order, a number of edges that are reversed so that there is one, or a way from
 // a node to another by the edges that follow.
 fn leads(
     alloc: Global,
@@ -105,7 +105,7 @@ fn leads(
     match word {
         "order" => Ok(sorted(alloc, arena)? == Some(number(numbers, 0) as usize)),
         "cyclic" => Ok(sorted(alloc, arena)?.is_none()),
-        "turned" => Ok(turned(alloc, arena)? == number(numbers, 0) as usize),
+        "reversed" => Ok(reversed_count(alloc, arena)? == number(numbers, 0) as usize),
         "way" => {
             let edges = edges_from(alloc, numbers, 2)?;
             is_way(

@@ -16,8 +16,8 @@ fn is_lane(layered: &Layered, unit: u32) -> bool {
     }
 }
 
-// How many links between lanes there are, and how many of them are level.
-fn level_lanes(layered: &Layered, lines: &Lines) -> (usize, usize) {
+// How many links between lanes there are, and how many of them are horizontal.
+fn horizontal_lanes(layered: &Layered, lines: &Lines) -> (usize, usize) {
     let mut inner = 0usize;
     let mut level = 0usize;
     for link in layered.links.as_slice() {
@@ -59,7 +59,7 @@ fn long_edges_come_out_straight(rt: HostRuntime) -> Result<(), Fail> {
         Some(Sweep::RightDown),
     ] {
         let lines = placed(alloc, &layered, &order, fixed)?;
-        let (inner, level) = level_lanes(&layered, &lines);
+        let (inner, level) = horizontal_lanes(&layered, &lines);
         assert!(rt; inner > 100);
         assert_eq!(rt; level, inner);
     }

@@ -9,45 +9,45 @@ use Rattle.route_lines.specs.Points.{Alternates, none, one, lane_leg, leg_lane}
 use Rattle.level_model.specs.Level.{PlainLevel, PlainPlan, Orders, End, end_at, tail_end, head_end, holds, is_loop, dock_of}
 use Rattle.level_model.specs.Lanes.{has_one_dock}
 use Rattle.level_model.specs.Nets.{is_inverted}
-use Rattle.level_model.specs.Traces.{leaving, entering, chain_steps, oriented_steps, turned_step, turned_steps, loop_steps, steps_of}
+use Rattle.level_model.specs.Traces.{leaving, entering, chain_steps, oriented_steps, reversed_step, reversed_steps, loop_steps, steps_of}
 use Rattle.level_model.specs.Ready.{IsReady}
-use Rattle.plan_laws.proofs.Chains.{chain_of, turned_append}
+use Rattle.plan_laws.proofs.Chains.{chain_of, reversed_append}
 use Rattle.plan_laws.specs.Joins.{StepsAlternate}
 
 -- what may follow a leg
 abbrev AfterLeg : List Step → Type 0
 AfterLeg steps = (g n : ℕ) (from_a : Bool) → Alternates (Leg g n from_a ∷ steps)
 
--- ---- turned steps
+-- ---- reversed steps
 
-pub turned_one : (s : Step) (xs ys : List Step) → turned_steps (s ∷ xs) ++ ys ≡ turned_steps xs ++ turned_step s ∷ ys
-turned_one s xs ys = ap (λ zs. zs ++ ys) (turned_append (s ∷ []) xs) ∙ append_assoc (turned_steps xs) (turned_step s ∷ []) ys
+pub reversed_one : (s : Step) (xs ys : List Step) → reversed_steps (s ∷ xs) ++ ys ≡ reversed_steps xs ++ reversed_step s ∷ ys
+reversed_one s xs ys = ap (λ zs. zs ++ ys) (reversed_append (s ∷ []) xs) ∙ append_assoc (reversed_steps xs) (reversed_step s ∷ []) ys
 
--- what may stand behind turned steps
+-- what may stand behind reversed steps
 abbrev MayFollow : List Step → List Step → Type 0
 MayFollow [] ys = Alternates ys
-MayFollow (s ∷ xs) ys = Alternates (turned_step s ∷ ys)
+MayFollow (s ∷ xs) ys = Alternates (reversed_step s ∷ ys)
 
-turned_before : (xs ys : List Step) → Alternates xs → MayFollow xs ys → Alternates (turned_steps xs ++ ys)
-turned_before _ ys none m = m
-turned_before _ ys (one s) m = m
-turned_before _ ys (lane_leg h g n from_a steps a) m =
-    subst Alternates (sym (turned_one (Lane h) (Leg g n from_a ∷ steps) ys))
-    (turned_before (Leg g n from_a ∷ steps) (Lane h ∷ ys) a (leg_lane h g n (not from_a) ys m))
-turned_before _ ys (leg_lane h g n from_a steps a) m =
-    subst Alternates (sym (turned_one (Leg g n from_a) (Lane h ∷ steps) ys))
-    (turned_before (Lane h ∷ steps) (Leg g n (not from_a) ∷ ys) a (lane_leg h g n (not from_a) ys m))
+reversed_before : (xs ys : List Step) → Alternates xs → MayFollow xs ys → Alternates (reversed_steps xs ++ ys)
+reversed_before _ ys none m = m
+reversed_before _ ys (one s) m = m
+reversed_before _ ys (lane_leg h g n from_a steps a) m =
+    subst Alternates (sym (reversed_one (Lane h) (Leg g n from_a ∷ steps) ys))
+    (reversed_before (Leg g n from_a ∷ steps) (Lane h ∷ ys) a (leg_lane h g n (not from_a) ys m))
+reversed_before _ ys (leg_lane h g n from_a steps a) m =
+    subst Alternates (sym (reversed_one (Leg g n from_a) (Lane h ∷ steps) ys))
+    (reversed_before (Lane h ∷ steps) (Leg g n (not from_a) ∷ ys) a (lane_leg h g n (not from_a) ys m))
 
 pub append_none : (xs : List Step) → xs ++ [] ≡ xs
 append_none [] = refl
 append_none (x ∷ xs) = ap (λ ys. x ∷ ys) (append_none xs)
 
-turned_alternates : (xs : List Step) → Alternates xs → Alternates (turned_steps xs)
-turned_alternates xs a = subst Alternates (append_none (turned_steps xs)) (turned_before xs [] a (alone xs))
+reversed_alternates : (xs : List Step) → Alternates xs → Alternates (reversed_steps xs)
+reversed_alternates xs a = subst Alternates (append_none (reversed_steps xs)) (reversed_before xs [] a (alone xs))
   where
     alone : (xs : List Step) → MayFollow xs []
     alone [] = none
-    alone (s ∷ xs) = one (turned_step s)
+    alone (s ∷ xs) = one (reversed_step s)
 
 module _ (l : PlainLevel) (p : PlainPlan) (o : Orders) (shift : ℤ) where
   -- ---- from tail to head
@@ -109,7 +109,7 @@ module _ (l : PlainLevel) (p : PlainPlan) (o : Orders) (shift : ℤ) where
     edge_alternates =
         cond_alternates (is_loop l e) _ _
         (λ loop. cond_alternates (has_one_dock l p o e) _ _ (λ same. none) (λ two. loop_alternates e (dock_of l p o (end_at e true)).side (dock_of l p o (end_at e false)).side))
-        (λ plain. cond_alternates (holds p.reversed e) _ _ (λ turned. turned_alternates _ (oriented_alternates plain)) (λ kept. oriented_alternates plain))
+        (λ plain. cond_alternates (holds p.reversed e) _ _ (λ is_reversed. reversed_alternates _ (oriented_alternates plain)) (λ kept. oriented_alternates plain))
 
 pub steps_alternate : StepsAlternate
 steps_alternate l p o shift layers ready e h = edge_alternates l p o shift layers ready e h

@@ -13,7 +13,7 @@ use Rattle.route_lines.specs.Tidied.{Heading}
 use Rattle.level_model.specs.Stage.{Line, long_lane, unit_of_line, InUse, Reaches, Stands}
 use Rattle.level_model.specs.Level.{PlainLevel, PlainPlan, Orders, spoke, tail_end, head_end}
 use Rattle.level_model.specs.Nets.{of_link, unit_of, line_of_end, tail_line, head_line, gap_of, names_in, place_of_name}
-use Rattle.level_model.specs.Traces.{lane_step, leg_step, links_at, links_from, chain, chain_steps, turned_step, turned_steps}
+use Rattle.level_model.specs.Traces.{lane_step, leg_step, links_at, links_from, chain, chain_steps, reversed_step, reversed_steps}
 use Rattle.level_model.specs.Units.{IsLaneUnit, HasChain}
 use Rattle.level_model.specs.FromPlan.{LevelDrawing, IsDrawnFrom}
 use Rattle.level_model.specs.Drawing.{stage, is_in_use}
@@ -101,12 +101,12 @@ chain_of l p e w =
 
 -- ---- steps the other way
 
-pub turned_append : (xs ys : List Step) → turned_steps (xs ++ ys) ≡ turned_steps ys ++ turned_steps xs
-turned_append xs ys = ap reverse (map-append turned_step xs ys) ∙ reverse-append (map turned_step xs) (map turned_step ys)
+pub reversed_append : (xs ys : List Step) → reversed_steps (xs ++ ys) ≡ reversed_steps ys ++ reversed_steps xs
+reversed_append xs ys = ap reverse (map-append reversed_step xs ys) ∙ reverse-append (map reversed_step xs) (map reversed_step ys)
 
-turned_two : (a b : Step) (xs ts : List Step) → turned_steps (a ∷ b ∷ xs) ++ ts ≡ turned_steps xs ++ turned_step b ∷ turned_step a ∷ ts
-turned_two a b xs ts =
-    ap (λ zs. zs ++ ts) (turned_append (a ∷ b ∷ []) xs) ∙ append_assoc (turned_steps xs) (turned_step b ∷ turned_step a ∷ []) ts
+reversed_two : (a b : Step) (xs ts : List Step) → reversed_steps (a ∷ b ∷ xs) ++ ts ≡ reversed_steps xs ++ reversed_step b ∷ reversed_step a ∷ ts
+reversed_two a b xs ts =
+    ap (λ zs. zs ++ ts) (reversed_append (a ∷ b ∷ []) xs) ∙ append_assoc (reversed_steps xs) (reversed_step b ∷ reversed_step a ∷ []) ts
 
 -- a list of steps begins with a leg
 abbrev pub StartsWithLeg : List Step → Type 0
@@ -116,11 +116,11 @@ pub chain_first : (l : PlainLevel) (p : PlainPlan) (o : Orders) (d : LevelDrawin
 chain_first l p o d k [] ts = (_, _, _, _, refl)
 chain_first l p o d k (j ∷ ks) ts = (_, _, _, _, refl)
 
-pub turned_first : (l : PlainLevel) (p : PlainPlan) (o : Orders) (d : LevelDrawing) (k : ℕ) (ks : List ℕ) (ts : List Step) → StartsWithLeg (turned_steps (chain_steps l p o d.top (k ∷ ks)) ++ ts)
-turned_first l p o d k [] ts = (_, _, _, _, refl)
-turned_first l p o d k (j ∷ ks) ts =
-    subst StartsWithLeg (sym (turned_two (leg_step l p o (of_link k) true) (lane_step l p o d.top (long_lane (link_at p.layered.links k).head)) (chain_steps l p o d.top (j ∷ ks)) ts))
-    (turned_first l p o d j ks _)
+pub reversed_first : (l : PlainLevel) (p : PlainPlan) (o : Orders) (d : LevelDrawing) (k : ℕ) (ks : List ℕ) (ts : List Step) → StartsWithLeg (reversed_steps (chain_steps l p o d.top (k ∷ ks)) ++ ts)
+reversed_first l p o d k [] ts = (_, _, _, _, refl)
+reversed_first l p o d k (j ∷ ks) ts =
+    subst StartsWithLeg (sym (reversed_two (leg_step l p o (of_link k) true) (lane_step l p o d.top (long_lane (link_at p.layered.links k).head)) (chain_steps l p o d.top (j ∷ ks)) ts))
+    (reversed_first l p o d j ks _)
 
 -- ---- the lines of a link
 
@@ -191,7 +191,7 @@ module _ (l : PlainLevel) (p : PlainPlan) (o : Orders) (d : LevelDrawing) (layer
   -- from the head of the last to the tail of the first
   pub backward : (k : ℕ) (ks : List ℕ) (ts : List Step) (m n : Line) (q : Heading) (z : Point) → ((j : ℕ) → Has (k ∷ ks) j → IsLinkOf p e j) → Joined p k ks
       → IsTailLine l p o d k m → IsHeadLine l p o d (last_of k ks) n → Arrives (stage l p o d) e q z m true ts
-      → Departs (stage l p o d) e q z n false (turned_steps (chain_steps l p o d.top (k ∷ ks)) ++ ts)
+      → Departs (stage l p o d) e q z n false (reversed_steps (chain_steps l p o d.top (k ∷ ks)) ++ ts)
   backward k [] ts m n q z each joined tail head w =
       leg_back (stage l p o d) e _ _ q z m true n false ts st (link_joins k m n (each k (inl refl)) tail head) w
   backward k (j ∷ ks) ts m n q z each joined tail head w =
@@ -199,5 +199,5 @@ module _ (l : PlainLevel) (p : PlainPlan) (o : Orders) (d : LevelDrawing) (layer
       let net = link_joins k m (long_lane u) (each k (inl refl)) tail (head_at_lane l p o d k j joined.0) in
       let back = leg_back (stage l p o d) e _ _ q z m true (long_lane u) false ts st net w in
       let on = lane (stage l p o d) e _ _ q z (long_lane u) false false ts st net.b_use tt back in
-      subst (λ xs. Departs (stage l p o d) e q z n false xs) (sym (turned_two (leg_step l p o (of_link k) true) (lane_step l p o d.top (long_lane u)) (chain_steps l p o d.top (j ∷ ks)) ts))
+      subst (λ xs. Departs (stage l p o d) e q z n false xs) (sym (reversed_two (leg_step l p o (of_link k) true) (lane_step l p o d.top (long_lane u)) (chain_steps l p o d.top (j ∷ ks)) ts))
       (backward j ks _ (long_lane u) n q z (λ i h. each i (inr h)) joined.1 (tail_at_lane l p o d k j joined.0) head on)

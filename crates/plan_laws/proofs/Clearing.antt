@@ -172,7 +172,7 @@ end_meets s e c k z st child p pin abscissa is touch low high =
     let layers = touching s e p.gap (s.layer (s.unit_of c)) k.at found.pin st p.gap_there child.column found.at mine touch' in
     met_line s e c mine.line z.y st child mine.in_use layers (mine.height ∙ found.height ∙ sym zy) low high
 
--- a level piece of a net that touches a column's border and an outline there: at one of its ends a line of e lies there
+-- a horizontal piece of a net that touches a column's border and an outline there: at one of its ends a line of e lies there
 net_meets : (s : Stage) (e c : ℕ) (a b : Point) → Stands s → (p : IsNetPart s e a b) → ChildStands s c → MeetsRect a b (s.outline c) → (at_source : Bool) × ((s.dock e at_source).node ≡ c)
 net_meets s e c a b st p k m =
     let spans = MeetsRect-spans a b (s.outline c) m in

@@ -10,7 +10,7 @@ use Rattle.net_routes.specs.declared.Pin.{Pin}
 use Rattle.net_routes.specs.declared.Net.{Net}
 use Rattle.net_routes.specs.declared.NetRoute.TheVariants.{Straight}
 use Rattle.net_routes.specs.Pieces.{slot, border_of, pin_corner, corners, net_at, route_at, IsPieceOf}
-use Rattle.net_routes.specs.GapFree.{IsLevelNet, StandsIn}
+use Rattle.net_routes.specs.GapFree.{IsStraightNet, StandsIn}
 use Rattle.route_lines.specs.declared.Step.{Step}
 use Rattle.route_lines.specs.declared.Step.TheVariants.{Lane, Leg}
 use Rattle.route_lines.specs.Points.{gap_in, stand, point_at, net_leg, points_on, corner_points, net_points, fine_on, height_next}
@@ -118,7 +118,7 @@ heights_differ : (s : Stage) (e g n : ℕ) (m : Line) (b : Bool) (l : Line) (c :
 heights_differ s e g n m b l c st j bent same =
     ⊎_elim
     (λ e1. j.differ (st.lines.differ e e m l (side_at b) j.a_use j.b_use j.a_reaches (subst (λ z. Reaches (side_at z) l) (sym e1) j.b_reaches) (j.one_unit e1) same))
-    (λ two. bent (((st.nets g j.gap_there).free.straight n j.net_there).1 (subst (λ z. IsLevelNet z) (sym j.net_is) (two, same))))
+    (λ two. bent (((st.nets g j.gap_there).free.straight n j.net_there).1 (subst (λ z. IsStraightNet z) (sym j.net_is) (two, same))))
     (cases_bool b c)
 
 net_runs : (s : Stage) (e g n : ℕ) (m : Line) (b : Bool) (l : Line) (c : Bool) → Stands s → Joins s e g n m b l c
@@ -130,7 +130,7 @@ net_runs s e g n m b l c st j =
       from_b = λ i h. off_border s e g i l c st j.gap_there j.b_use j.b_gap j.b_x h;
       across = off_other s e g m l b c st j.gap_there j.a_use j.b_use j.a_gap j.b_gap j.a_x j.b_x;
       apart = λ i k hi hk. slots_apart s g i k (st.gap g j.gap_there) hi hk;
-      level = λ h. subst (λ z. IsLevelNet z) j.net_is ((free.straight n j.net_there).0 h);
+      level = λ h. subst (λ z. IsStraightNet z) j.net_is ((free.straight n j.net_there).0 h);
       bent = heights_differ s e g n m b l c st j;
       one_in = λ i h. free.slots_in n i j.net_there (subst (λ r. StandsIn r i) (sym h) refl);
       two_in = λ i h k r. (free.slots_in n i j.net_there (subst (λ z. StandsIn z i) (sym r) (inl refl)), free.slots_in n k j.net_there (subst (λ z. StandsIn z k) (sym r) (inr refl)));

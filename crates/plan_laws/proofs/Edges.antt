@@ -17,7 +17,7 @@ use Rattle.level_model.specs.Law.{IsNorthOrSouth, outward}
 use Rattle.level_model.specs.Level.{PlainLevel, PlainPlan, Orders, End, end_at, edge_at, spoke, is_loop, holds, enters, tail_end, head_end, dock_of}
 use Rattle.level_model.specs.Nets.{of_dock, inverts, is_inverted, line_of_end, unit_of, gap_of, names_in, place_of_name}
 use Rattle.level_model.specs.Nets as nets
-use Rattle.level_model.specs.Traces.{leaving, entering, chain, chain_steps, oriented_steps, turned_steps, loop_steps, steps_of}
+use Rattle.level_model.specs.Traces.{leaving, entering, chain, chain_steps, oriented_steps, reversed_steps, loop_steps, steps_of}
 use Rattle.level_model.specs.Lanes.{has_one_dock}
 use Rattle.level_model.specs.FromPlan.{LevelDrawing, IsDrawnFrom}
 use Rattle.level_model.specs.Drawing.{stage}
@@ -26,7 +26,7 @@ use Rattle.plan_laws.proofs.Doors.{side_at, gap_beside, Joins, Arrives, Departs,
 use Rattle.plan_laws.proofs.Ends.{IsWay, end_plain, end_upright, start_plain, start_upright}
 use Rattle.plan_laws.proofs.NetNames.{dock_named, joins}
 use Rattle.plan_laws.proofs.RouteEnds.{plain_end, upright_dock}
-use Rattle.plan_laws.proofs.Chains.{IsChain, chain_of, last_of, last_has, turned_append, StartsWithLeg, chain_first, turned_first, IsTailLine, IsHeadLine, tail_in_use, head_in_use, forward, backward}
+use Rattle.plan_laws.proofs.Chains.{IsChain, chain_of, last_of, last_has, reversed_append, StartsWithLeg, chain_first, reversed_first, IsTailLine, IsHeadLine, tail_in_use, head_in_use, forward, backward}
 
 -- ---- sides of ends; b is the border at which the chain leaves the child or comes to it, true the right one
 
@@ -67,15 +67,15 @@ not_not true = refl
 not_not false = refl
 
 -- steps of ends, the other way
-turned_leaving : (l : PlainLevel) (p : PlainPlan) (o : Orders) (d : LevelDrawing) (n : End) (inverted upright : Bool) → turned_steps (leaving l p o d.top n inverted upright) ≡ entering l p o d.top n inverted upright
-turned_leaving l p o d n true upright = refl
-turned_leaving l p o d n false true = refl
-turned_leaving l p o d n false false = refl
+reversed_leaving : (l : PlainLevel) (p : PlainPlan) (o : Orders) (d : LevelDrawing) (n : End) (inverted upright : Bool) → reversed_steps (leaving l p o d.top n inverted upright) ≡ entering l p o d.top n inverted upright
+reversed_leaving l p o d n true upright = refl
+reversed_leaving l p o d n false true = refl
+reversed_leaving l p o d n false false = refl
 
-turned_entering : (l : PlainLevel) (p : PlainPlan) (o : Orders) (d : LevelDrawing) (n : End) (inverted upright : Bool) → turned_steps (entering l p o d.top n inverted upright) ≡ leaving l p o d.top n inverted upright
-turned_entering l p o d n true upright = refl
-turned_entering l p o d n false true = refl
-turned_entering l p o d n false false = refl
+reversed_entering : (l : PlainLevel) (p : PlainPlan) (o : Orders) (d : LevelDrawing) (n : End) (inverted upright : Bool) → reversed_steps (entering l p o d.top n inverted upright) ≡ leaving l p o d.top n inverted upright
+reversed_entering l p o d n true upright = refl
+reversed_entering l p o d n false true = refl
+reversed_entering l p o d n false false = refl
 
 abbrev leaving_end : PlainLevel → PlainPlan → Orders → LevelDrawing → End → List Step
 leaving_end l p o d n = leaving l p o d.top n (is_inverted l p o n) (is_upright (dock_of l p o n).side)
@@ -209,36 +209,36 @@ module _ (l : PlainLevel) (p : PlainPlan) (o : Orders) (d : LevelDrawing) (layer
       ∙ append_assoc (leaving_end l p o d (end_at e true)) (chain_steps l p o d.top (c.first ∷ c.others)) (entering_end l p o d (end_at e false)) in
       subst (λ xs. IsWay (stage l p o d) e xs) (sym same) whole
 
-  -- an edge that is turned round
-  turned_way : (c : IsChain l p e) → holds p.reversed e ≡ true → IsWay (stage l p o d) e (turned_steps (oriented_steps l p o d.top e))
-  turned_way c turned =
-      let tails : tail_end p e ≡ end_at e false = ap (λ b. end_at e (not b)) turned in
-      let heads : head_end p e ≡ end_at e true = ap (end_at e) turned in
-      let goes : enters p (end_at e false) ≡ false = ap not turned in
+  -- an edge that is reversed
+  reversed_way : (c : IsChain l p e) → holds p.reversed e ≡ true → IsWay (stage l p o d) e (reversed_steps (oriented_steps l p o d.top e))
+  reversed_way c is_reversed =
+      let tails : tail_end p e ≡ end_at e false = ap (λ b. end_at e (not b)) is_reversed in
+      let heads : head_end p e ≡ end_at e true = ap (end_at e) is_reversed in
+      let goes : enters p (end_at e false) ≡ false = ap not is_reversed in
       let tail = first_tail false c tails goes in
-      let head = last_head true c heads turned in
+      let head = last_head true c heads is_reversed in
       let own = c.each c.first (inl refl) in
       let last = c.each (last_of c.first c.others) (last_has c.first c.others) in
       let ends = arrives_end true goes (tail_in_use l p o d layers ready drawn st e _ _ own tail) in
       let way = backward l p o d layers ready drawn st e c.first c.others (entering_end l p o d (end_at e false)) _ _ _ _ c.each c.joined tail head ends in
-      let whole = start_way false _ turned (head_in_use l p o d layers ready drawn st e _ _ last head) (turned_first l p o d c.first c.others (entering_end l p o d (end_at e false))) way in
+      let whole = start_way false _ is_reversed (head_in_use l p o d layers ready drawn st e _ _ last head) (reversed_first l p o d c.first c.others (entering_end l p o d (end_at e false))) way in
       let same : oriented_steps l p o d.top e ≡ (leaving_end l p o d (end_at e false) ++ chain_steps l p o d.top (c.first ∷ c.others)) ++ entering_end l p o d (end_at e true) =
       ap (λ n. (leaving_end l p o d n ++ chain_steps l p o d.top (chain p e)) ++ entering_end l p o d (head_end p e)) tails
       ∙ ap (λ n. (leaving_end l p o d (end_at e false) ++ chain_steps l p o d.top (chain p e)) ++ entering_end l p o d n) heads
       ∙ ap (λ ks. (leaving_end l p o d (end_at e false) ++ chain_steps l p o d.top ks) ++ entering_end l p o d (end_at e true)) c.chain_is in
-      let back : turned_steps (oriented_steps l p o d.top e) ≡ leaving_end l p o d (end_at e true) ++ (turned_steps (chain_steps l p o d.top (c.first ∷ c.others)) ++ entering_end l p o d (end_at e false)) =
-      ap turned_steps same
-      ∙ turned_append (leaving_end l p o d (end_at e false) ++ chain_steps l p o d.top (c.first ∷ c.others)) (entering_end l p o d (end_at e true))
-      ∙ ap (λ xs. xs ++ turned_steps (leaving_end l p o d (end_at e false) ++ chain_steps l p o d.top (c.first ∷ c.others))) (turned_entering l p o d (end_at e true) (is_inverted l p o (end_at e true)) (is_upright (here true).side))
-      ∙ ap (λ xs. leaving_end l p o d (end_at e true) ++ xs) (turned_append (leaving_end l p o d (end_at e false)) (chain_steps l p o d.top (c.first ∷ c.others)))
-      ∙ ap (λ xs. leaving_end l p o d (end_at e true) ++ (turned_steps (chain_steps l p o d.top (c.first ∷ c.others)) ++ xs)) (turned_leaving l p o d (end_at e false) (is_inverted l p o (end_at e false)) (is_upright (here false).side)) in
+      let back : reversed_steps (oriented_steps l p o d.top e) ≡ leaving_end l p o d (end_at e true) ++ (reversed_steps (chain_steps l p o d.top (c.first ∷ c.others)) ++ entering_end l p o d (end_at e false)) =
+      ap reversed_steps same
+      ∙ reversed_append (leaving_end l p o d (end_at e false) ++ chain_steps l p o d.top (c.first ∷ c.others)) (entering_end l p o d (end_at e true))
+      ∙ ap (λ xs. xs ++ reversed_steps (leaving_end l p o d (end_at e false) ++ chain_steps l p o d.top (c.first ∷ c.others))) (reversed_entering l p o d (end_at e true) (is_inverted l p o (end_at e true)) (is_upright (here true).side))
+      ∙ ap (λ xs. leaving_end l p o d (end_at e true) ++ xs) (reversed_append (leaving_end l p o d (end_at e false)) (chain_steps l p o d.top (c.first ∷ c.others)))
+      ∙ ap (λ xs. leaving_end l p o d (end_at e true) ++ (reversed_steps (chain_steps l p o d.top (c.first ∷ c.others)) ++ xs)) (reversed_leaving l p o d (end_at e false) (is_inverted l p o (end_at e false)) (is_upright (here false).side)) in
       subst (λ xs. IsWay (stage l p o d) e xs) (sym back) whole
 
   pub edge_way : IsWay (stage l p o d) e (steps_of l p o d.top e)
   edge_way =
       let c = chain_of l p e (ready.units.linked.chains e h loop) in
-      subst (λ b. IsWay (stage l p o d) e (cond b (cond (has_one_dock l p o e) [] (loop_steps l p o d.top e (here true).side (here false).side)) (cond (holds p.reversed e) (turned_steps (oriented_steps l p o d.top e)) (oriented_steps l p o d.top e)))) (sym loop)
+      subst (λ b. IsWay (stage l p o d) e (cond b (cond (has_one_dock l p o e) [] (loop_steps l p o d.top e (here true).side (here false).side)) (cond (holds p.reversed e) (reversed_steps (oriented_steps l p o d.top e)) (oriented_steps l p o d.top e)))) (sym loop)
       (⊎_elim
-      (λ t. subst (λ b. IsWay (stage l p o d) e (cond b (turned_steps (oriented_steps l p o d.top e)) (oriented_steps l p o d.top e))) (sym t) (turned_way c t))
-      (λ f. subst (λ b. IsWay (stage l p o d) e (cond b (turned_steps (oriented_steps l p o d.top e)) (oriented_steps l p o d.top e))) (sym f) (kept_way c f))
+      (λ t. subst (λ b. IsWay (stage l p o d) e (cond b (reversed_steps (oriented_steps l p o d.top e)) (oriented_steps l p o d.top e))) (sym t) (reversed_way c t))
+      (λ f. subst (λ b. IsWay (stage l p o d) e (cond b (reversed_steps (oriented_steps l p o d.top e)) (oriented_steps l p o d.top e))) (sym f) (kept_way c f))
       (cases_Bool (holds p.reversed e)))

@@ -21,7 +21,7 @@ use Rattle.level_model.specs.Law.{outward}
 use Rattle.plan_laws.proofs.Clearing.{clear_law}
 use Rattle.plan_laws.proofs.Paths.{square_orthogonal, drops_shorter}
 use Rattle.plan_laws.proofs.Sharing.{sharing_law}
-use Rattle.level_model.proofs.Zones.{turned_share}
+use Rattle.level_model.proofs.Zones.{reversed_share}
 use Rattle.level_model.specs.Level.{PlainLevel, PlainPlan, Orders, end_at, dock_of, child_at, edge_at, is_loop}
 use Rattle.level_model.specs.Lanes.{has_one_dock, dock_eq}
 use Rattle.level_model.specs.FromPlan.{LevelDrawing, IsDrawnFrom, anchor, section_at, trace_at}
@@ -83,7 +83,7 @@ paths_share : (ps qs : List Point) (s t : Section) → IsSectionOf ps s → IsSe
 paths_share _ qs _ t (one q s a b c) y m =
     absurd (one_point q _ _ (stays (λ v w. Share v w (point_in (points_of t) m.j) (point_in (points_of t) (m.j + 1))) q s a b c m.i m.i_in m.piece))
 paths_share _ _ _ _ (many s) (one q t a b c) m =
-    absurd (one_point q _ _ (turned_share _ _ q q (stays (λ v w. Share (point_in (points_of s) m.i) (point_in (points_of s) (m.i + 1)) v w) q t a b c m.j m.j_in m.piece)))
+    absurd (one_point q _ _ (reversed_share _ _ q q (stays (λ v w. Share (point_in (points_of s) m.i) (point_in (points_of s) (m.i + 1)) v w) q t a b c m.j m.j_in m.piece)))
 paths_share _ _ _ _ (many s) (many t) m = m
 
 square_points : (h k : Heading) (ps : List Point) (s : Section) → IsSectionOf ps s → RunsSquare h k ps → RunsSquare h k (points_of s)

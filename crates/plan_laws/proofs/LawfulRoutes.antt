@@ -9,7 +9,7 @@ use Rattle.level_model.specs.Stage.{Stands}
 use Rattle.level_model.specs.Law.{IsLawful}
 use Rattle.level_model.specs.Level.{PlainLevel, PlainPlan, Orders, end_at, is_loop, holds, dock_of}
 use Rattle.level_model.specs.Lanes.{has_one_dock}
-use Rattle.level_model.specs.Traces.{loop_steps, oriented_steps, turned_steps, steps_of}
+use Rattle.level_model.specs.Traces.{loop_steps, oriented_steps, reversed_steps, steps_of}
 use Rattle.level_model.specs.FromPlan.{LevelDrawing, IsDrawnFrom, IsRoute, anchor, trace_at}
 use Rattle.level_model.specs.Drawing.{stage}
 use Rattle.level_model.specs.Ready.{IsReady}
@@ -34,7 +34,7 @@ lawful_loop : (l : PlainLevel) (p : PlainPlan) (o : Orders) (d : LevelDrawing) (
 lawful_loop l p o d layers ready drawn st e h loop points t =
     let two_docks : List Step = loop_steps l p o d.top e (dock_of l p o (end_at e true)).side (dock_of l p o (end_at e false)).side in
     let steps : steps_of l p o d.top e ≡ cond (has_one_dock l p o e) [] two_docks =
-    ap (λ b. cond b (cond (has_one_dock l p o e) [] two_docks) (cond (holds p.reversed e) (turned_steps (oriented_steps l p o d.top e)) (oriented_steps l p o d.top e))) loop in
+    ap (λ b. cond b (cond (has_one_dock l p o e) [] two_docks) (cond (holds p.reversed e) (reversed_steps (oriented_steps l p o d.top e)) (oriented_steps l p o d.top e))) loop in
     ⊎_elim
     (λ (one : has_one_dock l p o e ≡ true).
     let none : steps_of l p o d.top e ≡ [] = steps ∙ ap (λ b. cond b [] two_docks) one in

@@ -6,7 +6,7 @@ use Rattle.net_routes.specs.declared.Net.{Net}
 use Rattle.net_routes.specs.declared.NetRoute.{NetRoute}
 use Rattle.net_routes.specs.declared.NetRoute.TheVariants.{Straight, One, Two}
 use Rattle.net_routes.specs.Pieces.{slot, Corner, corner, border_of, pin_corner, corners, IsPieceOf, IsStraightPiece, IsAbscissa}
-use Rattle.net_routes.specs.GapFree.{IsLevelNet}
+use Rattle.net_routes.specs.GapFree.{IsStraightNet}
 use Rattle.route_lines.specs.Points.{PlainGap, stand, point_at, leg_points, corner_points}
 use Rattle.route_lines.specs.Tidied.{Heading, up, down, left, right, Goes, opposite}
 use Rattle.plan_laws.proofs.Ways.{Comes, Passes, pass, leave, turn}
@@ -141,7 +141,7 @@ pub record NetRuns (g : PlainGap) (n : Net) (r : NetRoute) : Type 0 where
   pub from_b : (s : ℕ) → s < g.count → Beyond n.b.on_left (stand g (border_of n.b.on_left)) (stand g (slot s))
   pub across : n.a.on_left ≢ n.b.on_left → Beyond n.a.on_left (stand g (border_of n.a.on_left)) (stand g (border_of n.b.on_left))
   pub apart : (s t : ℕ) → s < g.count → t < g.count → s ≢ t → stand g (slot s) ≢ stand g (slot t)
-  pub level : r ≡ Straight → IsLevelNet n
+  pub level : r ≡ Straight → IsStraightNet n
   pub bent : (r ≡ Straight → ⊥) → n.a.height ≢ n.b.height
   pub one_in : (s : ℕ) → r ≡ One s → s < g.count
   pub two_in : (s : ℕ) (h : ℤ) (t : ℕ) → r ≡ Two s h t → (s < g.count) × (t < g.count)
@@ -246,11 +246,11 @@ leg_from_b Q k z g n (Two s h t) before after ps ks w each eb ea c =
     let m2 = corner (slot s) h in
     let m3 = corner (slot t) h in
     let m4 = corner (slot t) n.b.height in
-    let turned : t ≢ s = λ e. fresh.0 (sym e) in
+    let is_reversed : t ≢ s = λ e. fresh.0 (sym e) in
     subst (λ y. Passes Q k z (outof n.b.on_left) (at_corner g (pin_corner n.b)) (reverse (corner_points g (corners n (Two s h t))) ++ ps) (leg_points g (Two s h t) false y after ++ ks)) (sym eb)
     (subst (λ y. Passes Q k z (outof n.b.on_left) (at_corner g (pin_corner n.b)) (reverse (corner_points g (corners n (Two s h t))) ++ ps) (leg_points g (Two s h t) false n.b.height y ++ ks)) (sym ea)
     (bend_two Q k z n.b.on_left n.a.on_left (at_corner g (pin_corner n.b)) (at_corner g m4) (at_corner g m3) (at_corner g m2) (at_corner g m1) (at_corner g (pin_corner n.a)) _ ks
-    (goes_out n.b.on_left _ _ refl (w.from_b t inside.1)) refl fresh.2 refl (w.apart t s inside.1 inside.0 turned) refl (not_same _ _ fresh.1) (goes_in n.a.on_left _ _ refl (w.from_a s inside.0))
+    (goes_out n.b.on_left _ _ refl (w.from_b t inside.1)) refl fresh.2 refl (w.apart t s inside.1 inside.0 is_reversed) refl (not_same _ _ fresh.1) (goes_in n.a.on_left _ _ refl (w.from_a s inside.0))
     (each (pin_corner n.b) m4 (record { i = 4; i_in = omega arith; ends = inr (refl, refl) }) (inl refl) (in_border _ n.b.on_left) inside.1)
     (each m4 m3 (record { i = 3; i_in = omega arith; ends = inr (refl, refl) }) (inr (t, refl, refl)) inside.1 inside.1)
     (each m3 m2 (record { i = 2; i_in = omega arith; ends = inr (refl, refl) }) (inl refl) inside.1 inside.0)

@@ -11,14 +11,14 @@ use Rattle.route_lines.specs.Points.{PlainGap, IsStepIn}
 use Rattle.level_model.specs.Level.{PlainLevel, PlainPlan, Orders, end_at, tail_end, head_end, holds, is_loop, dock_of}
 use Rattle.level_model.specs.Lanes.{has_one_dock}
 use Rattle.level_model.specs.Nets.{of_link, of_dock, of_loop, is_inverted}
-use Rattle.level_model.specs.Traces.{leg_step, leaving, entering, chain_steps, oriented_steps, turned_step, turned_steps, loop_steps, steps_of}
+use Rattle.level_model.specs.Traces.{leg_step, leaving, entering, chain_steps, oriented_steps, reversed_step, reversed_steps, loop_steps, steps_of}
 use Rattle.level_model.specs.Ready.{IsReady}
 use Rattle.level_model.proofs.Lists.{Has}
 use Rattle.plan_laws.proofs.Doors.{side_at}
 use Rattle.plan_laws.proofs.NetNames.{link_named, dock_named, loop_named, passes}
 use Rattle.plan_laws.proofs.Chains.{IsLinkOf, chain_of}
 use Rattle.plan_laws.specs.Joins.{HoldNets, LegsAreThere, TracesJoin}
-use Rattle.plan_laws.proofs.Alternating.{turned_one, append_none, steps_alternate}
+use Rattle.plan_laws.proofs.Alternating.{reversed_one, append_none, steps_alternate}
 use Rattle.plan_laws.proofs.NetsThere.{leg_there}
 
 -- each step is in the gaps, along the list
@@ -34,19 +34,19 @@ each_append : (gaps : List PlainGap) (xs ys : List Step) → Each gaps xs → Ea
 each_append gaps [] ys h k = k
 each_append gaps (s ∷ xs) ys h k = (h.0, each_append gaps xs ys h.1 k)
 
--- ---- turned steps
+-- ---- reversed steps
 
-turned_in : (gaps : List PlainGap) (s : Step) → IsStepIn gaps s → IsStepIn gaps (turned_step s)
-turned_in gaps (Lane h) k = tt
-turned_in gaps (Leg g n from_a) k = k
+reversed_in : (gaps : List PlainGap) (s : Step) → IsStepIn gaps s → IsStepIn gaps (reversed_step s)
+reversed_in gaps (Lane h) k = tt
+reversed_in gaps (Leg g n from_a) k = k
 
-turned_before : (gaps : List PlainGap) (xs ys : List Step) → Each gaps xs → Each gaps ys → Each gaps (turned_steps xs ++ ys)
-turned_before gaps [] ys h k = k
-turned_before gaps (s ∷ xs) ys h k =
-    subst (Each gaps) (sym (turned_one s xs ys)) (turned_before gaps xs (turned_step s ∷ ys) h.1 (turned_in gaps s h.0, k))
+reversed_before : (gaps : List PlainGap) (xs ys : List Step) → Each gaps xs → Each gaps ys → Each gaps (reversed_steps xs ++ ys)
+reversed_before gaps [] ys h k = k
+reversed_before gaps (s ∷ xs) ys h k =
+    subst (Each gaps) (sym (reversed_one s xs ys)) (reversed_before gaps xs (reversed_step s ∷ ys) h.1 (reversed_in gaps s h.0, k))
 
-turned_each : (gaps : List PlainGap) (xs : List Step) → Each gaps xs → Each gaps (turned_steps xs)
-turned_each gaps xs h = subst (Each gaps) (append_none (turned_steps xs)) (turned_before gaps xs [] h tt)
+reversed_each : (gaps : List PlainGap) (xs : List Step) → Each gaps xs → Each gaps (reversed_steps xs)
+reversed_each gaps xs h = subst (Each gaps) (append_none (reversed_steps xs)) (reversed_before gaps xs [] h tt)
 
 module _ (l : PlainLevel) (p : PlainPlan) (o : Orders) (shift : ℤ) (layers : List ℕ) (gaps : List PlainGap) (ready : IsReady l p o layers) (hold : HoldNets l p o shift gaps) (e : ℕ) (h : e < length l.edges) where
   -- ---- from tail to head
@@ -120,7 +120,7 @@ module _ (l : PlainLevel) (p : PlainPlan) (o : Orders) (shift : ℤ) (layers : L
   edge_each =
       cond_each (is_loop l e) _ _
       (λ loop. cond_each (has_one_dock l p o e) _ _ (λ same. tt) (λ two. loop_each (dock_of l p o (end_at e true)).side (dock_of l p o (end_at e false)).side (λ b pass. passage b loop two pass)))
-      (λ plain. cond_each (holds p.reversed e) _ _ (λ turned. turned_each gaps _ (oriented_each plain)) (λ kept. oriented_each plain))
+      (λ plain. cond_each (holds p.reversed e) _ _ (λ is_reversed. reversed_each gaps _ (oriented_each plain)) (λ kept. oriented_each plain))
 
   edge_all : All (IsStepIn gaps) (steps_of l p o shift e)
   edge_all = each_all gaps (steps_of l p o shift e) edge_each

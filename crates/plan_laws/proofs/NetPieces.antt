@@ -10,13 +10,13 @@ use Rattle.drawing_types.specs.Segments.{Share}
 use Rattle.elk_doc.specs.Sharing.{DocksShare}
 use Rattle.drawing_types.proofs.SegmentBounds.{Share-piece}
 use Rattle.net_routes.specs.declared.Pin.{Pin}
-use Rattle.net_routes.specs.Pieces.{Abscissa, Corner, slot, rank, Overlap, LevelOverlap, UprightOverlap, IsAbscissa, IsPieceOf, corners, net_at, route_at}
+use Rattle.net_routes.specs.Pieces.{Abscissa, Corner, slot, rank, Overlap, HorizontalOverlap, UprightOverlap, IsAbscissa, IsPieceOf, corners, net_at, route_at}
 use Rattle.net_routes.specs.GapFree.{CommonPin}
-use Rattle.net_routes.proofs.Turning.{pieces_overlap}
+use Rattle.net_routes.proofs.Flipping.{pieces_overlap}
 use Rattle.route_lines.specs.Points.{gap_in as gap_at, stand}
 use Rattle.level_model.specs.Stage.{Stage, Line, anchor_line, dock_lane, loop_lane, long_lane, InUse, Uses, Reaches, unit_of_line, Stands, InGap, IsPinOf, IsLane}
 use Rattle.level_model.specs.Law.{IsNetPart}
-use Rattle.level_model.proofs.Zones.{gaps_apart, three_ways, turned_share, x_of, y_of}
+use Rattle.level_model.proofs.Zones.{gaps_apart, three_ways, reversed_share, x_of, y_of}
 
 -- two edges that use one line have a common dock
 shared_line : (s : Stage) (e f : ℕ) (l : Line) → e ≢ f → Uses s e l → Uses s f l → DocksShare (s.dock e) (s.dock f)
@@ -103,7 +103,7 @@ moved a b c d a' b' c' d' x y z w l = rw (← x, ← y, ← z, ← w) l
 
 -- what pieces of nets of one gap share in the drawing, they share in the gap
 pub level_overlap : (s : Stage) (e f : ℕ) (a b c d : Point) → Stands s → (p : IsNetPart s e a b) → (q : IsNetPart s f c d) → p.gap ≡ q.gap
-    → p.from.height ≡ p.to.height → q.from.height ≡ q.to.height → Share a b c d → LevelOverlap (gap_at s.gaps p.gap).count p.from p.to q.from q.to
+    → p.from.height ≡ p.to.height → q.from.height ≡ q.to.height → Share a b c d → HorizontalOverlap (gap_at s.gaps p.gap).count p.from p.to q.from q.to
 level_overlap s e f a b c d st p q same hp hq m =
     let g = gap_at s.gaps p.gap in
     let n = g.count in
@@ -135,7 +135,7 @@ level_overlap s e f a b c d st p q same hp hq m =
           (rank_lt s p.gap q.from.at q.to.at q.from.at q.to.at gap qfrom qto qfrom qto parts.3);
     }
 
--- a level piece and an upright one share nothing
+-- a horizontal piece and an upright one share nothing
 pub no_cross : (a b c d : Point) → a.x ≡ b.x → c.y ≡ d.y → Share a b c d → ⊥
 no_cross a b c d h k m =
     let p = Share-piece a b c d m in
@@ -188,7 +188,7 @@ net_overlap s e f a b c d st p q same m =
     (λ hp. ⊎_elim
     (λ hq. inl (level_overlap s e f a b c d st p q same hp hq m))
     (λ (hq : (j : ℕ) × (q.from.at ≡ slot j) × (q.to.at ≡ slot j)).
-    absurd (no_cross c d a b (upright s f c d q hq.0 (hq.1, hq.2)) (level s e a b p hp) (turned_share a b c d m)))
+    absurd (no_cross c d a b (upright s f c d q hq.0 (hq.1, hq.2)) (level s e a b p hp) (reversed_share a b c d m)))
     q.straight)
     (λ (hp : (i : ℕ) × (p.from.at ≡ slot i) × (p.to.at ≡ slot i)). ⊎_elim
     (λ hq. absurd (no_cross a b c d (upright s e a b p hp.0 (hp.1, hp.2)) (level s f c d q hq) m))
@@ -211,7 +211,7 @@ nets_share s e f a b c d st n p q m =
     (λ l. absurd (gaps_apart s e f a b c d st p q l m))
     (λ r. ⊎_elim
     (λ same. one_gap s e f a b c d st n p q same m)
-    (λ l. absurd (gaps_apart s f e c d a b st q p l (turned_share a b c d m)))
+    (λ l. absurd (gaps_apart s f e c d a b st q p l (reversed_share a b c d m)))
     r)
     (three_ways p.gap q.gap)
   where

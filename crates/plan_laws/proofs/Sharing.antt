@@ -16,7 +16,7 @@ use Rattle.route_lines.specs.Tidied.{SomeSegment, EachSegment}
 use Rattle.route_lines.proofs.Dropping.{some_all, shares_split}
 use Rattle.level_model.specs.Law.{IsStub, IsLanePart, IsBorderPart, IsPart, stub, lane_part, border_part, net_part, IsNorthOrSouth, IsLawful}
 use Rattle.plan_laws.proofs.Paths.{some_at}
-use Rattle.level_model.proofs.Zones.{InUnit, stub_in, lane_in, border_in, units_apart, unit_net_apart, turned_share}
+use Rattle.level_model.proofs.Zones.{InUnit, stub_in, lane_in, border_in, units_apart, unit_net_apart, reversed_share}
 use Rattle.plan_laws.proofs.NetPieces.{level_same, nets_share, lane_reaches, one_height, no_cross, same_end}
 use Rattle.plan_laws.proofs.AtDocks.{same_stub, no_opposite, no_facing, north_above, south_below, east_right, west_left}
 
@@ -47,7 +47,7 @@ stubs_share s e f a b c d st p q same m =
     (λ k. let u = south_below s e a b st p h in let v = north_above s f c d st q k in
     let w = subst (λ z. c.y ≤ℤ (s.box z).y × d.y ≤ℤ (s.box z).y) (sym node) v in
     let high = ds.child.high in
-    absurd (no_opposite c d a b (s.box (s.dock e p.at_source).node).y (q.a_x ∙ sym q.b_x) (p.a_x ∙ sym p.b_x) w.0 w.1 (over _ _ _ high u.0) (over _ _ _ high u.1) (turned_share a b c d m)))
+    absurd (no_opposite c d a b (s.box (s.dock e p.at_source).node).y (q.a_x ∙ sym q.b_x) (p.a_x ∙ sym p.b_x) w.0 w.1 (over _ _ _ high u.0) (over _ _ _ high u.1) (reversed_share a b c d m)))
     (λ k. both South (inr refl) h k)
     q.upright)
     p.upright
@@ -69,8 +69,8 @@ lane_border_share s e f a b c d st n p q same m =
     same_end s e f p.lane (anchor_line (s.dock f q.at_source)) (s.dock f q.at_source).side st n p.in_use q.in_use (lane_reaches p.lane (s.dock f q.at_source).side p.is_lane) refl
     (ap (λ u. s.layer u) same) (one_height a b c d _ _ p.a_y p.b_y (q.a_y ∙ sym q.height) (q.b_y ∙ sym q.height) m)
 
-turned_docks : (s : Stage) (e f : ℕ) → DocksShare (s.dock e) (s.dock f) → DocksShare (s.dock f) (s.dock e)
-turned_docks s e f h = (h.1, h.0, sym h.2)
+reversed_docks : (s : Stage) (e f : ℕ) → DocksShare (s.dock e) (s.dock f) → DocksShare (s.dock f) (s.dock e)
+reversed_docks s e f h = (h.1, h.0, sym h.2)
 
 -- two pieces from anchors to their borders
 borders_share : (s : Stage) (e f : ℕ) (a b c d : Point) → Stands s → e ≢ f → (p : IsBorderPart s e a b) → (q : IsBorderPart s f c d)
@@ -89,7 +89,7 @@ borders_share s e f a b c d st n p q same m =
     (λ k. both (h ∙ sym k))
     (λ k. let u = east_right s e a b st p h in let v = west_left s f c d st q k in
     let w = subst (λ z. c.x ≤ℤ (s.box z).x × d.x ≤ℤ (s.box z).x) (sym node) v in
-    absurd (no_facing c d a b (s.box (s.dock e p.at_source).node).x (q.a_y ∙ sym q.b_y) (p.a_y ∙ sym p.b_y) w.0 w.1 (over _ _ _ wide u.0) (over _ _ _ wide u.1) (turned_share a b c d m)))
+    absurd (no_facing c d a b (s.box (s.dock e p.at_source).node).x (q.a_y ∙ sym q.b_y) (p.a_y ∙ sym p.b_y) w.0 w.1 (over _ _ _ wide u.0) (over _ _ _ wide u.1) (reversed_share a b c d m)))
     q.level)
     (λ h. ⊎_elim
     (λ k. let u = west_left s e a b st p h in let v = east_right s f c d st q k in
@@ -118,23 +118,23 @@ parts_share s e f a b c d st n (stub p) (lane_part q) m = absurd (no_cross a b c
 parts_share s e f a b c d st n (stub p) (border_part q) m = absurd (no_cross a b c d (p.a_x ∙ sym p.b_x) (q.a_y ∙ sym q.b_y) m)
 parts_share s e f a b c d st n (stub p) (net_part q) m = absurd (unit_net_apart s _ f a b c d st (stub_in s e a b st p) q m)
 parts_share s e f a b c d st n (lane_part p) (stub q) m =
-    absurd (no_cross c d a b (q.a_x ∙ sym q.b_x) (p.a_y ∙ sym p.b_y) (turned_share a b c d m))
+    absurd (no_cross c d a b (q.a_x ∙ sym q.b_x) (p.a_y ∙ sym p.b_y) (reversed_share a b c d m))
 parts_share s e f a b c d st n (lane_part p) (lane_part q) m =
     in_units s e f _ _ a b c d st (lane_in s e a b st p) (lane_in s f c d st q) (λ h. lanes_share s e f a b c d st n p q h m) m
 parts_share s e f a b c d st n (lane_part p) (border_part q) m =
     in_units s e f _ _ a b c d st (lane_in s e a b st p) (border_in s f c d st q) (λ h. lane_border_share s e f a b c d st n p q h m) m
 parts_share s e f a b c d st n (lane_part p) (net_part q) m = absurd (unit_net_apart s _ f a b c d st (lane_in s e a b st p) q m)
 parts_share s e f a b c d st n (border_part p) (stub q) m =
-    absurd (no_cross c d a b (q.a_x ∙ sym q.b_x) (p.a_y ∙ sym p.b_y) (turned_share a b c d m))
+    absurd (no_cross c d a b (q.a_x ∙ sym q.b_x) (p.a_y ∙ sym p.b_y) (reversed_share a b c d m))
 parts_share s e f a b c d st n (border_part p) (lane_part q) m =
     in_units s e f _ _ a b c d st (border_in s e a b st p) (lane_in s f c d st q)
-    (λ h. turned_docks s f e (lane_border_share s f e c d a b st (λ k. n (sym k)) q p (sym h) (turned_share a b c d m))) m
+    (λ h. reversed_docks s f e (lane_border_share s f e c d a b st (λ k. n (sym k)) q p (sym h) (reversed_share a b c d m))) m
 parts_share s e f a b c d st n (border_part p) (border_part q) m =
     in_units s e f _ _ a b c d st (border_in s e a b st p) (border_in s f c d st q) (λ h. borders_share s e f a b c d st n p q h m) m
 parts_share s e f a b c d st n (border_part p) (net_part q) m = absurd (unit_net_apart s _ f a b c d st (border_in s e a b st p) q m)
-parts_share s e f a b c d st n (net_part p) (stub q) m = absurd (unit_net_apart s _ e c d a b st (stub_in s f c d st q) p (turned_share a b c d m))
-parts_share s e f a b c d st n (net_part p) (lane_part q) m = absurd (unit_net_apart s _ e c d a b st (lane_in s f c d st q) p (turned_share a b c d m))
-parts_share s e f a b c d st n (net_part p) (border_part q) m = absurd (unit_net_apart s _ e c d a b st (border_in s f c d st q) p (turned_share a b c d m))
+parts_share s e f a b c d st n (net_part p) (stub q) m = absurd (unit_net_apart s _ e c d a b st (stub_in s f c d st q) p (reversed_share a b c d m))
+parts_share s e f a b c d st n (net_part p) (lane_part q) m = absurd (unit_net_apart s _ e c d a b st (lane_in s f c d st q) p (reversed_share a b c d m))
+parts_share s e f a b c d st n (net_part p) (border_part q) m = absurd (unit_net_apart s _ e c d a b st (border_in s f c d st q) p (reversed_share a b c d m))
 parts_share s e f a b c d st n (net_part p) (net_part q) m = nets_share s e f a b c d st n p q m
 
 -- what each segment does and some segment does, some segment does together
@@ -168,10 +168,10 @@ segments_share s e f ps qs st x y n m =
     let on_second : SomeSegment (Met (IsPart s f)) ps =
     some_map (λ a b. SomeSegment (λ c d. Share a b c d) qs) (Met (IsPart s f)) ps
     (λ a b k.
-    let turned : SomeSegment (λ c d. Share c d a b) y.fine =
+    let is_reversed : SomeSegment (λ c d. Share c d a b) y.fine =
     some_all (λ c d. Share c d a b) y.fine qs (shares_split a b) y.tidied.dropped
-    (some_map (λ c d. Share a b c d) (λ c d. Share c d a b) qs (λ c d. turned_share a b c d) k) in
-    together (IsPart s f) (λ c d. Share c d a b) y.fine (λ c d u v. (c, d, u, turned_share c d a b v)) y.parts turned)
+    (some_map (λ c d. Share a b c d) (λ c d. Share c d a b) qs (λ c d. reversed_share a b c d) k) in
+    together (IsPart s f) (λ c d. Share c d a b) y.fine (λ c d u v. (c, d, u, reversed_share c d a b v)) y.parts is_reversed)
     m in
     let found = pick (IsPart s f) ps on_second in
     together (IsPart s e) (λ a b. Share a b found.0 found.1) x.fine (λ a b u v. parts_share s e f a b found.0 found.1 st n u found.2 v) x.parts

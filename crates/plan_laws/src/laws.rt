@@ -4,6 +4,9 @@ ghost use Rattle.plan_laws.specs.MoreExamples.{AllLoops, NorthPort};
 ghost use Rattle.plan_laws.specs.Crossed.{LinksCrossAsInRows};
 
 /// The definitions say of four small levels what they should.
+///
+/// Proved:
+/// - The definitions of lanes, nets, traces and columns say of four small levels what they should.
 pub fn examples()
     ensures parallel { ParallelEdges }
     ensures west { WestPort }
@@ -14,6 +17,10 @@ pub fn examples()
 
 /// Where the nets of a gap cross no more often than they have to, two links cross in it as often as in the rows, if their pins
 /// stand as in the rows.
+///
+/// Proved:
+/// - If the nets of a gap cross no more often than they have to, two links whose pins stand as in the rows cross in the gap as often
+///   as in the rows. Two links at one child whose ends are spread have the same place in the rows, so this law doesn't cover them.
 pub fn links_cross_as_in_rows()
     ensures { LinksCrossAsInRows }
 {}

@@ -34,6 +34,9 @@ pub fn nets_stand()
 {}
 
 /// Everything in a drawing stands where the laws of pieces of routes ask for it.
+///
+/// Proved:
+/// - Everything that is drawn from the plan of a level stands where it should: columns, gaps, units, ends, lines and nets.
 pub fn the_stage_stands()
     ensures { StageStands }
 {}
@@ -44,11 +47,17 @@ pub fn outlines_are_drawn()
 {}
 
 /// Outlines keep the room of nodes within a layer and the room of layers from layer to layer.
+///
+/// Proved:
+/// - Its children keep their distances.
 pub fn children_keep_apart()
     ensures { ChildrenKeepApart }
 {}
 
 /// Ports and ends obey the constraints of their children.
+///
+/// Proved:
+/// - Its ports keep their sides, places and order.
 pub fn ports_are_kept()
     ensures { PortsAreKept }
 {}

@@ -130,9 +130,9 @@ ports_stand = record { port = port_kept; outward = outward }
 spread_dock : (c : Child) (s : Spot) (side : Side) (order : List ℕ) → IsSpreadOn c side s → dock_of c s order ≡ spread_offset c side order s.number
 spread_dock c s side order h = spread_one c (side_of c s) (is_pinned_spot c s) s.port order s.number h.spread ∙ rw h.on_side refl
 
-turned_le : (forward : Bool) (a b : ℤ) → (forward ≡ true → a ≤ℤ b) → (forward ≡ false → b ≤ℤ a) → counted forward a ≤ℤ counted forward b
-turned_le true a b up down = up refl
-turned_le false a b up down = let h = down refl in omega (arith, ints, h)
+rotated_le : (forward : Bool) (a b : ℤ) → (forward ≡ true → a ≤ℤ b) → (forward ≡ false → b ≤ℤ a) → counted forward a ≤ℤ counted forward b
+rotated_le true a b up down = up refl
+rotated_le false a b up down = let h = down refl in omega (arith, ints, h)
 
 module _ (c : Child) (side : Side) (spots : List Spot) (order : List ℕ) (sound : AreSpots c spots) (o : IsOrderOfSide c side spots order) (fixed : c.rule ≡ FixedOrder) where
   abbrev spot : ℕ → Spot
@@ -157,7 +157,7 @@ module _ (c : Child) (side : Side) (spots : List Spot) (order : List ℕ) (sound
   kept i l j k bi bl si sl pi pl first =
       let hi = o.once i bi si in
       let hl = o.once l bl sl in
-      turned_le (is_forward c.direction side) _ _ (λ e. up i l si sl hi hl (forward e hi hl)) (λ e. up l i sl si hl hi (backward e hi hl))
+      rotated_le (is_forward c.direction side) _ _ (λ e. up i l si sl hi hl (forward e hi hl)) (λ e. up l i sl si hl hi (backward e hi hl))
     where
       forward : is_forward c.direction side ≡ true → (hi : HoldsOnce order (spot i).number) (hl : HoldsOnce order (spot l).number) → hi.place ≤ hl.place
       forward e hi hl =

@@ -8,4 +8,4 @@ pub mod StrictLemmas
 pub mod AgreeLemmas
 pub mod PlaceLemmas
 pub mod KeptLemmas
-pub mod TurnedLemmas
+pub mod RotatedLemmas

@@ -10,7 +10,7 @@ use Rattle.elk_doc.specs.PortsKept.{size_along}
 use Rattle.port_order.specs.declared.children.Child.{Child}
 use Rattle.port_order.specs.Conditions.{IsChild}
 use Rattle.port_order.specs.Sides.{is_mirrored}
-use Rattle.port_order.specs.Places.{HoldsOnce, place_in, spread_at, turned_spread, spread_offset}
+use Rattle.port_order.specs.Places.{HoldsOnce, place_in, spread_at, rotated_spread, spread_offset}
 use Rattle.port_order.specs.Laws.{OffsetsRise}
 use Rattle.port_order.proofs.ChildLemmas.{size_along_small}
 use Rattle.port_order.proofs.SpreadLemmas.{spread_rises, spread_up}
@@ -41,36 +41,36 @@ spread_inside (negsuc len) k i h less = absurd (omega (arith, ints, h))
 less_within : (len z : ℤ) → IsWithin (pos 0) len z → IsWithin (pos 0) len (len -ℤ z)
 less_within len z h = record { above = omega (arith, ints, h.above, h.below); below = omega (arith, ints, h.above, h.below) }
 
-turned_inside : (b : Bool) (len : ℤ) (k j : ℕ) → pos 0 ≤ℤ len → j < k → IsWithin (pos 0) len (turned_spread b len k j)
-turned_inside true len k j h less = less_within len _ (spread_inside len k (k - (j + 1)) h (omega (arith, less)))
-turned_inside false len k j h less = spread_inside len k j h less
+rotated_inside : (b : Bool) (len : ℤ) (k j : ℕ) → pos 0 ≤ℤ len → j < k → IsWithin (pos 0) len (rotated_spread b len k j)
+rotated_inside true len k j h less = less_within len _ (spread_inside len k (k - (j + 1)) h (omega (arith, less)))
+rotated_inside false len k j h less = spread_inside len k j h less
 
-turned_back : (len a b : ℤ) → a ≤ℤ b → (len -ℤ b) ≤ℤ (len -ℤ a)
-turned_back len a b h = omega (arith, ints, h)
+rotated_back : (len a b : ℤ) → a ≤ℤ b → (len -ℤ b) ≤ℤ (len -ℤ a)
+rotated_back len a b h = omega (arith, ints, h)
 
-turned_back_less : (len a b : ℤ) → a <ℤ b → (len -ℤ b) <ℤ (len -ℤ a)
-turned_back_less len a b h = omega (arith, ints, h)
+rotated_back_less : (len a b : ℤ) → a <ℤ b → (len -ℤ b) <ℤ (len -ℤ a)
+rotated_back_less len a b h = omega (arith, ints, h)
 
-turned_up : (b : Bool) (len : ℤ) (k i j : ℕ) → i ≤ j → j < k → turned_spread b len k i ≤ℤ turned_spread b len k j
-turned_up true len k i j h less = turned_back len _ _ (spread_up len k (k - (j + 1)) (k - (i + 1)) (omega (arith, h, less)))
-turned_up false len k i j h less = spread_up len k i j h
+rotated_up : (b : Bool) (len : ℤ) (k i j : ℕ) → i ≤ j → j < k → rotated_spread b len k i ≤ℤ rotated_spread b len k j
+rotated_up true len k i j h less = rotated_back len _ _ (spread_up len k (k - (j + 1)) (k - (i + 1)) (omega (arith, h, less)))
+rotated_up false len k i j h less = spread_up len k i j h
 
-turned_rises : (b : Bool) (len : ℤ) (k i j : ℕ) → pos (k + 1) ≤ℤ len → i < j → j < k → turned_spread b len k i <ℤ turned_spread b len k j
-turned_rises true len k i j long h less = turned_back_less len _ _ (spread_rises len k (k - (j + 1)) (k - (i + 1)) long (omega (arith, h, less)))
-turned_rises false len k i j long h less = spread_rises len k i j long h
+rotated_rises : (b : Bool) (len : ℤ) (k i j : ℕ) → pos (k + 1) ≤ℤ len → i < j → j < k → rotated_spread b len k i <ℤ rotated_spread b len k j
+rotated_rises true len k i j long h less = rotated_back_less len _ _ (spread_rises len k (k - (j + 1)) (k - (i + 1)) long (omega (arith, h, less)))
+rotated_rises false len k i j long h less = spread_rises len k i j long h
 
 pub offset_inside : (c : Child) (side : Side) (order : List ℕ) (n : ℕ) → IsChild c → HoldsOnce order n → IsWithin (pos 0) (size_along side c.size) (spread_offset c side order n)
-offset_inside c side order n child h = turned_inside (is_mirrored c.direction side) (size_along side c.size) (length order) (place_in order n) (size_along_small side c.size child.size).above (place_inside order n h)
+offset_inside c side order n child h = rotated_inside (is_mirrored c.direction side) (size_along side c.size) (length order) (place_in order n) (size_along_small side c.size child.size).above (place_inside order n h)
 
 pub offset_up : (c : Child) (side : Side) (order : List ℕ) (m n : ℕ) → HoldsOnce order n → place_in order m ≤ place_in order n → spread_offset c side order m ≤ℤ spread_offset c side order n
-offset_up c side order m n h up = turned_up (is_mirrored c.direction side) (size_along side c.size) (length order) (place_in order m) (place_in order n) up (place_inside order n h)
+offset_up c side order m n h up = rotated_up (is_mirrored c.direction side) (size_along side c.size) (length order) (place_in order m) (place_in order n) up (place_inside order n h)
 
 offsets_apart : (c : Child) (side : Side) (order : List ℕ) (m n : ℕ) → HoldsOnce order m → HoldsOnce order n → m ≢ n → pos (length order) <ℤ size_along side c.size → spread_offset c side order m ≢ spread_offset c side order n
 offsets_apart c side order m n hm hn differ long e =
     elim (cases_order (place_in order m) (place_in order n)) [
       | inl same ↦ places_differ order m n hm hn differ same
-      | inr (inl less) ↦ clash _ _ (turned_rises (is_mirrored c.direction side) (size_along side c.size) (length order) (place_in order m) (place_in order n) enough less (place_inside order n hn)) e
-      | inr (inr less) ↦ clash _ _ (turned_rises (is_mirrored c.direction side) (size_along side c.size) (length order) (place_in order n) (place_in order m) enough less (place_inside order m hm)) (sym e)
+      | inr (inl less) ↦ clash _ _ (rotated_rises (is_mirrored c.direction side) (size_along side c.size) (length order) (place_in order m) (place_in order n) enough less (place_inside order n hn)) e
+      | inr (inr less) ↦ clash _ _ (rotated_rises (is_mirrored c.direction side) (size_along side c.size) (length order) (place_in order n) (place_in order m) enough less (place_inside order m hm)) (sym e)
     ]
   where
     enough : pos (length order + 1) ≤ℤ size_along side c.size

@@ -6,4 +6,4 @@ pub mod Order
 pub mod Ranks
 pub mod Examples
 pub mod Laws
-pub mod Turned
+pub mod Rotated

@@ -38,13 +38,13 @@ place_in (m ∷ ms) n = cond (m == n) 0 (1 + place_in ms n)
 
 -- the working offset of the j-th of k spread spots from the top or the left; where the document counts from the right,
 -- it is the side's length less the document's offset
-abbrev pub turned_spread : Bool → ℤ → ℕ → ℕ → ℤ
-turned_spread true len k j = len -ℤ spread_at len k (k - (j + 1))
-turned_spread false len k j = spread_at len k j
+abbrev pub rotated_spread : Bool → ℤ → ℕ → ℕ → ℤ
+rotated_spread true len k j = len -ℤ spread_at len k (k - (j + 1))
+rotated_spread false len k j = spread_at len k j
 
 abbrev pub spread_offset : Child → Side → List ℕ → ℕ → ℤ
 spread_offset c side order number =
-    turned_spread (is_mirrored c.direction side) (size_along side c.size) (length order) (place_in order number)
+    rotated_spread (is_mirrored c.direction side) (size_along side c.size) (length order) (place_in order number)
 
 -- the offset of a spot's anchor along its side: a pinned port's own, else the spread one
 abbrev pub offset_of : Child → Side → Bool → Option ℕ → List ℕ → ℕ → ℤ

@@ -9,7 +9,7 @@ use Rattle.elk_doc.specs.declared.document.Direction.{Direction}
 use Rattle.elk_doc.specs.declared.document.Direction.TheVariants.{Right, Left, Down, Up}
 use Rattle.elk_doc.specs.Sides.{side_from}
 use Rattle.elk_doc.specs.PortsKept.{runs_forward}
-use Rattle.drawing_laws.specs.Turning.{turned_side}
+use Rattle.drawing_laws.specs.Rotating.{rotated_side}
 use Rattle.port_order.specs.declared.children.Child.{Child}
 use Rattle.port_order.specs.declared.spots.Spot.{Spot}
 use Rattle.port_order.specs.Child.{port_at}
@@ -50,7 +50,7 @@ first_side passes (s ∷ ss) otherwise = if passes s then Some s else first_side
 
 -- the sides in the order in which they are tried: the document's west, east, north and south
 abbrev pub tried_sides : Direction → List Side
-tried_sides d = turned_side d West ∷ turned_side d East ∷ turned_side d North ∷ turned_side d South ∷ []
+tried_sides d = rotated_side d West ∷ rotated_side d East ∷ rotated_side d North ∷ rotated_side d South ∷ []
 
 -- the side of the place that a port is given: the first on which it sticks out, else the first that it touches
 abbrev pub side_of_place : Direction → Size → Point → Size → Option Side

@@ -21,7 +21,7 @@ pub struct ChildPort {
 }
 
 /// A child of a level, in the working frame. `direction` is that of the level: by it, orders and roundings that are
-/// stated in the document's frame are turned. `position` is the place that it keeps among the children of its layer.
+/// stated in the document's frame are rotated. `position` is the place that it keeps among the children of its layer.
 #[derive(Drop)]
 pub struct Child {
     pub size: Size,

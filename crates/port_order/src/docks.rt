@@ -5,7 +5,7 @@ ghost use Rattle.drawing_types.specs.Ranges.{IsWithin};
 ghost use Rattle.port_order.specs.Child.{is_pinned_spot};
 ghost use Rattle.port_order.specs.Conditions.{IsChild, IsSmall, IsSpot};
 ghost use Rattle.port_order.specs.Sides.{side_of};
-ghost use Rattle.port_order.specs.Places.{HoldsOnce, dock_of, place_in, spread_offset, turned_spread};
+ghost use Rattle.port_order.specs.Places.{HoldsOnce, dock_of, place_in, spread_offset, rotated_spread};
 
 use crate::children::{Child, given_offset, is_pinned_spot};
 use crate::sides::{is_mirrored, side_of};
@@ -45,15 +45,15 @@ fn spread_offset(child: &Child, side: Side, order: &[u32], number: u32) -> i64
 {
     let mirrored = is_mirrored(child.direction, side);
     let len = size_along(side, child.size);
-    turned_spread(mirrored, len, order.len(), place_in(order, number))
+    rotated_spread(mirrored, len, order.len(), place_in(order, number))
 }
 
 // The working offset of a spread spot by its place from the top or the left. Where the document counts offsets from the
 // right, and rounds there, it is the side's length less the document's offset.
-fn turned_spread(mirrored: bool, len: i64, k: usize, place: usize) -> i64
+fn rotated_spread(mirrored: bool, len: i64, k: usize, place: usize) -> i64
     requires len { IsWithin (pos 0) (pos (2 ^ 47)) len }
     requires place { place < k }
-    ensures value { result ≡ turned_spread mirrored len k place }
+    ensures value { result ≡ rotated_spread mirrored len k place }
     ensures inside { IsWithin (pos 0) len result }
 {
     if mirrored {

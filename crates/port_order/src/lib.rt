@@ -14,7 +14,7 @@ mod spreading;
 pub use children::{Child, ChildPort, is_pinned, is_pinned_spot};
 pub use docks::{dock_of, size_along};
 pub use laws::{
-    directions_turn, fixed_orders_are_kept, offsets_rise, orders_agree, ports_stand,
+    directions_rotate, fixed_orders_are_kept, offsets_rise, orders_agree, ports_stand,
     spots_are_ordered,
 };
 pub use ordering::order_side;

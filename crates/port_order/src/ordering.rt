@@ -17,6 +17,9 @@ use std::alloc::{AllocError, Global};
 /// stand clockwise in the document, and the implicit ends after them by the mean of positions. Under any other rule the
 /// spots of the east and west stand by the mean of positions, and those of the north and south by the flow of edges: what
 /// only enters, then what does both or neither, then what only leaves. Ties go by document order.
+///
+/// Proved:
+/// - Their orders: the order of a side has each spread spot once and is determined. (`spots_are_ordered`, `orders_agree`)
 pub fn order_side(
     alloc: Global,
     child: &Child,

@@ -14,6 +14,9 @@ use elk_doc::sides::side_from;
 
 /// The side of a spot in the working frame. A port lies on the side that its child's rule gives it; every other port,
 /// and every implicit end, lies on the west where edges only enter it, and on the east otherwise.
+///
+/// Proved:
+/// - Sides of a child's ports and implicit ends in the working frame.
 pub fn side_of(child: &Child, spot: &Spot) -> Side
     requires child { IsChild child.now }
     requires spot { IsSpot child.now spot.now }

@@ -6,6 +6,10 @@ ghost use Rattle.port_order.specs.Places.{AreSpread, spread_at};
 use std::alloc::{AllocError, Global};
 
 /// The offset of the i-th of `k` spread spots on a side of length `len`, from the left or top in the document's frame.
+///
+/// Proved:
+/// - Their offsets lie on their side, don't fall along it, and differ if the side is long enough. (`spread`, `dock_of`,
+///   `offsets_rise`)
 pub fn spread_at(len: i64, k: u32, i: u32) -> i64
     requires len { IsWithin (pos 0) (pos (2 ^ 47)) len }
     requires place { i < k }

@@ -30,8 +30,8 @@ between_on a b c d h k =
     let k1 = k.1 in
     (omega (arith, ints, clamps), omega (arith, ints, clamps))
 
-level_on : (a b c d : ℤ) → a ≡ d → IsBetween a c b → IsBetween a d c → b ≡ d
-level_on a b c d e h k =
+horizontal_on : (a b c d : ℤ) → a ≡ d → IsBetween a c b → IsBetween a d c → b ≡ d
+horizontal_on a b c d e h k =
     let h0 = h.0 in
     let h1 = h.1 in
     let k0 = k.0 in
@@ -49,8 +49,8 @@ middle_on a b c d m k =
     record {
       line =
           ⊎_elim
-          (λ e. inl (level_on a.x b.x c.x d.x e m.between.across k.between.across))
-          (λ e. inr (level_on a.y b.y c.y d.y e m.between.along k.between.along))
+          (λ e. inl (horizontal_on a.x b.x c.x d.x e m.between.across k.between.across))
+          (λ e. inr (horizontal_on a.y b.y c.y d.y e m.between.along k.between.along))
           k.line;
       between =
           record {

@@ -89,7 +89,7 @@ Runs h k [] = ⊥
 Runs h k (a ∷ []) = ⊥
 Runs h k (a ∷ b ∷ ps) = ((a ≡ b) × Runs h k (b ∷ ps)) ⊎ (Goes h a b × Onward h k (b ∷ ps))
 
--- one heading is upright and the other is level
+-- one heading is upright and the other is horizontal
 abbrev pub IsRightAngle : Heading → Heading → Type 0
 IsRightAngle up left = Unit {0}
 IsRightAngle up right = Unit {0}

@@ -153,6 +153,9 @@ fn height_from(steps: &[Step], number: usize, end: Point) -> i64
 }
 
 /// The section of a trace: its points, tidied. Where one point is left, it is both start and end.
+///
+/// Proved:
+/// - The section of a trace has its points, tidied.
 pub fn join(alloc: Global, gaps: &[Gap], trace: &Trace) -> Result<Section, AllocError>
     requires trace { IsTrace (map plain_gap gaps.now) trace.now.steps.items }
     requires gaps { All IsGapInRange gaps.now }

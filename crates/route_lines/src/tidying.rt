@@ -129,6 +129,10 @@ impl Path {
 /// axis, until none is left. Routes have no other lines: a point between its neighbours on a slanted line stays.
 ///
 /// The path is read from its end, so that each point is dropped once at most and none is looked at again.
+///
+/// Proved:
+/// - A path is tidied: one of two equal neighbours is dropped, until none is left.
+/// - So is each point between its two neighbours on one line parallel to an axis.
 pub fn tidy(alloc: Global, points: &[Point]) -> Result<Vec<Point>, AllocError>
     ensures { IfOk result (λ tidied. IsTidied points.now tidied.items) }
 {

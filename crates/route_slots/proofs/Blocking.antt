@@ -107,7 +107,7 @@ idle_block m r n q s a b =
     ap (λ z. (z && meets_in m.a n q (s + 1)) || (at_b r s && meets_in m.b n q (s + 1))) a
     ∙ ap (λ z. z && meets_in m.b n q (s + 1)) b
 
--- a net with no piece in the slot holds none back
+-- a net with no segment in the slot holds none back
 pub idle : (nets : List Net) (routes : List NetRoute) (s j k : ℕ) → at_a (route_at routes j) s ≡ false → at_b (route_at routes j) s ≡ false → holds_back nets routes s j k ≡ false
 unfolding holds_back
 idle nets routes s j k a b =

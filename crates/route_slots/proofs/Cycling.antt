@@ -9,11 +9,11 @@ use Rattle.net_routes.specs.declared.Pin.{Pin}
 use Rattle.net_routes.specs.declared.Net.{Net}
 use Rattle.route_slots.specs.declared.heights.Heights.{Heights}
 use Rattle.net_routes.specs.Pieces.{net_at}
-use Rattle.net_routes.specs.GapFree.{HasPin, IsLevelNet}
+use Rattle.net_routes.specs.GapFree.{HasPin, IsStraightNet}
 use Rattle.net_routes.specs.Conflicts.{Conflict, AreInConflict, LiesOnCycle}
 use Rattle.route_slots.specs.Numbers.{AreHeightNumbers, AreSides, HasNoSides, IsLinkOf, idle, across, AreLinks}
 use Rattle.route_slots.specs.Depths.{depth_by, AreDepths}
-use Rattle.route_slots.proofs.Sides.{sides_differ, level_by}
+use Rattle.route_slots.proofs.Sides.{sides_differ, one_pin}
 
 -- a number is there, or not
 abbrev Known : Option ℕ → Type 0
@@ -67,13 +67,13 @@ module _ (nets : List Net) (heights : Heights) (links : List Link) (numbered : A
   from_one [] v ne e = ne (sym e)
   from_one (k ∷ ks) v ne w = no_tail_one k w.0 w.1
 
-  conflict : (j k : ℕ) (p q : Pin) → j < length nets → k < length nets → (IsLevelNet (net_at nets j) → ⊥) → (IsLevelNet (net_at nets k) → ⊥)
+  conflict : (j k : ℕ) (p q : Pin) → j < length nets → k < length nets → (IsStraightNet (net_at nets j) → ⊥) → (IsStraightNet (net_at nets k) → ⊥)
       → HasPin (net_at nets j) p → HasPin (net_at nets k) q → p.on_left ≡ true → q.on_left ≡ false → p.height ≡ q.height → Conflict nets j k
   conflict j k p q jl kl jb kb hp hq pl ql e =
       record {
         j_in = jl;
         k_in = kl;
-        two = λ same. kb (level_by (net_at nets k) p q (subst (λ z. HasPin (net_at nets z) p) same hp) hq pl ql e);
+        two = λ same. kb (one_pin (net_at nets k) p q (subst (λ z. HasPin (net_at nets z) p) same hp) hq pl ql e);
         j_bent = jb;
         k_bent = kb;
         left = p;
@@ -90,7 +90,7 @@ module _ (nets : List Net) (heights : Heights) (links : List Link) (numbered : A
   one_more j (m ∷ is) i k c d = (c.0, one_more m is i k c.1 d)
 
   -- links from the height on the right of one net to that on the left of another are conflicts from the latter to the former
-  back : (ks : List ℕ) (u v x y : ℕ) (q p : Pin) → x < length nets → y < length nets → (IsLevelNet (net_at nets x) → ⊥) → (IsLevelNet (net_at nets y) → ⊥)
+  back : (ks : List ℕ) (u v x y : ℕ) (q p : Pin) → x < length nets → y < length nets → (IsStraightNet (net_at nets x) → ⊥) → (IsStraightNet (net_at nets y) → ⊥)
       → HasPin (net_at nets x) q → q.on_left ≡ false → number q.height ≡ Some u → HasPin (net_at nets y) p → p.on_left ≡ true → number p.height ≡ Some v
       → Leads links u ks v → (is : List ℕ) × AreInConflict nets y is x
   back [] u v x y q p xl yl xb yb hq qr qn hp pl pn e =
@@ -131,7 +131,7 @@ module _ (nets : List Net) (heights : Heights) (links : List Link) (numbered : A
       (λ a. a)
       (kind k l)
 
-  left_number : (k : ℕ) (p : Pin) → k < length nets → (IsLevelNet (net_at nets k) → ⊥) → HasPin (net_at nets k) p → p.on_left ≡ true → (x : ℕ) × (number p.height ≡ Some x)
+  left_number : (k : ℕ) (p : Pin) → k < length nets → (IsStraightNet (net_at nets k) → ⊥) → HasPin (net_at nets k) p → p.on_left ≡ true → (x : ℕ) × (number p.height ≡ Some x)
   left_number k p l bent has pl =
       ⊎_elim
       (λ (none : number p.height ≡ None). absurd (none_is_not_some (number p.height) none (numbered.each k p l bent has pl)))

@@ -64,16 +64,16 @@ lt_right s t u o = by (place s u)
     by (at_second a b) = let m = o.0 in lt_same t (swapped s u) t u (λ h. omega arith) (λ h. ⊎_elim (λ (e : t ≡ s). absurd (m e)) (λ (w : t ≢ s). omega arith) (cases_eq t s))
     by (at_other m n b) = ap (λ z. nat_lt t z) b
 
--- a line passes an upright piece as before, where the line's or the piece's slots are neither of the two
+-- a line passes a segment as before, where the line's or the segment's slots are neither of the two
 pass_moved : (s : ℕ) (b : Bool) (t u : ℕ) → IsOff s t → passes b t (swapped s u) ≡ passes b t u
 unfolding passes
 pass_moved s true t u o = lt_left s t u o
 pass_moved s false t u o = lt_right s t u o
 
-pass_turned : (s : ℕ) (b : Bool) (t u : ℕ) → IsOff s u → passes b (swapped s t) u ≡ passes b t u
+pass_flipped : (s : ℕ) (b : Bool) (t u : ℕ) → IsOff s u → passes b (swapped s t) u ≡ passes b t u
 unfolding passes
-pass_turned s true t u o = lt_right s u t o
-pass_turned s false t u o = lt_left s u t o
+pass_flipped s true t u o = lt_right s u t o
+pass_flipped s false t u o = lt_left s u t o
 
 four : (a b c d a' b' c' d' : Bool) → a ≡ a' → b ≡ b' → c ≡ c' → d ≡ d' → (if a then b else c && d) ≡ (if a' then b' else c' && d')
 four a b c d a' b' c' d' e f g h =
@@ -83,27 +83,27 @@ between_moved : (s a b u : ℕ) → IsOff s a → IsOff s b → is_between a b (
 unfolding is_between
 between_moved s a b u oa ob = four _ _ _ _ _ _ _ _ (lt_right s a u oa) (lt_left s b u ob) (lt_right s b u ob) (lt_left s a u oa)
 
-between_turned : (s a b u : ℕ) → IsOff s u → is_between (swapped s a) (swapped s b) u ≡ is_between a b u
+between_flipped : (s a b u : ℕ) → IsOff s u → is_between (swapped s a) (swapped s b) u ≡ is_between a b u
 unfolding is_between
-between_turned s a b u o = four _ _ _ _ _ _ _ _ (lt_left s u a o) (lt_right s u b o) (lt_left s u b o) (lt_right s u a o)
+between_flipped s a b u o = four _ _ _ _ _ _ _ _ (lt_left s u a o) (lt_right s u b o) (lt_left s u b o) (lt_right s u a o)
 
 pin_moved : (s : ℕ) (p : Pin) (t u : ℕ) (x y : ℤ) → IsOff s t → pin_cut p t (upright (swapped s u) x y) ≡ pin_cut p t (upright u x y)
 unfolding pin_cut
 pin_moved s p t u x y o = ap (λ z. if z then one (is_over x y p.height) else 0) (pass_moved s p.on_left t u o)
 
-pin_turned : (s : ℕ) (p : Pin) (t u : ℕ) (x y : ℤ) → IsOff s u → pin_cut p (swapped s t) (upright u x y) ≡ pin_cut p t (upright u x y)
+pin_flipped : (s : ℕ) (p : Pin) (t u : ℕ) (x y : ℤ) → IsOff s u → pin_cut p (swapped s t) (upright u x y) ≡ pin_cut p t (upright u x y)
 unfolding pin_cut
-pin_turned s p t u x y o = ap (λ z. if z then one (is_over x y p.height) else 0) (pass_turned s p.on_left t u o)
+pin_flipped s p t u x y o = ap (λ z. if z then one (is_over x y p.height) else 0) (pass_flipped s p.on_left t u o)
 
 bar_moved : (s a : ℕ) (h : ℤ) (b u : ℕ) (x y : ℤ) → IsOff s a → IsOff s b → bar_cut a h b (upright (swapped s u) x y) ≡ bar_cut a h b (upright u x y)
 unfolding bar_cut
 bar_moved s a h b u x y oa ob = ap (λ z. if z then one (is_over x y h) else 0) (between_moved s a b u oa ob)
 
-bar_turned : (s a : ℕ) (h : ℤ) (b u : ℕ) (x y : ℤ) → IsOff s u → bar_cut (swapped s a) h (swapped s b) (upright u x y) ≡ bar_cut a h b (upright u x y)
+bar_flipped : (s a : ℕ) (h : ℤ) (b u : ℕ) (x y : ℤ) → IsOff s u → bar_cut (swapped s a) h (swapped s b) (upright u x y) ≡ bar_cut a h b (upright u x y)
 unfolding bar_cut
-bar_turned s a h b u x y o = ap (λ z. if z then one (is_over x y h) else 0) (between_turned s a b u o)
+bar_flipped s a h b u x y o = ap (λ z. if z then one (is_over x y h) else 0) (between_flipped s a b u o)
 
--- slots of a net that has no piece in the two
+-- slots of a net that has no segment in the two
 first_off : (s t u : ℕ) → (if is_near s t then true else is_near s u) ≡ false → IsOff s t × IsOff s u
 first_off s t u e = by (is_near s t) (is_near s u) refl refl e
   where
@@ -127,15 +127,15 @@ cuts_moved s n (Two t h v) u x y e =
     let o = first_off s t v e in
     let a = pin_moved s n.a t u x y o.0 in let b = pin_moved s n.b v u x y o.1 in let c = bar_moved s t h v u x y o.0 o.1 in omega arith
 
-cuts_turned : (s : ℕ) (n : Net) (q : NetRoute) (u : ℕ) (x y : ℤ) → IsOff s u → cuts n (exchanged s q) (upright u x y) ≡ cuts n q (upright u x y)
+cuts_flipped : (s : ℕ) (n : Net) (q : NetRoute) (u : ℕ) (x y : ℤ) → IsOff s u → cuts n (exchanged s q) (upright u x y) ≡ cuts n q (upright u x y)
 unfolding cuts exchanged
-cuts_turned s n Straight u x y o = refl
-cuts_turned s n (One t) u x y o =
-    let a = pin_turned s n.a t u x y o in let b = pin_turned s n.b t u x y o in omega arith
-cuts_turned s n (Two t h v) u x y o =
-    let a = pin_turned s n.a t u x y o in let b = pin_turned s n.b v u x y o in let c = bar_turned s t h v u x y o in omega arith
+cuts_flipped s n Straight u x y o = refl
+cuts_flipped s n (One t) u x y o =
+    let a = pin_flipped s n.a t u x y o in let b = pin_flipped s n.b t u x y o in omega arith
+cuts_flipped s n (Two t h v) u x y o =
+    let a = pin_flipped s n.a t u x y o in let b = pin_flipped s n.b v u x y o in let c = bar_flipped s t h v u x y o in omega arith
 
--- two nets cross as before, where one of them has no piece in the two slots
+-- two nets cross as before, where one of them has no segment in the two slots
 line_off : (s : ℕ) (m : Net) (r : NetRoute) (n : Net) (q : NetRoute) → touches s q ≡ false → cut m (exchanged s r) n (exchanged s q) ≡ cut m r n q
 unfolding cut exchanged
 line_off s m r n q e = ap (cut m (exchanged s r) n) (untouched s q e) ∙ by r
@@ -145,14 +145,14 @@ line_off s m r n q e = ap (cut m (exchanged s r) n) (untouched s q e) ∙ by r
     by (One t) = cuts_moved s n q t m.a.height m.b.height e
     by (Two t h u) = let a = cuts_moved s n q t m.a.height h e in let b = cuts_moved s n q u h m.b.height e in omega arith
 
-piece_off : (s : ℕ) (m : Net) (r : NetRoute) (n : Net) (q : NetRoute) → touches s r ≡ false → cut m (exchanged s r) n (exchanged s q) ≡ cut m r n q
+segment_off : (s : ℕ) (m : Net) (r : NetRoute) (n : Net) (q : NetRoute) → touches s r ≡ false → cut m (exchanged s r) n (exchanged s q) ≡ cut m r n q
 unfolding cut touches
-piece_off s m r n q e = ap (λ z. cut m z n (exchanged s q)) (untouched s r e) ∙ by r e
+segment_off s m r n q e = ap (λ z. cut m z n (exchanged s q)) (untouched s r e) ∙ by r e
   where
     by : (r : NetRoute) → touches s r ≡ false → cut m r n (exchanged s q) ≡ cut m r n q
     by Straight f = refl
-    by (One t) f = cuts_turned s n q t m.a.height m.b.height (off s t f)
-    by (Two t h u) f = let o = first_off s t u f in let a = cuts_turned s n q t m.a.height h o.0 in let b = cuts_turned s n q u h m.b.height o.1 in omega arith
+    by (One t) f = cuts_flipped s n q t m.a.height m.b.height (off s t f)
+    by (Two t h u) f = let o = first_off s t u f in let a = cuts_flipped s n q t m.a.height h o.0 in let b = cuts_flipped s n q u h m.b.height o.1 in omega arith
 
 before_is : (m : Net) (r : NetRoute) (n : Net) (q : NetRoute) (s : ℕ) (b : Bool) → touches s q ≡ b → near_before m r n q s ≡ (if b then cut m r n q else 0)
 unfolding near_before
@@ -201,5 +201,5 @@ changed nets s old new swaps same =
     row j jl false e =
         let x = ap (λ z. if z then row_before nets old s j (length nets) else 0) e in
         let y = ap (λ z. if z then row_after nets old s j (length nets) else 0) e in
-        let w = sum_same (cut_at nets new j) (cut_at nets old j) (length nets) (λ k kl. is j k jl kl ∙ piece_off s (net_at nets j) (route_at old j) (net_at nets k) (route_at old k) e) in
+        let w = sum_same (cut_at nets new j) (cut_at nets old j) (length nets) (λ k kl. is j k jl kl ∙ segment_off s (net_at nets j) (route_at old j) (net_at nets k) (route_at old k) e) in
         omega arith

@@ -1,10 +1,10 @@
--- There are no more slots than pieces.
+-- There are no more slots than segments.
 use Rattle.std.proofs.Common.{◌≡◌, List, ℕ, ◌<◌, ◌≤◌, length, get_or, ap, subst, arith}
-use Rattle.route_slots.specs.declared.slotting.Piece.{Piece}
+use Rattle.route_slots.specs.declared.slotting.Segment.{Segment}
 use Rattle.route_slots.specs.Slotting.{AreSlots}
 use Rattle.net_routes.proofs.Lists.{one_each, few_below}
 
-module _ (ps : List Piece) (ss : List ℕ) (count : ℕ) (slots : AreSlots ps ss count) where
+module _ (ps : List Segment) (ss : List ℕ) (count : ℕ) (slots : AreSlots ps ss count) where
   abbrev In : ℕ → ℕ → Type 0
   In s i = (i < length ps) × (get_or ss i 0 ≡ s)
 

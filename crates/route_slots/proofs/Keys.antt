@@ -1,4 +1,4 @@
--- Keys of pieces in a set, as one is added or taken.
+-- Keys of segments in a set, as one is added or taken.
 use Rattle.std.proofs.Common.{◌≡◌, ◌⊎◌, ⊎_elim, inl, inr, ℕ, ℤ, ◌≤ℤ◌, ◌<ℤ◌, ◌+◌, ◌<◌, ◌≤◌, Bool, true, false, cond, ap, sym, ◌∙◌, refl, subst, arith}
 use Rattle.std.proofs.lemmas.Bool.{cases_lt}
 use Rattle.std.specs.Ordering.{int_cmp, nat_cmp, ordering_then, is_eq, is_gt}
@@ -8,7 +8,7 @@ use Rattle.std.proofs.lemmas.Map.Lookups.{exact_pairs, exact_signed, exact_unsig
 use Rattle.std.proofs.lemmas.Cmp.{ranked, int_ranked}
 use Rattle.std.proofs.lemmas.Int.{ints}
 use Rattle.std.specs.BTreeSet.{Updates}
-use Rattle.route_slots.specs.declared.slotting.Piece.{Piece}
+use Rattle.route_slots.specs.declared.slotting.Segment.{Segment}
 use Rattle.route_slots.specs.declared.slotting.Row.{Row}
 use Rattle.route_slots.specs.Slotting.{Key, key_cmp, End, end_cmp, has_end, Takes, fresh, reuse, Picks, added, freed}
 
@@ -51,8 +51,8 @@ first_least a b o e = ⊎_elim (λ l. omega arith) (λ (ge : b ≤ a). at_order 
     at_order Greater er =
         absurd (let bad : is_gt (ordering_then Greater o) ≡ false = subst (λ z. is_gt (ordering_then z o) ≡ false) (sym er) e in cc)
 
-pub least_level : (k q : Key) → is_gt (key_cmp k q) ≡ false → k.0 ≤ q.0
-least_level k q e = first_least k.0 q.0 (ordering_then (int_cmp k.1.0 q.1.0) (nat_cmp k.1.1 q.1.1)) e
+pub least_depth : (k q : Key) → is_gt (key_cmp k q) ≡ false → k.0 ≤ q.0
+least_depth k q e = first_least k.0 q.0 (ordering_then (int_cmp k.1.0 q.1.0) (nat_cmp k.1.1 q.1.1)) e
 
 -- the least of two signed numbers
 first_least_signed : (a b : ℤ) (o : Ordering) → is_gt (ordering_then (int_cmp a b) o) ≡ false → a ≤ℤ b
@@ -64,7 +64,7 @@ first_least_signed a b o e = at_order (int_cmp a b) refl
     at_order Greater er =
         absurd (let bad : is_gt (ordering_then Greater o) ≡ false = subst (λ z. is_gt (ordering_then z o) ≡ false) (sym er) e in cc)
 
--- the least key of a level has the least low end
+-- the least key of a depth has the least low end
 pub least_low : (k q : Key) → is_gt (key_cmp k q) ≡ false → k.0 ≡ q.0 → k.1.0 ≤ℤ q.1.0
 least_low k q e same = at_order (nat_cmp k.0 q.0) refl
   where
@@ -79,10 +79,10 @@ same_end k q e = exact_pairs int_cmp nat_cmp exact_signed exact_unsigned k q (is
 pub least_end : (k q : End) → is_gt (end_cmp k q) ≡ false → k.0 ≤ℤ q.0
 least_end k q e = first_least_signed k.0 q.0 (nat_cmp k.1 q.1) e
 
--- a slot that is picked once the level is begun, and taken
-pub takes_by : (old mid less new : Row) (p : Piece) (s : ℕ) → mid.count ≡ old.count
-    → ((q : End) → has_end mid.busy q ≡ true → (p.level ≡ old.level) × (has_end old.busy q ≡ true))
-    → (p.level ≡ old.level → (q : End) → has_end old.busy q ≡ true → has_end mid.busy q ≡ true)
+-- a slot that is picked once the depth is begun, and taken
+pub takes_by : (old mid less new : Row) (p : Segment) (s : ℕ) → mid.count ≡ old.count
+    → ((q : End) → has_end mid.busy q ≡ true → (p.depth ≡ old.depth) × (has_end old.busy q ≡ true))
+    → (p.depth ≡ old.depth → (q : End) → has_end old.busy q ≡ true → has_end mid.busy q ≡ true)
     → Picks mid less p s → Updates end_cmp less.busy new.busy (p.high, s) true → new.count ≡ less.count → Takes old new p s
 takes_by old mid less new p s c from stays (added e d same full) u n =
     fresh (e ∙ c) (n ∙ d ∙ ap (λ z. z + 1) c)
@@ -90,8 +90,8 @@ takes_by old mid less new p s c from stays (added e d same full) u n =
     (λ b. inr (from q (subst (λ z. has_end z q ≡ true) same b)))
     (λ k. inl (sym (same_end (p.high, s) q k)))
     (added_from _ _ _ (u.0 q) h))
-    (λ level q h. full q (stays level q h))
-    (λ level q h. added_kept _ _ _ (u.0 q) (subst (λ z. has_end z q ≡ true) (sym same) (stays level q h)))
+    (λ depth q h. full q (stays depth q h))
+    (λ depth q h. added_kept _ _ _ (u.0 q) (subst (λ z. has_end z q ≡ true) (sym same) (stays depth q h)))
     u.1
 takes_by old mid less new p s c from stays (freed f) u n =
     let was = from (f.end, s) f.there in

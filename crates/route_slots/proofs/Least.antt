@@ -5,14 +5,14 @@ use Rattle.net_routes.specs.declared.Net.{Net}
 use Rattle.net_routes.specs.declared.NetRoute.{NetRoute}
 use Rattle.net_routes.specs.declared.NetRoute.TheVariants.{Straight, One, Two}
 use Rattle.net_routes.specs.Pieces.{net_at, route_at}
-use Rattle.net_routes.specs.GapFree.{IsLevelNet, GapFree}
+use Rattle.net_routes.specs.GapFree.{IsStraightNet, GapFree}
 use Rattle.net_routes.specs.Standing.{StandsAt, AreApart}
 use Rattle.net_routes.specs.Crossings.{cut, cut_at}
 use Rattle.net_routes.specs.Exchanges.{swapped, exchanged, AreExchanged, NoBetterExchange}
 use Rattle.net_routes.specs.Uncrossed.{asked, crossed, CrossAsAsked}
 use Rattle.net_routes.proofs.Summing.{pairs_most}
 use Rattle.route_slots.proofs.Swapping.{swap_back}
-use Rattle.net_routes.proofs.Asking.{asked_turned, AreUnmet, least_cut, slot_count}
+use Rattle.net_routes.proofs.Asking.{asked_flipped, AreUnmet, least_cut, slot_count}
 use Rattle.route_slots.proofs.Ordered.{beside, straight_cut}
 
 swapped_straight : (s : ℕ) (r q : NetRoute) → q ≡ exchanged s r → r ≡ Straight → q ≡ Straight
@@ -29,7 +29,7 @@ module _ (nets : List Net) (count : ℕ) (routes : List NetRoute) (free : GapFre
   net k = net_at nets k
 
   abbrev Way : ℕ → Type 0
-  Way k = ((route_at routes k ≡ Straight) × IsLevelNet (net k)) ⊎ ((s : ℕ) × (route_at routes k ≡ One s))
+  Way k = ((route_at routes k ≡ Straight) × IsStraightNet (net k)) ⊎ ((s : ℕ) × (route_at routes k ≡ One s))
 
   way : (k : ℕ) → k < length nets → Way k
   way k l = of (route_at routes k) refl
@@ -43,7 +43,7 @@ module _ (nets : List Net) (count : ℕ) (routes : List NetRoute) (free : GapFre
   alone : (k : ℕ) → k < length nets → cut_at nets routes k k ≡ 0
   alone k l =
       ⊎_elim
-      (λ (u : (route_at routes k ≡ Straight) × IsLevelNet (net k)). ap₂ (λ r q. cut (net k) r (net k) q) u.0 u.0 ∙ straight_cut (net k) (net k) Straight)
+      (λ (u : (route_at routes k ≡ Straight) × IsStraightNet (net k)). ap₂ (λ r q. cut (net k) r (net k) q) u.0 u.0 ∙ straight_cut (net k) (net k) Straight)
       (λ (u : (s : ℕ) × (route_at routes k ≡ One s)).
       let none = slot_count (net k) (net k) u.0 in
       ap₂ (λ r q. cut (net k) r (net k) q) u.1 u.1 ∙ (let zero : cut (net k) (One u.0) (net k) (One u.0) ≡ 0 = omega arith in zero))
@@ -70,8 +70,8 @@ module _ (nets : List Net) (count : ℕ) (routes : List NetRoute) (free : GapFre
         ⊎_elim
         (λ (lt : t < u). in_order j k t u jl kl ne f g lt)
         (λ (ge : u ≤ t).
-        let turned = in_order k j u t kl jl (λ z. ne (sym z)) g f (omega arith) in
-        let same = asked_turned (net j) (net k) in
+        let flipped = in_order k j u t kl jl (λ z. ne (sym z)) g f (omega arith) in
+        let same = asked_flipped (net j) (net k) in
         omega arith)
         (cases_lt t u)
 
@@ -94,21 +94,21 @@ module _ (nets : List Net) (count : ℕ) (routes : List NetRoute) (free : GapFre
         omega arith)
         (cases_eq t u)
 
-    straight_one : (j k u : ℕ) → j < length nets → k < length nets → j ≢ k → route_at routes j ≡ Straight → IsLevelNet (net j) → route_at routes k ≡ One u → NoFewer j k
+    straight_one : (j k u : ℕ) → j < length nets → k < length nets → j ≢ k → route_at routes j ≡ Straight → IsStraightNet (net j) → route_at routes k ≡ One u → NoFewer j k
     straight_one j k u jl kl ne f v g =
         let f' = swapped_straight s (route_at routes j) (route_at others j) (other j jl) f in
         let g' = swapped_one s u (route_at routes k) (route_at others k) (other k kl) g in
         let now = as_asked j k jl kl ne in
         let then = ap₂ (λ r q. Crossed j k r q) f' g' in
         let least = beside (net k) (net j) (swapped s u) v in
-        let same = asked_turned (net j) (net k) in
+        let same = asked_flipped (net j) (net k) in
         omega arith
 
     no_fewer : (j k : ℕ) → j < length nets → k < length nets → j ≢ k → NoFewer j k
     no_fewer j k jl kl ne =
         ⊎_elim
-        (λ (u : (route_at routes j ≡ Straight) × IsLevelNet (net j)). ⊎_elim
-        (λ (v : (route_at routes k ≡ Straight) × IsLevelNet (net k)).
+        (λ (u : (route_at routes j ≡ Straight) × IsStraightNet (net j)). ⊎_elim
+        (λ (v : (route_at routes k ≡ Straight) × IsStraightNet (net k)).
         let now = ap₂ (λ r q. Crossed j k r q) u.0 v.0 in
         let a = straight_cut (net j) (net k) Straight in
         let b = straight_cut (net k) (net j) Straight in
@@ -116,8 +116,8 @@ module _ (nets : List Net) (count : ℕ) (routes : List NetRoute) (free : GapFre
         (λ (v : (t : ℕ) × (route_at routes k ≡ One t)). straight_one j k v.0 jl kl ne u.0 u.1 v.1)
         (way k kl))
         (λ (u : (t : ℕ) × (route_at routes j ≡ One t)). ⊎_elim
-        (λ (v : (route_at routes k ≡ Straight) × IsLevelNet (net k)).
-        let turned = straight_one k j u.0 kl jl (λ z. ne (sym z)) v.0 v.1 u.1 in
+        (λ (v : (route_at routes k ≡ Straight) × IsStraightNet (net k)).
+        let flipped = straight_one k j u.0 kl jl (λ z. ne (sym z)) v.0 v.1 u.1 in
         omega arith)
         (λ (v : (t : ℕ) × (route_at routes k ≡ One t)). two_ones j k u.0 v.0 jl kl ne u.1 v.1)
         (way k kl))

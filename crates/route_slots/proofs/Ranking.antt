@@ -12,12 +12,12 @@ use Rattle.std.proofs.lemmas.Int.{ints, by_lt_z}
 use Rattle.net_routes.specs.declared.Pin.{Pin}
 use Rattle.net_routes.specs.declared.Net.{Net}
 use Rattle.net_routes.specs.Pieces.{net_at}
-use Rattle.net_routes.specs.GapFree.{IsNet, AreHeights, IsLevelNet}
-use Rattle.net_routes.specs.Conflicts.{Conflict, HasNoConflict, HasOneConflict}
+use Rattle.net_routes.specs.GapFree.{IsNet, AreHeights, IsStraightNet}
+use Rattle.net_routes.specs.Conflicts.{Conflict, HasNoConflict, HasAtMostOneConflict}
 use Rattle.net_routes.specs.Crossings.{is_over, one}
 use Rattle.net_routes.specs.Uncrossed.{is_before, first_pin, last_pin, asked, in_order, CrossMore, Precedes, IsOrderable}
 use Rattle.net_routes.proofs.Turns.{true_false, lt_true, lt_false, tri, Comes, comes, before, over, ends, either_back}
-use Rattle.net_routes.proofs.Asking.{pin, left_in, right_in, counted, order_count, asked_is, asked_turned, uneven}
+use Rattle.net_routes.proofs.Asking.{pin, left_in, right_in, counted, order_count, asked_is, asked_flipped, uneven}
 use Rattle.net_routes.proofs.Straight.{over_parts, same_bool, by_way, both_ends}
 use Rattle.route_slots.proofs.Ordered.{all_proper}
 
@@ -46,7 +46,7 @@ amid_down x y h l e = ⊎_elim (λ w. let a = w.0 in let b = w.1 in absurd (omeg
 abbrev Alternate : Bool → ℤ → Bool → ℤ → Bool → ℤ → Bool → ℤ → Type 0
 Alternate a x b y c p d q = (Comes a x c p × Comes c p b y × Comes b y d q) ⊎ (Comes c p a x × Comes a x d q × Comes d q b y)
 
--- crossings of the first net's lines and pieces with the second's
+-- crossings of the first net's lines and segments with the second's
 abbrev total : Pin → Pin → Pin → Pin → ℕ
 total x y p q = (left_in p x.height y.height + left_in q x.height y.height) + (right_in x p.height q.height + right_in y p.height q.height)
 
@@ -56,23 +56,23 @@ Bounded h = (neg_ℤ (pos (2 ^ 50)) ≤ℤ h) × (h ≤ℤ pos (2 ^ 50))
 zero_sum : (n w : ℕ) → n ≤ w → n + 0 ≤ w
 zero_sum n w h = omega arith
 
-over_turned : (x y h : ℤ) → is_over x y h ≡ is_over y x h
-over_turned x y h =
+over_flipped : (x y h : ℤ) → is_over x y h ≡ is_over y x h
+over_flipped x y h =
     same_bool (is_over x y h) (is_over y x h)
     (λ e. over y x h (⊎_elim (λ w. inr w) (λ w. inl w) (over_parts x y h e)))
     (λ e. over x y h (⊎_elim (λ w. inr w) (λ w. inl w) (over_parts y x h e)))
 
-left_turned : (p : Pin) (x y : ℤ) → left_in p x y ≡ left_in p y x
-left_turned p x y = ap (λ z. if p.on_left then one z else 0) (over_turned x y p.height)
+left_flipped : (p : Pin) (x y : ℤ) → left_in p x y ≡ left_in p y x
+left_flipped p x y = ap (λ z. if p.on_left then one z else 0) (over_flipped x y p.height)
 
-right_turned : (p : Pin) (x y : ℤ) → right_in p x y ≡ right_in p y x
-right_turned p x y = ap (λ z. if p.on_left then 0 else one z) (over_turned x y p.height)
+right_flipped : (p : Pin) (x y : ℤ) → right_in p x y ≡ right_in p y x
+right_flipped p x y = ap (λ z. if p.on_left then 0 else one z) (over_flipped x y p.height)
 
 total_first : (x y p q : Pin) → total x y p q ≡ total y x p q
-total_first x y p q = let a = left_turned p x.height y.height in let b = left_turned q x.height y.height in omega arith
+total_first x y p q = let a = left_flipped p x.height y.height in let b = left_flipped q x.height y.height in omega arith
 
 total_second : (x y p q : Pin) → total x y p q ≡ total x y q p
-total_second x y p q = let a = right_turned x p.height q.height in let b = right_turned y p.height q.height in omega arith
+total_second x y p q = let a = right_flipped x p.height q.height in let b = right_flipped y p.height q.height in omega arith
 
 pub total_ends : (m n : Net) → counted m n ≡ total (first_pin m) (last_pin m) (first_pin n) (last_pin n)
 total_ends m n =
@@ -346,7 +346,7 @@ module _ (dn un : ℤ) (db : IsBase dn) (ub : IsBase un) where
       high : (k : ℕ) → k < length nets → AreHeights (net_at nets k)
       high k l = All-get_or AreHeights nets k (record { a = record { on_left = false; height = pos 0 }; b = record { on_left = false; height = pos 0 } }) l heights
 
-      rises : (j k : ℕ) → j < length nets → (IsLevelNet (net_at nets j) → ⊥) → key_of (net_at nets j) <ℤ key_of (net_at nets k) → natural (key_of (net_at nets j)) < natural (key_of (net_at nets k))
+      rises : (j k : ℕ) → j < length nets → (IsStraightNet (net_at nets j) → ⊥) → key_of (net_at nets j) <ℤ key_of (net_at nets k) → natural (key_of (net_at nets j)) < natural (key_of (net_at nets k))
       rises j k l bent less =
           let mu = uneven (net_at nets j) (all_proper nets pins j l) bent in
           let f = facts (net_at nets j) mu (high j l) in
@@ -383,7 +383,7 @@ module _ (dn un : ℤ) (db : IsBase dn) (ub : IsBase un) where
           (λ less. rises j k c.j_in c.j_bent less)
           (λ ge. absurd
           (let few = as_few (net_at nets k) (net_at nets j) nu mu (high k c.k_in) (high j c.j_in) ge in
-          let turned = asked_turned (net_at nets j) (net_at nets k) in
+          let flipped = asked_flipped (net_at nets j) (net_at nets k) in
           let more = c.more in
           omega arith)))
           p
@@ -407,7 +407,7 @@ pub orderable : (nets : List Net) → All IsNet nets → All AreHeights nets →
 orderable nets pins heights none = downs_first nets pins heights (λ j k c l m. none j k c)
 
 -- with one conflict at most, one of the two orders serves
-pub one_orderable : (nets : List Net) → All IsNet nets → All AreHeights nets → HasOneConflict nets → (IsOrderable nets → ⊥) → ⊥
+pub one_orderable : (nets : List Net) → All IsNet nets → All AreHeights nets → HasAtMostOneConflict nets → (IsOrderable nets → ⊥) → ⊥
 one_orderable nets pins heights one none = none (downs_first nets pins heights mixed)
   where
     mixed : (j k : ℕ) → Conflict nets j k → LeadsUp (net_at nets j) → LeadsDown (net_at nets k) → ⊥

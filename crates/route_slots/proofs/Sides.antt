@@ -2,7 +2,7 @@
 use Rattle.std.proofs.Common.{◌≡◌, ◌≢◌, ◌∙◌, ⊎_elim, true, false, sym, ap}
 use Rattle.net_routes.specs.declared.Pin.{Pin}
 use Rattle.net_routes.specs.declared.Net.{Net}
-use Rattle.net_routes.specs.GapFree.{HasPin, IsLevelNet}
+use Rattle.net_routes.specs.GapFree.{HasPin, IsStraightNet}
 
 true_false : true ≡ false → ⊥
 true_false e = cc
@@ -21,8 +21,8 @@ sides_differ n p q hp hq pl ql same =
     hp
 
 -- a net with pins on both sides at one height is straight
-pub level_by : (n : Net) (p q : Pin) → HasPin n p → HasPin n q → p.on_left ≡ true → q.on_left ≡ false → p.height ≡ q.height → IsLevelNet n
-level_by n p q hp hq pl ql e =
+pub one_pin : (n : Net) (p q : Pin) → HasPin n p → HasPin n q → p.on_left ≡ true → q.on_left ≡ false → p.height ≡ q.height → IsStraightNet n
+one_pin n p q hp hq pl ql e =
     let differ = sides_differ n p q hp hq pl ql in
     ⊎_elim
     (λ (x : n.a ≡ p). ⊎_elim

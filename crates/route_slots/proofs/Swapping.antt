@@ -138,7 +138,7 @@ module _ (nets : List Net) (count s : ℕ) (old new : List NetRoute) (swaps : Ar
   abbrev Blocked : ℕ → ℕ → Type 0
   Blocked j k = Blocks (net_at nets j) (route_at old j) (net_at nets k) (route_at old k) s
 
-  -- pieces keep apart after the exchange, where no net blocks it
+  -- segments keep apart after the exchange, where no net blocks it
   pub apart_after : AreApart nets old → ((j k : ℕ) → j < length nets → k < length nets → j ≢ k → Blocked j k → ⊥) → AreApart nets new
   apart_after apart clear =
       record {
@@ -191,7 +191,7 @@ module _ (nets : List Net) (count s : ℕ) (old new : List NetRoute) (swaps : Ar
         record {
           apart = apart;
           slots_in = slots_in;
-          level = λ k l e. (laid.free.straight k l).0 (straight_back s (route_at old k) (sym (route k l) ∙ e));
+          depth = λ k l e. (laid.free.straight k l).0 (straight_back s (route_at old k) (sym (route k l) ∙ e));
           fresh = fresh;
         } in
         record {

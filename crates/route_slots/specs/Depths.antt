@@ -1,4 +1,4 @@
--- How far behind the first slots pieces with a pin on the right at some height stand.
+-- How far behind the first slots segments with a pin on the right at some height stand.
 use Rattle.std.specs.Prelude.{◌≡◌, ◌≢◌, ℕ, ◌+◌, ◌<◌, ◌^◌, Bool, true, false, List, ℤ, length, Option, Some, None, slice_index}
 use Rattle.std.specs.Prelude.{slice_index_or, if◌then◌else◌}
 use Rattle.std.specs.Ordering.{int_cmp}
@@ -7,7 +7,7 @@ use Rattle.net_routes.specs.declared.Pin.{Pin}
 use Rattle.net_routes.specs.declared.Net.{Net}
 use Rattle.route_slots.specs.declared.depths.Depths.{Depths}
 use Rattle.net_routes.specs.Pieces.{net_at}
-use Rattle.net_routes.specs.GapFree.{HasPin, IsLevelNet}
+use Rattle.net_routes.specs.GapFree.{HasPin, IsStraightNet}
 use Rattle.route_slots.specs.Numbers.{HasLeftAt}
 
 -- a height without a number has depth 0, and every other is deeper
@@ -15,7 +15,7 @@ abbrev pub depth_by : List ℕ → Option ℕ → ℕ
 depth_by ds None = 0
 depth_by ds (Some x) = slice_index ds x + 1
 
--- the depth of a height, 0 where no piece has a pin on the left there
+-- the depth of a height, 0 where no segment has a pin on the left there
 abbrev pub depth : Depths → ℤ → ℕ
 depth d h = depth_by d.depths.items (get int_cmp d.numbers h)
 
@@ -30,10 +30,10 @@ is_split bs k = slice_index_or bs k false
 pub record AreDepths (nets : List Net) (bs : List Bool) (d : ℤ → ℕ) : Type 0 where
   pub len : length bs ≡ length nets
   pub sides : (k : ℕ) → k < length nets → is_split bs k ≡ true → (net_at nets k).a.on_left ≢ (net_at nets k).b.on_left
-  pub bent : (k : ℕ) → k < length nets → is_split bs k ≡ true → IsLevelNet (net_at nets k) → ⊥
-  pub deep : (k : ℕ) (p : Pin) → k < length nets → (IsLevelNet (net_at nets k) → ⊥) → HasPin (net_at nets k) p
+  pub bent : (k : ℕ) → k < length nets → is_split bs k ≡ true → IsStraightNet (net_at nets k) → ⊥
+  pub deep : (k : ℕ) (p : Pin) → k < length nets → (IsStraightNet (net_at nets k) → ⊥) → HasPin (net_at nets k) p
       → p.on_left ≡ true → 0 < d p.height
-  pub rising : (k : ℕ) (p q : Pin) → k < length nets → (IsLevelNet (net_at nets k) → ⊥) → is_split bs k ≡ false
+  pub rising : (k : ℕ) (p q : Pin) → k < length nets → (IsStraightNet (net_at nets k) → ⊥) → is_split bs k ≡ false
       → HasPin (net_at nets k) p → HasPin (net_at nets k) q → p.on_left ≡ true → q.on_left ≡ false → d q.height < d p.height
 
 -- only heights with a pin on the left are deep

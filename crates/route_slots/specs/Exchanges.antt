@@ -13,7 +13,7 @@ use Rattle.net_routes.specs.Crossings.{cut, crossings, sum_to}
 use Rattle.net_routes.specs.Limits.{exchange_limit}
 use Rattle.net_routes.specs.Exchanges.{exchanged, AreExchanged, NoBetterAt, NoBetterExchange}
 
--- the routes are free, their pieces keep apart, and only nets on cycles are split
+-- the routes are free, their segments keep apart, and only nets on cycles are split
 pub record AreLaid (nets : List Net) (count : ℕ) (routes : List NetRoute) : Type 0 where
   pub free : GapFree nets count routes
   pub apart : AreApart nets routes
@@ -24,7 +24,7 @@ pub record AreSettled (nets : List Net) (count : ℕ) (routes : List NetRoute) :
   pub laid : AreLaid nets count routes
   pub none : length nets ≤ exchange_limit → NoBetterExchange nets count routes
 
--- the net has a piece in slot s or the next
+-- the net has a segment in slot s or the next
 unfoldable pub is_near : ℕ → ℕ → Bool
 is_near s t = if t == s then true else t == s + 1
 
@@ -33,7 +33,7 @@ touches s Straight = false
 touches s (One t) = is_near s t
 touches s (Two t h u) = if is_near s t then true else is_near s u
 
--- crossings of two nets before and after the exchange, counted where the second has a piece in the two slots
+-- crossings of two nets before and after the exchange, counted where the second has a segment in the two slots
 unfoldable pub near_before : Net → NetRoute → Net → NetRoute → ℕ → ℕ
 near_before m r n q s = if touches s q then cut m r n q else 0
 
@@ -63,7 +63,7 @@ pub record Blocks (m : Net) (r : NetRoute) (n : Net) (q : NetRoute) (s : ℕ) : 
   pub on_right : right.on_left ≡ false
   pub one_height : left.height ≡ right.height
 
--- the piece at the net's pin stands in the slot
+-- the segment at the net's pin stands in the slot
 unfoldable pub at_a : NetRoute → ℕ → Bool
 at_a Straight s = false
 at_a (One t) s = t == s
@@ -78,7 +78,7 @@ at_b (Two t h u) s = u == s
 unfoldable pub meets : Pin → Pin → Bool
 meets p q = if p.on_left then (if q.on_left then false else int_eq p.height q.height) else false
 
--- the pin meets one of the net's whose pieces stand in the slot
+-- the pin meets one of the net's whose segments stand in the slot
 unfoldable pub meets_in : Pin → Net → NetRoute → ℕ → Bool
 meets_in p n q t = (at_a q t && meets p n.a) || (at_b q t && meets p n.b)
 
@@ -88,7 +88,7 @@ blocks m r n q s = (at_a r s && meets_in m.a n q (s + 1)) || (at_b r s && meets_
 unfoldable pub holds_back : List Net → List NetRoute → ℕ → ℕ → ℕ → Bool
 holds_back nets routes s j k = if j == k then false else blocks (net_at nets j) (route_at routes j) (net_at nets k) (route_at routes k) s
 
--- the exchange lessens the crossings, and pieces still keep apart
+-- the exchange lessens the crossings, and segments still keep apart
 abbrev pub IsBetterAt : List Net → List NetRoute → ℕ → Type 0
 IsBetterAt nets routes s =
     (others : List NetRoute) → AreExchanged s routes others

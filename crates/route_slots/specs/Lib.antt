@@ -2,10 +2,10 @@ pub mod Chains
 pub mod Choosing
 pub mod Depths
 pub mod Exchanges
-pub mod Levels
 pub mod Links
 pub mod Marks
 pub mod Middles
+pub mod NetDepths
 pub mod Numbers
 pub mod Ranks
 pub mod Slotting

@@ -1,4 +1,4 @@
--- Heights at which the two pieces of a split net meet.
+-- Heights at which the two segments of a split net meet.
 use Rattle.std.specs.Prelude.{◌≡◌, ◌⊎◌, ℕ, ◌+◌, ◌<◌, Bool, true, false, List, ℤ, pos, ◌+ℤ◌, ◌≤ℤ◌, length, slice_index_or}
 use Rattle.std.specs.Int.{int_min, int_max}
 use Rattle.std.specs.Ordering.{int_cmp}

@@ -8,11 +8,11 @@ use Rattle.net_routes.specs.declared.Pin.{Pin}
 use Rattle.net_routes.specs.declared.Net.{Net}
 use Rattle.route_slots.specs.declared.heights.Heights.{Heights}
 use Rattle.net_routes.specs.Pieces.{net_at}
-use Rattle.net_routes.specs.GapFree.{HasPin, IsLevelNet}
+use Rattle.net_routes.specs.GapFree.{HasPin, IsStraightNet}
 
 -- the net is not straight and has a pin on the left at this height
 pub record HasLeftAt (n : Net) (h : ℤ) : Type 0 where
-  pub bent : IsLevelNet n → ⊥
+  pub bent : IsStraightNet n → ⊥
   pub pin : Pin
   pub has_pin : HasPin n pin
   pub on_left : pin.on_left ≡ true
@@ -29,13 +29,13 @@ pub record AreHeightNumbers (nets : List Net) (n : ℕ) (heights : Heights) : Ty
   pub numbers : AreNumbers heights
   pub least : 2 ≤ heights.bound
   pub few : heights.bound ≤ 2 + (n + n)
-  pub each : (k : ℕ) (p : Pin) → k < n → (IsLevelNet (net_at nets k) → ⊥) → HasPin (net_at nets k) p → p.on_left ≡ true
+  pub each : (k : ℕ) (p : Pin) → k < n → (IsStraightNet (net_at nets k) → ⊥) → HasPin (net_at nets k) p → p.on_left ≡ true
       → IsSome (get int_cmp heights.numbers p.height)
   pub held : (h : ℤ) (x : ℕ) → get int_cmp heights.numbers h ≡ Some x → (k : ℕ) × (k < n) × HasLeftAt (net_at nets k) h
 
 -- the pins of a net that leads across the gap and is not straight
 pub record AreSides (n : Net) (p q : Pin) : Type 0 where
-  pub bent : IsLevelNet n → ⊥
+  pub bent : IsStraightNet n → ⊥
   pub has_left : HasPin n p
   pub has_right : HasPin n q
   pub on_left : p.on_left ≡ true
@@ -44,7 +44,7 @@ pub record AreSides (n : Net) (p q : Pin) : Type 0 where
   pub no_other_right : (r : Pin) → HasPin n r → r.on_left ≡ false → r ≡ q
 
 abbrev pub HasNoSides : Net → Type 0
-HasNoSides n = (IsLevelNet n → ⊥) → (p q : Pin) → HasPin n p → HasPin n q → p.on_left ≡ true → q.on_left ≡ false → ⊥
+HasNoSides n = (IsStraightNet n → ⊥) → (p q : Pin) → HasPin n p → HasPin n q → p.on_left ≡ true → q.on_left ≡ false → ⊥
 
 -- A net that leads across is a link from its height on the left to that on the right; 1 stands for heights without a number.
 -- Every other net is a link from 0 to 1.

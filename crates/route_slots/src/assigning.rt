@@ -7,19 +7,19 @@ ghost use Rattle.net_routes.specs.Density.{IsDensity};
 ghost use Rattle.route_slots.specs.Choosing.{AreGood};
 ghost use Rattle.net_routes.specs.Promised.{AreFewest};
 ghost use Rattle.route_slots.specs.Middles.{AreMiddles};
-ghost use Rattle.route_slots.specs.Levels.{StandByLevels};
-ghost use Rattle.route_slots.specs.Marks.{AreNetMarks, AreFlat, ArePieces, HaveSlots, piece_a, piece_b, other_end, route_by};
+ghost use Rattle.route_slots.specs.NetDepths.{StandByDepths};
+ghost use Rattle.route_slots.specs.Marks.{AreNetMarks, AreFlat, AreSegments, HaveSlots, segment_a, segment_b, other_end, route_by};
 
 use crate::choosing::choose;
 use crate::depths::depths_of;
 use crate::marks::{Mark, net_marks};
 use crate::middles::{Height, middles_of};
 use crate::settling::settle;
-use crate::slotting::{Piece, slots_of};
+use crate::slotting::{Segment, slots_of};
 use net_routes::{Net, NetRoute, Slots};
 use std::alloc::{AllocError, Global};
 
-// The height to which the piece at the pin `a` leads.
+// The height to which the segment at the pin `a` leads.
 fn end_of_a(mark: Mark, net: Net, height: Height) -> Height
     ensures { result.value ≡ other_end mark net height.value }
 {
@@ -32,55 +32,55 @@ fn end_of_a(mark: Mark, net: Net, height: Height) -> Height
     }
 }
 
-// The piece at the pin `a`, which is that of the whole net where this is not split.
-fn first_piece(mark: Mark, net: Net, height: Height) -> Piece
-    ensures { result ≡ piece_a mark net height.value }
+// The segment at the pin `a`, which is that of the whole net where this is not split.
+fn first_segment(mark: Mark, net: Net, height: Height) -> Segment
+    ensures { result ≡ segment_a mark net height.value }
 {
     let end = end_of_a(mark, net, height);
-    Piece {
+    Segment {
         real: !mark.straight,
-        level: mark.at_a,
+        depth: mark.at_a,
         low: net.a.height.min(end.value),
         high: net.a.height.max(end.value),
     }
 }
 
-// The piece at the pin `b` of a net that is split.
-fn second_piece(mark: Mark, net: Net, height: Height) -> Piece
-    ensures { result ≡ piece_b mark net height.value }
+// The segment at the pin `b` of a net that is split.
+fn second_segment(mark: Mark, net: Net, height: Height) -> Segment
+    ensures { result ≡ segment_b mark net height.value }
 {
-    Piece {
+    Segment {
         real: mark.split,
-        level: mark.at_b,
+        depth: mark.at_b,
         low: height.value.min(net.b.height),
         high: height.value.max(net.b.height),
     }
 }
 
-// The pieces of all nets, two places for each.
-fn pieces_of(
+// The segments of all nets, two places for each.
+fn segments_of(
     alloc: Global,
     nets: &[Net],
     marks: &[Mark],
     middles: &[Height],
-) -> Result<Vec<Piece>, AllocError>
+) -> Result<Vec<Segment>, AllocError>
     requires len { length marks.now ≡ length nets.now }
     requires middles { length middles.now ≡ length nets.now }
     requires few { length nets.now ≤ net_limit }
-    ensures { IfOk result (λ pieces. ArePieces nets.now marks.now middles.now pieces.items) }
+    ensures { IfOk result (λ segments. AreSegments nets.now marks.now middles.now segments.items) }
 {
-    let mut pieces = Vec::new(alloc);
+    let mut segments = Vec::new(alloc);
     'nets: for number in 0..nets.len() as u32 {
         let net = nets[number as usize];
         let mark = marks[number as usize];
         let height = middles[number as usize];
-        pieces.push(first_piece(mark, net, height))?;
-        pieces.push(second_piece(mark, net, height))?;
+        segments.push(first_segment(mark, net, height))?;
+        segments.push(second_segment(mark, net, height))?;
     }
-    Ok(pieces)
+    Ok(segments)
 }
 
-// The route of a net by the slots of its pieces.
+// The route of a net by the slots of its segments.
 fn route_of(mark: Mark, first: u32, height: Height, second: u32) -> NetRoute
     ensures { result ≡ route_by mark first height.value second }
 {
@@ -136,10 +136,10 @@ pub fn place(
     requires middles { AreMiddles nets.now middles.now }
     ensures good { IfOk result (λ slots. AreGood nets.now marks.now slots.count slots.routes.items) }
     ensures density { IfOk result (λ slots. AreFlat nets.now marks.now → IsDensity nets.now slots.count) }
-    ensures order { IfOk result (λ slots. StandByLevels nets.now marks.now slots.routes.items) }
+    ensures order { IfOk result (λ slots. StandByDepths nets.now marks.now slots.routes.items) }
 {
-    let pieces = pieces_of(alloc, nets, marks, middles)?;
-    let standing = slots_of(alloc, pieces.as_slice())?;
+    let segments = segments_of(alloc, nets, marks, middles)?;
+    let standing = slots_of(alloc, segments.as_slice())?;
     let routes = routes_of(alloc, nets, marks, middles, standing.slots.as_slice())?;
     Ok(Slots {
         count: standing.count,
@@ -148,17 +148,29 @@ pub fn place(
 }
 
 /// A route for each net: straight exactly where its pins are on both sides at one height, and otherwise by one slot or two.
-/// Pieces of two nets overlap only where the nets have a common pin.
+/// Segments of two nets overlap only where the nets have a common pin.
 ///
 /// A net takes two slots only where it lies on a cycle of conflicts, and where no nets conflict there are as many slots as
-/// there are pieces at the height with the most. A split net turns in the middle of the longest free stretch between its pins,
+/// there are segments at the height with the most. A split net turns in the middle of the longest free stretch between its pins,
 /// and where none is free past the greatest height of a pin, which lies below it on the page.
 ///
 /// Slots are chosen for few crossings in a gap of up to 1,024 nets: nets take slots by the depths of their conflicts and by
 /// their low ends, then others are looked for that give fewer crossings. These are as many where no nets conflict; where some
 /// do, they are as many as an order of few crossings takes. Last, neighbouring slots are exchanged as a whole, until no
-/// exchange that keeps pieces apart gives fewer crossings. This takes time in proportion to the square of the nets for all but
+/// exchange that keeps segments apart gives fewer crossings. This takes time in proportion to the square of the nets for all but
 /// the exchanges at the end, of which there are seldom any left.
+///
+/// Proved:
+/// - Pieces of two nets of a gap overlap only at a common pin. (`assign_near`)
+/// - Every slot is used. (`assign_near`)
+/// - Heights of split nets are fresh and in range. (`assign_near`)
+/// - A net is split only if it lies on a cycle of height conflicts. (`assign_near`)
+/// - Without conflicts there are as many slots as the density of the gap: the greatest number of bent nets that reach or pass one
+///   height. Two nets with a common pin count as two, so fewer slots may be possible. With conflicts nothing is promised of the number
+///   of slots. (`assign_near`)
+/// - In a gap of up to 1,024 nets, exchanging two neighbouring slots never gives fewer crossings, among the exchanges that keep pieces
+///   apart. (`assign_near`)
+/// - In all these calls vertical pieces keep apart. (`assign_near`, `assign_uncrossed`, `assign_uncrossed_near`)
 pub fn assign(alloc: Global, nets: &[Net]) -> Result<Slots, AllocError>
     requires few { length nets.now ≤ net_limit }
     requires pins { All IsNet nets.now }

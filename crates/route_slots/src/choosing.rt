@@ -5,23 +5,23 @@ ghost use Rattle.net_routes.specs.Pieces.{net_at};
 ghost use Rattle.net_routes.specs.Crossings.{crossings};
 ghost use Rattle.route_slots.specs.Middles.{AreMiddles};
 ghost use Rattle.route_slots.specs.Marks.{mark_at, AreNetMarks, AreFlat};
-ghost use Rattle.route_slots.specs.Choosing.{IsRelevelled, AreRelevelled, KeepsOrder, AreInOrder, AreGood};
+ghost use Rattle.route_slots.specs.Choosing.{IsMovedMark, AreMovedMarks, KeepsOrder, AreInOrder, AreGood};
 
 use crate::assigning::place;
 use crate::crossings::crossings_of;
 use crate::filling::fill;
-use crate::fitting::level_at;
+use crate::fitting::depth_in;
 use crate::marks::Mark;
 use crate::middles::Height;
+use crate::segments::{depths_by_place, rank_segments};
 use crate::sifting::sift;
-use crate::strips::{levels_of, strips_of};
 use crate::tracks::exchange_tracks;
 use net_routes::{Net, Pin, Slots};
 use std::alloc::{AllocError, Global};
 
-// The mark with other levels, with one where the net is not split.
-fn relevelled(mark: Mark, at_a: u32, at_b: u32) -> Mark
-    ensures { IsRelevelled mark result }
+// The mark with other depths, with one where the net is not split.
+fn moved_to(mark: Mark, at_a: u32, at_b: u32) -> Mark
+    ensures { IsMovedMark mark result }
 {
     if mark.split {
         return Mark {
@@ -39,23 +39,23 @@ fn relevelled(mark: Mark, at_a: u32, at_b: u32) -> Mark
     }
 }
 
-/// All marks with other levels, two for each net.
-pub fn marks_by(alloc: Global, marks: &[Mark], levels: &[u32]) -> Result<Vec<Mark>, AllocError>
+/// All marks with other depths, two for each net.
+pub fn marks_by(alloc: Global, marks: &[Mark], depths: &[u32]) -> Result<Vec<Mark>, AllocError>
     requires { length marks.now ≤ net_limit }
-    ensures { IfOk result (λ others. AreRelevelled marks.now others.items) }
+    ensures { IfOk result (λ others. AreMovedMarks marks.now others.items) }
 {
     let mut others = Vec::new(alloc);
     'marks: for k in 0..marks.len() {
-        let at_a = level_at(levels, k + k);
-        let at_b = level_at(levels, k + k + 1);
-        others.push(relevelled(marks[k], at_a, at_b))?;
+        let at_a = depth_in(depths, k + k);
+        let at_b = depth_in(depths, k + k + 1);
+        others.push(moved_to(marks[k], at_a, at_b))?;
     }
     Ok(others)
 }
 
-// Whether a piece with the first pin is before one with the second, if it has to be.
-fn keeps_order(pin: Pin, level: u32, other: Pin, other_level: u32) -> bool
-    ensures { result ≡ true → KeepsOrder pin level other other_level }
+// Whether a segment with the first pin is before one with the second, if it has to be.
+fn keeps_order(pin: Pin, depth: u32, other: Pin, other_depth: u32) -> bool
+    ensures { result ≡ true → KeepsOrder pin depth other other_depth }
 {
     if !pin.on_left {
         return true;
@@ -66,10 +66,10 @@ fn keeps_order(pin: Pin, level: u32, other: Pin, other_level: u32) -> bool
     if pin.height != other.height {
         return true;
     }
-    level < other_level
+    depth < other_depth
 }
 
-// Whether the pieces of the first net are before those of the second, where they have to be.
+// Whether the segments of the first net are before those of the second, where they have to be.
 fn keep_order(net: Net, mark: Mark, other: Net, other_mark: Mark) -> bool
     ensures { result ≡ true → AreInOrder net mark other other_mark }
 {
@@ -91,7 +91,7 @@ fn keep_order(net: Net, mark: Mark, other: Net, other_mark: Mark) -> bool
     keeps_order(net.b, mark.at_b, other.b, other_mark.at_b)
 }
 
-// Whether the pieces of one net are before those of all others, where they have to be.
+// Whether the segments of one net are before those of all others, where they have to be.
 fn row_keeps_order(nets: &[Net], marks: &[Mark], j: usize) -> bool
     requires len { length marks.now ≡ length nets.now }
     requires net { j < length nets.now }
@@ -105,7 +105,7 @@ fn row_keeps_order(nets: &[Net], marks: &[Mark], j: usize) -> bool
     true
 }
 
-/// Whether all pieces are before those before which they have to be.
+/// Whether all segments are before those before which they have to be.
 pub fn all_keep_order(nets: &[Net], marks: &[Mark]) -> bool
     requires len { length marks.now ≡ length nets.now }
     ensures { result ≡ true → (j k : ℕ) → j < length nets.now → k < length nets.now
@@ -144,9 +144,9 @@ fn any_is_deep(marks: &[Mark]) -> bool
     false
 }
 
-// Levels for few crossings, two for each net: as many tracks as by low ends where no nets conflict, and else as many as the
+// Depths for few crossings, two for each net: as many tracks as by low ends where no nets conflict, and else as many as the
 // order with few crossings asks for.
-fn light_levels(
+fn light_depths(
     alloc: Global,
     nets: &[Net],
     marks: &[Mark],
@@ -157,13 +157,13 @@ fn light_levels(
     requires marks { length marks.now ≡ length nets.now }
     requires middles { length middles.now ≡ length nets.now }
 {
-    let strips = strips_of(alloc, nets, marks, middles)?;
-    let mut strips = fill(alloc, strips)?;
+    let segments = rank_segments(alloc, nets, marks, middles)?;
+    let mut segments = fill(alloc, segments)?;
     if deep {
-        strips = sift(alloc, strips)?;
+        segments = sift(alloc, segments)?;
     }
-    let exchanged = exchange_tracks(alloc, strips)?;
-    levels_of(alloc, exchanged.as_slice(), nets.len())
+    let exchanged = exchange_tracks(alloc, segments)?;
+    depths_by_place(alloc, exchanged.as_slice(), nets.len())
 }
 
 // Whether slots may be that many in place of as many as they are.
@@ -217,8 +217,8 @@ pub fn choose(
         return Ok(slots);
     }
     let deep = any_is_deep(marks);
-    let levels = light_levels(alloc, nets, marks, middles, deep)?;
-    let others = marks_by(alloc, marks, levels.as_slice())?;
+    let depths = light_depths(alloc, nets, marks, middles, deep)?;
+    let others = marks_by(alloc, marks, depths.as_slice())?;
     if !all_keep_order(nets, others.as_slice()) {
         return Ok(slots);
     }

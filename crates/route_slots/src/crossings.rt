@@ -1,4 +1,4 @@
-//! How many pieces of nets cross.
+//! How many segments of nets cross.
 ghost use Rattle.std.specs.Prelude.{◌≡◌, ◌≤◌, ◌<◌, ◌*◌, length};
 ghost use Rattle.net_routes.specs.Limits.{net_limit};
 ghost use Rattle.net_routes.specs.Crossings as count;
@@ -42,7 +42,7 @@ fn one(crosses: bool) -> u64
     if crosses { 1 } else { 0 }
 }
 
-// Crossings of the line at a pin, whose upright piece stands in this slot, with another upright piece.
+// Crossings of the line at a pin, whose segment stands in this slot, with another segment.
 #[tactic(auto, unfolding(net_routes::specs::Crossings::pin_cut))]
 fn pin_cut(pin: Pin, slot: u32, upright: Upright) -> u64
     ensures cut { result ≡ count.pin_cut pin slot upright }
@@ -54,7 +54,7 @@ fn pin_cut(pin: Pin, slot: u32, upright: Upright) -> u64
     one(is_over(upright.from, upright.to, pin.height))
 }
 
-// Crossings of the line between the two pieces of a split net.
+// Crossings of the line between the two segments of a split net.
 #[tactic(auto, unfolding(net_routes::specs::Crossings::bar_cut))]
 fn bar_cut(first: u32, height: i64, second: u32, upright: Upright) -> u64
     ensures cut { result ≡ count.bar_cut first height second upright }
@@ -66,7 +66,7 @@ fn bar_cut(first: u32, height: i64, second: u32, upright: Upright) -> u64
     one(is_over(upright.from, upright.to, height))
 }
 
-// Crossings of a net's level lines with an upright piece.
+// Crossings of a net's horizontal lines with a segment.
 #[tactic(auto, unfolding(net_routes::specs::Crossings::cuts))]
 fn cuts(net: Net, route: NetRoute, upright: Upright) -> u64
     ensures cuts { result ≡ count.cuts net route upright }
@@ -87,7 +87,7 @@ fn cuts(net: Net, route: NetRoute, upright: Upright) -> u64
     }
 }
 
-/// Crossings of the second net's level lines with upright pieces of the first.
+/// Crossings of the second net's horizontal lines with segments of the first.
 #[tactic(auto, unfolding(net_routes::specs::Crossings::cut))]
 pub fn cut(net: Net, route: NetRoute, other: Net, other_route: NetRoute) -> u64
     ensures cut { result ≡ count.cut net route other other_route }
@@ -124,7 +124,7 @@ pub fn cut(net: Net, route: NetRoute, other: Net, other_route: NetRoute) -> u64
     }
 }
 
-// Crossings with the upright pieces of one net.
+// Crossings with the segments of one net.
 fn row_crossings(nets: &[Net], routes: &[NetRoute], j: usize) -> u64
     requires len { length routes.now ≡ length nets.now }
     requires few { length nets.now ≤ net_limit }

@@ -69,6 +69,9 @@ fn walk_all(alloc: Global, nodes: u32, links: &[Link]) -> Result<Walk, AllocErro
 /// the numbers below `nodes`.
 ///
 /// A search in depth; it takes time and memory in proportion to nodes and links. (Tarjan 1972.)
+///
+/// Proved:
+/// - Links to cut until no cycle is left, each of them on a cycle, and the resulting depths of the nodes.
 pub fn cut_cycles(alloc: Global, nodes: u32, links: &[Link]) -> Result<Cuts, AllocError>
     requires few { length links.now ≤ link_limit }
     requires ends { EndsBelow nodes links.now }

@@ -8,7 +8,7 @@ ghost use Rattle.route_slots.specs.Numbers.{AreSides, HasNoSides, IsLinkOf, AreL
 ghost use Rattle.route_slots.specs.Depths.{depth, is_split, AreDepths, AreHeld, AreSized};
 
 use crate::heights::{Heights, heights_of};
-use crate::marks::is_level;
+use crate::marks::is_straight;
 use crate::{Link, cut_cycles};
 use net_routes::{Net, Pin};
 use std::alloc::{AllocError, Global};
@@ -34,7 +34,7 @@ fn sides_of(net: Net) -> Option<Sides>
     ensures sides { IfSome result (λ sides. AreSides net sides.left sides.right) }
     ensures none { IfNone result (HasNoSides net) }
 {
-    if is_level(net) {
+    if is_straight(net) {
         return None;
     }
     if net.a.on_left == net.b.on_left {

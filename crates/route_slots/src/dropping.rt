@@ -1,8 +1,8 @@
-//! An order of the pieces of a gap in which the lightest demands are dropped where all can't be met. Nothing is promised of it.
+//! An order of the segments of a gap in which the lightest demands are dropped where all can't be met. Nothing is promised of it.
 use crate::demands::{Demands, load, wanted};
 use std::alloc::{AllocError, Global};
 
-// What a part that has no turn yet still waits for, or still holds back.
+// What a segment that has no turn yet still waits for, or still holds back.
 #[derive(Clone, Copy)]
 struct Waiting {
     has_turn: bool,
@@ -11,7 +11,7 @@ struct Waiting {
     load: u64,
 }
 
-// A part, and whether it goes to the end of the order.
+// A segment, and whether it goes to the end of the order.
 #[derive(Clone, Copy)]
 struct Pick {
     number: usize,
@@ -30,7 +30,7 @@ fn waiting_at(waiting: &[Waiting], at: usize) -> Waiting {
     }
 }
 
-// What a part waits for with one more demand of it, or with one less.
+// What a segment waits for with one more demand of it, or with one less.
 fn changed(here: Waiting, weight: i8, more: bool) -> Waiting {
     let mut next = here;
     if weight < 0 {
@@ -55,7 +55,7 @@ fn stepped(count: u32, more: bool) -> u32 {
     }
 }
 
-// All demands of one part.
+// All demands of one segment.
 fn waiting_of(demands: &Demands, number: usize) -> Waiting {
     let mut here = Waiting {
         has_turn: false,
@@ -69,11 +69,11 @@ fn waiting_of(demands: &Demands, number: usize) -> Waiting {
     here
 }
 
-// Of the parts without a turn one that waits for none or holds none back, or else the one with the lightest demands.
+// Of the segments without a turn one that waits for none or holds none back, or else the one with the lightest demands.
 fn next_pick(waiting: &[Waiting]) -> Option<Pick> {
     let mut best = None;
     let mut least = u64::MAX;
-    'parts: for number in 0..waiting.len() {
+    'segments: for number in 0..waiting.len() {
         let here = waiting_at(waiting, number);
         if !here.has_turn {
             if here.ahead == 0 || here.behind == 0 {
@@ -94,7 +94,7 @@ fn next_pick(waiting: &[Waiting]) -> Option<Pick> {
     best
 }
 
-// Takes a part's demands from all others.
+// Takes a segment's demands from all others.
 fn release(waiting: &mut [Waiting], demands: &Demands, number: usize) {
     'others: for other in 0..waiting.len() {
         if other < waiting.len() {
@@ -109,24 +109,24 @@ fn release(waiting: &mut [Waiting], demands: &Demands, number: usize) {
     }
 }
 
-// The parts at the front of the order, and those at its end from the last one on.
+// The segments at the front of the order, and those at its end from the last one on.
 #[derive(Drop)]
 struct Halves {
     front: Vec<usize>,
     back: Vec<usize>,
 }
 
-// Gives one part after another its turn.
+// Gives one segment after another its turn.
 fn halves_of(alloc: Global, demands: &Demands) -> Result<Halves, AllocError> {
     let mut waiting = Vec::new(alloc);
-    'parts: for number in 0..demands.size {
+    'segments: for number in 0..demands.size {
         waiting.push(waiting_of(demands, number))?;
     }
     let mut halves = Halves {
         front: Vec::new(alloc),
         back: Vec::new(alloc),
     };
-    'turns: for _ in 0..demands.size {
+    'queue: for _ in 0..demands.size {
         if let Some(pick) = next_pick(waiting.as_slice()) {
             if pick.at_end {
                 halves.back.push(pick.number)?;
@@ -139,7 +139,7 @@ fn halves_of(alloc: Global, demands: &Demands) -> Result<Halves, AllocError> {
     Ok(halves)
 }
 
-/// All parts in an order. The demands that it doesn't keep are dropped: of the parts on cycles of demands, or between such, the one
+/// All segments in an order. The demands that it doesn't keep are dropped: of the segments on cycles of demands, or between such, the one
 /// whose unmet demands weigh least comes next.
 pub fn order_of(alloc: Global, demands: &Demands) -> Result<Vec<usize>, AllocError> {
     let halves = halves_of(alloc, demands)?;

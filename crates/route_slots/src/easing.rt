@@ -34,7 +34,7 @@ fn calmer(nets: &[Net], slots: Slots, other: Slots) -> Slots
 }
 
 // The other slots, if they are as many, cross no more, and let fewer lines run too near than so many.
-fn rather(
+fn roomier(
     alloc: Global,
     nets: &[Net],
     slots: Slots,
@@ -72,7 +72,7 @@ fn ease(alloc: Global, nets: &[Net], slots: Slots, near: i64) -> Result<Slots, A
         None => Ok(slots),
         Some(other) => {
             let settled = settle(alloc, nets, other)?;
-            rather(alloc, nets, slots, settled, near, lanes)
+            roomier(alloc, nets, slots, settled, near, lanes)
         },
     }
 }

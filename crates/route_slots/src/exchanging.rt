@@ -75,7 +75,7 @@ fn is_near(slot: u32, other: u32) -> bool
     other == slot + 1
 }
 
-// Whether the net has a piece in one of the two slots.
+// Whether the net has a segment in one of the two slots.
 #[tactic(auto, unfolding(crate::specs::Exchanges::touches))]
 fn touches(slot: u32, route: NetRoute) -> bool
     requires { slot < 2 ^ 31 }
@@ -114,7 +114,7 @@ fn added(change: Change, other: Change) -> Change
     }
 }
 
-// Crossings of two nets, if the second has a piece in the two slots.
+// Crossings of two nets, if the second has a segment in the two slots.
 #[tactic(auto, unfolding(crate::specs::Exchanges::near_before, crate::specs::Exchanges::near_after))]
 fn pair_change(net: Net, route: NetRoute, other: Net, other_route: NetRoute, slot: u32) -> Change
     requires { slot < 2 ^ 31 }
@@ -140,7 +140,7 @@ fn pair_change(net: Net, route: NetRoute, other: Net, other_route: NetRoute, slo
     }
 }
 
-// Crossings of level lines with the upright pieces of one net.
+// Crossings of horizontal lines with the segments of one net.
 fn row_change(nets: &[Net], routes: &[NetRoute], slot: u32, j: usize) -> Change
     requires len { length routes.now ≡ length nets.now }
     requires few { length nets.now ≤ exchange_limit }
@@ -162,7 +162,7 @@ fn row_change(nets: &[Net], routes: &[NetRoute], slot: u32, j: usize) -> Change
     change
 }
 
-// The same, if the net has a piece in the two slots.
+// The same, if the net has a segment in the two slots.
 fn near_change(nets: &[Net], routes: &[NetRoute], slot: u32, j: usize) -> Change
     requires len { length routes.now ≡ length nets.now }
     requires few { length nets.now ≤ exchange_limit }
@@ -183,7 +183,7 @@ fn near_change(nets: &[Net], routes: &[NetRoute], slot: u32, j: usize) -> Change
     }
 }
 
-// Crossings of all nets with pieces in the two slots.
+// Crossings of all nets with segments in the two slots.
 fn whole_change(nets: &[Net], routes: &[NetRoute], slot: u32) -> Change
     requires len { length routes.now ≡ length nets.now }
     requires few { length nets.now ≤ exchange_limit }
@@ -201,7 +201,7 @@ fn whole_change(nets: &[Net], routes: &[NetRoute], slot: u32) -> Change
     change
 }
 
-// Whether the piece at the net's pin `a` stands in the slot.
+// Whether the segment at the net's pin `a` stands in the slot.
 #[tactic(auto, unfolding(crate::specs::Exchanges::at_a))]
 fn at_a(route: NetRoute, slot: u32) -> bool
     ensures { result ≡ swap.at_a route slot }
@@ -213,7 +213,7 @@ fn at_a(route: NetRoute, slot: u32) -> bool
     }
 }
 
-// Whether the piece at the net's pin `b` stands in the slot.
+// Whether the segment at the net's pin `b` stands in the slot.
 #[tactic(auto, unfolding(crate::specs::Exchanges::at_b))]
 fn at_b(route: NetRoute, slot: u32) -> bool
     ensures { result ≡ swap.at_b route slot }
@@ -241,7 +241,7 @@ pub fn meets(pin: Pin, other: Pin) -> bool
     }
 }
 
-// Whether the pin meets one of the net's whose pieces stand in the slot.
+// Whether the pin meets one of the net's whose segments stand in the slot.
 #[tactic(auto, unfolding(crate::specs::Exchanges::meets_in))]
 fn meets_in(pin: Pin, net: Net, route: NetRoute, slot: u32) -> bool
     ensures { result ≡ swap.meets_in pin net route slot }
@@ -274,7 +274,7 @@ fn holds_back(nets: &[Net], routes: &[NetRoute], slot: u32, j: usize, k: usize) 
     blocks(nets[j], routes[j], nets[k], routes[k], slot)
 }
 
-// Whether a piece of the net stands in the slot.
+// Whether a segment of the net stands in the slot.
 fn stands(route: NetRoute, slot: u32) -> bool
     ensures { result ≡ false → (swap.at_a route slot ≡ false) × (swap.at_b route slot ≡ false) }
 {
@@ -315,7 +315,7 @@ fn is_blocked(nets: &[Net], routes: &[NetRoute], slot: u32) -> bool
     false
 }
 
-/// Whether the exchange of the slot and the next one lessens the crossings, while pieces still keep apart.
+/// Whether the exchange of the slot and the next one lessens the crossings, while segments still keep apart.
 pub fn improves(nets: &[Net], routes: &[NetRoute], slot: u32) -> bool
     requires len { length routes.now ≡ length nets.now }
     requires few { length nets.now ≤ exchange_limit }

@@ -1,8 +1,8 @@
-//! Levels of pieces for few crossings, track by track. Nothing is promised of them: who takes them judges them.
-use crate::strips::{End, Strip, at_level};
+//! Depths of segments for few crossings, track by track. Nothing is promised of them: the caller judges them.
+use crate::segments::{RankEnd, RankSegment, at_depth};
 use std::alloc::{AllocError, Global};
 
-// For each rank, and one more, how many ends of the strips lie below it.
+// For each rank, and one more, how many ends of the segments lie below it.
 #[derive(Drop)]
 struct Ends {
     lows: Vec<usize>,
@@ -19,7 +19,7 @@ fn tally(counts: &mut [usize], rank: usize) {
     }
 }
 
-fn tally_end(ends: &mut Ends, end: End) {
+fn tally_end(ends: &mut Ends, end: RankEnd) {
     if end.on_left {
         tally(ends.lefts.as_mut_slice(), end.rank);
     } else {
@@ -39,7 +39,7 @@ fn sum_up(counts: &mut [usize]) {
 }
 
 // The ends of a row whose ranks are below this one.
-fn ends_of(alloc: Global, row: &[Strip], ranks: usize) -> Result<Ends, AllocError> {
+fn ends_of(alloc: Global, row: &[RankSegment], ranks: usize) -> Result<Ends, AllocError> {
     let size = ranks.saturating_add(1);
     let mut ends = Ends {
         lows: vec![in alloc; 0; size]?,
@@ -47,11 +47,11 @@ fn ends_of(alloc: Global, row: &[Strip], ranks: usize) -> Result<Ends, AllocErro
         lefts: vec![in alloc; 0; size]?,
         rights: vec![in alloc; 0; size]?,
     };
-    'strips: for strip in row {
-        tally(ends.lows.as_mut_slice(), strip.low);
-        tally(ends.highs.as_mut_slice(), strip.high);
-        tally_end(&mut ends, strip.near);
-        tally_end(&mut ends, strip.far);
+    'segments: for segment in row {
+        tally(ends.lows.as_mut_slice(), segment.low);
+        tally(ends.highs.as_mut_slice(), segment.high);
+        tally_end(&mut ends, segment.near);
+        tally_end(&mut ends, segment.far);
     }
     sum_up(ends.lows.as_mut_slice());
     sum_up(ends.highs.as_mut_slice());
@@ -73,25 +73,25 @@ fn up_to(counts: &[usize], rank: usize) -> usize {
     below(counts, rank.wrapping_add(1))
 }
 
-// How many strips contain the rank.
+// How many segments contain the rank.
 fn meeting(ends: &Ends, rank: usize) -> usize {
     up_to(ends.lows.as_slice(), rank).saturating_sub(below(ends.highs.as_slice(), rank))
 }
 
-// How many strips contain the rank between their ends.
+// How many segments contain the rank between their ends.
 fn covering(ends: &Ends, rank: usize) -> i128 {
     let begun = below(ends.lows.as_slice(), rank) as i128;
     begun.wrapping_sub(up_to(ends.highs.as_slice(), rank) as i128)
 }
 
-// How many of what was counted lies between the ends of the strip.
-fn inside(counts: &[usize], strip: Strip) -> i128 {
-    let before = below(counts, strip.high) as i128;
-    before.wrapping_sub(up_to(counts, strip.low) as i128)
+// How many of what was counted lies between the ends of the segment.
+fn inside(counts: &[usize], segment: RankSegment) -> i128 {
+    let before = below(counts, segment.high) as i128;
+    before.wrapping_sub(up_to(counts, segment.low) as i128)
 }
 
-// What an end costs if its strip comes next, against last.
-fn end_weight(ends: &Ends, end: End) -> i128 {
+// What an end costs if its segment comes next, against last.
+fn end_weight(ends: &Ends, end: RankEnd) -> i128 {
     let cover = covering(ends, end.rank);
     if end.on_left {
         0i128.wrapping_sub(cover)
@@ -100,30 +100,30 @@ fn end_weight(ends: &Ends, end: End) -> i128 {
     }
 }
 
-// What it costs to put the strip next, against putting it last.
-fn weight(ends: &Ends, strip: Strip) -> i128 {
-    let own = end_weight(ends, strip.near).wrapping_add(end_weight(ends, strip.far));
-    let lefts = inside(ends.lefts.as_slice(), strip);
+// What it costs to put the segment next, against putting it last.
+fn weight(ends: &Ends, segment: RankSegment) -> i128 {
+    let own = end_weight(ends, segment.near).wrapping_add(end_weight(ends, segment.far));
+    let lefts = inside(ends.lefts.as_slice(), segment);
     own.wrapping_add(lefts)
-        .wrapping_sub(inside(ends.rights.as_slice(), strip))
+        .wrapping_sub(inside(ends.rights.as_slice(), segment))
 }
 
-// The greatest number of strips that contain one rank.
-fn density(ends: &Ends, row: &[Strip]) -> usize {
+// The greatest number of segments that contain one rank.
+fn density(ends: &Ends, row: &[RankSegment]) -> usize {
     let mut most = 0;
-    'strips: for strip in row {
-        most = most.max(meeting(ends, strip.low));
+    'segments: for segment in row {
+        most = most.max(meeting(ends, segment.low));
     }
     most
 }
 
-// The low ends at which as many strips meet as anywhere, in order.
-fn full_ranks(alloc: Global, ends: &Ends, row: &[Strip]) -> Result<Vec<usize>, AllocError> {
+// The low ends at which as many segments meet as anywhere, in order.
+fn full_ranks(alloc: Global, ends: &Ends, row: &[RankSegment]) -> Result<Vec<usize>, AllocError> {
     let most = density(ends, row);
     let mut full = Vec::new(alloc);
-    'strips: for strip in row {
-        if meeting(ends, strip.low) == most {
-            full.push(strip.low)?;
+    'segments: for segment in row {
+        if meeting(ends, segment.low) == most {
+            full.push(segment.low)?;
         }
     }
     Ok(full)
@@ -139,7 +139,7 @@ fn count_to(ranks: &[usize], rank: usize) -> usize {
     ranks.partition_point(|r| *r <= rank)
 }
 
-// The least sum of weights of strips that hold the first full ranks, and the last of these strips.
+// The least sum of weights of segments that hold the first full ranks, and the last of these segments.
 #[derive(Clone, Copy)]
 struct Best {
     found: bool,
@@ -147,7 +147,7 @@ struct Best {
     last: usize,
 }
 
-// No strips.
+// No segments.
 fn no_best(found: bool) -> Best {
     Best {
         found,
@@ -173,16 +173,16 @@ fn lighten(bests: &mut [Best], at: usize, best: Best) {
     }
 }
 
-// A strip's end, and its place in the row.
+// A segment's end, and its place in the row.
 #[derive(Clone, Copy)]
 struct Finish {
     high: usize,
     at: usize,
 }
 
-fn finishes_of(alloc: Global, row: &[Strip]) -> Result<Vec<Finish>, AllocError> {
+fn finishes_of(alloc: Global, row: &[RankSegment]) -> Result<Vec<Finish>, AllocError> {
     let mut finishes = Vec::new(alloc);
-    'strips: for at in 0..row.len() {
+    'segments: for at in 0..row.len() {
         finishes.push(Finish {
             high: row[at].high,
             at,
@@ -192,7 +192,7 @@ fn finishes_of(alloc: Global, row: &[Strip]) -> Result<Vec<Finish>, AllocError> 
     Ok(finishes)
 }
 
-// Sums of weights: by the full ranks held, and for each strip, as the last one, with the strip before it.
+// Sums of weights: by the full ranks held, and for each segment, as the last one, with the segment before it.
 #[derive(Drop)]
 struct Sums {
     bests: Vec<Best>,
@@ -207,9 +207,9 @@ fn finish_at(finishes: &[Finish], at: usize) -> Option<Finish> {
     }
 }
 
-// Takes up the strips that end below the rank.
+// Takes up the segments that end below the rank.
 fn take_up(sums: &mut Sums, finishes: &[Finish], full: &[usize], rank: usize) {
-    'strips: for _ in 0..finishes.len() {
+    'segments: for _ in 0..finishes.len() {
         let finish = match finish_at(finishes, sums.done) {
             None => return,
             Some(finish) => finish,
@@ -232,8 +232,13 @@ fn take_up(sums: &mut Sums, finishes: &[Finish], full: &[usize], rank: usize) {
     }
 }
 
-// The sums over all strips of the row.
-fn sums_of(alloc: Global, row: &[Strip], ends: &Ends, full: &[usize]) -> Result<Sums, AllocError> {
+// The sums over all segments of the row.
+fn sums_of(
+    alloc: Global,
+    row: &[RankSegment],
+    ends: &Ends,
+    full: &[usize],
+) -> Result<Sums, AllocError> {
     let finishes = finishes_of(alloc, row)?;
     let mut sums = Sums {
         bests: vec![in alloc; no_best(false); full.len()]?,
@@ -242,12 +247,12 @@ fn sums_of(alloc: Global, row: &[Strip], ends: &Ends, full: &[usize]) -> Result<
     };
     sums.bests.push(no_best(false))?;
     lighten(sums.bests.as_mut_slice(), 0, no_best(true));
-    'strips: for strip in row {
-        take_up(&mut sums, finishes.as_slice(), full, strip.low);
-        let before = best_at(sums.bests.as_slice(), count_before(full, strip.low));
+    'segments: for segment in row {
+        take_up(&mut sums, finishes.as_slice(), full, segment.low);
+        let before = best_at(sums.bests.as_slice(), count_before(full, segment.low));
         sums.each.push(Best {
             found: before.found,
-            total: before.total.wrapping_add(weight(ends, *strip)),
+            total: before.total.wrapping_add(weight(ends, *segment)),
             last: before.last,
         })?;
     }
@@ -255,14 +260,14 @@ fn sums_of(alloc: Global, row: &[Strip], ends: &Ends, full: &[usize]) -> Result<
     Ok(sums)
 }
 
-// The strips of a row that stand in the next track: apart from each other, of least weight, and holding all full ranks.
-fn lightest(alloc: Global, row: &[Strip], ranks: usize) -> Result<Vec<bool>, AllocError> {
+// The segments of a row that stand in the next track: apart from each other, of least weight, and holding all full ranks.
+fn lightest(alloc: Global, row: &[RankSegment], ranks: usize) -> Result<Vec<bool>, AllocError> {
     let ends = ends_of(alloc, row, ranks)?;
     let full = full_ranks(alloc, &ends, row)?;
     let sums = sums_of(alloc, row, &ends, full.as_slice())?;
     let mut chosen = vec![in alloc; false; row.len()]?;
     let mut at = best_at(sums.bests.as_slice(), full.len()).last;
-    'strips: for _ in 0..row.len() {
+    'segments: for _ in 0..row.len() {
         if at >= chosen.len() {
             return Ok(chosen);
         }
@@ -273,47 +278,52 @@ fn lightest(alloc: Global, row: &[Strip], ranks: usize) -> Result<Vec<bool>, All
 }
 
 // A rank above those of all ends.
-fn ranks_of(strips: &[Strip]) -> usize {
+fn ranks_of(segments: &[RankSegment]) -> usize {
     let mut most = 0usize;
-    'strips: for strip in strips {
-        most = most.max(strip.high.saturating_add(1));
+    'segments: for segment in segments {
+        most = most.max(segment.high.saturating_add(1));
     }
     most
 }
 
-// The least level of a strip.
-fn least_level(strips: &[Strip]) -> u32 {
+// The least depth of a segment.
+fn least_depth(segments: &[RankSegment]) -> u32 {
     let mut least = u32::MAX;
-    'strips: for strip in strips {
-        least = least.min(strip.level);
+    'segments: for segment in segments {
+        least = least.min(segment.depth);
     }
     least
 }
 
-// The strips of this level, or those of all others.
-fn part(alloc: Global, strips: &[Strip], level: u32, same: bool) -> Result<Vec<Strip>, AllocError> {
+// The segments of this depth, or those of all others.
+fn part(
+    alloc: Global,
+    segments: &[RankSegment],
+    depth: u32,
+    same: bool,
+) -> Result<Vec<RankSegment>, AllocError> {
     let mut some = Vec::new(alloc);
-    'strips: for strip in strips {
-        if (strip.level == level) == same {
-            some.push(*strip)?;
+    'segments: for segment in segments {
+        if (segment.depth == depth) == same {
+            some.push(*segment)?;
         }
     }
     Ok(some)
 }
 
-// The strips of a row that aren't chosen; the others are filled in at the track.
+// The segments of a row that aren't chosen; the others are filled in at the track.
 fn take_track(
     alloc: Global,
-    row: &[Strip],
+    row: &[RankSegment],
     ranks: usize,
-    filled: &mut Vec<Strip>,
+    filled: &mut Vec<RankSegment>,
     track: u32,
-) -> Result<Vec<Strip>, AllocError> {
+) -> Result<Vec<RankSegment>, AllocError> {
     let chosen = lightest(alloc, row, ranks)?;
     let mut rest = Vec::new(alloc);
-    'strips: for at in 0..row.len() {
+    'segments: for at in 0..row.len() {
         if at < chosen.len() && chosen[at] {
-            filled.push(at_level(row[at], track))?;
+            filled.push(at_depth(row[at], track))?;
         } else {
             rest.push(row[at])?;
         }
@@ -321,12 +331,12 @@ fn take_track(
     Ok(rest)
 }
 
-// The tracks of one level, from this one on, and the number of the next.
-fn fill_level(
+// The tracks of one depth, from this one on, and the number of the next.
+fn fill_depth(
     alloc: Global,
-    row: Vec<Strip>,
+    row: Vec<RankSegment>,
     ranks: usize,
-    filled: &mut Vec<Strip>,
+    filled: &mut Vec<RankSegment>,
     track: u32,
 ) -> Result<u32, AllocError> {
     let mut row = row;
@@ -341,23 +351,23 @@ fn fill_level(
     Ok(track)
 }
 
-/// The strips track by track, those of each level in tracks of their own. They come by their low ends.
+/// The segments track by track, those of each depth in tracks of their own. They come by their low ends.
 ///
-/// A track takes, of the strips still to stand, some that keep apart and hold each height of full density, with the least sum
+/// A track takes, of the segments still to stand, some that keep apart and hold each height of full density, with the least sum
 /// of what it costs to put each of them next, against putting it last.
-pub fn fill(alloc: Global, strips: Vec<Strip>) -> Result<Vec<Strip>, AllocError> {
-    let ranks = ranks_of(strips.as_slice());
-    let mut strips = strips;
+pub fn fill(alloc: Global, segments: Vec<RankSegment>) -> Result<Vec<RankSegment>, AllocError> {
+    let ranks = ranks_of(segments.as_slice());
+    let mut segments = segments;
     let mut filled = Vec::new(alloc);
     let mut track = 0;
-    'levels: for _ in 0..strips.len() {
-        if strips.is_empty() {
+    'depths: for _ in 0..segments.len() {
+        if segments.is_empty() {
             return Ok(filled);
         }
-        let level = least_level(strips.as_slice());
-        let row = part(alloc, strips.as_slice(), level, true)?;
-        strips = part(alloc, strips.as_slice(), level, false)?;
-        track = fill_level(alloc, row, ranks, &mut filled, track)?;
+        let depth = least_depth(segments.as_slice());
+        let row = part(alloc, segments.as_slice(), depth, true)?;
+        segments = part(alloc, segments.as_slice(), depth, false)?;
+        track = fill_depth(alloc, row, ranks, &mut filled, track)?;
     }
     Ok(filled)
 }

@@ -1,221 +1,229 @@
-//! Levels of the pieces of a gap for few slots, by the demands that an order keeps. Nothing is promised of them: who takes them
+//! Depths of the segments of a gap for few slots, by the demands that an order keeps. Nothing is promised of them: who takes them
 //! judges them.
 ghost use Rattle.std.specs.Prelude.{◌≡◌, length};
-ghost use Rattle.route_slots.specs.Levels.{level_of};
+ghost use Rattle.route_slots.specs.NetDepths.{net_depth};
 
-use crate::demands::{Demands, Part, demands_of, meet, parts_of, wanted, whole_parts};
+use crate::demands::{Demands, PinSegment, demands_of, meet, pin_segments, wanted, whole_segments};
 use crate::dropping::order_of;
 use crate::marks::Mark;
 use crate::middles::Height;
 use net_routes::Net;
 use std::alloc::{AllocError, Global};
 
-// A part in the order in which parts take their levels.
+// A segment in the order in which segments take their depths.
 #[derive(Clone, Copy)]
-struct Turn {
+struct Next {
     number: usize,
     behind: u32,
     shortness: i64,
 }
 
-/// The level at a place, and 0 where there is none.
-pub fn level_at(levels: &[u32], place: usize) -> u32
-    ensures { result ≡ level_of levels.now place }
+/// The depth at a place, and 0 where there is none.
+pub fn depth_in(depths: &[u32], place: usize) -> u32
+    ensures { result ≡ net_depth depths.now place }
 {
-    match levels.get(place) {
+    match depths.get(place) {
         None => 0,
-        Some(level) => *level,
+        Some(depth) => *depth,
     }
 }
 
-fn set_level(levels: &mut [u32], place: usize, level: u32) {
-    if place < levels.len() {
-        levels[place] = level;
+fn set_depth(depths: &mut [u32], place: usize, depth: u32) {
+    if place < depths.len() {
+        depths[place] = depth;
     }
 }
 
-fn mark(taken: &mut [bool], level: u32) {
-    let at = level as usize;
+fn mark(taken: &mut [bool], depth: u32) {
+    let at = depth as usize;
     if at < taken.len() {
         taken[at] = true;
     }
 }
 
-// One more than the longest chain of kept demands of parts that stand behind this one and have their tails.
+// One more than the longest chain of kept demands of segments that stand behind this one and have their tails.
 fn tail_of(demands: &Demands, tails: &[u32], number: usize) -> u32 {
     let mut most = 0u32;
     'others: for other in 0..tails.len() {
         if wanted(demands, number, other) > 0 {
-            most = most.max(level_at(tails, other));
+            most = most.max(depth_in(tails, other));
         }
     }
     most.saturating_add(1)
 }
 
-// The length of the longest chain of kept demands from each part on.
+// The length of the longest chain of kept demands from each segment on.
 fn tails_of(alloc: Global, demands: &Demands, order: &[usize]) -> Result<Vec<u32>, AllocError> {
     let mut tails = vec![in alloc; 0; demands.size]?;
     'order: for number in order.iter().rev() {
         let tail = tail_of(demands, tails.as_slice(), *number);
-        set_level(tails.as_mut_slice(), *number, tail);
+        set_depth(tails.as_mut_slice(), *number, tail);
     }
     Ok(tails)
 }
 
-// The parts with the longest chains behind them first, and of these the longest.
-fn turns_of(alloc: Global, parts: &[Part], tails: &[u32]) -> Result<Vec<Turn>, AllocError> {
-    let mut turns = Vec::new(alloc);
-    'parts: for number in 0..parts.len() {
-        turns.push(Turn {
+// The segments with the longest chains behind them first, and of these the longest.
+fn queue_of(
+    alloc: Global,
+    segments: &[PinSegment],
+    tails: &[u32],
+) -> Result<Vec<Next>, AllocError> {
+    let mut queue = Vec::new(alloc);
+    'segments: for number in 0..segments.len() {
+        queue.push(Next {
             number,
-            behind: u32::MAX.saturating_sub(level_at(tails, number)),
-            shortness: parts[number].low.saturating_sub(parts[number].high),
+            behind: u32::MAX.saturating_sub(depth_in(tails, number)),
+            shortness: segments[number].low.saturating_sub(segments[number].high),
         })?;
     }
-    turns.sort_by_key(|t| t.shortness)?;
-    turns.sort_by_key(|t| t.behind)?;
-    Ok(turns)
+    queue.sort_by_key(|t| t.shortness)?;
+    queue.sort_by_key(|t| t.behind)?;
+    Ok(queue)
 }
 
-// The least level of a part, and those from there on that are taken.
+// The least depth of a segment, and those from there on that are taken.
 #[derive(Drop)]
 struct Row {
     least: u32,
     taken: Vec<bool>,
 }
 
-// Looks at one part that has its level: it stands before this one, or in the way.
-fn look(row: &mut Row, part: &Part, other: &Part, level: u32, weight: i8) {
-    let meets = meet(part, other);
+// Looks at one segment that has its depth: it stands before this one, or in the way.
+fn look(row: &mut Row, segment: &PinSegment, other: &PinSegment, depth: u32, weight: i8) {
+    let meets = meet(segment, other);
     if weight < 0 {
         row.least = row
             .least
-            .max(level.saturating_add(if meets { 1 } else { 0 }));
+            .max(depth.saturating_add(if meets { 1 } else { 0 }));
     }
     if meets {
-        mark(row.taken.as_mut_slice(), level);
+        mark(row.taken.as_mut_slice(), depth);
     }
 }
 
-// What the parts that had their turn before leave to this one.
+// What the segments that had their turn before leave to this one.
 fn row_of(
     alloc: Global,
-    parts: &[Part],
+    segments: &[PinSegment],
     demands: &Demands,
-    turns: &[Turn],
-    levels: &[u32],
+    queue: &[Next],
+    depths: &[u32],
     turn: usize,
 ) -> Result<Row, AllocError> {
     let mut row = Row {
         least: 0,
-        taken: vec![in alloc; false; parts.len()]?,
+        taken: vec![in alloc; false; segments.len()]?,
     };
-    if turn >= turns.len() || turns[turn].number >= parts.len() {
+    if turn >= queue.len() || queue[turn].number >= segments.len() {
         return Ok(row);
     }
-    let number = turns[turn].number;
-    'turns: for at in 0..turn {
-        if at < turns.len() {
-            let other = turns[at].number;
-            if other < parts.len() {
+    let number = queue[turn].number;
+    'queue: for at in 0..turn {
+        if at < queue.len() {
+            let other = queue[at].number;
+            if other < segments.len() {
                 let weight = wanted(demands, number, other);
-                let level = level_at(levels, other);
-                look(&mut row, &parts[number], &parts[other], level, weight);
+                let depth = depth_in(depths, other);
+                look(&mut row, &segments[number], &segments[other], depth, weight);
             }
         }
     }
     Ok(row)
 }
 
-// The first level from the least one on that is not taken.
-fn free_level(row: &Row) -> u32 {
-    let mut level = row.least;
-    'levels: for at in row.least as usize..row.taken.len() {
+// The first depth from the least one on that is not taken.
+fn free_depth(row: &Row) -> u32 {
+    let mut depth = row.least;
+    'depths: for at in row.least as usize..row.taken.len() {
         if !row.taken[at] {
-            return level;
+            return depth;
         }
-        level = level.saturating_add(1);
+        depth = depth.saturating_add(1);
     }
-    level
+    depth
 }
 
-// A level for each part, in turn the first one in which it meets no other and stands behind all that want to stand before it
+// A depth for each segment, in turn the first one in which it meets no other and stands behind all that want to stand before it
 // and had their turn. Of two that keep apart one may stand behind the other in the same slot.
 fn fit(
     alloc: Global,
-    parts: &[Part],
+    segments: &[PinSegment],
     demands: &Demands,
     order: &[usize],
 ) -> Result<Vec<u32>, AllocError> {
     let tails = tails_of(alloc, demands, order)?;
-    let turns = turns_of(alloc, parts, tails.as_slice())?;
-    let mut levels = vec![in alloc; 0; parts.len()]?;
-    'turns: for turn in 0..turns.len() {
+    let queue = queue_of(alloc, segments, tails.as_slice())?;
+    let mut depths = vec![in alloc; 0; segments.len()]?;
+    'queue: for turn in 0..queue.len() {
         let row = row_of(
             alloc,
-            parts,
+            segments,
             demands,
-            turns.as_slice(),
-            levels.as_slice(),
+            queue.as_slice(),
+            depths.as_slice(),
             turn,
         )?;
-        set_level(levels.as_mut_slice(), turns[turn].number, free_level(&row));
+        set_depth(depths.as_mut_slice(), queue[turn].number, free_depth(&row));
     }
-    Ok(levels)
+    Ok(depths)
 }
 
-/// Levels of nets, and an order in which most come after those that precede them.
+/// Depths of nets, and an order in which most come after those that precede them.
 #[derive(Drop)]
 pub struct Fitted {
-    pub levels: Vec<u32>,
+    pub depths: Vec<u32>,
     pub order: Vec<usize>,
 }
 
-// The levels by the places of the parts, two for each net.
+// The depths by the places of the segments, two for each net.
 fn by_places(
     alloc: Global,
-    parts: &[Part],
-    levels: &[u32],
+    segments: &[PinSegment],
+    depths: &[u32],
     nets: usize,
 ) -> Result<Vec<u32>, AllocError> {
     let mut placed = vec![in alloc; 0; nets.saturating_add(nets)]?;
-    'parts: for number in 0..parts.len() {
-        let level = level_at(levels, number);
-        set_level(placed.as_mut_slice(), parts[number].place, level);
+    'segments: for number in 0..segments.len() {
+        let depth = depth_in(depths, number);
+        set_depth(placed.as_mut_slice(), segments[number].place, depth);
     }
     Ok(placed)
 }
 
-// The numbers of the nets of the parts.
-fn nets_of(alloc: Global, parts: &[Part], order: &[usize]) -> Result<Vec<usize>, AllocError> {
+// The numbers of the nets of the segments.
+fn nets_of(
+    alloc: Global,
+    segments: &[PinSegment],
+    order: &[usize],
+) -> Result<Vec<usize>, AllocError> {
     let mut nets = Vec::new(alloc);
     'order: for number in order.iter() {
-        if let Some(part) = parts.get(*number) {
-            nets.push(part.place / 2)?;
+        if let Some(segment) = segments.get(*number) {
+            nets.push(segment.place / 2)?;
         }
     }
     Ok(nets)
 }
 
-/// Levels for nets none of which is split, one for each.
+/// Depths for nets none of which is split, one for each.
 pub fn fitted_nets(alloc: Global, nets: &[Net], near: i64) -> Result<Fitted, AllocError> {
-    let parts = whole_parts(alloc, nets)?;
-    let demands = demands_of(alloc, parts.as_slice(), near)?;
+    let segments = whole_segments(alloc, nets)?;
+    let demands = demands_of(alloc, segments.as_slice(), near)?;
     let order = order_of(alloc, &demands)?;
-    let fitted = fit(alloc, parts.as_slice(), &demands, order.as_slice())?;
-    let mut levels = vec![in alloc; 0; nets.len()]?;
-    'parts: for number in 0..parts.len() {
-        let level = level_at(fitted.as_slice(), number);
-        set_level(levels.as_mut_slice(), parts[number].place / 2, level);
+    let fitted = fit(alloc, segments.as_slice(), &demands, order.as_slice())?;
+    let mut depths = vec![in alloc; 0; nets.len()]?;
+    'segments: for number in 0..segments.len() {
+        let depth = depth_in(fitted.as_slice(), number);
+        set_depth(depths.as_mut_slice(), segments[number].place / 2, depth);
     }
     Ok(Fitted {
-        levels,
-        order: nets_of(alloc, parts.as_slice(), order.as_slice())?,
+        depths,
+        order: nets_of(alloc, segments.as_slice(), order.as_slice())?,
     })
 }
 
-/// Levels for the pieces of nets by their marks, two for each net.
-pub fn fitted_pieces(
+/// Depths for the segments of nets by their marks, two for each net.
+pub fn fitted_segments(
     alloc: Global,
     nets: &[Net],
     marks: &[Mark],
@@ -225,9 +233,9 @@ pub fn fitted_pieces(
     requires marks { length marks.now ≡ length nets.now }
     requires middles { length middles.now ≡ length nets.now }
 {
-    let parts = parts_of(alloc, nets, marks, middles)?;
-    let demands = demands_of(alloc, parts.as_slice(), near)?;
+    let segments = pin_segments(alloc, nets, marks, middles)?;
+    let demands = demands_of(alloc, segments.as_slice(), near)?;
     let order = order_of(alloc, &demands)?;
-    let levels = fit(alloc, parts.as_slice(), &demands, order.as_slice())?;
-    by_places(alloc, parts.as_slice(), levels.as_slice(), nets.len())
+    let depths = fit(alloc, segments.as_slice(), &demands, order.as_slice())?;
+    by_places(alloc, segments.as_slice(), depths.as_slice(), nets.len())
 }

@@ -3,10 +3,10 @@ ghost use Rattle.std.specs.Prelude.{◌≡◌, ◌+◌, ◌<◌, ◌≤◌, ◌^
 ghost use Rattle.std.specs.Ordering.{int_cmp};
 ghost use Rattle.std.specs.BTreeMap.{get};
 ghost use Rattle.net_routes.specs.Limits.{net_limit};
-ghost use Rattle.net_routes.specs.GapFree.{HasPin, IsLevelNet};
+ghost use Rattle.net_routes.specs.GapFree.{HasPin, IsStraightNet};
 ghost use Rattle.route_slots.specs.Numbers.{AreNumbers, AreHeightNumbers, HasLeftAt};
 
-use crate::marks::is_level;
+use crate::marks::is_straight;
 use net_routes::{Net, Pin};
 use std::alloc::{AllocError, Global};
 use std::collections::BTreeMap;
@@ -47,11 +47,11 @@ fn insert_net(heights: &mut Heights, net: Net) -> Result<(), AllocError>
     ensures numbers { OnOk result (AreNumbers heights.old → 2 ≤ heights.old.bound → AreNumbers heights.new) }
     ensures kept { OnOk result ((h : ℤ) (x : ℕ) → get int_cmp heights.old.numbers h ≡ Some x → get int_cmp heights.new.numbers h ≡ Some x) }
     ensures from { OnOk result ((h : ℤ) (x : ℕ) → get int_cmp heights.new.numbers h ≡ Some x → (get int_cmp heights.old.numbers h ≡ Some x) ⊎ HasLeftAt net h) }
-    ensures added { OnOk result ((p : Pin) → (IsLevelNet net → ⊥) → HasPin net p → p.on_left ≡ true → IsSome (get int_cmp heights.new.numbers p.height)) }
+    ensures added { OnOk result ((p : Pin) → (IsStraightNet net → ⊥) → HasPin net p → p.on_left ≡ true → IsSome (get int_cmp heights.new.numbers p.height)) }
     ensures more { OnOk result (heights.old.bound ≤ heights.new.bound) }
     ensures few { OnOk result (heights.new.bound ≤ heights.old.bound + 2) }
 {
-    if is_level(net) {
+    if is_straight(net) {
         return Ok(());
     }
     insert_pin(heights, net.a)?;

@@ -1,4 +1,4 @@
-//! Routes of nets in one gap: which vertical piece stands in which slot.
+//! Routes of nets in one gap: which vertical segment stands in which slot.
 //!
 //! Cycles of conflicts are cut by a search in depth, which goes from net to net and cuts the links that lead back to a net on the
 //! way by which it came. Slots of few crossings are looked for by code that promises nothing, and judged.
@@ -24,10 +24,10 @@ mod marks;
 mod middles;
 mod precedence;
 mod ranks;
+mod segments;
 mod settling;
 mod sifting;
 mod slotting;
-mod strips;
 mod tracks;
 mod uncrossing;
 mod untangling;

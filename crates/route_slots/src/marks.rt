@@ -1,6 +1,6 @@
-//! Which nets have a piece in a slot, which two, and at which levels.
+//! Which nets have a segment in a slot, which two, and at which depths.
 ghost use Rattle.std.specs.Prelude.{◌≡◌, ◌↔◌, length, IsTrue, IfOk};
-ghost use Rattle.net_routes.specs.GapFree.{IsLevelNet};
+ghost use Rattle.net_routes.specs.GapFree.{IsStraightNet};
 ghost use Rattle.route_slots.specs.Depths.{depth, depth_of, AreDepths, AreSized};
 ghost use Rattle.route_slots.specs.Marks.{IsMarkOf, AreMarked, AreNetMarks};
 
@@ -8,7 +8,7 @@ use crate::depths::Depths;
 use net_routes::{Net, Pin};
 use std::alloc::{AllocError, Global};
 
-/// What becomes of a net: it is straight, or it has one piece, or one at each pin; and the levels of its pieces.
+/// What becomes of a net: it is straight, or it has one segment, or one at each pin; and the depths of its segments.
 #[derive(Clone, Copy)]
 pub struct Mark {
     pub straight: bool,
@@ -18,8 +18,8 @@ pub struct Mark {
 }
 
 /// Whether the pins are on both sides at one height.
-pub fn is_level(net: Net) -> bool
-    ensures { IsTrue result ↔ IsLevelNet net }
+pub fn is_straight(net: Net) -> bool
+    ensures { IsTrue result ↔ IsStraightNet net }
 {
     if net.a.on_left == net.b.on_left {
         return false;
@@ -27,8 +27,8 @@ pub fn is_level(net: Net) -> bool
     net.a.height == net.b.height
 }
 
-// How far back a piece with this pin stands.
-fn depth_at(depths: &Depths, pin: Pin) -> u32
+// How far back a segment with this pin stands.
+fn pin_depth(depths: &Depths, pin: Pin) -> u32
     requires { AreSized depths.now }
     ensures { result ≡ depth_of (depth depths.now) pin }
 {
@@ -55,7 +55,7 @@ fn mark_of(net: Net, depth_a: u32, depth_b: u32, split: bool) -> Mark
     }
     let depth = depth_a.max(depth_b);
     Mark {
-        straight: is_level(net),
+        straight: is_straight(net),
         split: false,
         at_a: depth,
         at_b: depth,
@@ -74,8 +74,8 @@ pub fn net_marks(alloc: Global, nets: &[Net], depths: &Depths) -> Result<Vec<Mar
         let net = nets[number];
         let mark = mark_of(
             net,
-            depth_at(depths, net.a),
-            depth_at(depths, net.b),
+            pin_depth(depths, net.a),
+            pin_depth(depths, net.b),
             depths.splits[number],
         );
         marks.push(mark)?;

@@ -1,4 +1,4 @@
-//! Heights at which the two pieces of a split net meet.
+//! Heights at which the two segments of a split net meet.
 ghost use Rattle.std.specs.Prelude.{◌≡◌, ◌<◌, ◌≤◌, ◌≤ℤ◌, ℤ, true, false, length, IfOk, OnOk};
 ghost use Rattle.std.specs.List.{All};
 ghost use Rattle.std.specs.Int.{int_min, int_max};
@@ -153,7 +153,7 @@ fn pins_of(alloc: Global, nets: &[Net]) -> Result<BTreeSet<i64>, AllocError>
 // The greatest number of nets among which heights between pins are looked for.
 const MANY: usize = 1024;
 
-/// A height for each net, at which its two pieces meet where it is split: that of no pin, and another for each net.
+/// A height for each net, at which its two segments meet where it is split: that of no pin, and another for each net.
 ///
 /// It is the middle of the longest free stretch between the net's pins, where there is a free height; else it lies above all
 /// pins, as it does where the net is not split, and in a gap of more than 1,024 nets.

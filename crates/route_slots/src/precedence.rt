@@ -1,13 +1,13 @@
 //! Which nets have to stand before which, lest they overlap or cross more often than they have to.
 ghost use Rattle.std.specs.Prelude.{◌≡◌, ◌<◌, true, false, length};
-ghost use Rattle.route_slots.specs.Levels as order;
+ghost use Rattle.route_slots.specs.NetDepths as order;
 ghost use Rattle.net_routes.specs.Uncrossed as uncrossed;
-ghost use Rattle.route_slots.specs.Levels.{KeepApart};
+ghost use Rattle.route_slots.specs.NetDepths.{KeepApart};
 ghost use Rattle.net_routes.specs.Uncrossed.{Precedes};
 
 use crate::crossings::cut;
 use crate::exchanging::meets;
-use crate::marks::is_level;
+use crate::marks::is_straight;
 use net_routes::{Net, NetRoute, Pin};
 
 // Whether the first pin comes before the second on the way up the left border and down the right one.
@@ -87,7 +87,7 @@ fn in_order(net: Net, other: Net) -> u64
 }
 
 // Whether the first net has a pin on the left as high as one of the second's on the right.
-#[tactic(auto, unfolding(crate::specs::Levels::conflicts))]
+#[tactic(auto, unfolding(crate::specs::NetDepths::conflicts))]
 fn conflicts(net: Net, other: Net) -> bool
     ensures { result ≡ order.conflicts net other }
 {
@@ -95,8 +95,8 @@ fn conflicts(net: Net, other: Net) -> bool
         | (meets(net.b, other.a) | meets(net.b, other.b))
 }
 
-// Whether the first net's piece has to stand before the second's, if both have one.
-#[tactic(auto, unfolding(crate::specs::Levels::stands_first))]
+// Whether the first net's segment has to stand before the second's, if both have one.
+#[tactic(auto, unfolding(crate::specs::NetDepths::stands_first))]
 fn stands_first(net: Net, other: Net) -> bool
     ensures { result ≡ order.stands_first net other }
 {
@@ -108,7 +108,7 @@ fn stands_first(net: Net, other: Net) -> bool
 }
 
 // Whether all of the first net lies at lower heights than all of the second.
-#[tactic(auto, unfolding(crate::specs::Levels::is_past))]
+#[tactic(auto, unfolding(crate::specs::NetDepths::is_past))]
 fn is_past(net: Net, other: Net) -> bool
     ensures { result ≡ order.is_past net other }
 {
@@ -140,10 +140,10 @@ pub fn precedes(nets: &[Net], first: usize, second: usize) -> bool
     if keep_apart(net, other) {
         return false;
     }
-    if is_level(net) {
+    if is_straight(net) {
         return false;
     }
-    if is_level(other) {
+    if is_straight(other) {
         return false;
     }
     stands_first(net, other)

@@ -10,8 +10,8 @@ use crate::assigning::{assign, place};
 use crate::choosing::{all_keep_order, marks_by};
 use crate::crossings::crossings_of;
 use crate::depths::depths_of;
-use crate::fitting::fitted_pieces;
-use crate::lanes::eased_pieces;
+use crate::fitting::fitted_segments;
+use crate::lanes::eased_segments;
 use crate::marks::{Mark, net_marks};
 use crate::middles::{Height, middles_of};
 use crate::settling::settle;
@@ -19,7 +19,7 @@ use net_routes::{Net, Slots};
 use std::alloc::{AllocError, Global};
 
 // The slots with fewer crossings, the first where they are as many.
-fn lighter(nets: &[Net], slots: Slots, other: Slots) -> Slots
+fn less_crossed(nets: &[Net], slots: Slots, other: Slots) -> Slots
     requires few { length nets.now ≤ net_limit }
     requires len { length slots.routes.items ≡ length nets.now }
     requires other { length other.routes.items ≡ length nets.now }
@@ -34,8 +34,8 @@ fn lighter(nets: &[Net], slots: Slots, other: Slots) -> Slots
     other
 }
 
-// Levels by demands, or from slots by which lines run too near.
-fn levels_from(
+// Depths by demands, or from slots by which lines run too near.
+fn depths_from(
     alloc: Global,
     nets: &[Net],
     marks: &[Mark],
@@ -47,12 +47,12 @@ fn levels_from(
     requires middles { length middles.now ≡ length nets.now }
 {
     match from {
-        None => fitted_pieces(alloc, nets, marks, middles, near),
-        Some(slots) => eased_pieces(alloc, nets, slots, near),
+        None => fitted_segments(alloc, nets, marks, middles, near),
+        Some(slots) => eased_segments(alloc, nets, slots, near),
     }
 }
 
-/// Slots by demands of which the lightest are dropped, if no two pieces overlap by them. With slots to begin from, those by which
+/// Slots by demands of which the lightest are dropped, if no two segments overlap by them. With slots to begin from, those by which
 /// fewer lines run side by side too near.
 pub fn relaid(
     alloc: Global,
@@ -69,7 +69,7 @@ pub fn relaid(
     let depths = depths_of(alloc, nets)?;
     let marks = net_marks(alloc, nets, &depths)?;
     let middles = middles_of(alloc, nets, marks.as_slice())?;
-    let levels = levels_from(
+    let net_depths = depths_from(
         alloc,
         nets,
         marks.as_slice(),
@@ -77,7 +77,7 @@ pub fn relaid(
         near,
         from,
     )?;
-    let others = marks_by(alloc, marks.as_slice(), levels.as_slice())?;
+    let others = marks_by(alloc, marks.as_slice(), net_depths.as_slice())?;
     if !all_keep_order(nets, others.as_slice()) {
         return Ok(None);
     }
@@ -86,7 +86,7 @@ pub fn relaid(
 }
 
 // The second slots after exchanges of neighbours, where there are any and they don't cross more than the first.
-fn rather(
+fn or_settled(
     alloc: Global,
     nets: &[Net],
     slots: Slots,
@@ -103,7 +103,7 @@ fn rather(
         None => Ok(slots),
         Some(other) => {
             let settled = settle(alloc, nets, other)?;
-            Ok(lighter(nets, settled, slots))
+            Ok(less_crossed(nets, settled, slots))
         },
     }
 }
@@ -120,7 +120,7 @@ fn settled(alloc: Global, nets: &[Net]) -> Result<Slots, AllocError>
         None => Ok(fewest),
         Some(slots) => {
             let settled = settle(alloc, nets, slots)?;
-            Ok(lighter(nets, fewest, settled))
+            Ok(less_crossed(nets, fewest, settled))
         },
     }
 }
@@ -138,5 +138,5 @@ pub fn untangle(alloc: Global, nets: &[Net], near: i64) -> Result<Slots, AllocEr
         return Ok(slots);
     }
     let other = relaid(alloc, nets, near, None)?;
-    rather(alloc, nets, slots, other)
+    or_settled(alloc, nets, slots, other)
 }

@@ -25,6 +25,9 @@ pub struct LoopLane {
 
 /// The lanes of these loops, in the order of the loops. A loop between the north and the south side has its northern
 /// lane first.
+///
+/// Proved:
+/// - Lanes of self-loops by the sides of their docks.
 pub fn lanes_of_loops(alloc: Global, loops: &[LoopEnds]) -> Result<Vec<LoopLane>, AllocError>
     ensures { IfOk result (λ lanes. lanes.items ≡ lanes_of_all loops.now) }
 {
@@ -36,6 +39,9 @@ pub fn lanes_of_loops(alloc: Global, loops: &[LoopEnds]) -> Result<Vec<LoopLane>
 }
 
 /// Whether the loop passes the gap left of its child, and whether it passes the one on the right.
+///
+/// Proved:
+/// - Gaps of self-loops by the sides of their docks.
 pub fn loop_legs(ends: &LoopEnds) -> (bool, bool)
     ensures left { result.0 ≡ passes_left ends.now.source ends.now.target (has_one_dock ends.now) }
     ensures right { result.1 ≡ passes_right ends.now.source ends.now.target (has_one_dock ends.now) }

@@ -77,7 +77,10 @@ fn settle(bounds: &[Bound], due: &[Due], value: &mut [i64], tight: &mut [Option<
 /// The least values that keep all floors and bounds, and what holds each of them up.
 ///
 /// Some values below 2^60 must keep them all; then no sum on the way leaves 62 bits. The only error is
-/// want of memory.
+/// out of memory.
+///
+/// Proved:
+/// - The least values that keep floors and differences, and what holds each up.
 pub fn least_lines(alloc: Global, c: &Constraints) -> Result<Least, AllocError>
     requires { IsSolvable c.now.order.items c.now.floor.items c.now.bounds.items }
     ensures { IfOk result (λ least. Settled c.now.floor.items c.now.bounds.items least.value.items least.tight.items) }

@@ -54,10 +54,10 @@ names_from l rows chosen into names offsets sound straight are long all =
     by_entry u None e j = inl (j.name_is ∙ ap (λ o. name_for l names o u) e)
     by_entry u (Some k) e j = let p = are.only u k e in inr (record { number = p.0; within = p.1; head_is = p.3 })
 
--- and chosen links are level at the offsets
-pub level_from : (l : Plain) (rows : List (List ℕ)) (chosen : List ℕ) (into : List (Option ℕ)) (names : List ℕ) (offsets : List ℤ) → IsSound l → AreStraight l rows chosen → AreLinksInto l chosen (length chosen) into → ((u : ℕ) → u < length l.units → HasNameAndOffset l into names offsets u)
+-- and chosen links are horizontal at the offsets
+pub horizontal_from : (l : Plain) (rows : List (List ℕ)) (chosen : List ℕ) (into : List (Option ℕ)) (names : List ℕ) (offsets : List ℤ) → IsSound l → AreStraight l rows chosen → AreLinksInto l chosen (length chosen) into → ((u : ℕ) → u < length l.units → HasNameAndOffset l into names offsets u)
     → (j : ℕ) → j < length chosen → offset_at offsets (chosen_link l chosen j).tail +ℤ (chosen_link l chosen j).tail_at ≡ offset_at offsets (chosen_link l chosen j).head +ℤ (chosen_link l chosen j).head_at
-level_from l rows chosen into names offsets sound straight are all j h =
+horizontal_from l rows chosen into names offsets sound straight are all j h =
     let s = sound.links_are _ (straight.known j h) in
     let e : offset_at offsets (chosen_link l chosen j).head ≡ (offset_at offsets (chosen_link l chosen j).tail +ℤ (chosen_link l chosen j).tail_at) -ℤ (chosen_link l chosen j).head_at =
     (all _ s.head).offset_is ∙ ap (offset_for l offsets) (are.there j h) in

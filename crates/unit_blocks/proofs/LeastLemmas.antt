@@ -5,7 +5,7 @@ use Rattle.std.specs.List.{All, filter}
 use Rattle.std.proofs.lemmas.List.{get_or-map}
 use Rattle.std.proofs.lemmas.List.Elements.{All-nil, All-cons, All-head, All-tail, All-append, All-filter, All-from_get_or}
 use Rattle.elk_layers.specs.Layered.{Plain, IsSound, AreRows, layer_of, row_at, is_child}
-use Rattle.elk_layers.specs.Lines.{top_of, room, body_room, Keeps as KeepsAlong, AreLines, AreApart, IsLevel}
+use Rattle.elk_layers.specs.Lines.{top_of, room, body_room, Keeps as KeepsAlong, AreLines, AreApart, IsHorizontal}
 use Rattle.separation.specs.declared.bounds.Bound.{Bound}
 use Rattle.separation.specs.Lines.{value_at, KeepsBound, Keeps, Settled}
 use Rattle.unit_blocks.specs.Blocks.{IsEntered}
@@ -93,18 +93,18 @@ module _ (l : Plain) (rows : List (List ℕ)) (chosen blocks roots : List ℕ) (
               (All-right (KeepsBound values) (bounds_along (room l) blocks offsets (row_at rows r)) _ (row_within l blocks offsets (KeepsBound values) rows keeps_all r h));
         }
 
-    tops_level : (j : ℕ) → j < length chosen → IsLevel l tops (get_or chosen j 0)
-    tops_level j h =
+    tops_horizontal : (j : ℕ) → j < length chosen → IsHorizontal l tops (get_or chosen j 0)
+    tops_horizontal j h =
         let s = link_sound j h in
         let t = are_tops.top_is (chosen_link l chosen j).tail s.0 in
         let u = are_tops.top_is (chosen_link l chosen j).head s.1 in
-        let o = posed.offsets_are.level j h in
+        let o = posed.offsets_are.horizontal j h in
         let v : value_at values (block_at blocks (chosen_link l chosen j).tail) ≡ value_at values (block_at blocks (chosen_link l chosen j).head) =
         ap (value_at values) (posed.blocks_are.joined j h) in
         omega (arith, ints, t, u, o, v)
 
     pub tops_are_lines : AreLines l rows chosen tops
-    tops_are_lines = record { apart = tops_apart; level = All-from_get_or (IsLevel l tops) chosen 0 tops_level }
+    tops_are_lines = record { apart = tops_apart; horizontal = All-from_get_or (IsHorizontal l tops) chosen 0 tops_horizontal }
 
   -- from tops to values
 
@@ -112,8 +112,8 @@ module _ (l : Plain) (rows : List (List ℕ)) (chosen blocks roots : List ℕ) (
     abbrev gone : ℕ → ℤ
     gone u = top_of other u -ℤ offset_at offsets u
 
-    level_at : (j : ℕ) → j < length chosen → IsLevel l other (get_or chosen j 0)
-    level_at j h = lines.level j 0 h
+    horizontal_at : (j : ℕ) → j < length chosen → IsHorizontal l other (get_or chosen j 0)
+    horizontal_at j h = lines.horizontal j 0 h
 
     entered_value : (g u : ℕ) → u < length l.units → layer_of l u ≡ g → IsEntered l chosen u → ((v : ℕ) → v < length l.units → layer_of l v + 1 ≡ g → gone v ≡ gone (root_of v)) → gone u ≡ gone (root_of u)
     entered_value g u h is e rest =
@@ -121,8 +121,8 @@ module _ (l : Plain) (rows : List (List ℕ)) (chosen blocks roots : List ℕ) (
         let t = (chosen_link l chosen e.number).tail in
         let next : layer_of l u ≡ layer_of l t + 1 = subst (λ v. layer_of l v ≡ layer_of l t + 1) e.head_is (sound.links_are _ (straight.known e.number e.within)).next_layer in
         let far = rest t s.0 (sym next ∙ is) in
-        let o = posed.offsets_are.level e.number e.within in
-        let v = level_at e.number e.within in
+        let o = posed.offsets_are.horizontal e.number e.within in
+        let v = horizontal_at e.number e.within in
         let step : gone t ≡ gone (chosen_link l chosen e.number).head = omega (arith, ints, o, v) in
         let same : root_of t ≡ root_of (chosen_link l chosen e.number).head = ap (λ b. get_or roots b 0) (posed.blocks_are.joined e.number e.within) in
         subst (λ x. gone x ≡ gone (root_of x)) e.head_is (sym step ∙ far ∙ ap gone same)

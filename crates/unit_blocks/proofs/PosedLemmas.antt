@@ -24,7 +24,7 @@ use Rattle.unit_blocks.proofs.HeightSums.{heights_small}
 use Rattle.unit_blocks.specs.Chains.{CanWeaveRows}
 use Rattle.unit_blocks.proofs.BlockLemmas.{name_low, block_order_is, in_order, blocks_from}
 use Rattle.unit_blocks.proofs.EntryLemmas.{entries_from}
-use Rattle.unit_blocks.proofs.JoinLemmas.{names_from, level_from}
+use Rattle.unit_blocks.proofs.JoinLemmas.{names_from, horizontal_from}
 
 pub heads_of : (l : Plain) (rows : List (List ℕ)) (chosen : List ℕ) (into : List (Option ℕ)) → AreStraight l rows chosen → AreLinksInto l chosen (length chosen) into → HaveHeads l into
 heads_of l rows chosen into straight are =
@@ -68,13 +68,13 @@ pub offsets_from : (l : Plain) (rows : List (List ℕ)) (chosen : List ℕ) (int
     → HaveHeads l into → AreAllJoined l into names offsets → IsBlockOrder l rows names roots
     → ((j : ℕ) → j < length chosen → offset_at offsets (chosen_link l chosen j).tail +ℤ (chosen_link l chosen j).tail_at ≡ offset_at offsets (chosen_link l chosen j).head +ℤ (chosen_link l chosen j).head_at)
     → AreOffsets l chosen roots offsets
-offsets_from l rows chosen into names roots offsets sound are straight named heads all is level =
+offsets_from l rows chosen into names roots offsets sound are straight named heads all is horizontal =
     record {
       as_many = all.offsets_long;
       at_roots = λ b h.
           let own = is.own (get_or roots b 0) (occurs_at roots b h) in
           own_offset l rows chosen into names offsets sound are straight named heads all (get_or roots b 0) own.0 own.1;
-      level = level;
+      horizontal = horizontal;
     }
 
 pub order_short : (l : Plain) (rows : List (List ℕ)) (names roots : List ℕ) → IsBlockOrder l rows names roots → length roots ≤ length l.units
@@ -223,7 +223,7 @@ blocks_are l rows chosen into names offsets roots blocks sound are straight w lo
 
 pub offsets_are : (l : Plain) (rows : List (List ℕ)) (chosen : List ℕ) (into : List (Option ℕ)) (names : List ℕ) (offsets : List ℤ) (roots : List ℕ) → IsSound l → AreRows l rows → AreStraight l rows chosen → AreLinksInto l chosen (length chosen) into → AreWoven l rows chosen into names offsets roots → AreOffsets l chosen roots offsets
 offsets_are l rows chosen into names offsets roots sound are straight links w =
-    offsets_from l rows chosen into names roots offsets sound are straight w.named w.heads w.all w.is (level_from l rows chosen into names offsets sound straight links w.all.joined)
+    offsets_from l rows chosen into names roots offsets sound are straight w.named w.heads w.all w.is (horizontal_from l rows chosen into names offsets sound straight links w.all.joined)
 
 -- the question of these constraints, and its answer as lines
 module _ (l : Plain) (rows : List (List ℕ)) (chosen blocks roots order : List ℕ) (offsets floor : List ℤ) (bounds : List Bound) (sound : IsSound l) (are : AreRows l rows) (straight : AreStraight l rows chosen)

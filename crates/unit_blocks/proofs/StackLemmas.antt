@@ -132,7 +132,7 @@ module _ (l : Plain) (rows : List (List ℕ)) (chosen blocks roots : List ℕ) (
   link_overlaps : (j : ℕ) → j < length chosen → Overlaps (chosen_link l chosen j).head (chosen_link l chosen j).tail
   link_overlaps j h =
       let s = sound.links_are _ (straight.known j h) in
-      let o = posed.offsets_are.level j h in
+      let o = posed.offsets_are.horizontal j h in
       let t = s.tail_at in
       let a = s.head_at in
       record {

@@ -36,11 +36,11 @@ pub record AreBlocks (l : Plain) (rows : List (List ℕ)) (chosen blocks roots :
   pub rising : (r : ℕ) → r < length rows → Rises blocks (row_at rows r)
   pub children_rising : (r : ℕ) → r < length rows → Rises blocks (filter (is_child l) (row_at rows r))
 
--- how far below its block's leftmost unit each unit stands, so that chosen links are level
+-- how far below its block's leftmost unit each unit stands, so that chosen links are horizontal
 pub record AreOffsets (l : Plain) (chosen roots : List ℕ) (offsets : List ℤ) : Type 0 where
   pub as_many : length offsets ≡ length l.units
   pub at_roots : (b : ℕ) → b < length roots → offset_at offsets (slice_index roots b) ≡ pos 0
-  pub level : (j : ℕ) → j < length chosen
+  pub horizontal : (j : ℕ) → j < length chosen
       → offset_at offsets (chosen_link l chosen j).tail +ℤ (chosen_link l chosen j).tail_at
       ≡ offset_at offsets (chosen_link l chosen j).head +ℤ (chosen_link l chosen j).head_at
 

@@ -13,7 +13,7 @@ abbrev pub name_for : Plain → List ℕ → Option ℕ → ℕ → ℕ
 name_for l names None u = u
 name_for l names (Some k) u = name_at names (link_at l.links k).tail
 
--- and it stands so that the link is level, or at 0
+-- and it stands so that the link is horizontal, or at 0
 abbrev pub offset_for : Plain → List ℤ → Option ℕ → ℤ
 offset_for l offsets None = pos 0
 offset_for l offsets (Some k) =
@@ -35,10 +35,10 @@ pub record Joins (l : Plain) (entry : Option ℕ) (u : ℕ) (names names' : List
   pub name : names' ≡ slice_set names u (name_for l names entry u)
   pub offset : offsets' ≡ slice_set offsets u (offset_for l offsets entry)
 
--- names of blocks, and offsets at which the chosen links are level
-pub record NamesAndLevels (l : Plain) (chosen names : List ℕ) (offsets : List ℤ) : Type 0 where
+-- names of blocks, and offsets at which the chosen links are horizontal
+pub record NamesAndOffsets (l : Plain) (chosen names : List ℕ) (offsets : List ℤ) : Type 0 where
   pub named : AreNames l chosen names
-  pub level : (j : ℕ) → j < length chosen
+  pub horizontal : (j : ℕ) → j < length chosen
       → offset_at offsets (chosen_link l chosen j).tail +ℤ (chosen_link l chosen j).tail_at
       ≡ offset_at offsets (chosen_link l chosen j).head +ℤ (chosen_link l chosen j).head_at
 
@@ -46,7 +46,7 @@ abbrev pub JoinedUnitsAreNamed : Type 0
 JoinedUnitsAreNamed =
     (l : Plain) (rows : List (List ℕ)) (chosen : List ℕ) (into : List (Option ℕ)) (names : List ℕ) (offsets : List ℤ)
     → IsSound l → AreStraight l rows chosen → AreLinksInto l chosen (length chosen) into → length names ≡ length l.units
-    → ((u : ℕ) → u < length l.units → HasNameAndOffset l into names offsets u) → NamesAndLevels l chosen names offsets
+    → ((u : ℕ) → u < length l.units → HasNameAndOffset l into names offsets u) → NamesAndOffsets l chosen names offsets
 
 -- the numbers of a step along a link
 pub record FollowBounds (l : Plain) (offsets : List ℤ) (k : ℕ) : Type 0 where

@@ -31,7 +31,7 @@ fn name_along(layered: &Layered, names: &[u32], entry: Option<u32>, unit: u32) -
     }
 }
 
-/// The offset at which the link into a unit is level, or 0.
+/// The offset at which the link into a unit is horizontal, or 0.
 fn offset_along(layered: &Layered, offsets: &[i64], entry: Option<u32>) -> i64
     requires sound { IsSound (plain layered.now) }
     requires can { IfSome entry (λ k. CanFollow (plain layered.now) offsets.now k) }

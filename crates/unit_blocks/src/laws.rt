@@ -26,7 +26,7 @@ pub fn blocks_can_be_placed()
     ensures { BlocksCanBePlaced }
 {}
 
-/// Units with the names and offsets of the links into them make blocks of level links.
+/// Units with the names and offsets of the links into them make blocks of horizontal links.
 pub fn joined_units_are_named()
     ensures { JoinedUnitsAreNamed }
 {}

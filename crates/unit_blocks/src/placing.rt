@@ -97,12 +97,15 @@ fn constraints_of(
     })
 }
 
-/// The least lines in which these links are level.
+/// The least lines in which these links are horizontal.
 ///
 /// The links are given by number, and in each gap they run beside one another, so their blocks have a
 /// linear order. All tops are at least 0, neighbours of a row keep their room, and outlines of consecutive
 /// children of a row theirs; no lines that keep all of this have a lesser top anywhere. The only error is
-/// want of memory. (The compaction of Brandes and Köpf 2002, as longest paths between blocks.)
+/// out of memory. (The compaction of Brandes and Köpf 2002, as longest paths between blocks.)
+///
+/// Proved:
+/// - The least lines that keep all distances and make the chosen links horizontal.
 pub fn place_links(
     alloc: Global,
     layered: &Layered,

@@ -9,13 +9,13 @@ use Rattle.drawing_types.specs.declared.section.Section.{Section}
 use Rattle.elk_doc.specs.declared.drawing.Placed.{Placed}
 use Rattle.elk_doc.specs.Document.{Document, node_at, port_at}
 use Rattle.elk_doc.specs.Level.{children, IsChild}
-use Rattle.elk_doc.specs.Shapes.{turned}
+use Rattle.elk_doc.specs.Shapes.{rotated}
 use Rattle.drawing_types.specs.Shapes.{rect_at}
 use Rattle.port_order.specs.declared.children.Child.{Child}
 use Rattle.level_model.specs.Level.{PlainLevel}
 use Rattle.level_model.specs.FromPlan.{LevelDrawing, point_or, section_at}
-use Rattle.working_frame.specs.Turned.{child_number, edge_number, port_number, ports_of, turned_size, turned_place, box_size, level_port, level_child, level_of}
-use Rattle.working_frame.specs.Drawing.{IsTurnedChild, IsTurnedDrawing, IsTurnedSection, plus}
+use Rattle.working_frame.specs.Rotated.{child_number, edge_number, port_number, ports_of, rotated_size, rotated_place, box_size, level_port, level_child, level_of}
+use Rattle.working_frame.specs.Drawing.{IsRotatedChild, IsRotatedDrawing, IsRotatedSection, plus}
 use Rattle.working_frame.specs.Kept.{AgreeAt}
 use Rattle.working_frame.proofs.NumberedLemmas.{numbers_match}
 
@@ -27,7 +27,7 @@ map_same f g (x ∷ xs) same = ap₂ (λ y ys. y ∷ ys) (same 0 (omega arith)) 
 abbrev sized : Document → Direction → ℕ → Size → Child
 sized d way c s =
     record {
-      size = turned_size way s;
+      size = rotated_size way s;
       compound = is_some (node_at d c).level;
       rule = (node_at d c).rule;
       direction = way;
@@ -43,22 +43,22 @@ levels_read_sizes d p q n o same =
     (λ i h. ap (sized d o.direction (child_number d n i)) (same (child_number d n i) ((numbers_match d n).children.meant i h))))
 
 child_kept : (d : Document) (p q : Placed) (n : ℕ) (way : Direction) (v : LevelDrawing) (by : Point) → AgreeAt d p q n
-    → (i c : ℕ) → IsChild d n c → IsTurnedChild d p way v by i c → IsTurnedChild d q way v by i c
+    → (i c : ℕ) → IsChild d n c → IsRotatedChild d p way v by i c → IsRotatedChild d q way v by i c
 child_kept d p q n way v by a i c h t =
     let same = a.boxes c h in
     let of_rect : Rect → Size = λ r. record { width = r.width; height = r.height } in
     let size : box_size p c ≡ box_size q c = ap of_rect same in
     record {
-      box = ap (turned way) (sym same) ∙ t.box ∙ ap (λ s. rect_at (plus by (point_or v.boxes i)) (turned_size way s)) size;
+      box = ap (rotated way) (sym same) ∙ t.box ∙ ap (λ s. rect_at (plus by (point_or v.boxes i)) (rotated_size way s)) size;
       ports = λ j k.
           let m = port_number d c j in
-          ap₂ (λ s z. turned_place way s (port_at d m).size z) (sym size) (sym (a.ports c m h ((numbers_match d c).ports.meant j k))) ∙ t.ports j k;
+          ap₂ (λ s z. rotated_place way s (port_at d m).size z) (sym size) (sym (a.ports c m h ((numbers_match d c).ports.meant j k))) ∙ t.ports j k;
     }
 
 pub drawings_read_levels : (d : Document) (p q : Placed) (n : ℕ) (way : Direction) (v : LevelDrawing) (by : Point)
-    → AgreeAt d p q n → IsTurnedDrawing d p n way v by → IsTurnedDrawing d q n way v by
+    → AgreeAt d p q n → IsRotatedDrawing d p n way v by → IsRotatedDrawing d q n way v by
 drawings_read_levels d p q n way v by a t =
     record {
       children = λ i h. child_kept d p q n way v by a i (child_number d n i) ((numbers_match d n).children.meant i h) (t.children i h);
-      sections = λ i h. subst (λ (s : Section). IsTurnedSection way by s (section_at v i)) (a.sections (edge_number d n i) ((numbers_match d n).edges.meant i h)) (t.sections i h);
+      sections = λ i h. subst (λ (s : Section). IsRotatedSection way by s (section_at v i)) (a.sections (edge_number d n i) ((numbers_match d n).edges.meant i h)) (t.sections i h);
     }

@@ -14,7 +14,7 @@ use Rattle.elk_doc.specs.Sound.{IsSound}
 use Rattle.elk_doc.proofs.NumberLaws.{is_true, numbers_below-more, numbers_below-same, length-numbers_below, count_below-lt, numbers_below-at}
 use Rattle.elk_doc.proofs.SoundLaws.{node_of_end-in}
 use Rattle.level_model.specs.Level as plan
-use Rattle.working_frame.specs.Turned.{child_number, edge_number, ports_of, is_port_of, place_of_port, box_size, level_port, level_child, level_edge, level_of, spoke_of}
+use Rattle.working_frame.specs.Rotated.{child_number, edge_number, ports_of, is_port_of, place_of_port, box_size, level_port, level_child, level_edge, level_of, spoke_of}
 use Rattle.working_frame.specs.Numbered.{AreNumbersOf, IsPortOf, NumbersMatch, IsListed, EndsMatch}
 
 -- a number of the list is below the bound, passes, and stands at the count of those before it

@@ -14,7 +14,7 @@ use Rattle.level_model.specs.Stage.{Line, dock_lane, loop_lane, long_lane}
 use Rattle.level_model.specs.Level.{PlainLevel, PlainPlan, Orders, End, end_at, tail_end, head_end, holds, is_loop, dock_of}
 use Rattle.level_model.specs.Lanes.{has_one_dock}
 use Rattle.level_model.specs.Nets.{Name, of_link, of_dock, of_loop, height_of, is_inverted, pin_at, net_of, nets_in, names_in, a_on_left, b_on_left, a_line, b_line}
-use Rattle.level_model.specs.Traces.{lane_step, leg_step, leaving, entering, chain, chain_steps, oriented_steps, turned_step, turned_steps, loop_steps, steps_of}
+use Rattle.level_model.specs.Traces.{lane_step, leg_step, leaving, entering, chain, chain_steps, oriented_steps, reversed_step, reversed_steps, loop_steps, steps_of}
 use Rattle.working_frame.specs.Moved.{moved_pin, moved_net, moved_step}
 
 further : (h t y : ℤ) → h -ℤ (t +ℤ y) ≡ (h -ℤ t) -ℤ y
@@ -67,13 +67,13 @@ module _ (l : PlainLevel) (p : PlainPlan) (o : Orders) (t y : ℤ) where
       ap₂ (λ (a b : List Step). a ++ b) out (chain_moves (chain p e)) ∙ sym (map-append (moved_step y) (steps_out e t) (chain_steps l p o t (chain p e))) in
       ap₂ (λ (a b : List Step). a ++ b) first into ∙ sym (map-append (moved_step y) (steps_out e t ++ chain_steps l p o t (chain p e)) (steps_in e t))
 
-  turn_moves : (steps : List Step) → map turned_step (move steps) ≡ move (map turned_step steps)
-  turn_moves [] = refl
-  turn_moves (Lane h ∷ steps) = ap (λ rest. Lane (h -ℤ y) ∷ rest) (turn_moves steps)
-  turn_moves (Leg g n from_a ∷ steps) = ap (λ rest. turned_step (Leg g n from_a) ∷ rest) (turn_moves steps)
+  rotate_moves : (steps : List Step) → map reversed_step (move steps) ≡ move (map reversed_step steps)
+  rotate_moves [] = refl
+  rotate_moves (Lane h ∷ steps) = ap (λ rest. Lane (h -ℤ y) ∷ rest) (rotate_moves steps)
+  rotate_moves (Leg g n from_a ∷ steps) = ap (λ rest. reversed_step (Leg g n from_a) ∷ rest) (rotate_moves steps)
 
-  turned_moves : (steps : List Step) → turned_steps (move steps) ≡ move (turned_steps steps)
-  turned_moves steps = ap reverse (turn_moves steps) ∙ sym (map_reverse (moved_step y) (map turned_step steps))
+  rotated_moves : (steps : List Step) → reversed_steps (move steps) ≡ move (reversed_steps steps)
+  rotated_moves steps = ap reverse (rotate_moves steps) ∙ sym (map_reverse (moved_step y) (map reversed_step steps))
 
   lane_and_leg : (m : Line) (s : Step) → lane_step l p o (t +ℤ y) m ∷ s ∷ [] ≡ moved_step y (lane_step l p o t m) ∷ s ∷ []
   lane_and_leg m s = ap (λ r. r ∷ s ∷ []) (lane_moves m)
@@ -116,8 +116,8 @@ module _ (l : PlainLevel) (p : PlainPlan) (o : Orders) (t y : ℤ) where
       let oriented = oriented_moves e in
       either (is_loop l e) _ _ _ _
       (either (has_one_dock l p o e) [] (loop_steps l p o t e from to) [] (loop_steps l p o (t +ℤ y) e from to) refl (loop_moves e from to))
-      (either (holds p.reversed e) (turned_steps (oriented_steps l p o t e)) (oriented_steps l p o t e) (turned_steps (oriented_steps l p o (t +ℤ y) e)) (oriented_steps l p o (t +ℤ y) e)
-      (ap turned_steps oriented ∙ turned_moves (oriented_steps l p o t e)) oriented)
+      (either (holds p.reversed e) (reversed_steps (oriented_steps l p o t e)) (oriented_steps l p o t e) (reversed_steps (oriented_steps l p o (t +ℤ y) e)) (oriented_steps l p o (t +ℤ y) e)
+      (ap reversed_steps oriented ∙ rotated_moves (oriented_steps l p o t e)) oriented)
 
   -- nets
 

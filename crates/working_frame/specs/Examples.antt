@@ -14,7 +14,7 @@ use Rattle.elk_doc.specs.Document.{Document}
 use Rattle.elk_doc.specs.Examples.{point, rect, size, root, leaf, options}
 use Rattle.port_order.specs.declared.children.ChildPort.{ChildPort}
 use Rattle.level_model.specs.Level.{PlainLevel}
-use Rattle.working_frame.specs.Turned.{level_of}
+use Rattle.working_frame.specs.Rotated.{level_of}
 
 -- a leaf with a port of 10 by 7 on its west side, from which an edge of weight 3 leads to a smaller leaf
 abbrev pub document_in : Direction → Document
@@ -55,8 +55,8 @@ abbrev pub LevelIs : Direction → PlainLevel → Type 0
 LevelIs way l = level_of (document_in way) boxes_only 0 (options way) ≡ l
 
 -- The port lies east under a level that runs to the left, and north under one that runs down or up. Its anchor is 3 below
--- the port's top in the document, so 4 from the left where up is turned to the right.
-pub record LevelsTurn : Type 0 where
+-- the port's top in the document, so 4 from the left where up is rotated to the right.
+pub record LevelsRotate : Type 0 where
   pub right : LevelIs Right (level_with Right (size 30 50) (size 20 40) (port_with (size 10 7) (point (pos 1) (pos 2)) 3 West))
   pub left : LevelIs Left (level_with Left (size 30 50) (size 20 40) (port_with (size 10 7) (point (pos 19) (pos 2)) 3 East))
   pub down : LevelIs Down (level_with Down (size 50 30) (size 40 20) (port_with (size 7 10) (point (pos 2) (pos 1)) 3 North))

@@ -8,8 +8,8 @@ use Rattle.elk_doc.specs.Document.{Document}
 use Rattle.elk_doc.specs.Level.{IsChild, IsEdge}
 use Rattle.elk_doc.specs.Drawing.{box_of, port_place, section_of}
 use Rattle.level_model.specs.FromPlan.{LevelDrawing}
-use Rattle.working_frame.specs.Turned.{box_size, level_of}
-use Rattle.working_frame.specs.Drawing.{IsTurnedDrawing}
+use Rattle.working_frame.specs.Rotated.{box_size, level_of}
+use Rattle.working_frame.specs.Drawing.{IsRotatedDrawing}
 use Rattle.working_frame.specs.Numbered.{IsPortOf}
 
 -- A level depends on the sizes of its children's boxes alone, wherever they stand.
@@ -28,4 +28,4 @@ pub record AgreeAt (d : Document) (p q : Placed) (n : ℕ) : Type 0 where
 abbrev pub DrawingsReadLevels : Type 0
 DrawingsReadLevels =
     (d : Document) (p q : Placed) (n : ℕ) (way : Direction) (v : LevelDrawing) (by : Point)
-    → AgreeAt d p q n → IsTurnedDrawing d p n way v by → IsTurnedDrawing d q n way v by
+    → AgreeAt d p q n → IsRotatedDrawing d p n way v by → IsRotatedDrawing d q n way v by

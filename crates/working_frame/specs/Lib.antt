@@ -1,4 +1,4 @@
-pub mod Turned
+pub mod Rotated
 pub mod Drawing
 pub mod Examples
 pub mod Numbered

@@ -9,8 +9,8 @@ use Rattle.elk_doc.specs.Level.{is_loop}
 use Rattle.elk_doc.specs.Sound.{IsSound}
 use Rattle.port_order.specs.Child as laid
 use Rattle.level_model.specs.Level as plan
-use Rattle.working_frame.specs.Turned.{child_number, edge_number, ports_of, port_number, place_of_port, box_size, level_port, level_child}
-use Rattle.working_frame.specs.Turned.{level_edge, level_of, spoke_of}
+use Rattle.working_frame.specs.Rotated.{child_number, edge_number, ports_of, port_number, place_of_port, box_size, level_port, level_child}
+use Rattle.working_frame.specs.Rotated.{level_edge, level_of, spoke_of}
 
 -- A list of numbers with a place for each: the numbers are those that are meant, each once, and each stands at its place.
 pub record AreNumbersOf (Meant : ℕ → Type 0) (place : ℕ → ℕ) (numbers : List ℕ) : Type 0 where

@@ -7,15 +7,15 @@ mod laws;
 mod moves;
 mod moving;
 mod reaching;
+mod rotating;
 mod spanning;
-mod turning;
 
 pub use laws::{
-    drawings_read_levels, ends_match, levels_are_listed, levels_read_sizes, levels_turn,
+    drawings_read_levels, ends_match, levels_are_listed, levels_read_sizes, levels_rotate,
     numbers_match,
 };
 pub use moves::drawings_move;
 pub use moving::{move_gaps, move_points, move_traces, moved_sections};
 pub use reaching::reach_moves;
+pub use rotating::rotated_size;
 pub use spanning::{Reach, reach_of};
-pub use turning::turned_size;

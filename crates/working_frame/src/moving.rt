@@ -125,6 +125,9 @@ fn move_gap(gap: &mut Gap, by: Point)
 }
 
 /// Moves gaps to the left, and their nets and routes up.
+///
+/// Proved:
+/// - Gaps, traces, boxes and sections are moved. (`move_traces`, `move_points`, `moved_sections`)
 pub fn move_gaps(gaps: &mut [Gap], by: Point)
     requires gaps { All IsFarGap (map plain_gap gaps.old) }
     requires by { IsFarPoint by }

@@ -16,6 +16,9 @@ pub struct Reach {
 
 /// How far the outlines and the sections of a drawing reach together, in the frame that they share. Outlines count with
 /// all their corners, sections with their ends and bends. `None` where there are neither.
+///
+/// Proved:
+/// - The least and the greatest coordinates of the outlines and sections of a drawing.
 pub fn reach_of(outlines: &[Rect], sections: &[Section]) -> Option<Reach>
     requires outlines { All IsNear outlines.now }
     ensures none { result ≡ None ↔ reached outlines.now sections.now ≡ [] }

@@ -1,80 +1,59 @@
 'use strict';
-// Lines such as `a -> b : label`: DOT without its frame, with labels behind a colon and names that may have blanks.
+// The words and marks of lines such as `a -> b : label`: DOT without its frame, with labels behind a colon and names that may have
+// blanks. The program reads the same lines (crates/dot_syntax/src/lines.rt).
 
 const { tokensOf } = require('./tokens');
 
-const ARROW = /\s*(?:->|--)\s*/;
+const BLANKS = '[ \\t\\r]*';
+
+const ARROW = /->|--/;
 
 // A name without quotes has none of the marks of DOT.
-const NAME = /"(?:[^"\\]|\\.)*"|(?:(?!->|--)[^\s"[\]{};=:<>,/#])+(?:[ \t]+(?:(?!->|--)[^\s"[\]{};=:<>,/#])+)*/;
+const NAME = /"(?:[^"\\]|\\.)*"|(?:(?!->|--)[^ \t\r"[\]{};=:<>,/#])+(?:[ \t]+(?:(?!->|--)[^ \t\r"[\]{};=:<>,/#])+)*/;
 
-const LINE = new RegExp(`^(\\s*)((?:${NAME.source})(?:${ARROW.source}(?:${NAME.source}))*)\\s*(?::\\s*(.*?))?\\s*$`);
+const PARTS = new RegExp(`(${NAME.source})|${ARROW.source}`, 'g');
 
-const PLAIN = /^(?:[A-Za-z_]\w*|-?\d+)$/;
+const CHAIN = `(?:${NAME.source})(?:${BLANKS}(?:${ARROW.source})${BLANKS}(?:${NAME.source}))*`;
 
-const WORDS = /^(?:strict|graph|digraph|node|edge|subgraph)$/i;
+const LINE = new RegExp(`^(${BLANKS})(${CHAIN})${BLANKS}(?::([^]*))?$`);
 
-const quoted = (words) => `"${words.replace(/\\/g, '\\\\').replace(/"/g, '\\"')}"`;
+/** A name as the program keeps it: a backslash in one without quotes is doubled. */
+const nameOf = (name) => (name?.startsWith('"') ? [...tokensOf(name)][0].name : name?.replace(/\\/g, '\\\\'));
 
-const asName = (name) => (name.startsWith('"') || (PLAIN.test(name) && !WORDS.test(name)) ? name : quoted(name));
-
-/** The names, arrows and label of a line; undefined if it is another statement of DOT. */
-function partsOf(line) {
+/** The names and arrows of a line, where they end, and whether a label follows; undefined if it is no chain. */
+function chainOf(line) {
   const [, indent, chain, label] = LINE.exec(line) ?? [];
   // The port of an edge stands behind a colon as well.
-  if (chain === undefined || (label !== undefined && !ARROW.test(chain) && ARROW.test(label))) {
+  if (chain === undefined || (label !== undefined && !ARROW.test(chain.replace(/"(?:[^"\\]|\\.)*"/g, '')) && ARROW.test(label))) {
     return undefined;
   }
-  const parts = [...chain.matchAll(new RegExp(`(${NAME.source})|->|--`, 'g'))].map(({ 0: text, 1: name, index }) => ({
-    ...{ text, name, start: indent.length + index, end: indent.length + index + text.length },
+  const parts = [...chain.matchAll(PARTS)].map(({ 0: text, 1: name, index }) => ({
+    ...{ text, name: nameOf(name), start: indent.length + index, end: indent.length + index + text.length },
   }));
-  return { parts, label, end: indent.length + chain.length };
+  return { parts, hasLabel: Boolean(label?.trim()), end: indent.length + chain.length };
 }
 
-/** A line as a statement of DOT. What is written with plain names keeps its columns. */
+/** The words and marks of a statement of DOT, in which a label may stand behind a blank and a colon. */
 function statementOf(line) {
-  const found = partsOf(line);
-  if (!found) {
-    return line;
-  }
-  const pieces = found.parts.map(({ text, name, start }, at) => {
-    const from = at === 0 ? 0 : found.parts[at - 1].end;
-    return line.slice(from, start) + (name === undefined ? text : asName(name));
-  });
-  return pieces.join('') + (found.label ? ` [label=${quoted(found.label)}]` : '');
+  const parts = [...tokensOf(line)];
+  const at = parts.findIndex(({ text, start }, number) => text === ':' && start > (parts[number - 1]?.end ?? 0));
+  return at === -1 ? { parts, hasLabel: false, end: line.length } : { parts: parts.slice(0, at), hasLabel: true, end: parts[at - 1]?.end ?? 0 };
 }
 
-/**
- * Lines as a text in DOT, with one line before them.
- * @param {string} text
- */
-function dotOf(text) {
-  const frame = text.includes('->') || !text.includes('--') ? 'digraph' : 'graph';
-  return `${frame} {\n${text.split('\n').map(statementOf).join('\n')}\n}`;
-}
-
-const unquoted = (name) => (name?.startsWith('"') ? [...tokensOf(name)][0].name : name);
-
-/** The words and marks of lines, as those of a text in DOT. */
+/** The words and marks of lines, as those of a text in DOT. All their edges are directed. */
 function* tokensOfLines(text) {
   let start = 0;
   for (const line of text.split('\n')) {
-    const found = partsOf(line);
-    for (const token of found?.parts ?? tokensOf(line)) {
-      yield { text: token.text, name: unquoted(token.name), start: start + token.start, end: start + token.end };
+    const { parts, hasLabel, end } = chainOf(line) ?? statementOf(line);
+    for (const token of parts) {
+      const mark = token.text === '--' ? '->' : token.text;
+      yield { text: mark, name: token.name, start: start + token.start, end: start + token.end };
     }
     // A label is as the attributes of DOT are.
-    const [from, to] = [start + (found?.end ?? line.length), start + line.length];
-    yield* (found?.label ? ['[', ']', ';'] : [';']).map((mark) => ({ text: mark, name: undefined, start: from, end: to }));
+    const [from, to] = [start + end, start + line.length];
+    yield* (hasLabel ? ['[', ']', ';'] : [';']).map((mark) => ({ text: mark, name: undefined, start: from, end: to }));
     start += line.length + 1;
   }
 }
 
-/** The place in lines of one in their DOT. */
-function placeInLines({ line, column, ...told }, text) {
-  const all = text.split('\n');
-  const at = Math.min(Math.max(line - 1, 1), all.length);
-  return { ...told, line: at, column: line - 1 > all.length ? all.at(-1).length + 1 : Math.min(column, all[at - 1].length + 1) };
-}
-
-module.exports = { dotOf, placeInLines, tokensOfLines };
+module.exports = { tokensOfLines };

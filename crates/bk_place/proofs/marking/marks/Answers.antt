@@ -13,13 +13,13 @@ mirrored_pins-requires c =
 
 pub crossed-requires-clause-both : goal.crossed-requires-clause-both
 crossed-requires-clause-both c =
-    let turned = c.in_ok-turned.ensures ∙ ap (map mirrored) c.as_slice.ensures.value in
+    let flipped = c.in_ok-flipped.ensures ∙ ap (map mirrored) c.as_slice.ensures.value in
     subst (λ pins. HoldBoth pins c.in_ok-above.above.pins.items c.in_ok-below.below.pins.items) c.in_ok-inner.ensures.pins
     (record {
       low = c.in_ok-inner.ensures.low;
       as_above = c.in_ok-above.ensures.same;
       as_below = IsPermutation-trans _ _ _ (IsPermutation-map mirrored _ _ c.in_ok-above.ensures.same)
-          (subst (λ pins. IsPermutation pins c.in_ok-below.below.pins.items) turned c.in_ok-below.ensures.same);
+          (subst (λ pins. IsPermutation pins c.in_ok-below.below.pins.items) flipped c.in_ok-below.ensures.same);
     })
 
 pub returns : goal.returns

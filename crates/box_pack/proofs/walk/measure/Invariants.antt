@@ -4,7 +4,7 @@ use Rattle.box_pack.proofs.walk.measure.Given as goal
 
 abbrev pub invariant-loop-size : goal.invariant-loop-size
 invariant-loop-size l = record {
-  at : l.cursor ≡ before l.sizes l.strip l.size-index;
-  extent : l.measured.extent ≡ (measured_to l.sizes l.strip l.size-index).extent;
-  next : l.measured.next ≡ next_to l.sizes l.strip l.size-index;
+  at : l.cursor ≡ before l.sizes l.page l.size-index;
+  extent : l.measured.extent ≡ (measured_to l.sizes l.page l.size-index).extent;
+  next : l.measured.next ≡ next_to l.sizes l.page l.size-index;
 }

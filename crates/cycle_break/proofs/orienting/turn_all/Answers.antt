@@ -16,4 +16,4 @@ edges-preserved c =
     let k = (get_or c.args.edges.now c.edges.edge-index (record { at = 0 })).at in
     turns_next c.args.arena.now c.edges.arena c.reverse.new.self (edge_keys (take c.edges.edge-index c.args.edges.now)) _ k c.edges.invariant
     (ap is_some (c.edges.invariant.others k (key_new c.args.edges.now c.edges.edge-index b c.requires.once)) ∙ c.requires.live k (key_there c.args.edges.now c.edges.edge-index b))
-    c.reverse.ensures.turned (key_new c.args.edges.now c.edges.edge-index b c.requires.once) (keys_more c.args.edges.now c.edges.edge-index b)
+    c.reverse.ensures.is_reversed (key_new c.args.edges.now c.edges.edge-index b c.requires.once) (keys_more c.args.edges.now c.edges.edge-index b)

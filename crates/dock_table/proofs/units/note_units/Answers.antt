@@ -1,7 +1,7 @@
 use Rattle.std.proofs.Common.{◌≡◌, ◌<◌, ◌+◌, ◌-◌, ℕ, List, length, refl, sym, subst, arith}
 use Rattle.elk_layers.specs.Layered.{plain, unit_at}
 use Rattle.dock_table.specs.Ends.{is_unit_of}
-use Rattle.dock_table.specs.Flows.{AreFirstFrom}
+use Rattle.dock_table.specs.Courses.{AreFirstFrom}
 use Rattle.dock_table.proofs.LoopLemmas.{unit_noted}
 use Rattle.dock_table.proofs.units.note_units.Goals as goal
 

@@ -1,7 +1,7 @@
 use Rattle.std.proofs.Common.{length, ◌≤◌}
 use Rattle.elk_layers.specs.Layered.{plain}
 use Rattle.dock_table.specs.Ends.{is_unit_of}
-use Rattle.dock_table.specs.Flows.{AreFirstFrom}
+use Rattle.dock_table.specs.Courses.{AreFirstFrom}
 use Rattle.dock_table.proofs.units.note_units.Given as goal
 
 abbrev pub invariant-units : goal.invariant-units

@@ -1,6 +1,6 @@
 use Rattle.std.proofs.Common.{◌≡◌, Some, ◌∙◌, refl}
 use Rattle.graph_arena.specs.Graph.{ends_at}
-use Rattle.graph_arena.specs.Sides.{graph_of}
+use Rattle.graph_arena.specs.Flanks.{graph_of}
 use Rattle.graph_arena.proofs.Rooms.{roomy_sound, roomy_same, roomy_split, on_err}
 use Rattle.graph_arena.proofs.relink.split_edge.Goals as goal
 

@@ -1,25 +1,25 @@
 use Rattle.std.proofs.Common.{◌≡◌, ◌≤◌, ◌+◌, ◌^◌, ℕ, Some, subst, sym, ap, ◌∙◌, arith}
 use Rattle.slab.specs.Slab.{slab_len}
-use Rattle.graph_arena.specs.declared.slots.Side.TheVariants.{Outward, Inward}
+use Rattle.graph_arena.specs.declared.slots.Flank.TheVariants.{Outward, Inward}
 use Rattle.graph_arena.specs.Graph.{tail_in}
-use Rattle.graph_arena.specs.Sides.{graph_of, IsSound, owner}
+use Rattle.graph_arena.specs.Flanks.{graph_of, IsSound, owner}
 use Rattle.graph_arena.specs.Changes.{Splits}
 use Rattle.graph_arena.proofs.Views.{tail_is, head_known}
-use Rattle.graph_arena.proofs.Whole.{some_of, start_side, middle_side, split_sound, split_edge}
+use Rattle.graph_arena.proofs.Whole.{some_of, start_flank, middle_flank, split_sound, split_edge}
 use Rattle.graph_arena.proofs.relink.split_reserved.Goals as goal
 use Rattle.graph_arena.proofs.relink.split_reserved.Goals.{After-attach-2}
 
-pub hand_over-requires-clause-side : goal.hand_over-requires-clause-side
-hand_over-requires-clause-side c =
+pub hand_over-requires-clause-flank : goal.hand_over-requires-clause-flank
+hand_over-requires-clause-flank c =
     let t = some_of (owner Outward c.args.edges.now c.args.edge) (c.requires.sound.ends Outward c.args.edge c.requires.edge) in
-    start_side c.args.nodes.now c.insert_reserved-node.new.self c.insert_reserved-node.new.self c.insert_reserved-node.new.self c.insert_reserved-node.new.self c.args.edges.now c.insert_reserved-far.new.self c.insert_reserved-far.new.self c.insert_reserved-far.new.self c.insert_reserved-far.new.self c.args.edge c.insert_reserved-node.result c.insert_reserved-far.result t.0 c.end_at-head.result c.requires.sound t.1 c.end_at-head.ensures
+    start_flank c.args.nodes.now c.insert_reserved-node.new.self c.insert_reserved-node.new.self c.insert_reserved-node.new.self c.insert_reserved-node.new.self c.args.edges.now c.insert_reserved-far.new.self c.insert_reserved-far.new.self c.insert_reserved-far.new.self c.insert_reserved-far.new.self c.args.edge c.insert_reserved-node.result c.insert_reserved-far.result t.0 c.end_at-head.result c.requires.sound t.1 c.end_at-head.ensures
     c.insert_reserved-node.ensures.was_vacant (c.insert_reserved-node.ensures.updates.changed ∙ ap Some c.new_node.ensures) c.insert_reserved-node.ensures.updates.others
     c.insert_reserved-far.ensures.was_vacant (c.insert_reserved-far.ensures.updates.changed ∙ ap Some c.new_edge.ensures) c.insert_reserved-far.ensures.updates.others Inward
 
-pub attach-requires-2-clause-side : goal.attach-requires-2-clause-side
-attach-requires-2-clause-side c =
+pub attach-requires-2-clause-flank : goal.attach-requires-2-clause-flank
+attach-requires-2-clause-flank c =
     let t = some_of (owner Outward c.args.edges.now c.args.edge) (c.requires.sound.ends Outward c.args.edge c.requires.edge) in
-    middle_side c.args.nodes.now c.insert_reserved-node.new.self c.hand_over.new.nodes c.attach.new.nodes c.attach.new.nodes c.args.edges.now c.insert_reserved-far.new.self c.hand_over.new.edges c.attach.new.edges c.attach.new.edges c.args.edge c.insert_reserved-node.result c.insert_reserved-far.result t.0 c.end_at-head.result c.requires.sound t.1 c.end_at-head.ensures
+    middle_flank c.args.nodes.now c.insert_reserved-node.new.self c.hand_over.new.nodes c.attach.new.nodes c.attach.new.nodes c.args.edges.now c.insert_reserved-far.new.self c.hand_over.new.edges c.attach.new.edges c.attach.new.edges c.args.edge c.insert_reserved-node.result c.insert_reserved-far.result t.0 c.end_at-head.result c.requires.sound t.1 c.end_at-head.ensures
     c.insert_reserved-node.ensures.was_vacant (c.insert_reserved-node.ensures.updates.changed ∙ ap Some c.new_node.ensures) c.insert_reserved-node.ensures.updates.others
     c.insert_reserved-far.ensures.was_vacant (c.insert_reserved-far.ensures.updates.changed ∙ ap Some c.new_edge.ensures) c.insert_reserved-far.ensures.updates.others c.hand_over.ensures c.attach.ensures
 

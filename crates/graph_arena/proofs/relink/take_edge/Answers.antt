@@ -1,5 +1,5 @@
 use Rattle.std.proofs.Common.{ℕ, subst}
-use Rattle.graph_arena.specs.Sides.{graph_of}
+use Rattle.graph_arena.specs.Flanks.{graph_of}
 use Rattle.graph_arena.specs.Changes.{RemovesEdge}
 use Rattle.graph_arena.proofs.Views.{tail_known, head_known}
 use Rattle.graph_arena.proofs.Whole.{gone_sound, gone_edge}

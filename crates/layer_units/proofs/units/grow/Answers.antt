@@ -15,7 +15,7 @@ use Rattle.layer_units.proofs.units.grow.Goals as goal
 
 pub loop-edge-init : goal.loop-edge-init
 loop-edge-init c =
-    let s = layering (plain_level c.args.level.now) (listed c.args.turned.now) c.args.layers.now in
+    let s = layering (plain_level c.args.level.now) (listed c.args.is_reversed.now) c.args.layers.now in
     record {
       units_are = c.in_ok-units.ensures ∙ sym (all_none (λ d i. lane_on (run_of s d) i) (lanes_of s) (child_units c.args.layers.now (length c.args.layers.now)));
       links_are = c.new-links.ensures.items ∙ sym (all_none (λ d i. link_on (run_of s d) i) (gaps_of s) []);
@@ -29,19 +29,19 @@ bounds-keys-edge c =
 
 pub links_at-gaps-requires : goal.links_at-gaps-requires
 links_at-gaps-requires c =
-    let s = layering (plain_level c.args.level.now) (listed c.args.turned.now) c.args.layers.now in
+    let s = layering (plain_level c.args.level.now) (listed c.args.is_reversed.now) c.args.layers.now in
     let h : c.loop-edge.edge < length c.args.level.now.edges = omega (arith, c.len-edge-end.ensures, c.loop-edge-test.true) in
     let few = few_gaps s c.requires.level c.requires.layering c.loop-edge.edge h in
     record { few = (gaps_of s c.loop-edge.edge, c.requires.chained.each c.loop-edge.edge h, omega (arith, few)) }
 
 pub run_of-run-requires : goal.run_of-run-requires
 run_of-run-requires c =
-    let s = layering (plain_level c.args.level.now) (listed c.args.turned.now) c.args.layers.now in
+    let s = layering (plain_level c.args.level.now) (listed c.args.is_reversed.now) c.args.layers.now in
     let l = plain_level c.args.level.now in
     let e = c.loop-edge.edge in
     let h : c.loop-edge.edge < length c.args.level.now.edges = omega (arith, c.len-edge-end.ensures, c.loop-edge-test.true) in
-    let way : get_or c.args.turned.now c.loop-edge.edge false ≡ holds (listed c.args.turned.now) c.loop-edge.edge =
-    (marks_listed c.args.turned.now (length c.args.level.now.edges) c.requires.marks).each c.loop-edge.edge h
+    let way : get_or c.args.is_reversed.now c.loop-edge.edge false ≡ holds (listed c.args.is_reversed.now) c.loop-edge.edge =
+    (marks_listed c.args.is_reversed.now (length c.args.level.now.edges) c.requires.marks).each c.loop-edge.edge h
     in
     record {
       edge = h;
@@ -51,7 +51,7 @@ run_of-run-requires c =
 
 pub overflow_cast-len : goal.overflow_cast-len
 overflow_cast-len c =
-    let s = layering (plain_level c.args.level.now) (listed c.args.turned.now) c.args.layers.now in
+    let s = layering (plain_level c.args.level.now) (listed c.args.is_reversed.now) c.args.layers.now in
     let h : c.loop-edge.edge ≤ length c.args.level.now.edges = omega (arith, c.len-edge-end.ensures, c.loop-edge-test.true) in
     let long = ap length c.loop-edge.invariant.units_are ∙ lanes_begin s c.loop-edge.edge c.requires.layering.as_many in
     let few = few_lanes s c.requires.level c.requires.layering c.loop-edge.edge h in
@@ -60,30 +60,30 @@ overflow_cast-len c =
 
 pub push_lanes-requires : goal.push_lanes-requires
 push_lanes-requires c =
-    let s = layering (plain_level c.args.level.now) (listed c.args.turned.now) c.args.layers.now in
+    let s = layering (plain_level c.args.level.now) (listed c.args.is_reversed.now) c.args.layers.now in
     let h : c.loop-edge.edge < length c.args.level.now.edges = omega (arith, c.len-edge-end.ensures, c.loop-edge-test.true) in
     let run =
-    run_here s c.loop-edge.edge c.len.result c.args.turned.now c.loop-edge.units.items c.run_of-run.result c.requires.layering.as_many (marks_listed c.args.turned.now (length c.args.level.now.edges) c.requires.marks)
+    run_here s c.loop-edge.edge c.len.result c.args.is_reversed.now c.loop-edge.units.items c.run_of-run.result c.requires.layering.as_many (marks_listed c.args.is_reversed.now (length c.args.level.now.edges) c.requires.marks)
     h c.loop-edge.invariant.units_are (omega (arith, c.len.ensures, c.loop-edge.units.ok.0)) c.run_of-run.ensures
     in
     subst IsShort (sym run) (is_short s c.requires.level c.requires.layering c.loop-edge.edge h)
 
 pub push_links-requires : goal.push_links-requires
 push_links-requires c =
-    let s = layering (plain_level c.args.level.now) (listed c.args.turned.now) c.args.layers.now in
+    let s = layering (plain_level c.args.level.now) (listed c.args.is_reversed.now) c.args.layers.now in
     let h : c.loop-edge.edge < length c.args.level.now.edges = omega (arith, c.len-edge-end.ensures, c.loop-edge-test.true) in
     let run =
-    run_here s c.loop-edge.edge c.len.result c.args.turned.now c.loop-edge.units.items c.run_of-run.result c.requires.layering.as_many (marks_listed c.args.turned.now (length c.args.level.now.edges) c.requires.marks)
+    run_here s c.loop-edge.edge c.len.result c.args.is_reversed.now c.loop-edge.units.items c.run_of-run.result c.requires.layering.as_many (marks_listed c.args.is_reversed.now (length c.args.level.now.edges) c.requires.marks)
     h c.loop-edge.invariant.units_are (omega (arith, c.len.ensures, c.loop-edge.units.ok.0)) c.run_of-run.ensures
     in
     subst IsShort (sym run) (is_short s c.requires.level c.requires.layering c.loop-edge.edge h)
 
 pub loop-edge-preserved : goal.loop-edge-preserved
 loop-edge-preserved c =
-    let s = layering (plain_level c.args.level.now) (listed c.args.turned.now) c.args.layers.now in
+    let s = layering (plain_level c.args.level.now) (listed c.args.is_reversed.now) c.args.layers.now in
     let h : c.loop-edge.edge < length c.args.level.now.edges = omega (arith, c.len-edge-end.ensures, c.loop-edge-test.true) in
     let run =
-    run_here s c.loop-edge.edge c.len.result c.args.turned.now c.loop-edge.units.items c.run_of-run.result c.requires.layering.as_many (marks_listed c.args.turned.now (length c.args.level.now.edges) c.requires.marks)
+    run_here s c.loop-edge.edge c.len.result c.args.is_reversed.now c.loop-edge.units.items c.run_of-run.result c.requires.layering.as_many (marks_listed c.args.is_reversed.now (length c.args.level.now.edges) c.requires.marks)
     h c.loop-edge.invariant.units_are (omega (arith, c.len.ensures, c.loop-edge.units.ok.0)) c.run_of-run.ensures
     in
     record {
@@ -93,7 +93,7 @@ loop-edge-preserved c =
 
 pub returns : goal.returns
 returns c =
-    let s = layering (plain_level c.args.level.now) (listed c.args.turned.now) c.args.layers.now in
+    let s = layering (plain_level c.args.level.now) (listed c.args.is_reversed.now) c.args.layers.now in
     let all : c.loop-edge.edge ≡ length c.args.level.now.edges = omega (arith, c.loop-edge-test.false, c.loop-edge.auto.edge-end, c.len-edge-end.ensures) in
     let a = c.requires.level.spacing.node_node.above in
     let b = c.requires.level.spacing.node_node.below in

@@ -8,6 +8,6 @@ use Rattle.layer_units.proofs.units.grow.Given as goal
 abbrev pub invariant-loop-edge : goal.invariant-loop-edge
 invariant-loop-edge l =
     record {
-      units_are : l.units.items ≡ units_to (layering (plain_level l.level) (listed l.turned) l.layers) l.edge;
-      links_are : l.links.items ≡ links_to (layering (plain_level l.level) (listed l.turned) l.layers) l.edge;
+      units_are : l.units.items ≡ units_to (layering (plain_level l.level) (listed l.is_reversed) l.layers) l.edge;
+      links_are : l.links.items ≡ links_to (layering (plain_level l.level) (listed l.is_reversed) l.layers) l.edge;
     }

@@ -10,7 +10,7 @@ use Rattle.layer_units.proofs.units.units_of.Goals as goal
 
 pub returns : goal.returns
 returns c =
-    let s = layering (plain_level c.args.level.now) (listed c.args.turned.now) c.args.layers.now in
+    let s = layering (plain_level c.args.level.now) (listed c.args.is_reversed.now) c.args.layers.now in
     record {
       linked = IfOk-weaker c.grow.result _ _ (λ v made rows tops. are_linked s c.requires.level c.requires.layering (plain v) made rows tops) c.grow.ensures;
       sound = IfOk-weaker c.grow.result _ _ (λ v made. is_sound s c.requires.level c.requires.layering (plain v) made) c.grow.ensures;

@@ -14,7 +14,7 @@ sketch_of-requires-clause-drawable c =
 
 pub sketch_of-requires-clause-marked : goal.sketch_of-requires-clause-marked
 sketch_of-requires-clause-marked c =
-    subst (λ (rs : List ℕ). AreMarks rs (length c.args.level.now.edges) c.args.turned.now) (sym c.as_slice.ensures.value) c.requires.marked
+    subst (λ (rs : List ℕ). AreMarks rs (length c.args.level.now.edges) c.args.is_reversed.now) (sym c.as_slice.ensures.value) c.requires.marked
 
 pub sketch_of-requires-clause-table : goal.sketch_of-requires-clause-table
 sketch_of-requires-clause-table c =

@@ -9,5 +9,5 @@ pub returns : goal.returns
 returns c =
     let s = parts_in c.args.sheet.now in
     three_more _ _ _ _ _ _ _ _ _ c.in_ok-push_leaving.ensures c.in_ok-push_chain.ensures c.in_ok-push_entering.ensures
-    (ap (λ b. steps_out s c.args.routing.now (end_at c.args.edge (not b))) c.is_turned-turned.ensures)
-    (ap (λ b. steps_in s c.args.routing.now (end_at c.args.edge b)) c.is_turned-turned.ensures)
+    (ap (λ b. steps_out s c.args.routing.now (end_at c.args.edge (not b))) c.runs_reversed-is_reversed.ensures)
+    (ap (λ b. steps_in s c.args.routing.now (end_at c.args.edge b)) c.runs_reversed-is_reversed.ensures)

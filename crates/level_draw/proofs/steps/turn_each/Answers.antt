@@ -1,5 +1,5 @@
 use Rattle.std.proofs.Common.{◌∙◌, arith, refl}
-use Rattle.level_model.specs.Traces.{turned_step}
+use Rattle.level_model.specs.Traces.{reversed_step}
 use Rattle.working_frame.proofs.MapLemmas.{change_next, all_changed}
 use Rattle.level_draw.proofs.steps.turn_each.Goals as goal
 
@@ -10,10 +10,10 @@ pub loop-i-preserved : goal.loop-i-preserved
 loop-i-preserved c =
     let test = c.loop-i-test.true in
     let long = c.loop-i.auto.steps in
-    change_next turned_step c.args.steps.now c.loop-i.steps c.loop-i.i _ c.turned_step.result c.loop-i.invariant (omega (arith, test, long)) c.turned_step.ensures
+    change_next reversed_step c.args.steps.now c.loop-i.steps c.loop-i.i _ c.reversed_step.result c.loop-i.invariant (omega (arith, test, long)) c.reversed_step.ensures
 
 pub returns : goal.returns
 returns c =
     let test = c.loop-i-test.false in
     let end = c.loop-i.auto.i-end in
-    c.loop-i.invariant ∙ all_changed turned_step c.args.steps.now c.loop-i.i (omega (arith, test, end))
+    c.loop-i.invariant ∙ all_changed reversed_step c.args.steps.now c.loop-i.i (omega (arith, test, end))

@@ -1,6 +1,6 @@
 use Rattle.std.proofs.Common.{◌≡◌, ◌<◌, ℕ, length, map, take, slice_index}
 use Rattle.elk_doc.specs.Level.{IsEdge}
-use Rattle.working_frame.specs.Turned.{level_edge}
+use Rattle.working_frame.specs.Rotated.{level_edge}
 use Rattle.level_io.proofs.reading.read_edges.Given as goal
 
 abbrev pub invariant-loop-edge : goal.invariant-loop-edge

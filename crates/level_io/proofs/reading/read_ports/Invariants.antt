@@ -1,5 +1,5 @@
 use Rattle.std.proofs.Common.{◌≡◌, map, take}
-use Rattle.working_frame.specs.Turned.{level_port}
+use Rattle.working_frame.specs.Rotated.{level_port}
 use Rattle.level_io.proofs.reading.read_ports.Given as goal
 
 abbrev pub invariant-loop-port : goal.invariant-loop-port

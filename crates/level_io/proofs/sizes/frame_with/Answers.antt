@@ -1,7 +1,7 @@
 use Rattle.std.proofs.Common.{◌≡◌, ◌∙◌, ap, length, refl, sym}
 use Rattle.std.specs.Vec.{with_items}
 use Rattle.std.proofs.lemmas.List.{length-set, with_items_is}
-use Rattle.working_frame.specs.Turned.{ports_of}
+use Rattle.working_frame.specs.Rotated.{ports_of}
 use Rattle.level_io.specs.Canvas.{drawing_of}
 use Rattle.level_io.specs.Sizes.{resized}
 use Rattle.level_io.proofs.FramedLemmas.{resized_node}

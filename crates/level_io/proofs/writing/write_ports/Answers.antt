@@ -2,7 +2,7 @@ use Rattle.std.proofs.Common.{◌≡◌, ◌∙◌, [], ℕ, List, length, get_o
 use Rattle.drawing_types.specs.declared.shape.Point.{Point}
 use Rattle.drawing_types.specs.Shapes.{origin}
 use Rattle.elk_doc.specs.Drawing.{no_rect}
-use Rattle.working_frame.specs.Turned.{ports_of}
+use Rattle.working_frame.specs.Rotated.{ports_of}
 use Rattle.level_io.specs.Changed.{AreChangedTo, AreDistinct, number_at}
 use Rattle.level_io.specs.Written.{port_change}
 use Rattle.level_io.proofs.NumberLemmas.{distinct_ports}

@@ -18,10 +18,10 @@ split_by-requires-clause-room c = λ v live.
 
 pub split_by-requires-clause-rising : goal.split_by-requires-clause-rising
 split_by-requires-clause-rising c =
-    rising (plain_level c.args.level.now) c.args.turned.now c.as_slice-children.result.now c.args.layers.now c.add_links.new.arena c.in_ok-keys.keys.items c.requires.level c.requires.layers
+    rising (plain_level c.args.level.now) c.args.is_reversed.now c.as_slice-children.result.now c.args.layers.now c.add_links.new.arena c.in_ok-keys.keys.items c.requires.level c.requires.layers
     c.in_ok-keys.ensures.links c.requires.onward
 
 pub returns : goal.returns
 returns c =
-    all_chained (plain_level c.args.level.now) c.args.turned.now c.as_slice-children.result.now c.args.layers.now c.add_links.new.arena c.in_ok-keys.keys.items c.in_ok-chains.chains
+    all_chained (plain_level c.args.level.now) c.args.is_reversed.now c.as_slice-children.result.now c.args.layers.now c.add_links.new.arena c.in_ok-keys.keys.items c.in_ok-chains.chains
     c.requires.level c.requires.layers c.in_ok-keys.ensures.links c.in_ok-chains.ensures

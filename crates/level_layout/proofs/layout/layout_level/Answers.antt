@@ -13,9 +13,9 @@ use Rattle.layer_units.proofs.UnitLemmas.{make_units}
 use Rattle.level_layout.proofs.LayoutLemmas.{drawable, if_both, laid_out, pinned_by, pins_small, units_few}
 use Rattle.level_layout.proofs.layout.layout_level.Goals as goal
 
-pub pinned-requires-clause-turned : goal.pinned-requires-clause-turned
-pinned-requires-clause-turned c = record {
-  marks = marks_listed c.as_slice-turned.result.now (length c.args.level.now.edges) (ap length c.as_slice-turned.ensures.value ∙ c.in_ok-marks.ensures.len);
+pub pinned-requires-clause-is_reversed : goal.pinned-requires-clause-is_reversed
+pinned-requires-clause-is_reversed c = record {
+  marks = marks_listed c.as_slice-is_reversed.result.now (length c.args.level.now.edges) (ap length c.as_slice-is_reversed.ensures.value ∙ c.in_ok-marks.ensures.len);
   layers = c.in_ok-certificate.certificate.layers;
   linked = subst (λ (rs : List ℕ). AreLinked (plain_level c.args.level.now) (plain_plan c.in_ok-start.start.layered c.in_ok-order.order [] rs) c.in_ok-certificate.certificate.layers) c.in_ok-certificate.ensures.listed
       (c.in_ok-start.ensures.units.linked (rows_of c.in_ok-order.order) []);
@@ -33,7 +33,7 @@ lines_for-requires-clause-low c =
 
 pub draw_by_table-requires-clause-drawable : goal.draw_by_table-requires-clause-drawable
 draw_by_table-requires-clause-drawable c =
-    let pinned = pinned_by (plain_level c.args.level.now) c.in_ok-certificate.certificate c.in_ok-start.start.layered c.in_ok-fitted.fitted.layered c.in_ok-order.order (listed c.as_slice-turned.result.now)
+    let pinned = pinned_by (plain_level c.args.level.now) c.in_ok-certificate.certificate c.in_ok-start.start.layered c.in_ok-fitted.fitted.layered c.in_ok-order.order (listed c.as_slice-is_reversed.result.now)
     (sym c.in_ok-certificate.ensures.listed) c.in_ok-fitted.ensures.fitted c.in_ok-fitted.ensures.sound c.in_ok-fitted.ensures.low c.in_ok-fitted.ensures.rows c.in_ok-fitted.ensures.kept
     in
     drawable (plain_level c.args.level.now) c.in_ok-certificate.certificate c.in_ok-start.start.layered c.in_ok-fitted.fitted.layered c.in_ok-order.order c.in_ok-lines.lines c.args.level.now.placing c.args.level.now.fixed (straightness_for c.args.level.now)
@@ -41,9 +41,9 @@ draw_by_table-requires-clause-drawable c =
 
 pub draw_by_table-requires-clause-marked : goal.draw_by_table-requires-clause-marked
 draw_by_table-requires-clause-marked c =
-    let many = ap length c.as_slice-turned.ensures.value ∙ c.in_ok-marks.ensures.len in
-    subst (λ (ns : List ℕ). AreMarks ns (length c.args.level.now.edges) c.as_slice-turned.result.now) (sym c.in_ok-certificate.ensures.listed)
-    (marks_listed c.as_slice-turned.result.now (length c.args.level.now.edges) many)
+    let many = ap length c.as_slice-is_reversed.ensures.value ∙ c.in_ok-marks.ensures.len in
+    subst (λ (ns : List ℕ). AreMarks ns (length c.args.level.now.edges) c.as_slice-is_reversed.result.now) (sym c.in_ok-certificate.ensures.listed)
+    (marks_listed c.as_slice-is_reversed.result.now (length c.args.level.now.edges) many)
 
 pub draw_by_table-requires-clause-table : goal.draw_by_table-requires-clause-table
 draw_by_table-requires-clause-table c =
@@ -52,7 +52,7 @@ draw_by_table-requires-clause-table c =
 
 pub returns : goal.returns
 returns c =
-    let pinned = pinned_by (plain_level c.args.level.now) c.in_ok-certificate.certificate c.in_ok-start.start.layered c.in_ok-fitted.fitted.layered c.in_ok-order.order (listed c.as_slice-turned.result.now)
+    let pinned = pinned_by (plain_level c.args.level.now) c.in_ok-certificate.certificate c.in_ok-start.start.layered c.in_ok-fitted.fitted.layered c.in_ok-order.order (listed c.as_slice-is_reversed.result.now)
     (sym c.in_ok-certificate.ensures.listed) c.in_ok-fitted.ensures.fitted c.in_ok-fitted.ensures.sound c.in_ok-fitted.ensures.low c.in_ok-fitted.ensures.rows c.in_ok-fitted.ensures.kept
     in
     if_both c.draw_by_table.result

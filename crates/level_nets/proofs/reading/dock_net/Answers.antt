@@ -7,12 +7,12 @@ use Rattle.level_model.specs.declared.table.EndAt.{EndAt}
 use Rattle.level_model.specs.Level.{end_at}
 use Rattle.level_nets.specs.Read.{net_named, at_end, dock_at, below_unit, anchor_below}
 use Rattle.level_nets.specs.Reach.{parts_in, IsBelow}
-use Rattle.level_nets.proofs.PinLemmas.{pin_is, net_from, turned_beside}
+use Rattle.level_nets.proofs.PinLemmas.{pin_is, net_from, reversed_beside}
 use Rattle.level_nets.proofs.reading.dock_net.Goals as goal
 
 pub anchor_below-requires-clause-beside : goal.anchor_below-requires-clause-beside
 anchor_below-requires-clause-beside c =
-    subst (λ (v : EndAt). is_upright v.dock.side ≡ false) (sym c.end_at-end.ensures) (turned_beside (parts_in c.args.sheet.now) (end_at c.args.edge c.args.at_source) c.requires.turned)
+    subst (λ (v : EndAt). is_upright v.dock.side ≡ false) (sym c.end_at-end.ensures) (reversed_beside (parts_in c.args.sheet.now) (end_at c.args.edge c.args.at_source) c.requires.is_reversed)
 
 pub returns : goal.returns
 unfolding net_named
@@ -34,4 +34,4 @@ pub below_unit-requires-clause-by : goal.below_unit-requires-clause-by
 below_unit-requires-clause-by c =
     let fl : FitsSigned w64 c.end_at-end.result.lane = search rules in
     subst IsBelow (sym (to_z-of_z w64 c.end_at-end.result.lane fl ∙ ap (λ (v : EndAt). v.lane) c.end_at-end.ensures))
-    ((c.requires.sheet.reach.ends c.args.edge c.args.at_source c.requires.edge).lane c.requires.turned)
+    ((c.requires.sheet.reach.ends c.args.edge c.args.at_source c.requires.edge).lane c.requires.is_reversed)

@@ -60,7 +60,7 @@ returns-clause-boxes c =
     subst (StandInRows c.args.way c.in_ok-squarest.squarest.rows outlines (length outlines)) (sym c.from_vec.ensures)
     (subst (λ (rs : List Rect). StandInRows c.args.way c.in_ok-squarest.squarest.rows rs (length rs) c.in_ok-boxes.boxes.items) c.as_slice-4.ensures.value c.in_ok-boxes.ensures)
     in
-    laid_out c.args.level c.alone-level.result c.args.way c.in_ok-out.out outlines c.requires c.alone-level.ensures c.in_ok-out.ensures are c.in_ok-squarest.squarest best c.from_vec.result c.turned_size.result placed c.turned_size.ensures
+    laid_out c.args.level c.alone-level.result c.args.way c.in_ok-out.out outlines c.requires c.alone-level.ensures c.in_ok-out.ensures are c.in_ok-squarest.squarest best c.from_vec.result c.rotated_size.result placed c.rotated_size.ensures
 
 pub returns-clause-room : goal.returns-clause-room
 returns-clause-room c =
@@ -79,4 +79,4 @@ returns-clause-room c =
     subst (StandInRows c.args.way c.in_ok-squarest.squarest.rows outlines (length outlines)) (sym c.from_vec.ensures)
     (subst (λ (rs : List Rect). StandInRows c.args.way c.in_ok-squarest.squarest.rows rs (length rs) c.in_ok-boxes.boxes.items) c.as_slice-4.ensures.value c.in_ok-boxes.ensures)
     in
-    has_room c.args.level c.alone-level.result c.args.way c.in_ok-out.out outlines c.requires c.alone-level.ensures c.in_ok-out.ensures are c.in_ok-squarest.squarest best c.from_vec.result c.turned_size.result placed c.turned_size.ensures
+    has_room c.args.level c.alone-level.result c.args.way c.in_ok-out.out outlines c.requires c.alone-level.ensures c.in_ok-out.ensures are c.in_ok-squarest.squarest best c.from_vec.result c.rotated_size.result placed c.rotated_size.ensures

@@ -1,5 +1,5 @@
 use Rattle.std.proofs.Common.{◌≡◌}
-use Rattle.turned_levels.specs.CertificateJoined.{spans_to}
+use Rattle.rotated_levels.specs.CertificateJoined.{spans_to}
 use Rattle.level_split.specs.Gathered.{certificate_at}
 use Rattle.level_split.proofs.certificate.total_span.Given as goal
 

@@ -14,9 +14,9 @@ table_of-requires-clause-sound c = sound_is (plain c.in_ok-layered.layered) c.in
 pub table_of-requires-clause-rows : goal.table_of-requires-clause-rows
 table_of-requires-clause-rows c = rows_are (plain c.in_ok-layered.layered) (rows_of c.in_ok-order.order) c.in_ok-layered.ensures c.in_ok-order.ensures
 
-pub table_of-requires-clause-turned : goal.table_of-requires-clause-turned
-table_of-requires-clause-turned c =
+pub table_of-requires-clause-is_reversed : goal.table_of-requires-clause-is_reversed
+table_of-requires-clause-is_reversed c =
     let linked = linked_is (plain_level c.in_ok-level.level) (plain c.in_ok-layered.layered) (rows_of c.in_ok-order.order) c.in_ok-level.ensures c.in_ok-layered.ensures c.in_ok-order.ensures in
     let marks = subst (λ (ms : List Bool). AreMarks [] (length c.in_ok-level.level.edges) ms) (sym c.as_slice.ensures.value)
-    (subst (λ (n : ℕ). AreMarks [] n c.in_ok-turned.turned.items) c.len.ensures c.in_ok-turned.ensures) in
+    (subst (λ (n : ℕ). AreMarks [] n c.in_ok-is_reversed.is_reversed.items) c.len.ensures c.in_ok-is_reversed.ensures) in
     ([], record { marks = marks; layers = linked.0; linked = linked.1 })

@@ -11,4 +11,4 @@ gaps_of-requires-clause-given c =
 pub gaps_of-requires-clause-marked : goal.gaps_of-requires-clause-marked
 gaps_of-requires-clause-marked c =
     subst (λ (ms : List Bool). AreMarks [] (length c.in_ok-level.level.edges) ms) (sym c.as_slice.ensures.value)
-    (subst (λ (n : ℕ). AreMarks [] n c.in_ok-turned.turned.items) c.len.ensures c.in_ok-turned.ensures)
+    (subst (λ (n : ℕ). AreMarks [] n c.in_ok-is_reversed.is_reversed.items) c.len.ensures c.in_ok-is_reversed.ensures)

@@ -1,8 +1,8 @@
 use Rattle.std.proofs.Common.{◌≡◌, refl, rules}
 use Rattle.elk_doc.specs.declared.document.Direction.TheVariants.{Right}
 use Rattle.level_io.specs.Written.{rows_in}
-use Rattle.level_tests.specs.Turning.{port_rows}
-use Rattle.level_tests.proofs.TurningLemmas.{are_numbers}
+use Rattle.level_tests.specs.Rotating.{port_rows}
+use Rattle.level_tests.proofs.RotatingLemmas.{are_numbers}
 use Rattle.level_tests.proofs.writing.framed.Goals as goal
 
 pub frame_node-requires-clause-numbers : goal.frame_node-requires-clause-numbers

@@ -1,8 +1,8 @@
 use Rattle.std.proofs.Common.{◌≡◌, refl, arith, rules}
 use Rattle.level_io.specs.Canvas.{drawing_of}
 use Rattle.level_io.specs.Written.{rows_in}
-use Rattle.level_tests.specs.Turning.{port_rows}
-use Rattle.level_tests.proofs.TurningLemmas.{are_numbers, is_writable}
+use Rattle.level_tests.specs.Rotating.{port_rows}
+use Rattle.level_tests.proofs.RotatingLemmas.{are_numbers, is_writable}
 use Rattle.level_tests.proofs.writing.written.Goals as goal
 
 pub write_level-requires-clause-numbers : goal.write_level-requires-clause-numbers

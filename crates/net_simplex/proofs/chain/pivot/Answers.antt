@@ -107,8 +107,8 @@ index_mut-requires-in-Some c =
     let b = by_there _ _ c.requires.network _ _ _ _ _ kept _ c.requires.leaves _ h.hangs h.holds _ c.requires.walk.0 _ (tells_some _ _ _ c.in-Some.ensures) in
     omega (arith, b, q)
 
-pub turn-requires : goal.turn-requires
-turn-requires c =
+pub reroot-requires : goal.reroot-requires
+reroot-requires c =
     let net = c.requires.network in
     let h = c.child_of-child.ensures in
     let ends = c.lower_end-from.ensures in
@@ -139,14 +139,14 @@ returns-in-Some c =
     let r = new_root _ _ net _ _ _ _ _ kept _ c.requires.leaves _ h.hangs h.holds _ c.requires.walk.0 _ is m moves.up moves.down in
     let stands = new_stands _ _ net _ _ _ _ _ kept _ c.requires.leaves _ h.hangs h.holds _ c.requires.walk.0 _ is m moves.up moves.down in
     let t : State = record { tree = set (set tree out false) by true; layers = shifted (λ v. not (tail_part n edges tree out v)) (pos (slack layers (edge_at edges by))) layers } in
-    let marks = sym c.turn.ensures.marks in
+    let marks = sym c.reroot.ensures.marks in
     record {
       kept = record {
         is = subst (λ ms. IsState n edges (kept_state ms c.shift.new.layers)) marks (subst (λ ls. IsState n edges (kept_state (set (set tree out false) by true) ls)) (sym e) s);
         root = ap (λ ls. layer_of ls 0) e ∙ r;
-        rooted = rw o at c.turn.ensures.rooted;
+        rooted = rw o at c.reroot.ensures.rooted;
       };
-      walk = rw o at c.turn.ensures.walk;
+      walk = rw o at c.reroot.ensures.walk;
       values = subst (λ ms. AreCutValues n edges ms c.change_cuts.new.cut) marks (subst (λ m. AreCutValues m edges (set (set tree out false) by true) c.change_cuts.new.cut) o c.change_cuts.ensures);
       pivots = (
         t,

@@ -31,8 +31,8 @@ plus-requires c =
     let s = c.requires.small in
     rw (to_z-of_z w64 a fa, to_z-of_z w64 m fm) (let x = ap size_of is in let y = ap size_of c.number_at-more.ensures in omega (arith, two, s, x, y))
 
-pub turned-requires : goal.turned-requires
-turned-requires c =
+pub signed-requires : goal.signed-requires
+signed-requires c =
     let m = c.number_at-more.result in
     let fm : FitsSigned w64 m = search rules in
     let n = c.requires.excess in

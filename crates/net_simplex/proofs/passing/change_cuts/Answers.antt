@@ -57,7 +57,7 @@ returns c =
     let f : FitsSigned w64 m = search rules in
     let g : FitsSigned w64 z = search rules in
     let is : m ≡ layer_of cut out = c.number_at-change.ensures in
-    let turned : z ≡ pos 0 -ℤ layer_of cut out = (rw (to_z-of_z w64 m f) at c.opposite.ensures) ∙ ap (λ x. pos 0 -ℤ x) is in
+    let flipped : z ≡ pos 0 -ℤ layer_of cut out = (rw (to_z-of_z w64 m f) at c.opposite.ensures) ∙ ap (λ x. pos 0 -ℤ x) is in
     let gains = rw (to_z-of_z w64 m f, is) at c.pass_way.ensures.gained in
-    let after = values_after n edges tree c.requires.ends c.requires.spanning cut c.requires.values c.requires.weights out by c.requires.out c.requires.marked c.requires.by c.requires.from c.requires.to c.pass_way.new.cut c.pass_way.ensures.same gains z turned in
+    let after = values_after n edges tree c.requires.ends c.requires.spanning cut c.requires.values c.requires.weights out by c.requires.out c.requires.marked c.requires.by c.requires.from c.requires.to c.pass_way.new.cut c.pass_way.ensures.same gains z flipped in
     subst (λ xs. AreCutValues n edges (set (set tree out false) by true) xs) (sym (rw (to_z-of_z w64 z g) at c.put.ensures)) after

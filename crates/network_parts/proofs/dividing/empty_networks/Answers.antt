@@ -7,16 +7,16 @@ use Rattle.network_parts.proofs.dividing.empty_networks.Goals as goal
 
 pub loop-init : goal.loop-init
 loop-init c =
-    subst (λ (nets : List Network). (length nets ≡ 0) × ((k : ℕ) → slice_index (sizes_of nets) k ≡ 0) × ((k : ℕ) → row_at (rows_of nets) k ≡ [])) (sym c.in_ok-nets.ensures.items)
+    subst (λ (networks : List Network). (length networks ≡ 0) × ((k : ℕ) → slice_index (sizes_of networks) k ≡ 0) × ((k : ℕ) → row_at (rows_of networks) k ≡ [])) (sym c.in_ok-networks.ensures.items)
     (refl, λ k. refl, λ k. refl)
 
 pub loop-preserved : goal.loop-preserved
 loop-preserved c =
     let pushed = c.in_ok-push.ensures.items in
     let many = c.loop.invariant.0 in (
-      ap length pushed ∙ length_push c.loop.nets.items _ ∙ ap (λ n. n + 1) many,
-      sizes_more c.loop.nets.items c.push.new.self.items _ pushed refl c.loop.invariant.1,
-      rows_more c.loop.nets.items c.push.new.self.items _ pushed c.new.ensures.items c.loop.invariant.2,
+      ap length pushed ∙ length_push c.loop.networks.items _ ∙ ap (λ n. n + 1) many,
+      sizes_more c.loop.networks.items c.push.new.self.items _ pushed refl c.loop.invariant.1,
+      rows_more c.loop.networks.items c.push.new.self.items _ pushed c.new.ensures.items c.loop.invariant.2,
     )
 
 pub returns : goal.returns

@@ -4,6 +4,6 @@ use Rattle.network_parts.proofs.dividing.empty_networks.Given as goal
 
 abbrev pub invariant-loop : goal.invariant-loop
 invariant-loop l =
-    (length l.nets.items ≡ l.counter)
-    × ((k : ℕ) → slice_index (sizes_of l.nets.items) k ≡ 0)
-    × ((k : ℕ) → row_at (rows_of l.nets.items) k ≡ [])
+    (length l.networks.items ≡ l.counter)
+    × ((k : ℕ) → slice_index (sizes_of l.networks.items) k ≡ 0)
+    × ((k : ℕ) → row_at (rows_of l.networks.items) k ≡ [])

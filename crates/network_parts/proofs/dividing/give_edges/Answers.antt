@@ -12,12 +12,12 @@ loop-edge-preserved c =
     let edges = c.args.edges.now in
     let n = c.loop-edge.edge-index in
     let x = edge_at edges n in
-    let many = length-map c.loop-edge.nets (λ (net : Network). net.edges.items) in
-    let long = c.loop-edge.auto.nets in
+    let many = length-map c.loop-edge.networks (λ (net : Network). net.edges.items) in
+    let long = c.loop-edge.auto.networks in
     let ends = c.requires.ends n c.loop-edge-test.true in
     let low = c.requires.below x.tail ends.0 in
-    let there : slice_index numbers x.tail < length (rows_of c.loop-edge.nets) = omega (arith, many, long, low) in (
-      edge_more numbers c.args.places.now edges n (slice_index numbers x.tail) x c.renumber.result (rows_of c.loop-edge.nets) (rows_of c.add_edge.new.nets) c.requires.places refl ends.0 ends.1 refl there c.renumber.ensures c.in_ok-add_edge.ensures.edges c.loop-edge.invariant.0,
+    let there : slice_index numbers x.tail < length (rows_of c.loop-edge.networks) = omega (arith, many, long, low) in (
+      edge_more numbers c.args.places.now edges n (slice_index numbers x.tail) x c.renumber.result (rows_of c.loop-edge.networks) (rows_of c.add_edge.new.networks) c.requires.places refl ends.0 ends.1 refl there c.renumber.ensures c.in_ok-add_edge.ensures.edges c.loop-edge.invariant.0,
       c.in_ok-add_edge.ensures.sizes ∙ c.loop-edge.invariant.1,
     )
 
@@ -26,5 +26,5 @@ returns c =
     let all : c.loop-edge.edge-index ≡ length c.args.edges.now = omega arith in
     record {
       nodes = c.loop-edge.invariant.1;
-      edges = subst (λ n. HoldEdges c.args.numbers.now c.args.edges.now n (rows_of c.loop-edge.nets)) all c.loop-edge.invariant.0;
+      edges = subst (λ n. HoldEdges c.args.numbers.now c.args.edges.now n (rows_of c.loop-edge.networks)) all c.loop-edge.invariant.0;
     }

@@ -5,5 +5,5 @@ use Rattle.network_parts.proofs.dividing.place_nodes.Given as goal
 abbrev pub invariant-loop-number : goal.invariant-loop-number
 invariant-loop-number l =
     ArePlaces l.numbers l.number-index l.places.items
-    × HoldNodes l.numbers l.number-index (sizes_of l.nets)
-    × (rows_of l.nets ≡ rows_of l.initial.nets)
+    × HoldNodes l.numbers l.number-index (sizes_of l.networks)
+    × (rows_of l.networks ≡ rows_of l.initial.networks)

@@ -3,4 +3,4 @@ use Rattle.network_parts.specs.Dividing.{rows_of, sizes_of}
 use Rattle.network_parts.proofs.solving.solve_each.Given as goal
 
 abbrev pub invariant-loop-net : goal.invariant-loop-net
-invariant-loop-net l = AreSolved (sizes_of l.nets) (rows_of l.nets) l.net-index l.solutions.items
+invariant-loop-net l = AreSolved (sizes_of l.networks) (rows_of l.networks) l.net-index l.solutions.items

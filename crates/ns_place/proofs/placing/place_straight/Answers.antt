@@ -10,8 +10,8 @@ use Rattle.ns_place.proofs.FirstLemmas.{start_tops, tops_near, first_are}
 use Rattle.ns_place.proofs.StraightLemmas.{small_weights, aligned_weights, even_weights_are}
 use Rattle.ns_place.proofs.placing.place_straight.Goals as goal
 
-pub weigh_by_level-requires : goal.weigh_by_level-requires
-weigh_by_level-requires c =
+pub weigh_straight-requires : goal.weigh_straight-requires
+weigh_straight-requires c =
     let l = plain c.args.layered.now in
     let rows = rows_of c.args.order.now in
     let tops = c.in_ok-lines.lines.top.items in

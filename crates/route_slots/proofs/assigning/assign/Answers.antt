@@ -12,8 +12,8 @@ use Rattle.net_routes.specs.Conflicts.{HasNoConflict}
 use Rattle.net_routes.specs.Density.{IsDensity}
 use Rattle.route_slots.specs.Marks.{AreFlat}
 use Rattle.route_slots.specs.Choosing.{AreGood}
-use Rattle.route_slots.proofs.Leveling.{are_flat}
-use Rattle.route_slots.proofs.Relevelling.{laid}
+use Rattle.route_slots.proofs.DepthLemmas.{are_flat}
+use Rattle.route_slots.proofs.MovedLemmas.{laid}
 use Rattle.route_slots.proofs.assigning.assign.Goals as goal
 
 pub settle-requires-clause-slots : goal.settle-requires-clause-slots

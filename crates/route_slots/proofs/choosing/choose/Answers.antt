@@ -3,7 +3,7 @@ use Rattle.route_slots.specs.declared.marks.Mark.{Mark}
 use Rattle.net_routes.specs.Pieces.{net_at}
 use Rattle.route_slots.specs.Marks.{mark_at, AreNetMarks}
 use Rattle.route_slots.specs.Choosing.{AreInOrder, AreGood}
-use Rattle.route_slots.proofs.Relevelling.{other_marks, good_marks}
+use Rattle.route_slots.proofs.MovedLemmas.{other_marks, good_marks}
 use Rattle.route_slots.proofs.choosing.choose.Goals as goal
 
 pub returns-clause-good : goal.returns-clause-good

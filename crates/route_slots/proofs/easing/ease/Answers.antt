@@ -30,4 +30,4 @@ one_of nets slots other (Err e) first laid none which same = which
 pub returns-in_ok-settled-in-Some-clause-all : goal.returns-in_ok-settled-in-Some-clause-all
 returns-in_ok-settled-in-Some-clause-all c =
     let then = c.in_ok-settled-in-Some.ensures in
-    one_of c.args.nets.now c.args.slots c.in_ok-settled-in-Some.settled c.rather.result c.requires.all then.laid then.none c.rather.ensures.which c.rather.ensures.count
+    one_of c.args.nets.now c.args.slots c.in_ok-settled-in-Some.settled c.roomier.result c.requires.all then.laid then.none c.roomier.ensures.which c.roomier.ensures.count

@@ -5,7 +5,7 @@ use Rattle.net_routes.specs.Pieces.{net_at}
 use Rattle.route_slots.specs.Depths.{depth, depth_of, is_split}
 use Rattle.route_slots.specs.Marks.{IsMarkOf, AreMarked}
 use Rattle.net_routes.proofs.Lists.{each_pushed}
-use Rattle.route_slots.proofs.Leveling.{are_marks}
+use Rattle.route_slots.proofs.DepthLemmas.{are_marks}
 use Rattle.route_slots.proofs.marks.net_marks.Goals as goal
 
 pub nets-preserved : goal.nets-preserved
@@ -20,8 +20,8 @@ nets-preserved c =
     let read = get_or_read depths.splits.items i c.index.result.now (omega arith) c.index.ensures false in
     let here : IsMarkOf (net_at c.args.nets.now c.nets.number) (depth_of (depth c.args.depths.now) (net_at c.args.nets.now c.nets.number).a) (depth_of (depth c.args.depths.now) (net_at c.args.nets.now c.nets.number).b) (is_split c.args.depths.now.splits.items c.nets.number) c.mark_of-mark.result =
     subst (λ b. IsMarkOf (net_at nets i) (depth_of (depth depths) (net_at nets i).a) (depth_of (depth depths) (net_at nets i).b) b mark) read
-    (subst (λ y. IsMarkOf (net_at nets i) (depth_of (depth depths) (net_at nets i).a) y c.index.result.now mark) c.depth_at-in-nets.ensures
-    (subst (λ x. IsMarkOf (net_at nets i) x c.depth_at-in-nets.result c.index.result.now mark) c.depth_at.ensures c.mark_of-mark.ensures)) in
+    (subst (λ y. IsMarkOf (net_at nets i) (depth_of (depth depths) (net_at nets i).a) y c.index.result.now mark) c.pin_depth-in-nets.ensures
+    (subst (λ x. IsMarkOf (net_at nets i) x c.pin_depth-in-nets.result c.index.result.now mark) c.pin_depth.ensures c.mark_of-mark.ensures)) in
     record {
       len = search rules;
       each =

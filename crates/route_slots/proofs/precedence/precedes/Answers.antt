@@ -1,6 +1,6 @@
 use Rattle.std.proofs.Common.{◌≡◌, ◌≢◌, ◌∙◌, true, sym, rules}
 use Rattle.net_routes.specs.Pieces.{net_at}
-use Rattle.net_routes.specs.GapFree.{IsLevelNet}
+use Rattle.net_routes.specs.GapFree.{IsStraightNet}
 use Rattle.route_slots.proofs.Ordered.{precedes_by, precedes_not, not_apart}
 use Rattle.route_slots.proofs.precedence.precedes.Goals as goal
 
@@ -12,8 +12,8 @@ returns-then-keep_apart-clause-no c =
 pub returns-clause-yes : goal.returns-clause-yes
 returns-clause-yes c =
     let nets = c.args.nets.now in
-    let bent : IsLevelNet (net_at c.args.nets.now c.args.first) → ⊥ = search rules in
-    let other : IsLevelNet (net_at c.args.nets.now c.args.second) → ⊥ = search rules in
+    let bent : IsStraightNet (net_at c.args.nets.now c.args.first) → ⊥ = search rules in
+    let other : IsStraightNet (net_at c.args.nets.now c.args.second) → ⊥ = search rules in
     let two : c.args.first ≢ c.args.second = search rules in
     λ e. precedes_by nets c.args.first c.args.second c.requires.first c.requires.second two bent other (sym c.stands_first.ensures ∙ e)
 

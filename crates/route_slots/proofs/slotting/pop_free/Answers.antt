@@ -9,12 +9,12 @@ pub returns-clause-free : goal.returns-clause-free
 returns-clause-free c =
     let there : has_end c.args.row.now.busy c.in-Some.end.now ≡ true = search rules in
     let u : UpdatesBy end_cmp (end_cmp c.in-Some.end.now) c.args.row.now.busy c.remove-found.new.self false = search rules in
-    let above : c.in-Some.end.now.0 <ℤ c.args.piece.low = search rules in
+    let above : c.in-Some.end.now.0 <ℤ c.args.segment.low = search rules in
     record {
       end = c.in-Some.end.now.0;
       there = there;
       above = above;
-      level = refl;
+      depth = refl;
       count = refl;
       from = λ q h. (
         taken_from _ _ _ (u.0 q) h,
@@ -26,8 +26,8 @@ returns-clause-free c =
           (taken_kept _ _ _ (u.0 q) h);
     }
 
-pub returns-then-end-piece-clause-full : goal.returns-then-end-piece-clause-full
-returns-then-end-piece-clause-full c =
+pub returns-then-end-segment-clause-full : goal.returns-then-end-segment-clause-full
+returns-then-end-segment-clause-full c =
     let least : IsLowerBound end_cmp c.args.row.now.busy c.in-Some.end.now = search rules in
-    let past : c.args.piece.low ≤ℤ c.in-Some.end.now.0 = search rules in
+    let past : c.args.segment.low ≤ℤ c.in-Some.end.now.0 = search rules in
     λ q h. let le = least_end c.in-Some.end.now q (least q h) in omega (arith, ints)

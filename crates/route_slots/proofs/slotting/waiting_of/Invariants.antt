@@ -1,5 +1,5 @@
 use Rattle.route_slots.specs.Slotting.{AreWaiting}
 use Rattle.route_slots.proofs.slotting.waiting_of.Given as goal
 
-abbrev pub invariant-pieces : goal.invariant-pieces
-invariant-pieces l = AreWaiting l.pieces l.number l.waiting
+abbrev pub invariant-segments : goal.invariant-segments
+invariant-segments l = AreWaiting l.segments l.number l.waiting

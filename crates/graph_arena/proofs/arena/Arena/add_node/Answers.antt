@@ -1,7 +1,7 @@
 use Rattle.std.proofs.Common.{subst, ap, ◌∙◌, Some, refl}
 use Rattle.graph_arena.specs.Graph.{Graph}
 use Rattle.graph_arena.specs.Changes.{AddsNode}
-use Rattle.graph_arena.specs.Sides.{graph_of}
+use Rattle.graph_arena.specs.Flanks.{graph_of}
 use Rattle.graph_arena.proofs.Rooms.{roomy_sound}
 use Rattle.graph_arena.proofs.Whole.{node_sound, node_added}
 use Rattle.graph_arena.proofs.arena.Arena.add_node.Goals as goal

@@ -1,7 +1,7 @@
 use Rattle.std.proofs.Common.{◌≡◌, subst}
 use Rattle.graph_arena.specs.Graph.{Graph}
 use Rattle.graph_arena.specs.Changes.{IsSame}
-use Rattle.graph_arena.specs.Sides.{graph_of}
+use Rattle.graph_arena.specs.Flanks.{graph_of}
 use Rattle.graph_arena.proofs.Copies.{same_slots, copy_sound, copy_same}
 use Rattle.graph_arena.proofs.arena.Arena.copy.Goals as goal
 use Rattle.graph_arena.proofs.arena.Arena.copy.Goals.{In_ok-clone-2}

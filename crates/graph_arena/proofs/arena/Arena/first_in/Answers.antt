@@ -1,5 +1,5 @@
 use Rattle.std.proofs.Common.{◌≡◌, ap, sym, ◌∙◌, subst}
-use Rattle.graph_arena.specs.declared.slots.Side.TheVariants.{Inward}
+use Rattle.graph_arena.specs.declared.slots.Flank.TheVariants.{Inward}
 use Rattle.graph_arena.specs.Graph.{Graph, edge_key, front, in_list}
 use Rattle.graph_arena.proofs.Views.{ins_are}
 use Rattle.graph_arena.proofs.Readers.{first_is}
@@ -8,4 +8,4 @@ use Rattle.graph_arena.proofs.arena.Arena.first_in.Goals as goal
 pub returns : goal.returns
 returns c =
     subst (λ (g : Graph). c.key_of.result ≡ edge_key (front (in_list g c.args.node.at))) c.self.view_is
-    (c.key_of.ensures ∙ ap edge_key (sym (ap front (ins_are c.self.inside.nodes c.self.inside.edges c.args.node.at) ∙ first_is Inward c.self.inside.nodes c.self.inside.edges c.args.node.at c.row_at.result (c.self.invariant.sides Inward) c.row_at.ensures)))
+    (c.key_of.ensures ∙ ap edge_key (sym (ap front (ins_are c.self.inside.nodes c.self.inside.edges c.args.node.at) ∙ first_is Inward c.self.inside.nodes c.self.inside.edges c.args.node.at c.row_at.result (c.self.invariant.flanks Inward) c.row_at.ensures)))

@@ -1,5 +1,0 @@
-use Rattle.drawing_laws.proofs.TurningLaws.{sides}
-use Rattle.drawing_laws.proofs.turning.sides_turn.Goals as goal
-
-pub returns : goal.returns
-returns c = sides

@@ -1,8 +1,0 @@
-use Rattle.std.proofs.Common.{◌≡◌, map}
-use Rattle.level_model.specs.Conditions.{plain_level}
-use Rattle.level_layout.specs.Certificate.{links_to, net_edge}
-use Rattle.layer_units.specs.Marks.{listed}
-use Rattle.level_layout.proofs.networks.net_edges.Given as goal
-
-abbrev pub invariant-loop-e : goal.invariant-loop-e
-invariant-loop-e l = l.edges.items ≡ map (net_edge (plain_level l.level) (listed l.marks)) (links_to (plain_level l.level) l.e)

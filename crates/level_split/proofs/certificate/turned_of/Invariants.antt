@@ -1,7 +1,0 @@
-use Rattle.std.proofs.Common.{length}
-use Rattle.level_parts.specs.Split.{part_at}
-use Rattle.level_split.specs.Gathered.{AreTurned, marks_in}
-use Rattle.level_split.proofs.certificate.turned_of.Given as goal
-
-abbrev pub invariant-loop-i : goal.invariant-loop-i
-invariant-loop-i l = AreTurned l.outs (λ k. length (part_at l.parts k).edges) l.i (marks_in l.marks.items)

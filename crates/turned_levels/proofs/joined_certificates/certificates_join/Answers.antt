@@ -1,5 +1,0 @@
-use Rattle.turned_levels.proofs.CertificateWholeLemmas.{certificates_join}
-use Rattle.turned_levels.proofs.joined_certificates.certificates_join.Goals as goal
-
-pub returns : goal.returns
-returns c = certificates_join

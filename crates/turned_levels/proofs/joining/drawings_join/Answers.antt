@@ -1,5 +1,0 @@
-use Rattle.turned_levels.proofs.JoinedWholeLemmas.{drawings_join}
-use Rattle.turned_levels.proofs.joining.drawings_join.Goals as goal
-
-pub returns : goal.returns
-returns c = drawings_join

@@ -1,5 +1,0 @@
-use Rattle.turned_levels.proofs.PortExampleLemmas.{upward_stands}
-use Rattle.turned_levels.proofs.ports.port_examples.Goals as goal
-
-pub returns : goal.returns
-returns c = upward_stands

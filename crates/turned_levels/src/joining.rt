@@ -1,8 +1,0 @@
-//! What holds of drawings that are put together, as the contract of a function that does nothing.
-ghost use Rattle.turned_levels.specs.Joined.{DrawingsJoin};
-
-/// Where each connected part of a level is drawn by itself and the drawings stand in rows, the whole keeps the rules of ports and
-/// routes, begins at 0 with a tight extent, and its parts keep their distance.
-pub fn drawings_join()
-    ensures { DrawingsJoin }
-{}
