@@ -16,7 +16,7 @@ TOP = pathlib.Path(__file__).resolve().parent.parent
 PROGRAM = pathlib.Path(os.environ.get("ELK_DRAW") or TOP / "crates/elk_draw/out/elk_draw")
 CASES = sorted((TOP / "tests/draw").iterdir())
 MISTAKES = json.loads((TOP / "tests/mistakes.json").read_text())
-FAULTS = json.loads((TOP / "adapters/js/data/faults.json").read_text())
+FAULTS = json.loads((TOP / "tests/faults.json").read_text())
 SECONDS = 120
 
 NODES = [{"id": "a", "width": 30, "height": 30}, {"id": "b", "width": 30, "height": 30}]

@@ -38,7 +38,7 @@ def _parser() -> argparse.ArgumentParser:
     parser = _Parser(
         prog="python -m elk_layout",
         description="Lays out graphs of ELK's JSON or DOT, and checks placed ones.",
-        epilog="The status is 1 if a graph isn't good, 2 if one is refused, 5 if the arguments are invalid, else 0.",
+        epilog="The status is 1 if a graph isn't good, 2 if one is refused or can't be read, 5 if the arguments are invalid, 70 if the program can't be started, else 0.",
     )
     parser.add_argument("--version", action="version", version=f"elk-layout {__version__}")
     commands = parser.add_subparsers(dest="command", required=True, metavar="COMMAND")
@@ -51,11 +51,11 @@ def _parser() -> argparse.ArgumentParser:
     layout.add_argument("--svg", action="store_true", help="draws a picture of each too; to stdout, the picture alone")
     layout.add_argument("--no-arrows", action="store_true", help="draws no arrow heads")
     layout.add_argument("--jobs", type=int, default=1, metavar="N", help="how many files are laid out at once")
-    about = "Checks placed graphs, of any program, and prints a verdict for each."
+    about = "Checks placed graphs that have their certificates, and prints a verdict for each."
     for one in (layout, commands.add_parser("check", help="checks placed graphs", description=about)):
         one.add_argument("files", nargs="+", metavar="FILE", help="a graph; - stands for stdin")
         one.add_argument("--numbers", choices=["ceil", "exact"], default="ceil", help="rounds fractions, or refuses them")
-        one.add_argument("--option", action="append", default=[], metavar="NAME=VALUE", help="of elements that have none")
+        one.add_argument("--option", action="append", default=[], metavar="NAME=VALUE", help="a layout option for all elements that don't set it")
         one.add_argument("--program", metavar="PATH", help="the program elk-draw")
     return parser
 

@@ -43,7 +43,7 @@ class Verdict:
 
 
 def check(placed: Any, *, options: Options = None, numbers: Numbers = "ceil", program: Program = None) -> Verdict:
-    """Judges a placed graph or its text, of any program. `options` are those of the call that placed it.
+    """Judges a placed graph with its certificates, or the text of one. `options` are those of the call that placed it.
 
     With `ceil`, only what the engine reads is judged; with `exact`, all is, and a fraction anywhere is refused. A Refusal
     is raised if the graph isn't placed, or if its drawing has labels, edges or layers that the engine doesn't know.
