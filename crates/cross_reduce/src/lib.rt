@@ -30,7 +30,6 @@ mod neighbours;
 mod ordering;
 mod pairs;
 mod place_costs;
-mod places;
 mod reducing;
 mod reinserting;
 mod reordering;

@@ -12,6 +12,7 @@ use Rattle.level_model.specs.FromPlan.{LevelDrawing, IsDrawnFrom}
 use Rattle.level_model.specs.Ready.{IsReady}
 use Rattle.level_model.specs.Stage.{unit_of_line, Stands}
 use Rattle.level_model.specs.Drawing.{stage}
+use Rattle.level_model.proofs.GapLemmas.{gap_free}
 use Rattle.crossing_laws.proofs.Crossing.{nets_cross_as_drawn}
 use Rattle.crossing_laws.specs.Drawn.{DrawnNetsCross}
 use Rattle.plan_laws.proofs.Whole.{stage_stands}
@@ -48,4 +49,4 @@ module _ (l : PlainLevel) (p : PlainPlan) (o : Orders) (d : LevelDrawing) (stand
 
 pub drawn_nets_cross : DrawnNetsCross
 drawn_nets_cross l p o d layers g j k from_a to_b ready drawn there j_in k_in =
-    nets_cross_as_drawn (gap_in d.gaps g) j k from_a to_b (drawn.gaps g there).free (spread l p o d (stage_stands l p o d layers ready drawn) g there layers ready drawn) j_in k_in
+    nets_cross_as_drawn (gap_in d.gaps g) j k from_a to_b (gap_free l p o d g (drawn.gaps g there)) (spread l p o d (stage_stands l p o d layers ready drawn) g there layers ready drawn) j_in k_in

@@ -24,7 +24,8 @@ use Rattle.dock_table.specs.declared.lanes.DockLanes.{DockLanes}
 use Rattle.dock_table.specs.Entries.{AreEndEntries, AreEntries, AreLanesOf, AreLoopEntries, AreReady, HaveBodies, IsEndEntry, IsEntry, IsLoopEntry}
 use Rattle.drawing_types.specs.declared.shape.Side.TheVariants.{North, South}
 use Rattle.dock_table.specs.Bounds.{IsIn, IsLoopIn}
-use Rattle.dock_table.specs.Lanes.{AreDockLanes, AreReadable, PlainLanes, height_by, height_or, lane_place_in, lane_side_in, lanes_at, plain_lanes}
+use Rattle.level_model.specs.Lanes.{height_by}
+use Rattle.dock_table.specs.Lanes.{AreDockLanes, AreReadable, PlainLanes, height_or, lane_place_in, lane_side_in, lanes_at, plain_lanes}
 use Rattle.dock_table.specs.Narrow.{IsNearRect, IsOffset}
 use Rattle.dock_table.specs.Outlines.{dock_in}
 use Rattle.dock_table.specs.Rows.{row_at}

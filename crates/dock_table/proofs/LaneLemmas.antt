@@ -9,8 +9,8 @@ use Rattle.drawing_types.specs.declared.shape.Side.TheVariants.{North, East, Sou
 use Rattle.drawing_types.specs.declared.shape.Dock.{Dock}
 use Rattle.port_order.specs.declared.spots.Spot.{Spot}
 use Rattle.port_order.specs.Child.{spot_at}
-use Rattle.level_model.specs.Lanes.{asks_lane}
-use Rattle.dock_table.specs.Lanes.{AreAsked, AreFirstSpots, AreLanePlaces, NumbersLanes, asked, first_same, is_on, lane_at, lane_in, lanes_to, same_dock, side_by}
+use Rattle.level_model.specs.Lanes.{asks_lane, side_by}
+use Rattle.dock_table.specs.Lanes.{AreAsked, AreFirstSpots, AreLanePlaces, NumbersLanes, asked, first_same, is_on, lane_at, lane_in, lanes_to, same_dock}
 use Rattle.dock_table.specs.Outlines.{dock_in}
 use Rattle.dock_table.proofs.EndLemmas.{range_more}
 use Rattle.dock_table.proofs.FirstLemmas.{filter_more_no, filter_more_yes, first_of_same, first_spot, same_from, same_parts}

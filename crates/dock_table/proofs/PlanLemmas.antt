@@ -1,11 +1,10 @@
 -- The docks and lanes of a child in the words of the level's plan.
-use Rattle.std.proofs.Common.{◌≡◌, ℕ, ℤ, ◌+◌, ◌*◌, ◌<◌, ◌==◌, List, [], ◌∷◌, ◌++◌, length, map, Bool, true, false, ◌&&◌, cond, Option, None, Some, refl, sym, ◌∙◌, ap, subst, arith, append-nil, length-append, eq-eqb, ne_eqb, eqb-true}
+use Rattle.std.proofs.Common.{◌≡◌, ℕ, ◌+◌, ◌*◌, ◌<◌, ◌==◌, List, [], ◌∷◌, ◌++◌, length, map, Bool, true, false, ◌&&◌, cond, Option, None, Some, refl, sym, ◌∙◌, ap, subst, arith, append-nil, length-append, eq-eqb, ne_eqb, eqb-true}
 use Rattle.std.specs.List.{filter, list_any, range_with_len, All}
 use Rattle.std.proofs.lemmas.Bool.{and_from, and_left}
 use Rattle.std.proofs.lemmas.List.{get_or-map, length-map}
 use Rattle.std.proofs.lemmas.List.Elements.{All-nil, All-cons, All-map}
 use Rattle.drawing_types.specs.declared.shape.Side.{Side}
-use Rattle.drawing_types.specs.declared.shape.Side.TheVariants.{North, East, South, West}
 use Rattle.drawing_types.specs.declared.shape.Dock.{Dock}
 use Rattle.drawing_types.specs.Shapes.{is_side}
 use Rattle.port_order.specs.declared.spots.Spot.{Spot}
@@ -13,9 +12,9 @@ use Rattle.port_order.specs.Child.{no_spot, spot_at}
 use Rattle.self_loops.specs.Loops.{sides_of_lanes}
 use Rattle.level_model.specs.Stage.{Line, dock_lane, loop_lane}
 use Rattle.level_model.specs.Level.{PlainLevel, PlainPlan, Orders, child_at, dock_of, dock_of_spot, edge_at, end_at, is_loop, spots}
-use Rattle.level_model.specs.Lanes.{asks_lane, dock_eq, docks_with_lane, has_lane, lane_side, lanes, line_eq, loop_sides, loops_of, once, place_of_line}
+use Rattle.level_model.specs.Lanes.{asks_lane, dock_eq, docks_with_lane, has_lane, lane_side, lanes, line_eq, loop_sides, loops_of, once, place_of_line, side_by}
 use Rattle.dock_table.specs.Ends.{AreEndDocks, loop_on, loops_to}
-use Rattle.dock_table.specs.Lanes.{AreLaneSides, asked, first_same, is_on, lane_in, lanes_to, loop_lane_on, same_dock, side_by}
+use Rattle.dock_table.specs.Lanes.{AreLaneSides, asked, first_same, is_on, lane_in, lanes_to, loop_lane_on, same_dock}
 use Rattle.dock_table.specs.Outlines.{dock_in}
 use Rattle.dock_table.proofs.FirstLemmas.{IsFirstSpot, first_spot, same_self}
 use Rattle.dock_table.proofs.OnceLemmas.{any_list, any_same, eq_same, filter_map, filter_same, filter_twice, once_all, place_tested}
@@ -52,14 +51,8 @@ has_asked l p o c docks j are h =
     (ap (λ d. dock_eq d (dock_in docks j)) (sym (dock_there l p o c docks m are less))
     ∙ eq_same (dock_in docks m) (dock_in docks j) (node_there l p o c docks are m less ∙ sym (node_there l p o c docks are j h))))
 
-lane_side_by : (l : PlainLevel) (node : ℕ) (side : Side) (offset : ℤ) → lane_side l (record { node = node; side = side; offset = offset }) ≡ side_by (child_at l node).size.height side offset
-lane_side_by l node North offset = refl
-lane_side_by l node East offset = refl
-lane_side_by l node South offset = refl
-lane_side_by l node West offset = refl
-
 pub lane_side_is : (l : PlainLevel) (c : ℕ) (d : Dock) → d.node ≡ c → lane_side l d ≡ side_by (child_at l c).size.height d.side d.offset
-lane_side_is l c d e = lane_side_by l d.node d.side d.offset ∙ ap (λ n. side_by (child_at l n).size.height d.side d.offset) e
+lane_side_is l c d e = ap (λ n. side_by (child_at l n).size.height d.side d.offset) e
 
 on_cond : (side s : Side) (b : Bool) → is_on side (cond b (Some s) None) ≡ (b && is_side s side)
 on_cond side s true = refl

@@ -16,7 +16,7 @@ use Rattle.level_model.specs.declared.table.EndAt.{EndAt}
 use Rattle.level_model.specs.declared.table.LoopAt.{LoopAt}
 use Rattle.level_model.specs.declared.table.Table.{Table}
 use Rattle.level_model.specs.Conditions.{IsLevel}
-use Rattle.level_model.specs.Lanes.{has_lane, lane_height, lane_side, lanes, loop_sides, place_of_line}
+use Rattle.level_model.specs.Lanes.{has_lane, lane_height, lane_side, lanes, loop_sides, place_of_line, side_by, height_by}
 use Rattle.level_model.specs.Level.{End, Orders, PlainLevel, PlainPlan, child_at, dock_of, dock_of_spot, edge_at, end_at, is_loop, outline, outline_from, port_spot, spoke, spot_at_port, spots}
 use Rattle.level_model.specs.Table.{IsChildAt, IsEndAt, IsLoopAt, IsTable, child_in, end_in, loop_in}
 use Rattle.level_model.specs.Units.{AreOrders}
@@ -25,7 +25,7 @@ use Rattle.dock_table.specs.declared.spots.Spots.{Spots}
 use Rattle.dock_table.specs.Ends.{AreEndDocks, AreLoopLanes, is_unit_of, loop_on, loops_to}
 use Rattle.dock_table.specs.Entries.{AreEndEntries, AreEntries, AreLanesOf, AreLoopEntries, IsEndEntry, IsLoopEntry}
 use Rattle.dock_table.specs.Courses.{AreFirst}
-use Rattle.dock_table.specs.Lanes.{AreDockLanes, PlainLanes, asked, first_same, height_by, height_or, is_on, lane_in, lane_place_in, lane_side_in, lanes_at, lanes_to, side_by}
+use Rattle.dock_table.specs.Lanes.{AreDockLanes, PlainLanes, asked, first_same, height_or, is_on, lane_in, lane_place_in, lane_side_in, lanes_at, lanes_to}
 use Rattle.dock_table.specs.Outlines.{dock_in, outline_by}
 use Rattle.dock_table.specs.Rows.{AreSpotsOf, HasNumber, row_lists}
 use Rattle.dock_table.specs.Sides.{AreDocks, AreOrdersTo, FourOrders, docks_at, orders_in}
@@ -108,13 +108,6 @@ module _ (l : PlainLevel) (p : PlainPlan) (vs : List FourOrders) (v : Spots) (li
   height_is c h side i =
       ap (λ n. height_by l.spacing n (child_in entries c).outline.height side i) ((w.entries_are.entry c h).north ∙ north_count c h)
       ∙ ap (λ z. height_by l.spacing (length (lanes l p (orders_in vs) c North)) z side i) (ap (λ r. r.height) (outline_is c h))
-      ∙ by side
-    where
-      by : (side : Side) → height_by l.spacing (length (lanes l p (orders_in vs) c North)) (outline l p (orders_in vs) c).height side i ≡ lane_height l p (orders_in vs) c side i
-      by North = refl
-      by East = refl
-      by South = refl
-      by West = refl
 
   -- ---- ends
 

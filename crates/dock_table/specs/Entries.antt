@@ -14,7 +14,8 @@ use Rattle.level_model.specs.Conditions.{IsLevel}
 use Rattle.level_model.specs.Level.{PlainLevel, PlainPlan, child_at, edge_at}
 use Rattle.level_model.specs.Table.{child_in, end_in, loop_in}
 use Rattle.dock_table.specs.Bounds.{IsEndIn, IsLoopIn}
-use Rattle.dock_table.specs.Lanes.{AreDockLanes, AreReadable, PlainLanes, height_by, height_or, lane_place_in, lane_side_in, lanes_at}
+use Rattle.level_model.specs.Lanes.{height_by}
+use Rattle.dock_table.specs.Lanes.{AreDockLanes, AreReadable, PlainLanes, height_or, lane_place_in, lane_side_in, lanes_at}
 use Rattle.dock_table.specs.Narrow.{IsNearRect, IsOffset}
 use Rattle.dock_table.specs.Outlines.{dock_in, outline_by}
 use Rattle.dock_table.specs.declared.spots.Spots.{Spots}

@@ -1,10 +1,10 @@
 -- The lanes of a child's docks, by the numbers of its spots.
-use Rattle.std.specs.Prelude.{◌≡◌, ◌≢◌, ℕ, ◌+◌, ◌<◌, ◌≤◌, ◌^◌, ◌==◌, cond, Bool, true, false, ◌&&◌, List, [], ◌∷◌, ℤ, pos, ◌+ℤ◌, ◌-ℤ◌, ◌*ℤ◌}
-use Rattle.std.specs.Prelude.{◌-◌, Option, None, Some, length, int_lt, slice_index, slice_index_or, slice_set, unwrap_or}
+use Rattle.std.specs.Prelude.{◌≡◌, ◌≢◌, ℕ, ◌+◌, ◌<◌, ◌≤◌, ◌^◌, ◌==◌, cond, Bool, true, false, ◌&&◌, List, [], ◌∷◌, ℤ, pos}
+use Rattle.std.specs.Prelude.{Option, None, Some, length, slice_index, slice_index_or, slice_set, unwrap_or}
 use Rattle.std.specs.List.{filter, list_any, range_with_len}
 use Rattle.std.specs.Ordering.{int_eq}
 use Rattle.drawing_types.specs.declared.shape.Side.{Side}
-use Rattle.drawing_types.specs.declared.shape.Side.TheVariants.{North, East, South, West}
+use Rattle.drawing_types.specs.declared.shape.Side.TheVariants.{North, South}
 use Rattle.drawing_types.specs.declared.shape.Dock.{Dock}
 use Rattle.elk_doc.specs.declared.document.Spacing.{Spacing}
 use Rattle.drawing_types.specs.Shapes.{is_side}
@@ -12,7 +12,7 @@ use Rattle.port_order.specs.declared.spots.Spot.{Spot}
 use Rattle.port_order.specs.Child.{spot_at}
 use Rattle.self_loops.specs.Loops.{sides_of_lanes}
 use Rattle.level_model.specs.Level.{first_or}
-use Rattle.level_model.specs.Lanes.{asks_lane}
+use Rattle.level_model.specs.Lanes.{asks_lane, side_by, height_by}
 use Rattle.dock_table.specs.declared.lanes.DockLanes.{DockLanes}
 use Rattle.dock_table.specs.Outlines.{dock_in}
 
@@ -56,13 +56,6 @@ asked docks spots bound j =
 pub record AreAsked (docks : List Dock) (spots : List Spot) (bound : ℕ) (marks : List Bool) : Type 0 where
   pub as_long : length marks ≡ length docks
   pub mark_is : (j : ℕ) → j < length docks → first_same docks j ≡ j → slice_index_or marks j false ≡ asked docks spots bound j
-
--- the side of a dock's lane, at a box of this height
-abbrev pub side_by : ℤ → Side → ℤ → Side
-side_by height North offset = North
-side_by height East offset = cond (int_lt height (offset +ℤ offset)) South North
-side_by height South offset = South
-side_by height West offset = cond (int_lt height (offset +ℤ offset)) South North
 
 -- the side of the lane of the dock that stands first at a spot, where it has one
 abbrev pub lane_at : ℤ → List Dock → List Spot → ℕ → Option Side
@@ -138,16 +131,6 @@ lane_place_in v i = slice_index v.places (slice_index v.firsts i)
 -- whether a self-loop between these docks has a lane on a side
 abbrev pub loop_lane_on : Dock → Dock → Side → Bool
 loop_lane_on source target side = list_any (is_side side) (sides_of_lanes source.side target.side (same_dock source target))
-
--- the room of lanes beside an outline, and the heights of a child's parts below the top of its unit
-abbrev pub room : Spacing → ℕ → ℤ
-room s n = cond (n == 0) (pos 0) (s.edge_node +ℤ (pos (n - 1) *ℤ s.edge_edge))
-
-abbrev pub height_by : Spacing → ℕ → ℤ → Side → ℕ → ℤ
-height_by s north height North i = room s north -ℤ room s (i + 1)
-height_by s north height East i = room s north +ℤ height +ℤ room s (i + 1)
-height_by s north height South i = room s north +ℤ height +ℤ room s (i + 1)
-height_by s north height West i = room s north +ℤ height +ℤ room s (i + 1)
 
 -- the height of the lane of a spot's dock, or 0 where it has none
 abbrev pub height_or : Spacing → ℕ → ℤ → Option Side → ℕ → ℤ

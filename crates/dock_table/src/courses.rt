@@ -88,7 +88,7 @@ fn course_of(
     ensures after { result.after ≡ cond (edge.source.child == edge.target.child) 0 (slice_index place.now (link_at links.now first).head) }
     ensures before { result.before ≡ cond (edge.source.child == edge.target.child) 0 (slice_index place.now (link_at links.now last).tail) }
 {
-    let looped = edge.source.child == edge.target.child;
+    let looped = edge.is_loop();
     if looped {
         return Course {
             looped,

@@ -8,7 +8,6 @@ ghost use Rattle.port_order.specs.Child as ports;
 ghost use Rattle.port_order.specs.Conditions.{AreSpots, IsSpot};
 ghost use Rattle.port_order.specs.Places as places;
 ghost use Rattle.port_order.specs.Sides as sides;
-ghost use Rattle.elk_layers.specs.Places.{IsOnce, NotesFirst};
 ghost use Rattle.dock_table.specs.Sides as spec;
 ghost use Rattle.level_model.specs.Conditions.{plain_level, IsLevel};
 ghost use Rattle.dock_table.specs.Narrow.{IsNarrow, IsOffset};
@@ -19,21 +18,10 @@ use crate::orders::SideOrders;
 use crate::spots::Rows;
 use drawing_types::shape::{Dock, Side};
 use elk_doc::sides::along;
+use elk_layers::note_places;
 use level_model::LevelIn;
 use port_order::{Child, Spot, is_mirrored, is_pinned, side_of, size_along, spread_at};
 use std::alloc::{AllocError, Global};
-
-// Notes the place of each number of an order.
-fn note_places(place: &mut [u32], order: &[u32])
-    requires numbers { All (λ n. n < length place.old) order.now }
-    requires once { IsOnce order.now }
-    requires few { length order.now ≤ 2 ^ 16 }
-    ensures { NotesFirst place.old order.now (length order.now) place.new }
-{
-    for (i, number) in order.iter().enumerate() {
-        place[*number as usize] = i as u32;
-    }
-}
 
 // By number, the places of spread spots in the orders of their sides.
 fn side_places(

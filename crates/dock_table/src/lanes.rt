@@ -9,8 +9,8 @@ ghost use Rattle.elk_doc.specs.Sound.{IsSoundSpacing};
 ghost use Rattle.drawing_types.specs.Ranges.{IsWithin};
 ghost use Rattle.level_model.specs.Lanes as plan;
 ghost use Rattle.dock_table.specs.Bounds.{IsIn};
-ghost use Rattle.dock_table.specs.Lanes as spec;
-ghost use Rattle.dock_table.specs.Lanes.{AreAsked, AreDockLanes, AreFirstSpots, AreLanePlaces, AreLaneSides, AreReadable, NotesFirstSpot, NumbersLanes, first_same, height_by, is_on, lane_place_in, lane_side_in, lanes_to, plain_lanes, side_by};
+ghost use Rattle.level_model.specs.Lanes.{side_by, height_by};
+ghost use Rattle.dock_table.specs.Lanes.{AreAsked, AreDockLanes, AreFirstSpots, AreLanePlaces, AreLaneSides, AreReadable, NotesFirstSpot, NumbersLanes, first_same, is_on, lane_place_in, lane_side_in, lanes_to, plain_lanes};
 ghost use Rattle.dock_table.specs.Outlines.{dock_in};
 ghost use Rattle.dock_table.specs.Narrow.{IsOffset};
 
@@ -371,7 +371,7 @@ fn times(count: u32, distance: i64) -> i64
 pub fn room(spacing: &Spacing, count: u32) -> i64
     requires spacing { IsSoundSpacing spacing.now }
     requires few { count ≤ 2 ^ 18 }
-    ensures value { result ≡ spec.room spacing.now count }
+    ensures value { result ≡ plan.room spacing.now count }
     ensures small { IsWithin (pos 0) (pos (2 ^ 40)) result }
 {
     if count == 0 {

@@ -1,13 +1,10 @@
 //! The docks of edges' ends, and the lanes of self-loops.
 ghost use Rattle.std.specs.Prelude.{◌≡◌, ℕ, ◌+◌, ◌*◌, ◌<◌, ◌≤◌, ◌^◌, ◌==◌, ◌&&◌, List, length, slice_index, slice_set, IfOk};
-ghost use Rattle.std.specs.List.{All, list_any};
+ghost use Rattle.std.specs.List.{All};
 ghost use Rattle.drawing_types.specs.declared.shape.Dock.{Dock as ADock};
-ghost use Rattle.drawing_types.specs.declared.shape.Side.TheVariants.{North, South};
 ghost use Rattle.level_model.specs.Conditions.{plain_level, IsLevel};
 ghost use Rattle.level_model.specs.Level.{PlainPlan};
 ghost use Rattle.dock_table.specs.Ends.{AreEndDocks, AreLoopLanes, CountsLoop, upright};
-ghost use Rattle.drawing_types.specs.Shapes.{is_side};
-ghost use Rattle.self_loops.specs.Loops.{sides_of_pair};
 ghost use Rattle.dock_table.specs.Lanes.{loop_lane_on, same_dock};
 ghost use Rattle.dock_table.specs.Narrow.{IsOffset};
 ghost use Rattle.dock_table.specs.Outlines.{dock_in};
@@ -18,6 +15,7 @@ use crate::docks::Docks;
 use crate::spots::Spots;
 use drawing_types::shape::{Dock, Side};
 use level_model::{LevelEdge, LevelIn};
+use self_loops::passes;
 use std::alloc::{AllocError, Global};
 
 // The dock of a spot of a child.
@@ -59,60 +57,6 @@ pub(crate) fn end_docks(
     Ok(ends)
 }
 
-// Whether a loop between docks on these sides has a lane in the north.
-fn passes_north(source: Side, target: Side) -> bool
-    ensures { result ≡ list_any (is_side North) (sides_of_pair source target) }
-{
-    match source {
-        Side::North => true,
-        Side::East => match target {
-            Side::North => true,
-            Side::East => false,
-            Side::South => false,
-            Side::West => true,
-        },
-        Side::South => match target {
-            Side::North => true,
-            Side::East => false,
-            Side::South => false,
-            Side::West => false,
-        },
-        Side::West => match target {
-            Side::North => true,
-            Side::East => true,
-            Side::South => false,
-            Side::West => false,
-        },
-    }
-}
-
-// Whether a loop between docks on these sides has a lane in the south.
-fn passes_south(source: Side, target: Side) -> bool
-    ensures { result ≡ list_any (is_side South) (sides_of_pair source target) }
-{
-    match source {
-        Side::North => match target {
-            Side::North => false,
-            Side::East => false,
-            Side::South => true,
-            Side::West => false,
-        },
-        Side::East => match target {
-            Side::North => false,
-            Side::East => false,
-            Side::South => true,
-            Side::West => false,
-        },
-        Side::South => true,
-        Side::West => match target {
-            Side::North => false,
-            Side::East => false,
-            Side::South => true,
-            Side::West => false,
-        },
-    }
-}
-
 // Whether two docks of one child are the same.
 fn same_dock(a: Dock, b: Dock) -> bool
     ensures { result ≡ same_dock a b }
@@ -120,24 +64,15 @@ fn same_dock(a: Dock, b: Dock) -> bool
     a.side == b.side && a.offset == b.offset
 }
 
-/// Whether a self-loop between these docks has a lane in the north.
-pub(crate) fn has_north_lane(source: Dock, target: Dock) -> bool
-    ensures { result ≡ loop_lane_on source target North }
+// Whether a self-loop between these docks has a lane in the north, or in the south.
+fn has_lane(source: Dock, target: Dock, north: bool) -> bool
+    ensures { result ≡ loop_lane_on source target (upright north) }
 {
     if same_dock(source, target) {
         return false;
     }
-    passes_north(source.side, target.side)
-}
-
-/// Whether a self-loop between these docks has a lane in the south.
-pub(crate) fn has_south_lane(source: Dock, target: Dock) -> bool
-    ensures { result ≡ loop_lane_on source target South }
-{
-    if same_dock(source, target) {
-        return false;
-    }
-    passes_south(source.side, target.side)
+    let side = if north { Side::North } else { Side::South };
+    passes(source.side, target.side, side)
 }
 
 /// By child, how many lanes self-loops have on one side of it, and by edge, the place of its lane there from the outline.
@@ -164,14 +99,7 @@ fn note_loop(lanes: &mut LoopLanes, edge: usize, child: u32)
 fn is_loop_on(edge: LevelEdge, source: Dock, target: Dock, north: bool) -> bool
     ensures { result ≡ ((edge.source.child == edge.target.child) && loop_lane_on source target (upright north)) }
 {
-    if edge.source.child != edge.target.child {
-        return false;
-    }
-    if north {
-        has_north_lane(source, target)
-    } else {
-        has_south_lane(source, target)
-    }
+    edge.is_loop() && has_lane(source, target, north)
 }
 
 // Counts the lane of an edge at its child, where it is a self-loop that has one in the north, or in the south.

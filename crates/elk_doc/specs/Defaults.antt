@@ -1,15 +1,14 @@
 -- The options of a level that asks for none.
-use Rattle.std.specs.Prelude.{pos, None, false}
+use Rattle.std.specs.Prelude.{[], ◌∷◌, pos, None, false}
 use Rattle.elk_doc.specs.declared.document.Direction.{Direction}
 use Rattle.elk_doc.specs.declared.document.Placing.TheVariants.{BrandesKoepf}
 use Rattle.elk_doc.specs.declared.document.Slotting.TheVariants.{Fewest}
-use Rattle.elk_doc.specs.declared.document.RowOrder.TheVariants.{Swept}
 use Rattle.elk_doc.specs.declared.document.Choices.{Choices}
 use Rattle.elk_doc.specs.declared.document.LevelOptions.{LevelOptions}
 
 -- what a level chooses that asks for nothing
 abbrev pub default_choices : Choices
-default_choices = record { slots = Fewest; effort = 7; order = Swept; straightness = 1 }
+default_choices = record { slots = Fewest; numbers = 0 ∷ 0 ∷ 0 ∷ 0 ∷ 0 ∷ 0 ∷ 0 ∷ 0 ∷ [] }
 
 -- the options of a level that asks for nothing but this direction
 abbrev pub default_options : Direction → LevelOptions

@@ -16,6 +16,6 @@ mod units;
 
 pub use copying::copy_of;
 pub use distances::{body_room, room};
-pub use noting::places;
+pub use noting::{note_places, places};
 pub use rows::children_of;
 pub use units::{Layered, Lines, Link, Order, Unit};

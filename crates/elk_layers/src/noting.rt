@@ -7,8 +7,8 @@ ghost use Rattle.elk_layers.specs.Places.{IsOnce, NotesFirst, ArePlaces};
 use crate::{Layered, Order};
 use std::alloc::{AllocError, Global};
 
-/// Notes the place of each unit of the row.
-fn note_places(place: &mut [u32], row: &[u32])
+/// Notes, by number, the places of the numbers of a row, such as units. Others keep what is noted.
+pub fn note_places(place: &mut [u32], row: &[u32])
     requires units { All (λ u. u < length place.old) row.now }
     requires once { IsOnce row.now }
     requires few { length row.now ≤ 2 ^ 24 }

@@ -9,11 +9,12 @@ use Rattle.elk_doc.specs.declared.document.PortRule.{PortRule}
 use Rattle.elk_doc.specs.declared.document.PortRule.TheVariants as rule
 use Rattle.elk_doc.specs.declared.document.Placing.TheVariants as placing
 use Rattle.elk_doc.specs.declared.document.Slotting.TheVariants as slotting
-use Rattle.elk_doc.specs.declared.document.RowOrder.TheVariants as order
 use Rattle.elk_doc.specs.declared.document.Choices.{Choices}
 use Rattle.elk_doc.specs.declared.document.Padding.{Padding}
 use Rattle.elk_doc.specs.declared.document.Spacing.{Spacing}
 use Rattle.elk_doc.specs.declared.document.LevelOptions.{LevelOptions}
+use Rattle.level_choices.specs.Numbers.{choices_with}
+use Rattle.level_choices.specs.declared.numbers.RowOrder.TheVariants as order
 use Rattle.elk_options.specs.declared.names.OptionName.{OptionName}
 use Rattle.elk_options.specs.declared.names.OptionName.TheVariants as name
 use Rattle.elk_options.specs.declared.options.Role.{Role}
@@ -105,25 +106,25 @@ spacing_of d = record {
 abbrev pub usual_padding : Padding
 usual_padding = record { top = pos 12; left = pos 12; bottom = pos 12; right = pos 12 }
 
--- the effort is at least 1
+-- the effort, or 0 for what is usual
 unfoldable pub effort_of : Data → ℕ
-effort_of d = nat_abs (value_or to_effort (pos 7) name.Effort d)
+effort_of d = nat_abs (value_or to_effort (pos 0) name.Effort d)
 
--- the straightness is at least 1
+-- the straightness, or 0 for what is usual
 unfoldable pub straightness_of : Data → ℕ
-straightness_of d = nat_abs (value_or to_straightness (pos 1) name.Straightness d)
+straightness_of d = nat_abs (value_or to_straightness (pos 0) name.Straightness d)
 
 -- the position of a node, which it has where one is given
 unfoldable pub position_of : Data → Option ℤ
 position_of d = value_or to_position None name.Position d
 
 unfoldable pub choices_of : Data → Choices
-choices_of d = record {
-  slots = value_or to_slots slotting.Fewest name.Slots d;
-  effort = effort_of d;
-  order = value_or to_order order.Swept name.Order d;
-  straightness = straightness_of d;
-}
+choices_of d =
+    choices_with
+    (value_or to_slots slotting.Fewest name.Slots d)
+    (value_or to_order order.Swept name.Order d)
+    (effort_of d)
+    (straightness_of d)
 
 unfoldable pub rule_of : Data → PortRule
 rule_of d = value_or to_rule rule.Free name.PortConstraints d
@@ -208,10 +209,10 @@ Reads option d value r =
 abbrev pub given : Option (Bor Value) → Data
 given o = or_empty (option_map (λ v. view v.now) o)
 
--- a factor on the work of the search for orders
+-- a factor on the work of the search for orders, or 0 for what is usual
 abbrev pub IsFactor : ℤ → Type 0
-IsFactor n = (pos 1 ≤ℤ n) × (n ≤ℤ pos 1000)
+IsFactor n = (pos 0 ≤ℤ n) × (n ≤ℤ pos 1000)
 
--- a weight of links that alignment keeps straight
+-- a weight of links that alignment keeps straight, or 0 for what is usual
 abbrev pub IsStraightness : ℤ → Type 0
-IsStraightness n = (pos 1 ≤ℤ n) × (n ≤ℤ pos 64)
+IsStraightness n = (pos 0 ≤ℤ n) × (n ≤ℤ pos 64)

@@ -16,8 +16,8 @@ use Rattle.elk_doc.specs.declared.document.Placing.{Placing}
 use Rattle.elk_doc.specs.declared.document.Placing.TheVariants as placing
 use Rattle.elk_doc.specs.declared.document.Slotting.{Slotting}
 use Rattle.elk_doc.specs.declared.document.Slotting.TheVariants as slotting
-use Rattle.elk_doc.specs.declared.document.RowOrder.{RowOrder}
-use Rattle.elk_doc.specs.declared.document.RowOrder.TheVariants as order
+use Rattle.level_choices.specs.declared.numbers.RowOrder.{RowOrder}
+use Rattle.level_choices.specs.declared.numbers.RowOrder.TheVariants as order
 use Rattle.elk_doc.specs.declared.document.Padding.{Padding}
 use Rattle.elk_options.specs.Values.{says, whole_within}
 use Rattle.elk_options.specs.PaddingText.{padding_text}

@@ -7,6 +7,7 @@ use crate::readers;
 use drawing_types::shape::Side;
 use drawing_types::sweep::Sweep;
 use elk_doc::document::{Choices, Direction, LevelOptions, Padding, Placing, PortRule, Spacing};
+use level_choices::choices_with;
 use serde_json::Value;
 
 /// What an element is to its options: a compound node, a leaf, a port or an edge.
@@ -124,12 +125,7 @@ fn chosen(options: Option<&Value>) -> Result<ChosenValues, BadValue>
     let straightness = readers::straightness(options)?;
     let position = readers::position(options)?;
     Ok(ChosenValues {
-        choices: Choices {
-            slots,
-            effort,
-            order,
-            straightness,
-        },
+        choices: choices_with(slots, order, effort, straightness),
         position,
     })
 }

@@ -6,7 +6,7 @@ ghost use Rattle.serde_json.specs.View.{view};
 ghost use Rattle.elk_doc.specs.declared.document.Direction.TheVariants as direction;
 ghost use Rattle.elk_doc.specs.declared.document.Placing.TheVariants as placing;
 ghost use Rattle.elk_doc.specs.declared.document.Slotting.TheVariants as slotting;
-ghost use Rattle.elk_doc.specs.declared.document.RowOrder.TheVariants as order;
+ghost use Rattle.level_choices.specs.declared.numbers.RowOrder.TheVariants as order;
 ghost use Rattle.elk_options.specs.declared.names.OptionName.TheVariants as name;
 ghost use Rattle.elk_options.specs.Table.{to_boxes, to_direction, to_side, to_index, to_routing, to_padding, to_distance, to_sweep, to_shortness, to_truth, to_placing, to_slots, to_effort, to_order, to_straightness, to_position};
 ghost use Rattle.elk_options.specs.Reading.{given, rule_of, value_or, distance_or, effort_of, straightness_of, position_of, usual_padding, IsFactor, IsStraightness, Reads};
@@ -21,7 +21,8 @@ use crate::texts::{
 use crate::values::whole_in;
 use drawing_types::shape::Side;
 use drawing_types::sweep::Sweep;
-use elk_doc::document::{Direction, Padding, Placing, PortRule, RowOrder, Slotting};
+use elk_doc::document::{Direction, Padding, Placing, PortRule, Slotting};
+use level_choices::RowOrder;
 use serde_json::Value;
 
 // The value, or the default where the option is not there.
@@ -320,12 +321,12 @@ fn factor_of(value: &Value) -> Option<i64>
 
 #[tactic(auto, unfolding(crate::specs::Reading::is_bad))]
 fn factor(options: Option<&Value>) -> Result<i64, BadValue>
-    ensures reads { Reads name.Effort (given options.entry) (value_or to_effort (pos 7) name.Effort (given options.entry)) result }
+    ensures reads { Reads name.Effort (given options.entry) (value_or to_effort (pos 0) name.Effort (given options.entry)) result }
     ensures within { IfOk result (λ n. IsFactor n) }
 {
     let asked = asked_of(options, OptionName::Effort);
     let value = asked.and_then(factor_of);
-    settled(asked.is_some(), value, 7, OptionName::Effort)
+    settled(asked.is_some(), value, 0, OptionName::Effort)
 }
 
 #[tactic(auto, unfolding(crate::specs::Reading::effort_of))]
@@ -344,12 +345,12 @@ fn straightness_from(value: &Value) -> Option<i64>
 
 #[tactic(auto, unfolding(crate::specs::Reading::is_bad))]
 fn straightness_asked(options: Option<&Value>) -> Result<i64, BadValue>
-    ensures reads { Reads name.Straightness (given options.entry) (value_or to_straightness (pos 1) name.Straightness (given options.entry)) result }
+    ensures reads { Reads name.Straightness (given options.entry) (value_or to_straightness (pos 0) name.Straightness (given options.entry)) result }
     ensures within { IfOk result (λ n. IsStraightness n) }
 {
     let asked = asked_of(options, OptionName::Straightness);
     let value = asked.and_then(straightness_from);
-    settled(asked.is_some(), value, 1, OptionName::Straightness)
+    settled(asked.is_some(), value, 0, OptionName::Straightness)
 }
 
 #[tactic(auto, unfolding(crate::specs::Reading::straightness_of))]

@@ -5,7 +5,8 @@ ghost use Rattle.elk_options.specs.Table.{boxes_text, direction_text, rule_text,
 use crate::values::is_word;
 use drawing_types::shape::Side;
 use drawing_types::sweep::Sweep;
-use elk_doc::document::{Direction, Placing, PortRule, RowOrder, Slotting};
+use elk_doc::document::{Direction, Placing, PortRule, Slotting};
+use level_choices::RowOrder;
 
 fn is_text(text: &str, word: &str) -> bool
     ensures { result ≡ bytes_eq text.now word.now }

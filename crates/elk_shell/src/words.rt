@@ -13,7 +13,7 @@ use std::alloc::{AllocError, Global};
 const ABOUT: &str =
     "Lays out a block diagram and draws it.\n\nReads a graph from stdin, as JSON or as DOT, and writes its picture, as SVG, to stdout. With layout, check, batch or demo as its first argument, it does what `elk` does.";
 
-const VERSION: &str = "0.9.0";
+const VERSION: &str = "0.9.1";
 
 // The commands of `elk`.
 const COMMANDS: [&str; 4] = ["layout", "check", "batch", "demo"];

@@ -18,20 +18,19 @@ use Rattle.level_model.specs.declared.table.Table.{Table}
 use Rattle.level_model.specs.Conditions.{IsLevel}
 use Rattle.level_model.specs.Conditions as level
 use Rattle.level_model.specs.Level.{PlainLevel, PlainPlan, Orders, End, child_at, dock_of, end_at, enters, head_end, holds, is_loop, outline, spoke, spot_of, tail_end}
-use Rattle.level_model.specs.Lanes.{body_top, lanes, lanes_room, unit_height}
+use Rattle.level_model.specs.Lanes.{body_top, lanes, lanes_room, unit_height, room}
 use Rattle.level_model.specs.Nets.{below_top, head_line, is_inverted, is_number, line_of_end, tail_line, unit_of}
-use Rattle.level_model.specs.Table.{IsEndAt, IsTable, child_in, end_in}
+use Rattle.level_model.specs.Table.{IsEndAt, IsTable, child_in, end_in, end_of}
 use Rattle.level_model.specs.Units.{AreLinked, AreOrders, HasRoom}
 use Rattle.level_model.proofs.LaneLemmas.{end_has_lane}
 use Rattle.level_model.proofs.LinkLemmas.{head_ends, head_enters, tail_ends, tail_leaves, unit_of_end}
 use Rattle.dock_table.specs.Bounds.{AreNumbersIn}
-use Rattle.dock_table.specs.Lanes.{room}
 use Rattle.dock_table.proofs.ReadyLemmas.{have_children}
 use Rattle.dock_table.specs.Courses.{ReversedAreMarked}
 use Rattle.layer_units.specs.Alike.{AreAlike, AreFlat, LanesStay, with_layered}
 use Rattle.layer_units.specs.Tabled.{IsTableOf}
 use Rattle.layer_units.specs.Fitted.{AreFitted, AreKept}
-use Rattle.layer_units.specs.Reading.{AreFittedLinks, AreFittedUnits, HasChildIn, IsLinkIn, IsReadable, anchor_below, end_of, is_on_lane, pin_at, pin_of, roomy}
+use Rattle.layer_units.specs.Reading.{AreFittedLinks, AreFittedUnits, HasChildIn, IsLinkIn, IsReadable, anchor_below, is_on_lane, pin_at, pin_of, roomy}
 use Rattle.layer_units.proofs.AlikeLemmas.{child_same, no_heights, unit_same}
 use Rattle.layer_units.proofs.ReadLemmas.{count_same, field_same, half, is_link_with, lanes_few, link_field, number_some, pin_child, pin_lane, pin_off, pin_on, room_low, with_child, with_layer, with_none, with_some}
 use Rattle.layer_units.proofs.SizeLemmas.{heights_least, heights_of, outline_high}

@@ -21,19 +21,18 @@ use Rattle.self_loops.specs.Loops.{is_upright}
 use Rattle.level_model.specs.declared.table.Table.{Table}
 use Rattle.level_model.specs.Conditions.{IsLevel}
 use Rattle.level_model.specs.Level.{End, Orders, PlainLevel, PlainPlan, child_at, dock_of, dock_of_spot, end_at, enters, head_end, holds, is_loop, port_spot, spoke, spot_at_port, spot_of, tail_end}
-use Rattle.level_model.specs.Lanes.{lane_side}
+use Rattle.level_model.specs.Lanes.{lane_side, side_by}
 use Rattle.level_model.specs.Nets.{inverts, unit_of}
-use Rattle.level_model.specs.Table.{IsEndAt, IsTable}
+use Rattle.level_model.specs.Table.{IsEndAt, IsTable, end_of}
 use Rattle.level_model.specs.Units.{AreLinked, AreOrders, IsLaneUnit, is_fixed, is_spread_fixed, lane_rank, last_rank, link_side, offset_first, pinned_on, port_rank, rank_of_end}
 use Rattle.level_model.proofs.LinkLemmas.{head_enters, tail_leaves}
 use Rattle.level_model.proofs.SpotLemmas.{spoke_there}
 use Rattle.dock_table.specs.Bounds.{AreNumbersIn}
-use Rattle.dock_table.specs.Lanes.{side_by}
 use Rattle.dock_table.proofs.AddLemmas.{ports_few}
 use Rattle.dock_table.specs.Courses.{ReversedAreMarked}
 use Rattle.level_nets.proofs.ListLemmas.{filter_short}
 use Rattle.layer_units.specs.Alike.{AreAlike, AreFlat}
-use Rattle.layer_units.specs.Reading.{end_of, is_on_lane}
+use Rattle.layer_units.specs.Reading.{is_on_lane}
 use Rattle.layer_units.proofs.AlikeLemmas.{no_heights}
 use Rattle.level_model.proofs.LineLemmas.{level_offset}
 use Rattle.layer_units.specs.Levels.{AreRanksTo, seen_spots}

@@ -23,15 +23,14 @@ use Rattle.level_model.specs.declared.table.EndAt.{EndAt}
 use Rattle.level_model.specs.declared.table.Table.{Table}
 use Rattle.level_model.specs.Conditions.{IsLevel}
 use Rattle.level_model.specs.Level.{PlainLevel, PlainPlan, Orders, all_ends, child_at, dock_of_spot, implicit_ends, implicit_spot, port_spot, spots}
-use Rattle.level_model.specs.Lanes.{dock_eq, docks_with_lane, lane_side, lanes, loop_sides, loops_of, once}
+use Rattle.level_model.specs.Lanes.{dock_eq, docks_with_lane, lane_side, lanes, loop_sides, loops_of, once, room}
 use Rattle.level_model.specs.Nets.{is_number}
-use Rattle.level_model.specs.Table.{child_in}
-use Rattle.dock_table.specs.Lanes.{room}
+use Rattle.level_model.specs.Table.{child_in, end_of}
 use Rattle.dock_table.proofs.AddLemmas.{ends_to_long, ports_few}
 use Rattle.dock_table.proofs.TimesLemmas.{times_within}
 use Rattle.level_nets.proofs.ListLemmas.{filter_short}
 use Rattle.layer_units.proofs.ChangingLemmas.{each_next, rest_next}
-use Rattle.layer_units.specs.Reading.{AreFittedLinks, AreFittedUnits, anchor_below, end_of, is_on_lane, link_with, mark_at, pin_at, pin_of, roomy, unit_for, unit_with}
+use Rattle.layer_units.specs.Reading.{AreFittedLinks, AreFittedUnits, anchor_below, is_on_lane, link_with, mark_at, pin_at, pin_of, roomy, unit_for, unit_with}
 
 -- ---- units
 

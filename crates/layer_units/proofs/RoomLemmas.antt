@@ -8,7 +8,8 @@ use Rattle.elk_layers.specs.declared.units.Link.{Link}
 use Rattle.level_model.specs.declared.table.Table.{Table}
 use Rattle.level_model.specs.Level.{PlainLevel}
 use Rattle.dock_table.specs.Bounds.{IsEndIn, IsIn}
-use Rattle.layer_units.specs.Reading.{IsReadable, end_of}
+use Rattle.level_model.specs.Table.{end_of}
+use Rattle.layer_units.specs.Reading.{IsReadable}
 
 pub same_unit : (a b : LayerUnit) → a.layer ≡ b.layer → a.child ≡ b.child → a.height ≡ b.height → a.body_top ≡ b.body_top → a.body_height ≡ b.body_height → a.north ≡ b.north → a.south ≡ b.south → a ≡ b
 same_unit a b layer child height top body north south =

@@ -12,8 +12,9 @@ use Rattle.level_model.specs.Conditions.{IsLevel}
 use Rattle.level_model.specs.Level.{PlainLevel, child_at, end_at, spoke}
 use Rattle.level_model.specs.Units.{is_fixed, is_spread_fixed, lane_rank}
 use Rattle.dock_table.specs.Bounds.{AreNumbersIn}
-use Rattle.dock_table.specs.Lanes.{side_by}
-use Rattle.layer_units.specs.Reading.{end_of, is_on_lane, mark_at}
+use Rattle.level_model.specs.Lanes.{side_by}
+use Rattle.level_model.specs.Table.{end_of}
+use Rattle.layer_units.specs.Reading.{is_on_lane, mark_at}
 use Rattle.layer_units.specs.Ports.{PlainRanks}
 
 -- how many ports are ranked on the side of a link's end

@@ -1,5 +1,5 @@
 -- Heights and pins, read off a table.
-use Rattle.std.specs.Prelude.{◌≡◌, ℕ, ◌+◌, ◌*◌, ◌<◌, ◌≤◌, ◌^◌, cond, Bool, false, true, not, ◌||◌, List, ℤ, pos, ◌+ℤ◌, ◌-ℤ◌, Option, None}
+use Rattle.std.specs.Prelude.{◌≡◌, ℕ, ◌*◌, ◌<◌, ◌≤◌, ◌^◌, cond, Bool, false, true, not, ◌||◌, List, ℤ, pos, ◌+ℤ◌, ◌-ℤ◌, Option, None}
 use Rattle.std.specs.Prelude.{Some, IfSome, is_some, length, slice_index_or}
 use Rattle.elk_doc.specs.declared.document.Spacing.{Spacing}
 use Rattle.drawing_types.specs.declared.shape.Side.{Side}
@@ -13,9 +13,9 @@ use Rattle.level_model.specs.declared.table.ChildAt.{ChildAt}
 use Rattle.level_model.specs.declared.table.Table.{Table}
 use Rattle.level_model.specs.Level.{PlainLevel}
 use Rattle.level_model.specs.Nets.{inverts}
-use Rattle.level_model.specs.Table.{child_in, end_in}
+use Rattle.level_model.specs.Table.{child_in, end_in, end_of}
 use Rattle.dock_table.specs.Bounds.{AreNumbersIn}
-use Rattle.dock_table.specs.Lanes.{room}
+use Rattle.level_model.specs.Lanes.{room}
 
 -- a child's unit with room for its outline and its lanes; a lane of a long edge stays as it is
 abbrev pub roomy : Spacing → ChildAt → LayerUnit → LayerUnit
@@ -47,9 +47,6 @@ anchor_below s c v = (room s c.north -ℤ c.outline.y) +ℤ v.anchor.y
 
 unfoldable pub pin_of : Spacing → Table → EndAt → Bool → ℤ
 pin_of s t v enters = cond (is_on_lane v.dock.side enters) v.lane (anchor_below s (child_in t.children v.dock.node) v)
-
-abbrev pub end_of : Table → ℕ → Bool → EndAt
-end_of t e at_source = end_in t.ends (cond at_source (2 * e) (2 * e + 1))
 
 -- the same at a unit; at a lane of a long edge it is 0
 unfoldable pub pin_at : Spacing → Table → LayerUnit → ℕ → Bool → Bool → ℤ

@@ -5,14 +5,14 @@ ghost use Rattle.port_order.specs.Child.{is_pinned};
 ghost use Rattle.level_model.specs.Conditions.{plain_level};
 ghost use Rattle.level_model.specs.Units as units;
 ghost use Rattle.dock_table.specs.Bounds.{IsEndIn};
-ghost use Rattle.dock_table.specs.Lanes.{side_by};
+ghost use Rattle.level_model.specs.Lanes.{side_by};
 ghost use Rattle.layer_units.specs.Reading.{IsLinkIn};
 ghost use Rattle.layer_units.specs.Ports.{plain_ranks};
 ghost use Rattle.layer_units.specs.RankReading as spec;
 ghost use Rattle.layer_units.specs.RankReading.{AreRankedLinks, HasRanksIn, IsReadable, last_in};
 
 use crate::children::is_fixed;
-use crate::pins::{end_of, is_on_lane};
+use crate::pins::is_on_lane;
 use crate::ports::PortRanks;
 use crate::runs::spoke_of;
 use dock_table::lane_side;
@@ -130,7 +130,7 @@ fn edge_rank(ranking: &Ranking<'_>, edge: u32, at_source: bool, enters: bool) ->
     ensures few { result ≤ 4098 }
 {
     let spoke = spoke_of(ranking.level, edge, at_source);
-    let end = end_of(ranking.table, edge, at_source);
+    let end = ranking.table.end(edge, at_source);
     let child = ranking.level.children.at(spoke.child as usize);
     let ranks = &ranking.ranks[spoke.child as usize];
     child_rank(child, ranks, end, spoke.port, enters)

@@ -70,7 +70,7 @@ fn note_edge(spots: &mut PortSpots, level: &LevelIn, marks: &[bool], edge: usize
     ensures { ArePassed (plain_level level.now) marks.now (edge + 1) (spot_lists spots.new) }
 {
     let found = *level.edges.at(edge);
-    let looped = found.source.child == found.target.child;
+    let looped = found.is_loop();
     if looped {
         return;
     }

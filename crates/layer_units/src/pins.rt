@@ -1,10 +1,10 @@
 //! The heights at which links leave and enter their units.
-ghost use Rattle.std.specs.Prelude.{◌≡◌, ℕ, ◌+◌, ◌*◌, ◌<◌, length};
+ghost use Rattle.std.specs.Prelude.{◌≡◌, ℕ, ◌<◌, length};
 ghost use Rattle.elk_layers.specs.Layered.{link_at};
 ghost use Rattle.level_model.specs.Conditions.{plain_level};
 ghost use Rattle.level_model.specs.Table.{child_in};
 ghost use Rattle.dock_table.specs.Bounds.{IsEndIn};
-ghost use Rattle.layer_units.specs.Reading.{AreFittedLinks, IsLinkIn, IsReadable, end_of, is_on_lane, link_with, pin_at, pin_of};
+ghost use Rattle.layer_units.specs.Reading.{AreFittedLinks, IsLinkIn, IsReadable, is_on_lane, link_with, pin_at, pin_of};
 
 use dock_table::room;
 use drawing_types::shape::Side;
@@ -53,16 +53,6 @@ fn pin_of(fitting: &Fitting<'_>, end: EndAt, enters: bool) -> i64
     room(&fitting.level.spacing, child.north) - child.outline.y + end.anchor.y
 }
 
-/// An end of an edge as the table has it.
-pub(crate) fn end_of(table: &Table, edge: u32, at_source: bool) -> EndAt
-    requires { 2 * edge + 1 < length table.now.ends }
-    ensures { result ≡ end_of table.now edge at_source }
-{
-    let first = 2 * edge as usize;
-    let place = if at_source { first } else { first + 1 };
-    *table.ends.at(place)
-}
-
 // The height of an end of a link below the top of its unit.
 fn pin_at(fitting: &Fitting<'_>, unit: Unit, edge: u32, at_source: bool, enters: bool) -> i64
     requires fitting { IsReadable (plain_level fitting.now.level.now) fitting.now.table.now fitting.now.marks.now }
@@ -72,7 +62,7 @@ fn pin_at(fitting: &Fitting<'_>, unit: Unit, edge: u32, at_source: bool, enters:
     match unit.child {
         None => 0,
         Some(_) => {
-            let end = end_of(fitting.table, edge, at_source);
+            let end = fitting.table.end(edge, at_source);
             pin_of(fitting, end, enters)
         }
     }

@@ -1,16 +1,16 @@
 //! How many ports of its side come before a port, and how many are ranked on a side.
-ghost use Rattle.std.specs.Prelude.{◌≡◌, ℕ, ◌<◌, ◌≤◌, ◌^◌, length, map, slice_index, IfOk};
-ghost use Rattle.std.specs.List.{All, filter};
+ghost use Rattle.std.specs.Prelude.{◌≡◌, ℕ, ◌<◌, ◌≤◌, length, map, slice_index, IfOk};
+ghost use Rattle.std.specs.List.{filter};
 ghost use Rattle.drawing_types.specs.declared.shape.Side.TheVariants.{East, West};
 ghost use Rattle.port_order.specs.Child as own;
 ghost use Rattle.port_order.specs.Conditions.{IsChild, IsSpot};
 ghost use Rattle.port_order.specs.Order.{IsOrderOfSide};
-ghost use Rattle.elk_layers.specs.Places.{IsOnce, NotesFirst};
 ghost use Rattle.layer_units.specs.Ports as spec;
 ghost use Rattle.layer_units.specs.Ports.{AreBefore, AreOrdered, ArePortSpots, AreRanksOf, comes_before, counts, plain_ranks, ranks_port};
 
 use drawing_types::shape::Side;
 use elk_doc::document::PortRule;
+use elk_layers::note_places;
 use port_order::{Child, Spot, dock_of, is_pinned_spot, order_side, side_of};
 use std::alloc::{AllocError, Global};
 
@@ -146,18 +146,6 @@ fn counted(alloc: Global, ports: &[PortAt]) -> Result<Vec<u32>, AllocError>
         before.push(count_before(ports, *own))?;
     }
     Ok(before)
-}
-
-// Notes the place of each number of an order.
-fn note_places(place: &mut [u32], order: &[u32])
-    requires numbers { All (λ n. n < length place.old) order.now }
-    requires once { IsOnce order.now }
-    requires few { length order.now ≤ 2 ^ 16 }
-    ensures { NotesFirst place.old order.now (length order.now) place.new }
-{
-    for (i, number) in order.iter().enumerate() {
-        place[*number as usize] = i as u32;
-    }
 }
 
 // Notes the places of ports in the orders of the west and the east.

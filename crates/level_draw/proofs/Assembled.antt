@@ -50,7 +50,7 @@ module _ (s : Parts) (rows : List (List ℕ)) (o : Orders) (layers : List ℕ) (
   gap_is g h =
       let same = gap_count in
       let is = are rows o layers planned g (omega (arith, h, same)) in
-      record { left = is.left; first = is.first; step = is.step; right = is.right; nets = is.nets; free = is.free; slots = is.slots }
+      record { left = is.left; first = is.first; step = is.step; right = is.right; nets = is.nets; slots = is.slots }
 
   child_is : (c : ℕ) → c < length s.level.children → IsPlaced s.level (plan_of s rows) o d c
   child_is c h =

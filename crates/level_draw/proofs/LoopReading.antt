@@ -1,23 +1,25 @@
 -- The steps of self-loops that are read off the table are those of the plan.
-use Rattle.std.proofs.Common.{◌≡◌, ℕ, ◌<◌, Bool, true, false, cond, List, [], ◌∷◌, length, pos, refl, ◌∙◌, ap, ap₂, inl, inr}
+use Rattle.std.proofs.Common.{◌≡◌, ℕ, ◌<◌, Bool, true, false, cond, List, [], length, pos, refl, ◌∙◌, ap, ap₂, inl, inr}
 use Rattle.std.proofs.lemmas.Bool.{and_from}
 use Rattle.std.specs.List.{list_any}
 use Rattle.drawing_types.specs.declared.shape.Side.{Side}
 use Rattle.drawing_types.specs.declared.shape.Side.TheVariants.{North, East, South, West}
 use Rattle.drawing_types.specs.declared.shape.Dock.{Dock}
 use Rattle.drawing_types.specs.Shapes.{is_side}
-use Rattle.self_loops.specs.Loops.{sides_of_pair, sides_of_lanes, passes_left, passes_right}
-use Rattle.route_lines.specs.declared.Step.{Step}
+use Rattle.port_order.proofs.OrderLemmas.{side_itself}
+use Rattle.self_loops.specs.Loops.{way, passes, sides_of_pair, sides_of_lanes, passes_left, passes_right}
 use Rattle.route_lines.specs.declared.Step.TheVariants.{Lane, Leg}
-use Rattle.level_model.specs.Stage.{loop_lane}
 use Rattle.level_model.specs.Level.{PlainLevel, PlainPlan, Orders, end_at, is_loop, dock_of}
 use Rattle.level_model.specs.Lanes.{has_one_dock, loop_sides}
 use Rattle.level_model.specs.Nets.{of_loop}
 use Rattle.level_model.specs.Traces as plan
+use Rattle.level_model.proofs.Lists.{has_any}
+use Rattle.level_model.proofs.LoopSides.{north_lane, south_lane}
 use Rattle.level_nets.specs.declared.routing.Routing.{Routing}
 use Rattle.level_nets.specs.Parts.{Parts, plan_of, ArePlanned}
 use Rattle.level_nets.specs.Read.{dock_at, gap_named, is_one_dock}
 use Rattle.level_nets.specs.Routed.{AreLegs}
+use Rattle.level_nets.proofs.ListLemmas.{map_same}
 use Rattle.level_nets.proofs.Names.{dock_is, gap_is, one_dock_is}
 use Rattle.level_nets.proofs.Nets.{top_is}
 use Rattle.level_draw.specs.Read as read
@@ -40,63 +42,46 @@ module _ (s : Parts) (rows : List (List ℕ)) (o : Orders) (layers : List ℕ) (
     sides_are : loop_sides s.level (plan_of s rows) o e ≡ sides_of_pair from to
     sides_are = ap₂ (λ (a b : Side). sides_of_lanes a b (has_one_dock s.level (plan_of s rows) o e)) f t ∙ ap (sides_of_lanes from to) two
 
-    pub north_is : list_any (is_side North) (sides_of_pair from to) ≡ true → read.loop_lane_step s e North ≡ plan.lane_step s.level (plan_of s rows) o (pos 0) (loop_lane e North)
+    north_is : passes from to North ≡ true → read.loop_step s r e North ≡ plan.loop_step l p o (pos 0) e North
     north_is there =
         ap Lane (lane_sum _ _ _ _ (top_is s rows o layers planned (end_at e true) h)
-        ((planned.table.loops e h loop).north (ap (list_any (is_side North)) sides_are ∙ there)))
+        ((planned.table.loops e h loop).north (ap (list_any (is_side North)) sides_are ∙ north_lane from to ∙ there)))
 
-    pub south_is : list_any (is_side South) (sides_of_pair from to) ≡ true → read.loop_lane_step s e South ≡ plan.lane_step s.level (plan_of s rows) o (pos 0) (loop_lane e South)
+    south_is : passes from to South ≡ true → read.loop_step s r e South ≡ plan.loop_step l p o (pos 0) e South
     south_is there =
         ap Lane (lane_sum _ _ _ _ (top_is s rows o layers planned (end_at e true) h)
-        ((planned.table.loops e h loop).south (ap (list_any (is_side South)) sides_are ∙ there)))
+        ((planned.table.loops e h loop).south (ap (list_any (is_side South)) sides_are ∙ south_lane from to ∙ there)))
 
-    passing_left : passes_left from to false ≡ true → passes_left (source e).side (target e).side (has_one_dock s.level (plan_of s rows) o e) ≡ true
+    passing_left : passes from to West ≡ true → passes_left (source e).side (target e).side (has_one_dock s.level (plan_of s rows) o e) ≡ true
     passing_left there = ap₂ (λ (a b : Side). passes_left a b (has_one_dock s.level (plan_of s rows) o e)) f t ∙ ap (passes_left from to) two ∙ there
 
-    passing_right : passes_right from to false ≡ true → passes_right (source e).side (target e).side (has_one_dock s.level (plan_of s rows) o e) ≡ true
+    passing_right : passes from to East ≡ true → passes_right (source e).side (target e).side (has_one_dock s.level (plan_of s rows) o e) ≡ true
     passing_right there = ap₂ (λ (a b : Side). passes_right a b (has_one_dock s.level (plan_of s rows) o e)) f t ∙ ap (passes_right from to) two ∙ there
 
-    pub west_is : passes_left from to false ≡ true → read.loop_leg s r e West ≡ plan.leg_step s.level (plan_of s rows) o (of_loop e West) true
+    west_is : passes from to West ≡ true → read.loop_step s r e West ≡ plan.loop_step l p o (pos 0) e West
     unfolding gap_named
     west_is there =
-        let passes = passing_left there in
-        ap₂ (λ (g k : ℕ). Leg g k true) (gap_is s rows o layers planned (of_loop e West) (h, loop, inl (refl, passes)))
-        (legs.west e h (and_from (is_loop s.level e) _ loop passes))
+        let passing = passing_left there in
+        ap₂ (λ (g k : ℕ). Leg g k true) (gap_is s rows o layers planned (of_loop e West) (h, loop, inl (refl, passing)))
+        (legs.west e h (and_from (is_loop s.level e) _ loop passing))
 
-    pub east_is : passes_right from to false ≡ true → read.loop_leg s r e East ≡ plan.leg_step s.level (plan_of s rows) o (of_loop e East) true
+    east_is : passes from to East ≡ true → read.loop_step s r e East ≡ plan.loop_step l p o (pos 0) e East
     unfolding gap_named
     east_is there =
-        let passes = passing_right there in
-        ap₂ (λ (g k : ℕ). Leg g k true) (gap_is s rows o layers planned (of_loop e East) (h, loop, inr (refl, passes)))
-        (legs.east e h (and_from (is_loop s.level e) _ loop passes))
+        let passing = passing_right there in
+        ap₂ (λ (g k : ℕ). Leg g k true) (gap_is s rows o layers planned (of_loop e East) (h, loop, inr (refl, passing)))
+        (legs.east e h (and_from (is_loop s.level e) _ loop passing))
 
-  one : {a b : Step} → a ≡ b → a ∷ [] ≡ b ∷ []
-  one e = ap (λ z. z ∷ []) e
+    step_is : (side : Side) → passes from to side ≡ true → read.loop_step s r e side ≡ plan.loop_step l p o (pos 0) e side
+    step_is North there = north_is there
+    step_is East there = east_is there
+    step_is South there = south_is there
+    step_is West there = west_is there
 
-  two : {a b c d : Step} → a ≡ c → b ≡ d → a ∷ b ∷ [] ≡ c ∷ d ∷ []
-  two e f = ap₂ (λ (x y : Step). x ∷ y ∷ []) e f
-
-  three : {a b c a' b' c' : Step} → a ≡ a' → b ≡ b' → c ≡ c' → a ∷ b ∷ c ∷ [] ≡ a' ∷ b' ∷ c' ∷ []
-  three {a} {b} {c} {a'} {b'} {c'} e f g = ap₂ (λ (x y : Step). x ∷ y ∷ c ∷ []) e f ∙ ap (λ z. a' ∷ b' ∷ z ∷ []) g
-
-  loop_is : (e : ℕ) → e < length s.level.edges → is_loop s.level e ≡ true → has_one_dock s.level (plan_of s rows) o e ≡ false → (from to : Side) → (source e).side ≡ from → (target e).side ≡ to
-      → read.loop_steps s r e from to ≡ plan.loop_steps l p o (pos 0) e from to
-  loop_is e h loop apart North North f t = one (north_is e h loop apart North North f t refl)
-  loop_is e h loop apart North East f t = two (north_is e h loop apart North East f t refl) (east_is e h loop apart North East f t refl)
-  loop_is e h loop apart North South f t = three (north_is e h loop apart North South f t refl) (east_is e h loop apart North South f t refl) (south_is e h loop apart North South f t refl)
-  loop_is e h loop apart North West f t = two (north_is e h loop apart North West f t refl) (west_is e h loop apart North West f t refl)
-  loop_is e h loop apart South North f t = three (south_is e h loop apart South North f t refl) (east_is e h loop apart South North f t refl) (north_is e h loop apart South North f t refl)
-  loop_is e h loop apart South East f t = two (south_is e h loop apart South East f t refl) (east_is e h loop apart South East f t refl)
-  loop_is e h loop apart South South f t = one (south_is e h loop apart South South f t refl)
-  loop_is e h loop apart South West f t = two (south_is e h loop apart South West f t refl) (west_is e h loop apart South West f t refl)
-  loop_is e h loop apart East North f t = two (east_is e h loop apart East North f t refl) (north_is e h loop apart East North f t refl)
-  loop_is e h loop apart East East f t = one (east_is e h loop apart East East f t refl)
-  loop_is e h loop apart East South f t = two (east_is e h loop apart East South f t refl) (south_is e h loop apart East South f t refl)
-  loop_is e h loop apart East West f t = three (east_is e h loop apart East West f t refl) (north_is e h loop apart East West f t refl) (west_is e h loop apart East West f t refl)
-  loop_is e h loop apart West North f t = two (west_is e h loop apart West North f t refl) (north_is e h loop apart West North f t refl)
-  loop_is e h loop apart West East f t = three (west_is e h loop apart West East f t refl) (north_is e h loop apart West East f t refl) (east_is e h loop apart West East f t refl)
-  loop_is e h loop apart West South f t = two (west_is e h loop apart West South f t refl) (south_is e h loop apart West South f t refl)
-  loop_is e h loop apart West West f t = one (west_is e h loop apart West West f t refl)
+    pub loop_is : read.loop_steps s r e from to ≡ plan.loop_steps l p o (pos 0) e from to
+    loop_is =
+        map_same (read.loop_step s r e) (plan.loop_step l p o (pos 0) e) (way from to)
+        (λ side has. step_is side (has_any (is_side side) (way from to) side has (side_itself side)))
 
   pub loop_steps_are : (e : ℕ) → e < length s.level.edges → is_loop s.level e ≡ true
       → cond (is_one_dock s e) [] (read.loop_steps s r e (dock_at s (end_at e true)).side (dock_at s (end_at e false)).side)

@@ -11,7 +11,7 @@ use Rattle.drawing_types.specs.declared.shape.Side.TheVariants.{North, East, Sou
 use Rattle.elk_doc.specs.Sound.{IsDistance}
 use Rattle.elk_layers.specs.Layered.{IsFromZero, unit_at}
 use Rattle.elk_layers.specs.Lines.{top_of}
-use Rattle.self_loops.specs.Loops.{is_upright}
+use Rattle.self_loops.specs.Loops.{is_upright, way}
 use Rattle.net_routes.specs.declared.Net.{Net}
 use Rattle.net_routes.specs.Pieces.{net_at}
 use Rattle.net_routes.specs.GapFree.{AreHeights, IsNearPins}
@@ -22,17 +22,18 @@ use Rattle.route_lines.specs.Points.{plain_gap, gap_in}
 use Rattle.level_model.specs.declared.table.Table.{Table}
 use Rattle.level_model.specs.Level.{Orders, End, end_at, spoke, is_loop, holds, dock_of}
 use Rattle.level_model.specs.Lanes.{has_one_dock}
-use Rattle.level_model.specs.Table.{end_in, loop_in}
+use Rattle.level_model.specs.Table.{end_in, loop_in, end_number}
 use Rattle.level_model.specs.FromPlan.{IsGap, anchor}
 use Rattle.level_model.specs.Traces as plan
 use Rattle.level_model.proofs.Lists.{Has, at_has}
 use Rattle.level_model.proofs.LinkLemmas.{chain_are}
+use Rattle.level_model.proofs.GapLemmas.{gap_free}
 use Rattle.dock_table.specs.Bounds.{AreNumbersIn, IsIn, IsEndIn, IsLoopIn}
 use Rattle.level_nets.specs.declared.routing.Routing.{Routing}
 use Rattle.level_nets.specs.Parts.{Parts, ArePlanned, EndAbove, plan_of}
 use Rattle.level_nets.specs.Held.{plain_gaps}
 use Rattle.level_nets.specs.Reach.{AreNetsIn, IsBelow}
-use Rattle.level_nets.specs.Read.{dock_at, end_number, is_one_dock, dock_inverts, unit_of_dock}
+use Rattle.level_nets.specs.Read.{dock_at, is_one_dock, dock_inverts, unit_of_dock}
 use Rattle.level_nets.specs.Routed.{AreGapsIn, AreGapsOf, AreLegs, drawn_with}
 use Rattle.level_nets.proofs.Gaps.{are_nets, nets_are}
 use Rattle.level_nets.proofs.Names.{child_below}
@@ -131,9 +132,6 @@ one a h = All-cons IsNearStep a [] h (All-nil IsNearStep)
 two : (a b : Step) → IsNearStep a → IsNearStep b → All IsNearStep (a ∷ b ∷ [])
 two a b h k = All-cons IsNearStep a (b ∷ []) h (one b k)
 
-three : (a b c : Step) → IsNearStep a → IsNearStep b → IsNearStep c → All IsNearStep (a ∷ b ∷ c ∷ [])
-three a b c h k m = All-cons IsNearStep a (b ∷ c ∷ []) h (two b c k m)
-
 reversed_near : (a : Step) → IsNearStep a → IsNearStep (plan.reversed_step a)
 reversed_near (Lane h) w = w
 reversed_near (Leg g n from_a) w = tt
@@ -196,29 +194,18 @@ module _ (s : Parts) (rows : List (List ℕ)) (o : Orders) (layers : List ℕ) (
         (chain_near (read.links_of s e)))
         (entering_near (read.head_of s e) (dock_inverts s (read.head_of s e)) (is_upright (dock_at s (read.head_of s e)).side))
 
-    north_near : (e : ℕ) → IsNearStep (read.loop_lane_step s e North)
-    north_near e = height_sum _ _ (tops_near (unit_of_dock s (dock_at s (end_at e true)))) (loops_near s.table numbers e).north
+    loop_step_near : (e : ℕ) (side : Side) → IsNearStep (read.loop_step s r e side)
+    loop_step_near e North = height_sum _ _ (tops_near (unit_of_dock s (dock_at s (end_at e true)))) (loops_near s.table numbers e).north
+    loop_step_near e East = tt
+    loop_step_near e South = height_sum _ _ (tops_near (unit_of_dock s (dock_at s (end_at e true)))) (loops_near s.table numbers e).south
+    loop_step_near e West = tt
 
-    south_near : (e : ℕ) → IsNearStep (read.loop_lane_step s e South)
-    south_near e = height_sum _ _ (tops_near (unit_of_dock s (dock_at s (end_at e true)))) (loops_near s.table numbers e).south
+    way_near : (e : ℕ) (sides : List Side) → All IsNearStep (map (read.loop_step s r e) sides)
+    way_near e [] = All-nil IsNearStep
+    way_near e (side ∷ sides) = All-cons IsNearStep (read.loop_step s r e side) (map (read.loop_step s r e) sides) (loop_step_near e side) (way_near e sides)
 
     loop_near : (e : ℕ) (from to : Side) → All IsNearStep (read.loop_steps s r e from to)
-    loop_near e North North = one (read.loop_lane_step s e North) (north_near e)
-    loop_near e North East = two (read.loop_lane_step s e North) (read.loop_leg s r e East) (north_near e) tt
-    loop_near e North South = three (read.loop_lane_step s e North) (read.loop_leg s r e East) (read.loop_lane_step s e South) (north_near e) tt (south_near e)
-    loop_near e North West = two (read.loop_lane_step s e North) (read.loop_leg s r e West) (north_near e) tt
-    loop_near e South North = three (read.loop_lane_step s e South) (read.loop_leg s r e East) (read.loop_lane_step s e North) (south_near e) tt (north_near e)
-    loop_near e South East = two (read.loop_lane_step s e South) (read.loop_leg s r e East) (south_near e) tt
-    loop_near e South South = one (read.loop_lane_step s e South) (south_near e)
-    loop_near e South West = two (read.loop_lane_step s e South) (read.loop_leg s r e West) (south_near e) tt
-    loop_near e East North = two (read.loop_leg s r e East) (read.loop_lane_step s e North) tt (north_near e)
-    loop_near e East East = one (read.loop_leg s r e East) tt
-    loop_near e East South = two (read.loop_leg s r e East) (read.loop_lane_step s e South) tt (south_near e)
-    loop_near e East West = three (read.loop_leg s r e East) (read.loop_lane_step s e North) (read.loop_leg s r e West) tt (north_near e) tt
-    loop_near e West North = two (read.loop_leg s r e West) (read.loop_lane_step s e North) tt (north_near e)
-    loop_near e West East = three (read.loop_leg s r e West) (read.loop_lane_step s e North) (read.loop_leg s r e East) tt (north_near e) tt
-    loop_near e West South = two (read.loop_leg s r e West) (read.loop_lane_step s e South) tt (south_near e)
-    loop_near e West West = one (read.loop_leg s r e West) tt
+    loop_near e from to = way_near e (way from to)
 
     links_there : (e k : ℕ) → Has (plan.chain (plan_of s rows) e) k → k < length s.layered.links
     links_there e k h =
@@ -253,7 +240,7 @@ module _ (s : Parts) (rows : List (List ℕ)) (o : Orders) (layers : List ℕ) (
     gap_near g h =
         let first = (within g h).first in
         let nets = nets_near g h in
-        let free = (gap_is g h).free in
+        let free = gap_free s.level (plan_of s rows) o (drawn_with (plain_gaps gaps) (pos 0) (pos 0)) g (gap_is g h) in
         let few = few_slots (gap_in (plain_gaps gaps) g).nets (gap_in (plain_gaps gaps) g).count (gap_in (plain_gaps gaps) g).routes free in
         let most = nets.few in
         record {
@@ -273,7 +260,7 @@ module _ (s : Parts) (rows : List (List ℕ)) (o : Orders) (layers : List ℕ) (
         record {
           as_many = long ∙ many;
           nets = λ g h. (gap_is g (omega (arith, h, long))).nets;
-          routes = λ g h. (gap_is g (omega (arith, h, long))).free.as_many;
+          routes = λ g h. (gap_free s.level (plan_of s rows) o (drawn_with (plain_gaps gaps) (pos 0) (pos 0)) g (gap_is g (omega (arith, h, long)))).as_many;
         }
 
     -- ---- anchors

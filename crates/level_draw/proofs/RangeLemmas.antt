@@ -7,11 +7,10 @@ use Rattle.elk_layers.specs.Lines.{top_of}
 use Rattle.route_lines.specs.declared.Gap.{Gap}
 use Rattle.route_lines.specs.Points.{PlainGap, plain_gap, gap_in}
 use Rattle.level_model.specs.Level.{end_at}
-use Rattle.level_model.specs.Table.{child_in}
+use Rattle.level_model.specs.Table.{child_in, end_number}
 use Rattle.level_nets.specs.Parts.{Parts}
 use Rattle.level_nets.specs.Held.{plain_gaps}
 use Rattle.level_nets.specs.Reach.{AreInReach, IsBelow}
-use Rattle.level_nets.specs.Read.{end_number}
 use Rattle.level_nets.specs.Routed.{AreGapsIn}
 use Rattle.level_draw.specs.Read as read
 use Rattle.level_draw.specs.Reach.{AreNumbersIn, IsBoxPoint, IsLinked}

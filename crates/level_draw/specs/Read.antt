@@ -1,21 +1,21 @@
 -- The steps of traces, read off the table of a level and the places of its nets.
-use Rattle.std.specs.Prelude.{ℕ, cond, Bool, true, false, List, [], ◌∷◌, ◌++◌, ◌+ℤ◌, ◌-ℤ◌, slice_index}
+use Rattle.std.specs.Prelude.{ℕ, cond, Bool, true, false, List, [], ◌∷◌, ◌++◌, map, ◌+ℤ◌, ◌-ℤ◌, slice_index}
 use Rattle.drawing_types.specs.declared.shape.Point.{Point}
 use Rattle.drawing_types.specs.declared.shape.Side.{Side}
 use Rattle.drawing_types.specs.declared.shape.Side.TheVariants.{North, East, South, West}
 use Rattle.elk_layers.specs.Layered.{unit_at, link_at, layer_of}
 use Rattle.elk_layers.specs.Lines.{top_of}
-use Rattle.self_loops.specs.Loops.{is_upright}
+use Rattle.self_loops.specs.Loops.{is_upright, way}
 use Rattle.route_lines.specs.declared.Step.{Step}
 use Rattle.route_lines.specs.declared.Step.TheVariants.{Lane, Leg}
 use Rattle.route_lines.specs.Points.{PlainGap, gap_in}
 use Rattle.level_model.specs.Level.{End, end_at, is_loop, holds, spoke, tail_end, head_end}
 use Rattle.level_model.specs.Traces.{chain, reversed_steps}
-use Rattle.level_model.specs.Table.{child_in, loop_in}
+use Rattle.level_model.specs.Table.{child_in, loop_in, end_number}
 use Rattle.level_nets.specs.declared.routing.Routing.{Routing}
 use Rattle.level_nets.specs.Parts.{Parts, plan_of}
 use Rattle.level_nets.specs.Held.{legs_at}
-use Rattle.level_nets.specs.Read.{at_end, dock_at, end_number, gap_at, below_unit, dock_inverts, is_one_dock}
+use Rattle.level_nets.specs.Read.{at_end, dock_at, gap_at, below_unit, dock_inverts, is_one_dock}
 
 -- the lane of an end's dock, and the net between that lane and the anchor
 abbrev pub dock_lane_step : Parts → End → Step
@@ -72,44 +72,24 @@ abbrev pub oriented_steps : Parts → Routing → ℕ → List Step
 oriented_steps s r e = steps_out s r (tail_of s e) ++ chain_steps s r (links_of s e) ++ steps_in s r (head_of s e)
 
 -- the lanes of a self-loop, and its nets in the gaps beside its child
-abbrev pub loop_lane_step : Parts → ℕ → Side → Step
-loop_lane_step s e South = Lane (below_unit s (dock_at s (end_at e true)) (loop_in s.table.loops e).south)
-loop_lane_step s e _ = Lane (below_unit s (dock_at s (end_at e true)) (loop_in s.table.loops e).north)
+abbrev pub loop_lane : Parts → ℕ → Side → Step
+loop_lane s e South = Lane (below_unit s (dock_at s (end_at e true)) (loop_in s.table.loops e).south)
+loop_lane s e _ = Lane (below_unit s (dock_at s (end_at e true)) (loop_in s.table.loops e).north)
 
 abbrev pub loop_leg : Parts → Routing → ℕ → Side → Step
 loop_leg s r e West = Leg (gap_at s (dock_at s (end_at e true)) West) (legs_at r.loops e).west true
 loop_leg s r e _ = Leg (gap_at s (dock_at s (end_at e true)) East) (legs_at r.loops e).east true
 
+-- the step of a self-loop on a side of its child
+abbrev pub loop_step : Parts → Routing → ℕ → Side → Step
+loop_step s r e North = loop_lane s e North
+loop_step s r e East = loop_leg s r e East
+loop_step s r e South = loop_lane s e South
+loop_step s r e West = loop_leg s r e West
+
 -- the steps of a self-loop from one side to the other
-abbrev pub from_north : Parts → Routing → ℕ → Side → List Step
-from_north s r e North = loop_lane_step s e North ∷ []
-from_north s r e East = loop_lane_step s e North ∷ loop_leg s r e East ∷ []
-from_north s r e South = loop_lane_step s e North ∷ loop_leg s r e East ∷ loop_lane_step s e South ∷ []
-from_north s r e West = loop_lane_step s e North ∷ loop_leg s r e West ∷ []
-
-abbrev pub from_south : Parts → Routing → ℕ → Side → List Step
-from_south s r e North = loop_lane_step s e South ∷ loop_leg s r e East ∷ loop_lane_step s e North ∷ []
-from_south s r e East = loop_lane_step s e South ∷ loop_leg s r e East ∷ []
-from_south s r e South = loop_lane_step s e South ∷ []
-from_south s r e West = loop_lane_step s e South ∷ loop_leg s r e West ∷ []
-
-abbrev pub from_east : Parts → Routing → ℕ → Side → List Step
-from_east s r e North = loop_leg s r e East ∷ loop_lane_step s e North ∷ []
-from_east s r e East = loop_leg s r e East ∷ []
-from_east s r e South = loop_leg s r e East ∷ loop_lane_step s e South ∷ []
-from_east s r e West = loop_leg s r e East ∷ loop_lane_step s e North ∷ loop_leg s r e West ∷ []
-
-abbrev pub from_west : Parts → Routing → ℕ → Side → List Step
-from_west s r e North = loop_leg s r e West ∷ loop_lane_step s e North ∷ []
-from_west s r e East = loop_leg s r e West ∷ loop_lane_step s e North ∷ loop_leg s r e East ∷ []
-from_west s r e South = loop_leg s r e West ∷ loop_lane_step s e South ∷ []
-from_west s r e West = loop_leg s r e West ∷ []
-
 abbrev pub loop_steps : Parts → Routing → ℕ → Side → Side → List Step
-loop_steps s r e North to = from_north s r e to
-loop_steps s r e South to = from_south s r e to
-loop_steps s r e East to = from_east s r e to
-loop_steps s r e West to = from_west s r e to
+loop_steps s r e from to = map (loop_step s r e) (way from to)
 
 -- the steps of an edge from its source to its target
 abbrev pub steps_of : Parts → Routing → ℕ → List Step

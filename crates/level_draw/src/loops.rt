@@ -10,6 +10,7 @@ use level_nets::Routing;
 use level_nets::reading::{below_unit, gap_at};
 use level_nets::sheet::{Sheet, end_at, loop_at};
 use route_lines::Step;
+use self_loops::way;
 use std::alloc::AllocError;
 
 // The lane of a self-loop above its child.
@@ -17,7 +18,7 @@ fn north_lane(sheet: &Sheet<'_>, edge: u32) -> Step
     requires sheet { IsSheet sheet.now }
     requires numbers { AreNumbersIn sheet.now.table.now }
     requires edge { edge < length sheet.now.level.now.edges }
-    ensures { result ≡ read.loop_lane_step (parts_in sheet.now) edge North }
+    ensures { result ≡ read.loop_lane (parts_in sheet.now) edge North }
 {
     let dock = end_at(sheet, edge, true).dock;
     Step::Lane(below_unit(sheet, dock, loop_at(sheet, edge).north))
@@ -28,7 +29,7 @@ fn south_lane(sheet: &Sheet<'_>, edge: u32) -> Step
     requires sheet { IsSheet sheet.now }
     requires numbers { AreNumbersIn sheet.now.table.now }
     requires edge { edge < length sheet.now.level.now.edges }
-    ensures { result ≡ read.loop_lane_step (parts_in sheet.now) edge South }
+    ensures { result ≡ read.loop_lane (parts_in sheet.now) edge South }
 {
     let dock = end_at(sheet, edge, true).dock;
     Step::Lane(below_unit(sheet, dock, loop_at(sheet, edge).south))
@@ -64,144 +65,20 @@ fn east_leg(sheet: &Sheet<'_>, routing: &Routing, edge: u32) -> Step
     }
 }
 
-// The steps of a self-loop from its north side.
-fn push_from_north(
-    steps: &mut Vec<Step>,
-    sheet: &Sheet<'_>,
-    routing: &Routing,
-    edge: u32,
-    to: Side,
-) -> Result<(), AllocError>
+// The step of a self-loop on a side of its child.
+fn loop_step(sheet: &Sheet<'_>, routing: &Routing, edge: u32, side: Side) -> Step
     requires sheet { IsSheet sheet.now }
     requires numbers { AreNumbersIn sheet.now.table.now }
     requires legs { HaveLegs (parts_in sheet.now) routing.now }
     requires edge { edge < length sheet.now.level.now.edges }
-    ensures { OnOk result (steps.new.items ≡ steps.old.items ++ read.from_north (parts_in sheet.now) routing.now edge to) }
+    ensures { result ≡ read.loop_step (parts_in sheet.now) routing.now edge side }
 {
-    match to {
-        Side::North => {
-            steps.push(north_lane(sheet, edge))?;
-        }
-        Side::East => {
-            steps.push(north_lane(sheet, edge))?;
-            steps.push(east_leg(sheet, routing, edge))?;
-        }
-        Side::South => {
-            steps.push(north_lane(sheet, edge))?;
-            steps.push(east_leg(sheet, routing, edge))?;
-            steps.push(south_lane(sheet, edge))?;
-        }
-        Side::West => {
-            steps.push(north_lane(sheet, edge))?;
-            steps.push(west_leg(sheet, routing, edge))?;
-        }
+    match side {
+        Side::North => north_lane(sheet, edge),
+        Side::East => east_leg(sheet, routing, edge),
+        Side::South => south_lane(sheet, edge),
+        Side::West => west_leg(sheet, routing, edge),
     }
-    Ok(())
-}
-
-// The steps of a self-loop from its south side.
-fn push_from_south(
-    steps: &mut Vec<Step>,
-    sheet: &Sheet<'_>,
-    routing: &Routing,
-    edge: u32,
-    to: Side,
-) -> Result<(), AllocError>
-    requires sheet { IsSheet sheet.now }
-    requires numbers { AreNumbersIn sheet.now.table.now }
-    requires legs { HaveLegs (parts_in sheet.now) routing.now }
-    requires edge { edge < length sheet.now.level.now.edges }
-    ensures { OnOk result (steps.new.items ≡ steps.old.items ++ read.from_south (parts_in sheet.now) routing.now edge to) }
-{
-    match to {
-        Side::North => {
-            steps.push(south_lane(sheet, edge))?;
-            steps.push(east_leg(sheet, routing, edge))?;
-            steps.push(north_lane(sheet, edge))?;
-        }
-        Side::East => {
-            steps.push(south_lane(sheet, edge))?;
-            steps.push(east_leg(sheet, routing, edge))?;
-        }
-        Side::South => {
-            steps.push(south_lane(sheet, edge))?;
-        }
-        Side::West => {
-            steps.push(south_lane(sheet, edge))?;
-            steps.push(west_leg(sheet, routing, edge))?;
-        }
-    }
-    Ok(())
-}
-
-// The steps of a self-loop from its east side.
-fn push_from_east(
-    steps: &mut Vec<Step>,
-    sheet: &Sheet<'_>,
-    routing: &Routing,
-    edge: u32,
-    to: Side,
-) -> Result<(), AllocError>
-    requires sheet { IsSheet sheet.now }
-    requires numbers { AreNumbersIn sheet.now.table.now }
-    requires legs { HaveLegs (parts_in sheet.now) routing.now }
-    requires edge { edge < length sheet.now.level.now.edges }
-    ensures { OnOk result (steps.new.items ≡ steps.old.items ++ read.from_east (parts_in sheet.now) routing.now edge to) }
-{
-    match to {
-        Side::North => {
-            steps.push(east_leg(sheet, routing, edge))?;
-            steps.push(north_lane(sheet, edge))?;
-        }
-        Side::East => {
-            steps.push(east_leg(sheet, routing, edge))?;
-        }
-        Side::South => {
-            steps.push(east_leg(sheet, routing, edge))?;
-            steps.push(south_lane(sheet, edge))?;
-        }
-        Side::West => {
-            steps.push(east_leg(sheet, routing, edge))?;
-            steps.push(north_lane(sheet, edge))?;
-            steps.push(west_leg(sheet, routing, edge))?;
-        }
-    }
-    Ok(())
-}
-
-// The steps of a self-loop from its west side.
-fn push_from_west(
-    steps: &mut Vec<Step>,
-    sheet: &Sheet<'_>,
-    routing: &Routing,
-    edge: u32,
-    to: Side,
-) -> Result<(), AllocError>
-    requires sheet { IsSheet sheet.now }
-    requires numbers { AreNumbersIn sheet.now.table.now }
-    requires legs { HaveLegs (parts_in sheet.now) routing.now }
-    requires edge { edge < length sheet.now.level.now.edges }
-    ensures { OnOk result (steps.new.items ≡ steps.old.items ++ read.from_west (parts_in sheet.now) routing.now edge to) }
-{
-    match to {
-        Side::North => {
-            steps.push(west_leg(sheet, routing, edge))?;
-            steps.push(north_lane(sheet, edge))?;
-        }
-        Side::East => {
-            steps.push(west_leg(sheet, routing, edge))?;
-            steps.push(north_lane(sheet, edge))?;
-            steps.push(east_leg(sheet, routing, edge))?;
-        }
-        Side::South => {
-            steps.push(west_leg(sheet, routing, edge))?;
-            steps.push(south_lane(sheet, edge))?;
-        }
-        Side::West => {
-            steps.push(west_leg(sheet, routing, edge))?;
-        }
-    }
-    Ok(())
 }
 
 /// The steps of a self-loop from one side of its child to another.
@@ -219,10 +96,8 @@ pub(crate) fn push_loop(
     requires edge { edge < length sheet.now.level.now.edges }
     ensures { OnOk result (steps.new.items ≡ steps.old.items ++ read.loop_steps (parts_in sheet.now) routing.now edge from to) }
 {
-    match from {
-        Side::North => push_from_north(steps, sheet, routing, edge, to),
-        Side::East => push_from_east(steps, sheet, routing, edge, to),
-        Side::South => push_from_south(steps, sheet, routing, edge, to),
-        Side::West => push_from_west(steps, sheet, routing, edge, to),
+    for side in way(from, to) {
+        steps.push(loop_step(sheet, routing, edge, *side))?;
     }
+    Ok(())
 }

@@ -4,7 +4,7 @@ ghost use Rattle.elk_layers.specs.Layered.{link_at};
 ghost use Rattle.self_loops.specs.Loops.{is_upright};
 ghost use Rattle.level_model.specs.Level.{end_at, is_loop, holds};
 ghost use Rattle.level_model.specs.Traces.{reversed_step, reversed_steps};
-ghost use Rattle.level_nets.specs.Read.{end_number};
+ghost use Rattle.level_model.specs.Table.{end_number};
 ghost use Rattle.level_nets.specs.Reach.{IsSheet, parts_in};
 ghost use Rattle.level_draw.specs.Chains.{AreNext, end_layer};
 ghost use Rattle.level_draw.specs.Read as read;
@@ -12,6 +12,7 @@ ghost use Rattle.level_draw.specs.Reach.{AreNumbersIn, HaveLegs, IsLinked};
 
 use crate::chains::Next;
 use drawing_types::shape::Side;
+use level_model::end_number;
 use level_nets::Routing;
 use level_nets::reading::{below_unit, dock_gap, dock_inverts, link_gap};
 use level_nets::sheet::{Sheet, child_at, end_at, link_at, top_of, unit_at};
@@ -27,14 +28,6 @@ fn dock_lane(sheet: &Sheet<'_>, edge: u32, at_source: bool) -> Step
 {
     let end = end_at(sheet, edge, at_source);
     Step::Lane(below_unit(sheet, end.dock, end.lane))
-}
-
-// The number of an end: two for each edge, its source first.
-fn end_number(edge: u32, at_source: bool) -> usize
-    ensures { result ≡ end_number (end_at edge at_source) }
-{
-    let first = 2 * edge as usize;
-    if at_source { first } else { first + 1 }
 }
 
 // The net between the lane and the anchor of an inverted dock.

@@ -14,6 +14,7 @@ use Rattle.elk_layers.specs.Sweeps.{Ends, backward_sweep, far_count, far_sum, fo
 use Rattle.cross_reduce.specs.Reduced.{after_pair, after_pairs, after_row, after_rows, again, at_rest, AtMostOf, FewerThan, IsExchangedFromFewest, IsFirstOfFewest, IsReduced, SettlesTo}
 use Rattle.cross_reduce.specs.Held.{NoBetterFreeSwap}
 use Rattle.layer_units.specs.Fitted.{AreKept}
+use Rattle.level_choices.specs.Numbers.{order_of}
 use Rattle.level_model.specs.Level.{PlainLevel}
 use Rattle.level_layout.specs.Chosen.{AreChosenRows, IsHeldOrder, held_keys, key_for}
 
@@ -287,7 +288,7 @@ module _ (a b : Plain) (kept : AreKept a b) where
   held_for : (level : PlainLevel) (start rows : List (List ℕ)) → IsHeldOrder a (held_keys level a) start rows → IsHeldOrder b (held_keys level b) start rows
   held_for level start rows h =
       subst (λ (held : List (Option ℤ)). IsHeldOrder b held start rows)
-      (keys_same (option_and_then (key_for level.choices.order level)) a.units b.units kept.alike.as_many_units kept.alike.child_is)
+      (keys_same (option_and_then (key_for (order_of level.choices) level)) a.units b.units kept.alike.as_many_units kept.alike.child_is)
       (record { same_rows = h.same_rows; ascends = h.ascends; settled = free_same (held_keys level a) rows h.settled })
 
   pub chosen_for : (level : PlainLevel) (start rows : List (List ℕ)) → AreChosenRows level a start rows → AreChosenRows level b start rows

@@ -2,8 +2,9 @@
 use Rattle.std.specs.Prelude.{◌≡◌, ℕ, List, ℤ, pos, map, min, Option, None, Some, option_and_then}
 use Rattle.elk_doc.specs.declared.document.Placing.{Placing}
 use Rattle.elk_doc.specs.declared.document.Placing.TheVariants.{BrandesKoepf, NetworkSimplex}
-use Rattle.elk_doc.specs.declared.document.RowOrder.{RowOrder}
-use Rattle.elk_doc.specs.declared.document.RowOrder.TheVariants.{Document, Kept, Swept}
+use Rattle.level_choices.specs.Numbers.{order_of, straightness_of}
+use Rattle.level_choices.specs.declared.numbers.RowOrder.{RowOrder}
+use Rattle.level_choices.specs.declared.numbers.RowOrder.TheVariants.{Document, Kept, Swept}
 use Rattle.drawing_types.specs.declared.sweep.Sweep.{Sweep}
 use Rattle.elk_layers.specs.declared.units.Unit.{Unit as LayerUnit}
 use Rattle.elk_layers.specs.Layered.{Plain}
@@ -28,7 +29,7 @@ key_for Kept level c = (child_at level c).position
 
 -- the key of a unit by the order that its level asks for: that of its child; lanes of long edges have none
 abbrev pub unit_key : PlainLevel → LayerUnit → Option ℤ
-unit_key level u = option_and_then (key_for level.choices.order level) u.child
+unit_key level u = option_and_then (key_for (order_of level.choices) level) u.child
 
 -- the keys of all units
 abbrev pub held_keys : PlainLevel → Plain → List (Option ℤ)
@@ -43,13 +44,13 @@ pub record IsHeldOrder (l : Plain) (held : List (Option ℤ)) (start rows : List
 
 -- The rows of a plan: ones that reduce the crossings of its start, or, where an order of children is asked for, ones that hold it.
 pub record AreChosenRows (level : PlainLevel) (l : Plain) (start rows : List (List ℕ)) : Type 0 where
-  pub swept : level.choices.order ≡ Swept → IsReduced l start rows
-  pub document : level.choices.order ≡ Document → IsHeldOrder l (held_keys level l) start rows
-  pub kept : level.choices.order ≡ Kept → IsHeldOrder l (held_keys level l) start rows
+  pub swept : order_of level.choices ≡ Swept → IsReduced l start rows
+  pub document : order_of level.choices ≡ Document → IsHeldOrder l (held_keys level l) start rows
+  pub kept : order_of level.choices ≡ Kept → IsHeldOrder l (held_keys level l) start rows
 
 -- What a link weighs that alignment keeps straight; what is above the greatest weight counts as this.
 abbrev pub straightness_for : LevelIn → ℕ
-straightness_for level = min level.choices.straightness greatest_weight
+straightness_for level = min (straightness_of level.choices) greatest_weight
 
 -- No tops that keep the distances have links that are together less high than at these, where links that alignment keeps straight
 -- weigh so much and all others 1, and a flow shows it.

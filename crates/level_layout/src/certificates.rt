@@ -7,7 +7,7 @@ ghost use Rattle.level_model.specs.Level as plan;
 ghost use Rattle.level_layout.specs.Certificate.{AreReversed, IsCertificateOf, flow_at, link_flows, links, network};
 ghost use Rattle.layer_units.specs.Marks.{listed};
 
-use crate::networks::{is_loop, list_marked, network_of};
+use crate::networks::{list_marked, network_of};
 use drawing_types::list::Items;
 use elk_doc::drawing::Certificate;
 use level_model::LevelIn;
@@ -46,7 +46,7 @@ fn flows_of(alloc: Global, level: &LevelIn, flow: &[u64]) -> Result<Vec<u64>, Al
     let mut flows = Vec::with_capacity(alloc, level.edges.len())?;
     let mut next = 0;
     for edge in level.edges.as_slice() {
-        if is_loop(*edge) {
+        if edge.is_loop() {
             flows.push(0)?;
         } else {
             flows.push(flow[next])?;

@@ -1,12 +1,13 @@
 //! The keys by which the children of a layer are held.
 ghost use Rattle.std.specs.Prelude.{◌≡◌, ◌↔◌, map, IfOk, IsNone, IsTrue};
 ghost use Rattle.std.specs.List.{All};
+ghost use Rattle.level_choices.specs.Numbers.{order_of};
 ghost use Rattle.level_model.specs.Conditions.{plain_level};
 ghost use Rattle.level_model.specs.Level.{child_at};
 ghost use Rattle.level_layout.specs.Chosen.{key_for, unit_key};
 
-use elk_doc::document::RowOrder;
 use elk_layers::Unit;
+use level_choices::{RowOrder, order_of};
 use level_model::LevelIn;
 use std::alloc::{AllocError, Global};
 
@@ -22,9 +23,9 @@ fn position_of(level: &LevelIn, child: u32) -> Option<i64>
 
 // The key of a child: its number, its position, or none, as the level asks.
 fn child_key(level: &LevelIn, child: u32) -> Option<i64>
-    ensures { result ≡ key_for level.now.choices.order (plain_level level.now) child }
+    ensures { result ≡ key_for (order_of level.now.choices) (plain_level level.now) child }
 {
-    match level.choices.order {
+    match order_of(&level.choices) {
         RowOrder::Swept => None,
         RowOrder::Document => Some(child as i64),
         RowOrder::Kept => position_of(level, child),

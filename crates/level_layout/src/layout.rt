@@ -29,14 +29,15 @@ use std::alloc::{AllocError, Global};
 /// - Units and links are numbered by child and edge, with ranks, heights and pins. The units of lanes have no height and no lanes
 ///   above or below.
 /// - Each row starts in the order of its numbers.
-/// - If the level asks for the order of the document, the rows of the plan are those of the start.
-/// - Otherwise they have no more crossings than the start and its four sweep orders.
-/// - From the first of fewest crossings among these, exchanges of neighbours lower the crossings, row by row from the top. The rows
-///   are what these exchanges reach, or have fewer crossings than that.
-/// - No exchange of two neighbours has fewer crossings.
+/// - If the level asks for the order of the document, or for one that is kept, the children that it holds stand in this order in each
+///   row, and no exchange of two neighbours has fewer crossings, unless both are held.
+/// - Otherwise the rows have no more crossings than the start and its four sweep orders. From the first of fewest crossings among
+///   these, exchanges of neighbours lower the crossings, row by row from the top. The rows are what these exchanges reach, or have
+///   fewer crossings than that. No exchange of two neighbours has fewer crossings.
 /// - Lines keep the distances, and no unit ends lower than all units stacked.
 /// - By alignment the lines are those of the fixed sweep, or of the first of the four with the least height.
-/// - By network simplex they minimize the total height of the links, and a flow shows it.
+/// - By network simplex they minimize the total height of the links, and a flow shows it. Links that alignment keeps straight weigh as
+///   much as the level asks.
 /// - The drawing is made from all of these. It keeps the distances of children, the constraints of ports and the rules for routes.
 /// - It begins at 0 and is as large as it needs to be.
 pub fn layout_level(alloc: Global, level: &LevelIn) -> Result<LevelOut, AllocError>

@@ -10,16 +10,17 @@ ghost use Rattle.level_layout.specs.Chosen.{AreLeastHigh, AreChosenLines, straig
 use bk_place::place;
 use elk_doc::document::Placing;
 use elk_layers::{Layered, Lines, Order};
+use level_choices::straightness_of;
 use level_model::LevelIn;
 use ns_place::place_straight;
 use std::alloc::{AllocError, Global};
 
 // What a link weighs that alignment keeps straight.
-fn straightness_of(level: &LevelIn) -> u32
+fn straightness_for(level: &LevelIn) -> u32
     ensures is { result ≡ straightness_for level.now }
     ensures small { result ≤ greatest_weight }
 {
-    level.choices.straightness.min(64)
+    straightness_of(&level.choices).min(64)
 }
 
 // Lines at which the links are least high together, where those that alignment keeps straight weigh so much.
@@ -57,6 +58,6 @@ pub(crate) fn lines_for(
 {
     match level.placing {
         Placing::BrandesKoepf => place(alloc, layered, order, level.fixed),
-        Placing::NetworkSimplex => { least_lines(alloc, layered, order, straightness_of(level)) }
+        Placing::NetworkSimplex => { least_lines(alloc, layered, order, straightness_for(level)) }
     }
 }

@@ -1,5 +1,5 @@
 //! The network of a level's oriented edges.
-ghost use Rattle.std.specs.Prelude.{◌≡◌, ◌≤◌, ◌==◌, length, IfOk};
+ghost use Rattle.std.specs.Prelude.{◌≡◌, ◌≤◌, length, IfOk};
 ghost use Rattle.network_laws.specs.Network.{IsNetwork};
 ghost use Rattle.level_model.specs.Conditions.{plain_level, IsLevel};
 ghost use Rattle.level_layout.specs.Certificate.{AreReversed, network, oriented};
@@ -23,14 +23,6 @@ pub(crate) fn list_marked(alloc: Global, marks: &[bool]) -> Result<Vec<u32>, All
     Ok(numbers)
 }
 
-/// Whether both ends of an edge are at one child.
-pub(crate) fn is_loop(edge: LevelEdge) -> bool
-    ensures { result ≡ (edge.source.child == edge.target.child) }
-{
-    let source = edge.source.child;
-    source == edge.target.child
-}
-
 /// The edge as one of a network, as given or reversed.
 pub(crate) fn network_edge(edge: LevelEdge, is_reversed: bool) -> NetEdge
     ensures { result ≡ oriented is_reversed edge }
@@ -52,7 +44,7 @@ fn network_edges(alloc: Global, level: &LevelIn, marks: &[bool]) -> Result<Vec<N
 {
     let mut edges = Vec::new(alloc);
     for (e, edge) in level.edges.as_slice().iter().enumerate() {
-        if !is_loop(*edge) {
+        if !edge.is_loop() {
             edges.push(network_edge(*edge, marks[e]))?;
         }
     }

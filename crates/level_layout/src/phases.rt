@@ -12,10 +12,10 @@ ghost use Rattle.level_layout.specs.Phases.{AreRankedUnits, IsStart};
 use crate::keys::{are_free, keys_of};
 use crate::units::units_for;
 use cross_reduce::{reduce_held, reduce_with_effort};
-use elk_doc::document::RowOrder;
 use elk_doc::drawing::Certificate;
 use elk_layers::{Layered, Order, copy_of};
 use layer_units::{ranked, start_of};
+use level_choices::{RowOrder, effort_of, order_of};
 use level_model::LevelIn;
 use std::alloc::{AllocError, Global};
 
@@ -137,7 +137,13 @@ fn held_order(
     ensures rows { IfOk result (λ v. AreRows (plain layered.now) (rows_of v)) }
 {
     let keys = keys_of(alloc, level, layered.units.as_slice())?;
-    let order = order_with(alloc, layered, start, keys.as_slice(), level.choices.effort)?;
+    let order = order_with(
+        alloc,
+        layered,
+        start,
+        keys.as_slice(),
+        effort_of(&level.choices),
+    )?;
     Ok(order)
 }
 
@@ -153,8 +159,8 @@ pub(crate) fn order_for(
     ensures chosen { IfOk result (λ v. AreChosenRows (plain_level level.now) (plain layered.now) (rows_of start.now) (rows_of v)) }
     ensures rows { IfOk result (λ v. AreRows (plain layered.now) (rows_of v)) }
 {
-    match level.choices.order {
-        RowOrder::Swept => swept_order(alloc, layered, start, level.choices.effort),
+    match order_of(&level.choices) {
+        RowOrder::Swept => swept_order(alloc, layered, start, effort_of(&level.choices)),
         RowOrder::Document => held_order(alloc, level, layered, start),
         RowOrder::Kept => held_order(alloc, level, layered, start),
     }

@@ -4,16 +4,29 @@ use Rattle.std.proofs.lemmas.Int.{ints, clamps}
 use Rattle.std.proofs.lemmas.Bool.{ne_eqb, cond_both, cases_eq}
 use Rattle.std.specs.List.{range_with_len}
 use Rattle.std.specs.Int.{int_max}
+use Rattle.elk_doc.specs.declared.document.Slotting.{Slotting}
+use Rattle.elk_doc.specs.declared.document.Slotting.TheVariants.{Fewest, Uncrossed}
 use Rattle.elk_doc.specs.Sound.{IsSoundSpacing}
+use Rattle.net_routes.specs.declared.Net.{Net}
+use Rattle.net_routes.specs.declared.NetRoute.{NetRoute}
+use Rattle.net_routes.specs.GapFree.{GapFree}
 use Rattle.route_lines.specs.Points.{PlainGap, gap_in}
 use Rattle.level_model.specs.Stage.{InRow, InGap, IsInner}
 use Rattle.level_model.specs.Level.{PlainLevel, PlainPlan, Orders, outline}
 use Rattle.level_model.specs.Nets.{widest, column_width, inner_width, gap_width, first_slot, gap_left, layer_of_child}
-use Rattle.level_model.specs.FromPlan.{LevelDrawing, counts, IsDrawnFrom}
+use Rattle.level_model.specs.FromPlan.{LevelDrawing, AreSlots, counts, IsGap, IsDrawnFrom}
 use Rattle.level_model.specs.Drawing.{stage}
 use Rattle.level_model.specs.Laws.{HasColumns}
 use Rattle.level_model.proofs.Widths.{outer_room, inner_room, within_outer, outer_from_zero, within_inner, inner_above, inner_more}
 use Rattle.level_model.proofs.Columns.{IsWide, AreColumns, rising, slots_apart, column, columns_apart, before, slot_before, after, slot_after, left_apart, right_apart}
+
+-- the slots that a level asks for keep routes apart
+pub slots_free : (s : Slotting) (nets : List Net) (count : ℕ) (routes : List NetRoute) → AreSlots s nets count routes → GapFree nets count routes
+slots_free Fewest nets count routes h = h.free
+slots_free Uncrossed nets count routes h = h.free
+
+pub gap_free : (l : PlainLevel) (p : PlainPlan) (o : Orders) (d : LevelDrawing) (g : ℕ) → IsGap l p o d g → GapFree (gap_in d.gaps g).nets (gap_in d.gaps g).count (gap_in d.gaps g).routes
+gap_free l p o d g is = slots_free l.choices.slots (gap_in d.gaps g).nets (gap_in d.gaps g).count (gap_in d.gaps g).routes is.slots
 
 -- a column is not narrower than nothing
 pub widest_from_zero : (l : PlainLevel) (p : PlainPlan) (o : Orders) (r : ℕ) (cs : List ℕ) → pos 0 ≤ℤ widest l p o r cs

@@ -1,11 +1,29 @@
 -- The lanes of self-loops, by the sides of their docks.
-use Rattle.std.proofs.Common.{◌≡◌, ◌⊎◌, inl, inr, Bool, true, false, refl, sym, ◌∙◌}
+use Rattle.std.proofs.Common.{◌≡◌, ◌⊎◌, inl, inr, Bool, true, false, cond, [], ◌∷◌, refl, sym, ◌∙◌}
 use Rattle.std.specs.List.{list_any}
 use Rattle.drawing_types.specs.declared.shape.Side.{Side}
 use Rattle.drawing_types.specs.declared.shape.Side.TheVariants.{North, East, South, West}
 use Rattle.drawing_types.specs.Shapes.{is_side}
-use Rattle.self_loops.specs.Loops.{sides_of_lanes, passes_left, passes_right}
+use Rattle.self_loops.specs.Loops.{passes, sides_of_pair, sides_of_lanes, passes_left, passes_right}
 use Rattle.level_model.specs.Nets.{lane_side_of_end}
+
+-- a loop has a lane where its way passes the north or the south
+in_north : (north south : Bool) → list_any (is_side North) (cond north (North ∷ cond south (South ∷ []) []) (cond south (South ∷ []) [])) ≡ north
+in_north true south = refl
+in_north false true = refl
+in_north false false = refl
+
+in_south : (north south : Bool) → list_any (is_side South) (cond north (North ∷ cond south (South ∷ []) []) (cond south (South ∷ []) [])) ≡ south
+in_south true true = refl
+in_south true false = refl
+in_south false true = refl
+in_south false false = refl
+
+pub north_lane : (s t : Side) → list_any (is_side North) (sides_of_pair s t) ≡ passes s t North
+north_lane s t = in_north (passes s t North) (passes s t South)
+
+pub south_lane : (s t : Side) → list_any (is_side South) (sides_of_pair s t) ≡ passes s t South
+south_lane s t = in_south (passes s t North) (passes s t South)
 
 -- a lane of a self-loop lies north or south
 pub no_level_lane : (s t : Side) (one : Bool) → (list_any (is_side East) (sides_of_lanes s t one) ≡ false) × (list_any (is_side West) (sides_of_lanes s t one) ≡ false)

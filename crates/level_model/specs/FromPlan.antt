@@ -8,7 +8,6 @@ use Rattle.elk_doc.specs.declared.document.Slotting.{Slotting}
 use Rattle.elk_doc.specs.declared.document.Slotting.TheVariants.{Fewest, Uncrossed}
 use Rattle.net_routes.specs.declared.Net.{Net}
 use Rattle.net_routes.specs.declared.NetRoute.{NetRoute}
-use Rattle.net_routes.specs.GapFree.{GapFree}
 use Rattle.net_routes.specs.Promised.{AreFewest, AreUncrossed}
 use Rattle.route_lines.specs.declared.Step.{Step}
 use Rattle.route_lines.specs.Points.{PlainGap, gap_in, trace_points}
@@ -43,14 +42,13 @@ abbrev pub AreSlots : Slotting → List Net → ℕ → List NetRoute → Type 0
 AreSlots Fewest = AreFewest
 AreSlots Uncrossed = AreUncrossed
 
--- a gap: its borders and slots by the widths left of it, its nets, and their free routes, in the slots that the level asks for
+-- a gap: its borders and slots by the widths left of it, its nets, and their routes in the slots that the level asks for
 pub record IsGap (l : PlainLevel) (p : PlainPlan) (o : Orders) (d : LevelDrawing) (g : ℕ) : Type 0 where
   pub left : (gap_in d.gaps g).left ≡ gap_left l p o (counts d.gaps) g -ℤ d.left
   pub first : (gap_in d.gaps g).first ≡ (gap_in d.gaps g).left +ℤ first_slot l g
   pub step : (gap_in d.gaps g).step ≡ l.spacing.edge_edge_layers
   pub right : (gap_in d.gaps g).right ≡ (gap_in d.gaps g).left +ℤ gap_width l p g (counts d.gaps g)
   pub nets : (gap_in d.gaps g).nets ≡ nets_in l p o d.top g
-  pub free : GapFree (gap_in d.gaps g).nets (gap_in d.gaps g).count (gap_in d.gaps g).routes
   pub slots : AreSlots l.choices.slots (gap_in d.gaps g).nets (gap_in d.gaps g).count (gap_in d.gaps g).routes
 
 -- the place of a child's box: its outline flush at the left of its column, its top by its unit

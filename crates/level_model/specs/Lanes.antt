@@ -6,6 +6,7 @@ use Rattle.std.specs.Ordering.{int_eq}
 use Rattle.drawing_types.specs.declared.shape.Side.{Side}
 use Rattle.drawing_types.specs.declared.shape.Side.TheVariants.{North, East, South, West}
 use Rattle.drawing_types.specs.declared.shape.Dock.{Dock}
+use Rattle.elk_doc.specs.declared.document.Spacing.{Spacing}
 use Rattle.drawing_types.specs.Shapes.{is_side}
 use Rattle.self_loops.specs.Loops.{sides_of_lanes}
 use Rattle.level_model.specs.Stage.{Line, anchor_line, dock_lane, loop_lane, long_lane}
@@ -36,15 +37,16 @@ has_lane l p o c d =
 abbrev pub docks_with_lane : PlainLevel → PlainPlan → Orders → ℕ → List Dock
 docks_with_lane l p o c = filter (has_lane l p o c) (once (map (dock_of_spot l o c) (spots l p c)))
 
--- the side of a dock's lane: its own on north and south, else north in the upper half of the box and south in the lower
+-- the side of a dock's lane at a box of this height: its own on north and south, else north in the upper half of the box and
+-- south in the lower
+abbrev pub side_by : ℤ → Side → ℤ → Side
+side_by height North offset = North
+side_by height East offset = cond (int_lt height (offset +ℤ offset)) South North
+side_by height South offset = South
+side_by height West offset = cond (int_lt height (offset +ℤ offset)) South North
+
 abbrev pub lane_side : PlainLevel → Dock → Side
-lane_side l d = lane_side_of d.side (int_lt (child_at l d.node).size.height (d.offset +ℤ d.offset))
-  where
-    lane_side_of : Side → Bool → Side
-    lane_side_of North lower = North
-    lane_side_of South lower = South
-    lane_side_of East lower = cond lower South North
-    lane_side_of West lower = cond lower South North
+lane_side l d = side_by (child_at l d.node).size.height d.side d.offset
 
 abbrev pub loops_of : PlainLevel → ℕ → List ℕ
 loops_of l c = filter (λ e. is_loop l e && ((edge_at l e).source.child == c)) (range_with_len 0 (length l.edges))
@@ -63,8 +65,16 @@ lanes l p o c side =
     ++ map (λ d. dock_lane d) (filter (λ d. is_side (lane_side l d) side) (docks_with_lane l p o c))
 
 -- the room that this many lanes take beside an outline
+abbrev pub room : Spacing → ℕ → ℤ
+room s n = cond (n == 0) (pos 0) (s.edge_node +ℤ (pos (n - 1) *ℤ s.edge_edge))
+
 abbrev pub lanes_room : PlainLevel → ℕ → ℤ
-lanes_room l n = cond (n == 0) (pos 0) (l.spacing.edge_node +ℤ (pos (n - 1) *ℤ l.spacing.edge_edge))
+lanes_room l n = room l.spacing n
+
+-- the height of the i-th lane from an outline of this height, below the unit's top, where so many lanes are in the north
+abbrev pub height_by : Spacing → ℕ → ℤ → Side → ℕ → ℤ
+height_by s north height North i = room s north -ℤ room s (i + 1)
+height_by s north height _ i = room s north +ℤ height +ℤ room s (i + 1)
 
 abbrev pub line_eq : Line → Line → Bool
 line_eq (anchor_line d) (anchor_line k) = dock_eq d k
@@ -86,8 +96,7 @@ unit_height l p o c = body_top l p o c +ℤ (outline l p o c).height +ℤ lanes_
 
 -- the height of the i-th lane from the outline, below the unit's top
 abbrev pub lane_height : PlainLevel → PlainPlan → Orders → ℕ → Side → ℕ → ℤ
-lane_height l p o c North i = body_top l p o c -ℤ lanes_room l (i + 1)
-lane_height l p o c _ i = body_top l p o c +ℤ (outline l p o c).height +ℤ lanes_room l (i + 1)
+lane_height l p o c side i = height_by l.spacing (length (lanes l p o c North)) (outline l p o c).height side i
 
 -- the height of a line of a child below its unit's top
 abbrev pub loop_lane_height : PlainLevel → PlainPlan → Orders → ℕ → Side → Line → ℤ

@@ -1,5 +1,5 @@
 -- A table of what a drawing needs to know of children and ends: the definitions of a level's plan, worked out once.
-use Rattle.std.specs.Prelude.{◌≡◌, ℕ, ◌+◌, ◌*◌, ◌<◌, true, false, List, [], pos, length, slice_index_or, IsTrue}
+use Rattle.std.specs.Prelude.{◌≡◌, ℕ, ◌+◌, ◌*◌, ◌<◌, cond, Bool, true, false, List, [], pos, length, slice_index_or, IsTrue}
 use Rattle.std.specs.List.{list_any}
 use Rattle.drawing_types.specs.declared.shape.Side.TheVariants.{North, East, South}
 use Rattle.drawing_types.specs.Shapes.{is_side}
@@ -20,6 +20,14 @@ end_in ends i =
       anchor = record { x = pos 0; y = pos 0 };
       lane = pos 0;
     })
+
+-- the number of an end: two for each edge, its source first
+abbrev pub end_number : End → ℕ
+end_number n = cond n.at_source (2 * n.edge) (2 * n.edge + 1)
+
+-- an end of an edge as a table has it
+abbrev pub end_of : Table → ℕ → Bool → EndAt
+end_of t e at_source = end_in t.ends (end_number (end_at e at_source))
 
 abbrev pub loop_in : List LoopAt → ℕ → LoopAt
 loop_in loops e = slice_index_or loops e (record { north = pos 0; south = pos 0 })

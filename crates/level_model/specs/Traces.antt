@@ -4,7 +4,7 @@ use Rattle.std.specs.List.{filter, range_with_len}
 use Rattle.drawing_types.specs.declared.shape.Side.{Side}
 use Rattle.drawing_types.specs.declared.shape.Side.TheVariants.{North, East, South, West}
 use Rattle.elk_layers.specs.Layered.{link_at, layer_of}
-use Rattle.self_loops.specs.Loops.{is_upright}
+use Rattle.self_loops.specs.Loops.{is_upright, way}
 use Rattle.route_lines.specs.declared.Step.{Step}
 use Rattle.route_lines.specs.declared.Step.TheVariants.{Lane, Leg}
 use Rattle.level_model.specs.Stage.{Line, dock_lane, loop_lane, long_lane}
@@ -67,24 +67,16 @@ reversed_step (Leg g n from_a) = Leg g n (not from_a)
 abbrev pub reversed_steps : List Step → List Step
 reversed_steps steps = reverse (map reversed_step steps)
 
+-- the step of a self-loop on a side of its child: along its lane above or below, or through its net in the gap beside it
+abbrev pub loop_step : PlainLevel → PlainPlan → Orders → ℤ → ℕ → Side → Step
+loop_step l p o shift e North = lane_step l p o shift (loop_lane e North)
+loop_step l p o shift e East = leg_step l p o (of_loop e East) true
+loop_step l p o shift e South = lane_step l p o shift (loop_lane e South)
+loop_step l p o shift e West = leg_step l p o (of_loop e West) true
+
 -- the steps of a self-loop, by the sides of its two docks
 abbrev pub loop_steps : PlainLevel → PlainPlan → Orders → ℤ → ℕ → Side → Side → List Step
-loop_steps l p o shift e North North = lane_step l p o shift (loop_lane e North) ∷ []
-loop_steps l p o shift e South South = lane_step l p o shift (loop_lane e South) ∷ []
-loop_steps l p o shift e East East = leg_step l p o (of_loop e East) true ∷ []
-loop_steps l p o shift e West West = leg_step l p o (of_loop e West) true ∷ []
-loop_steps l p o shift e North South =
-    lane_step l p o shift (loop_lane e North) ∷ leg_step l p o (of_loop e East) true ∷ lane_step l p o shift (loop_lane e South) ∷ []
-loop_steps l p o shift e South North =
-    lane_step l p o shift (loop_lane e South) ∷ leg_step l p o (of_loop e East) true ∷ lane_step l p o shift (loop_lane e North) ∷ []
-loop_steps l p o shift e East West =
-    leg_step l p o (of_loop e East) true ∷ lane_step l p o shift (loop_lane e North) ∷ leg_step l p o (of_loop e West) true ∷ []
-loop_steps l p o shift e West East =
-    leg_step l p o (of_loop e West) true ∷ lane_step l p o shift (loop_lane e North) ∷ leg_step l p o (of_loop e East) true ∷ []
-loop_steps l p o shift e North side = lane_step l p o shift (loop_lane e North) ∷ leg_step l p o (of_loop e side) true ∷ []
-loop_steps l p o shift e South side = lane_step l p o shift (loop_lane e South) ∷ leg_step l p o (of_loop e side) true ∷ []
-loop_steps l p o shift e East side = leg_step l p o (of_loop e East) true ∷ lane_step l p o shift (loop_lane e side) ∷ []
-loop_steps l p o shift e West side = leg_step l p o (of_loop e West) true ∷ lane_step l p o shift (loop_lane e side) ∷ []
+loop_steps l p o shift e s t = map (loop_step l p o shift e) (way s t)
 
 -- the steps of an edge from its source to its target; none for a self-loop at one dock
 abbrev pub steps_of : PlainLevel → PlainPlan → Orders → ℤ → ℕ → List Step

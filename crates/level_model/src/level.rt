@@ -1,4 +1,6 @@
 //! A level in the working frame.
+ghost use Rattle.std.specs.Prelude.{◌≡◌, ◌==◌};
+
 use drawing_types::list::Items;
 use drawing_types::sweep::Sweep;
 use elk_doc::document::{Choices, Placing, Spacing};
@@ -17,6 +19,15 @@ pub struct LevelEdge {
     pub source: EdgeEnd,
     pub target: EdgeEnd,
     pub weight: u32,
+}
+
+impl LevelEdge {
+    /// Whether the edge is a self-loop.
+    pub fn is_loop(self) -> bool
+        ensures { result ≡ (self.source.child == self.target.child) }
+    {
+        self.source.child == self.target.child
+    }
 }
 
 /// A level: its children and edges in document order, and its options, all lengths in whole document units and in the frame in

@@ -8,4 +8,4 @@ mod table;
 
 pub use level::{EdgeEnd, LevelEdge, LevelIn};
 pub use marks::marks_of;
-pub use table::{ChildAt, EndAt, LoopAt, Table};
+pub use table::{ChildAt, EndAt, LoopAt, Table, end_number};

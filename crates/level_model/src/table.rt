@@ -1,4 +1,8 @@
 //! What a drawing needs to know of the children and ends of a level, in whole document units in the working frame.
+ghost use Rattle.std.specs.Prelude.{◌≡◌, ◌<◌, length};
+ghost use Rattle.level_model.specs.Level.{end_at};
+ghost use Rattle.level_model.specs.Table.{end_number, end_of};
+
 use drawing_types::list::Items;
 use drawing_types::shape::{Dock, Point, Rect};
 
@@ -35,4 +39,22 @@ pub struct Table {
     pub children: Items<ChildAt>,
     pub ends: Items<EndAt>,
     pub loops: Items<LoopAt>,
+}
+
+/// The number of an end of an edge among the ends of its level: two for each edge, its source first.
+pub fn end_number(edge: u32, at_source: bool) -> usize
+    ensures { result ≡ end_number (end_at edge at_source) }
+{
+    let first = 2 * edge as usize;
+    if at_source { first } else { first + 1 }
+}
+
+impl Table {
+    /// An end of an edge.
+    pub fn end(&self, edge: u32, at_source: bool) -> EndAt
+        requires { end_number (end_at edge at_source) < length self.now.ends }
+        ensures { result ≡ end_of self.now edge at_source }
+    {
+        *self.ends.at(end_number(edge, at_source))
+    }
 }

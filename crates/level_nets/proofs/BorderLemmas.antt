@@ -13,6 +13,7 @@ use Rattle.route_lines.specs.Points.{PlainGap, plain_gap, gap_in}
 use Rattle.level_model.specs.Level.{PlainLevel, PlainPlan}
 use Rattle.level_model.specs.Nets.{gap_width, outer_width, inner_width}
 use Rattle.level_model.specs.Table.{child_in}
+use Rattle.level_model.proofs.GapLemmas.{slots_free}
 use Rattle.level_nets.specs.Parts.{Parts, plan_of}
 use Rattle.level_nets.specs.Read.{widest_of, width_of, left_of, columns_of}
 use Rattle.level_nets.specs.Reach.{AreNetsIn, AreColumnsIn}
@@ -102,7 +103,7 @@ left_same s f h (suc g) same =
 
 -- so few slots
 pub count_few : (s : Parts) (i : ℕ) (left : ℤ) (gap : PlainGap) → IsPlaced s i left gap → AreNetsIn gap.nets → gap.count ≤ 2 ^ 15
-count_few s i left gap placed nets = let slots = few_slots gap.nets gap.count gap.routes placed.free in let few = nets.few in omega (arith, slots, few)
+count_few s i left gap placed nets = let slots = few_slots gap.nets gap.count gap.routes (slots_free s.level.choices.slots gap.nets gap.count gap.routes placed.slots) in let few = nets.few in omega (arith, slots, few)
 
 pub left_range : (s : Parts) (i : ℕ) (old now : List PlainGap) → IsSoundSpacing s.level.spacing → s.layered.layers ≤ 2048 → AreColumnsIn s → length old ≡ s.layered.layers + 1
     → ((g : ℕ) → g < length old → AreNetsIn (gap_in old g).nets) → i ≤ length old → HaveBorders s i old now → IsFromZero (left_of s (counts_of now) i) (pos (2 ^ 50))

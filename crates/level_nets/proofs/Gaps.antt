@@ -155,6 +155,5 @@ module _ (s : Parts) (rows : List (List ℕ)) (o : Orders) (layers : List ℕ) (
         step = placed.step;
         right = placed.right ∙ ap (λ z. z +ℤ gap_width s.level (plan_of s rows) g (counts_of gaps g)) (sym placed.left_is);
         nets = held.nets g h ∙ nets_are g;
-        free = placed.free;
         slots = placed.slots;
       }

@@ -12,7 +12,7 @@ use Rattle.elk_layers.specs.Layered.{unit_at}
 use Rattle.elk_layers.specs.Lines.{top_of}
 use Rattle.net_routes.specs.declared.Pin.{Pin}
 use Rattle.net_routes.specs.GapFree.{IsNet, IsHeight, AreHeights}
-use Rattle.self_loops.specs.Loops.{is_upright, crosses, passes_left, passes_right}
+use Rattle.self_loops.specs.Loops.{is_upright, passes_left, passes_right}
 use Rattle.level_model.specs.Stage.{Line, anchor_line, dock_lane, loop_lane, Reaches}
 use Rattle.level_model.specs.Level.{PlainLevel, PlainPlan, Orders, End, end_at, edge_at, spoke, enters, is_loop, dock_of, outline}
 use Rattle.level_model.specs.Lanes.{dock_eq, has_one_dock, loop_sides, body_top}
@@ -45,27 +45,38 @@ same_below t u a b e f = omega (arith, ints, e, f)
 in_height : (t a h : ℤ) → pos 0 ≤ℤ t → (t +ℤ h) <ℤ pos (2 ^ 49) → pos 0 ≤ℤ a → a ≤ℤ h → IsHeight ((t +ℤ a) -ℤ pos 0)
 in_height t a h low high from to = record { low = omega (arith, ints, low, from); high = omega (arith, ints, high, to) }
 
--- between the north and the south side the lanes differ
-crosses_apart : (s t : Side) → crosses s t ≡ true → lane_side_of_end s ≡ lane_side_of_end t → ⊥
-crosses_apart North South c e = absurd cc
-crosses_apart South North c e = absurd cc
-crosses_apart North North c e = absurd cc
-crosses_apart North East c e = absurd cc
-crosses_apart North West c e = absurd cc
-crosses_apart East t c e = absurd cc
-crosses_apart South East c e = absurd cc
-crosses_apart South South c e = absurd cc
-crosses_apart South West c e = absurd cc
-crosses_apart West t c e = absurd cc
-
 -- a loop that passes the gap on a side with both ends on lanes has two lanes
 left_on_lanes : (s t : Side) (one : Bool) → passes_left s t one ≡ true → is_side s West ≡ false → is_side t West ≡ false → ⊥
 left_on_lanes s t true h a b = absurd (let bad : false ≡ true = h in cc)
-left_on_lanes s t false h a b = let bad : false ≡ true = rw (a, b) at h in absurd cc
+left_on_lanes North North false h a b = absurd cc
+left_on_lanes North East false h a b = absurd cc
+left_on_lanes North South false h a b = absurd cc
+left_on_lanes North West false h a b = absurd cc
+left_on_lanes East North false h a b = absurd cc
+left_on_lanes East East false h a b = absurd cc
+left_on_lanes East South false h a b = absurd cc
+left_on_lanes East West false h a b = absurd cc
+left_on_lanes South North false h a b = absurd cc
+left_on_lanes South East false h a b = absurd cc
+left_on_lanes South South false h a b = absurd cc
+left_on_lanes South West false h a b = absurd cc
+left_on_lanes West t false h a b = absurd cc
 
 right_on_lanes : (s t : Side) (one : Bool) → passes_right s t one ≡ true → is_side s East ≡ false → is_side t East ≡ false → lane_side_of_end s ≡ lane_side_of_end t → ⊥
 right_on_lanes s t true h a b e = absurd (let bad : false ≡ true = h in cc)
-right_on_lanes s t false h a b e = crosses_apart s t (rw (a, b) at h) e
+right_on_lanes North North false h a b e = absurd cc
+right_on_lanes North East false h a b e = absurd cc
+right_on_lanes North South false h a b e = absurd cc
+right_on_lanes North West false h a b e = absurd cc
+right_on_lanes South North false h a b e = absurd cc
+right_on_lanes South East false h a b e = absurd cc
+right_on_lanes South South false h a b e = absurd cc
+right_on_lanes South West false h a b e = absurd cc
+right_on_lanes West North false h a b e = absurd cc
+right_on_lanes West East false h a b e = absurd cc
+right_on_lanes West South false h a b e = absurd cc
+right_on_lanes West West false h a b e = absurd cc
+right_on_lanes East t false h a b e = absurd cc
 
 left_two : (s t : Side) → passes_left s t true ≡ true → ⊥
 left_two s t h = absurd (let bad : false ≡ true = h in cc)

@@ -12,7 +12,8 @@ use Rattle.level_model.specs.Level.{end_at}
 use Rattle.level_model.specs.Nets.{of_link, of_dock, if_passed}
 use Rattle.level_nets.specs.declared.pushing.LoopLegs.{LoopLegs}
 use Rattle.level_nets.specs.Parts.{Parts}
-use Rattle.level_nets.specs.Read.{HoldNets, link_names, dock_names, dock_inverts, passes_west, end_number, leg_behind}
+use Rattle.level_model.specs.Table.{end_number}
+use Rattle.level_nets.specs.Read.{HoldNets, link_names, dock_names, dock_inverts, passes_west, leg_behind}
 use Rattle.level_nets.specs.Held.{plain_gaps, with_net, AreFew, AreLinkLegs, AreDockLegs, IsLoopLegs, AreLoopLegs, behind_docks, behind_loops, before_dock}
 use Rattle.level_nets.proofs.Holding.{few_held, links_long, docks_short, docks_few, loops_few, passed_short}
 use Rattle.level_nets.proofs.BorderLemmas.{gap_read}

@@ -13,7 +13,8 @@ use Rattle.level_model.specs.Nets.{of_link, of_dock, of_loop, first_slot}
 use Rattle.level_nets.specs.declared.routing.Places.{Places}
 use Rattle.level_nets.specs.declared.routing.Routing.{Routing}
 use Rattle.level_nets.specs.Parts.{Parts, IsGiven}
-use Rattle.level_nets.specs.Read.{HoldNets, names_of, end_number, left_of, in_gap, passes_west, passes_east, dock_inverts}
+use Rattle.level_model.specs.Table.{end_number}
+use Rattle.level_nets.specs.Read.{HoldNets, names_of, left_of, in_gap, passes_west, passes_east, dock_inverts}
 use Rattle.level_nets.specs.Held.{plain_gaps, legs_at, before_dock}
 use Rattle.level_nets.specs.Reach.{AreNetsIn, AreColumnsIn}
 use Rattle.level_nets.specs.Placed.{HaveBorders, counts_of}

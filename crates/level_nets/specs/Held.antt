@@ -10,7 +10,8 @@ use Rattle.level_model.specs.Level.{end_at, ends_of_edges, all_ends}
 use Rattle.level_model.specs.Nets.{Name, of_link, of_dock, of_loop, if_passed}
 use Rattle.level_nets.specs.declared.pushing.LoopLegs.{LoopLegs}
 use Rattle.level_nets.specs.Parts.{Parts}
-use Rattle.level_nets.specs.Read.{link_names, dock_names, passing_names, passes_west, passes_east, dock_inverts, leg_behind, end_number}
+use Rattle.level_model.specs.Table.{end_number}
+use Rattle.level_nets.specs.Read.{link_names, dock_names, passing_names, passes_west, passes_east, dock_inverts, leg_behind}
 
 abbrev pub plain_gaps : List Gap → List PlainGap
 plain_gaps gaps = map plain_gap gaps

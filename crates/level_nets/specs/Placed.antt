@@ -1,7 +1,6 @@
 -- The widths of columns, and the borders and slots of gaps.
 use Rattle.std.specs.Prelude.{◌≡◌, ℕ, ◌+◌, ◌-◌, ◌<◌, List, [], ℤ, pos, ◌+ℤ◌, length, slice_index_or}
 use Rattle.std.specs.List.{range_with_len}
-use Rattle.net_routes.specs.GapFree.{GapFree}
 use Rattle.route_lines.specs.Points.{PlainGap, gap_in}
 use Rattle.level_model.specs.FromPlan.{AreSlots}
 use Rattle.level_model.specs.Nets.{gap_width, first_slot}
@@ -21,13 +20,12 @@ pub record AreWidths (s : Parts) (widths : List ℤ) : Type 0 where
 abbrev pub counts_of : List PlainGap → ℕ → ℕ
 counts_of gaps g = (gap_in gaps g).count
 
--- a gap's borders and slots, and free routes of its nets, in the slots that the level asks for
+-- a gap's borders and slots, and the routes of its nets in the slots that the level asks for
 pub record IsPlaced (s : Parts) (number : ℕ) (left : ℤ) (g : PlainGap) : Type 0 where
   pub left_is : g.left ≡ left
   pub first : g.first ≡ left +ℤ first_slot s.level number
   pub step : g.step ≡ s.level.spacing.edge_edge_layers
   pub right : g.right ≡ left +ℤ gap_width s.level (plan_of s []) number g.count
-  pub free : GapFree g.nets g.count g.routes
   pub slots : AreSlots s.level.choices.slots g.nets g.count g.routes
 
 -- the first n gaps are placed

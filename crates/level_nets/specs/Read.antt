@@ -1,5 +1,5 @@
 -- The nets of a level and their gaps, read off the table of the level.
-use Rattle.std.specs.Prelude.{◌≡◌, ℕ, zero, suc, pos, ◌+◌, ◌*◌, ◌<◌, ◌==◌, cond, Bool, true, false, not, ◌&&◌, List, [], ◌∷◌, ◌++◌, map, ℤ}
+use Rattle.std.specs.Prelude.{◌≡◌, ℕ, zero, suc, pos, ◌+◌, ◌<◌, ◌==◌, cond, Bool, true, false, not, ◌&&◌, List, [], ◌∷◌, ◌++◌, map, ℤ}
 use Rattle.std.specs.Prelude.{◌+ℤ◌, ◌-ℤ◌, length}
 use Rattle.std.specs.List.{filter, range_with_len}
 use Rattle.std.specs.Ordering.{int_eq}
@@ -19,13 +19,10 @@ use Rattle.level_model.specs.declared.table.LoopAt.{LoopAt}
 use Rattle.level_model.specs.declared.table.ChildAt.{ChildAt}
 use Rattle.level_model.specs.Level.{End, end_at, enters, is_loop, all_ends}
 use Rattle.level_model.specs.Nets.{Name, gap_width, of_link, of_dock, of_loop, inverts, if_passed, lane_side_of_end}
-use Rattle.level_model.specs.Table.{end_in, loop_in, child_in}
+use Rattle.level_model.specs.Table.{end_in, end_number, loop_in, child_in}
 use Rattle.level_nets.specs.Parts.{Parts, plan_of}
 
 -- the number of an end: two for each edge, its source first
-abbrev pub end_number : End → ℕ
-end_number n = cond n.at_source (2 * n.edge) (2 * n.edge + 1)
-
 abbrev pub at_end : Parts → End → EndAt
 at_end s n = end_in s.table.ends (end_number n)
 

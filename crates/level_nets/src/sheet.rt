@@ -59,9 +59,7 @@ pub fn end_at(sheet: &Sheet<'_>, edge: u32, at_source: bool) -> EndAt
     requires edge { edge < length sheet.now.level.now.edges }
     ensures { result ≡ at_end (parts_in sheet.now) (end_at edge at_source) }
 {
-    let first = 2 * edge as usize;
-    let place = if at_source { first } else { first + 1 };
-    *sheet.table.ends.at(place)
+    sheet.table.end(edge, at_source)
 }
 
 /// The lanes of an edge as a self-loop.
@@ -78,6 +76,5 @@ pub fn is_loop(sheet: &Sheet<'_>, edge: u32) -> bool
     requires { edge < length sheet.now.level.now.edges }
     ensures { result ≡ is_loop (parts_in sheet.now).level edge }
 {
-    let found = sheet.level.edges.at(edge as usize);
-    found.source.child == found.target.child
+    sheet.level.edges.at(edge as usize).is_loop()
 }

@@ -24,6 +24,7 @@ use Rattle.level_model.proofs.SameLines.{line_eq-self}
 use Rattle.level_model.proofs.LinkLemmas.{Ends, at_child_unit, at_lane, tail_ends, head_ends, no_loop, tail_leaves, head_enters}
 use Rattle.level_model.proofs.NameLemmas.{IsName, name_is}
 use Rattle.level_model.proofs.LineLemmas.{on_unit}
+use Rattle.level_model.proofs.GapLemmas.{gap_free}
 use Rattle.plan_laws.proofs.NetNames.{joined_in_use}
 use Rattle.port_order.proofs.OrderLemmas.{side_same}
 
@@ -167,7 +168,7 @@ module _ (l : PlainLevel) (p : PlainPlan) (o : Orders) (layers : List ℕ) (read
     pub nets_stand : (g : ℕ) → g < length d.gaps → NetsStand (stage l p o d) g
     nets_stand g h =
         let gap = drawn.gaps g h in
-        record { free = gap.free; pins = pins gap.nets }
+        record { free = gap_free l p o d g gap; pins = pins gap.nets }
       where
         pins : (gap_in d.gaps g).nets ≡ nets_in l p o d.top g → (k : ℕ) (z : Pin) → k < length (gap_in d.gaps g).nets → HasPin (net_at (gap_in d.gaps g).nets k) z → IsPinOf (stage l p o d) ((stage l p o d).net_edge g k) g z
         pins nets k z less pin =

@@ -15,6 +15,7 @@ use Rattle.level_model.specs.Lanes.{has_one_dock}
 use Rattle.level_model.specs.Nets.{Name, all_names, gap_of, if_passed, is_inverted, loop_names, names_in, net_of, of_dock, of_link}
 use Rattle.level_model.specs.FromPlan.{LevelDrawing, IsDrawnFrom}
 use Rattle.level_model.specs.Ready.{IsReady}
+use Rattle.level_model.proofs.GapLemmas.{gap_free}
 use Rattle.level_nets.proofs.Chains.{one_link}
 use Rattle.level_nets.proofs.Holding.{ends_long, passed_short}
 use Rattle.level_nets.proofs.ListLemmas.{few_named, filter_short}
@@ -117,5 +118,5 @@ module _ (l : PlainLevel) (p : PlainPlan) (o : Orders) (d : LevelDrawing) (drawn
   pub count_few : (g : ℕ) → g < length d.gaps → (gap_in d.gaps g).count ≤ length (names_in l p o g) + length (names_in l p o g)
   count_few g h =
       let same = nets_long g h in
-      let few = few_slots (gap_in d.gaps g).nets (gap_in d.gaps g).count (gap_in d.gaps g).routes (drawn.gaps g h).free in
+      let few = few_slots (gap_in d.gaps g).nets (gap_in d.gaps g).count (gap_in d.gaps g).routes (gap_free l p o d g (drawn.gaps g h)) in
       omega (arith, same, few)

@@ -1,7 +1,6 @@
 //! The lanes and gaps of self-loops.
-ghost use Rattle.std.specs.Prelude.{◌≡◌, ◌++◌, IfOk, OnErr, if◌then◌else◌, map, is_ok};
-ghost use Rattle.drawing_types.specs.Shapes.{is_side};
-ghost use Rattle.self_loops.specs.Loops.{crosses, has_one_dock, lanes_of, lanes_of_all, passes_left, passes_right, sides_of_lanes, sides_of_pair};
+ghost use Rattle.std.specs.Prelude.{◌≡◌, ◌++◌, IfOk};
+ghost use Rattle.self_loops.specs.Loops.{has_one_dock, lanes_of, lanes_of_all, passes, passes_left, passes_right, way};
 
 use drawing_types::shape::Side;
 use std::alloc::{AllocError, Global};
@@ -49,20 +48,71 @@ pub fn loop_legs(ends: &LoopEnds) -> (bool, bool)
     if has_one_dock(ends) {
         return (false, false);
     }
-    let left = ends.source == Side::West || ends.target == Side::West;
-    let right = ends.source == Side::East || ends.target == Side::East;
-    (left, right || crosses(ends.source, ends.target))
+    (
+        passes(ends.source, ends.target, Side::West),
+        passes(ends.source, ends.target, Side::East),
+    )
 }
 
-// Adds the lanes of one loop.
+/// Whether a loop between two different docks on these sides passes a side of its child.
+pub fn passes(source: Side, target: Side, side: Side) -> bool
+    ensures { result ≡ passes source target side }
+{
+    for passed in way(source, target) {
+        if side == *passed {
+            return true;
+        }
+    }
+    false
+}
+
+/// The way of a loop between two different docks on these sides: its lanes above (north) and below (south) the child, and
+/// the gaps on the left (west) and the right (east), in the order in which it passes them.
+pub fn way(source: Side, target: Side) -> &'static [Side]
+    ensures { result.now ≡ way source target }
+{
+    match source {
+        Side::North => match target {
+            Side::North => &[Side::North],
+            Side::East => &[Side::North, Side::East],
+            Side::South => &[Side::North, Side::East, Side::South],
+            Side::West => &[Side::North, Side::West],
+        },
+        Side::East => match target {
+            Side::North => &[Side::East, Side::North],
+            Side::East => &[Side::East],
+            Side::South => &[Side::East, Side::South],
+            Side::West => &[Side::East, Side::North, Side::West],
+        },
+        Side::South => match target {
+            Side::North => &[Side::South, Side::East, Side::North],
+            Side::East => &[Side::South, Side::East],
+            Side::South => &[Side::South],
+            Side::West => &[Side::South, Side::West],
+        },
+        Side::West => match target {
+            Side::North => &[Side::West, Side::North],
+            Side::East => &[Side::West, Side::North, Side::East],
+            Side::South => &[Side::West, Side::South],
+            Side::West => &[Side::West],
+        },
+    }
+}
+
+// Adds the lanes of one loop, that in the north first.
 fn push_lanes(lanes: &mut Vec<LoopLane>, ends: &LoopEnds) -> Result<(), AllocError>
     ensures { IfOk result (λ _. lanes.new.items ≡ lanes.old.items ++ lanes_of ends.now) }
 {
-    for side in sides_of_lanes(ends) {
-        lanes.push(LoopLane {
-            edge: ends.edge,
-            side: *side,
-        })?;
+    if has_one_dock(ends) {
+        return Ok(());
+    }
+    for side in [Side::North, Side::South] {
+        if passes(ends.source, ends.target, side) {
+            lanes.push(LoopLane {
+                edge: ends.edge,
+                side,
+            })?;
+        }
     }
     Ok(())
 }
@@ -72,54 +122,4 @@ fn has_one_dock(ends: &LoopEnds) -> bool
     ensures { result ≡ has_one_dock ends.now }
 {
     ends.source == ends.target && ends.source_at == ends.target_at
-}
-
-// The sides of the loop's lanes.
-fn sides_of_lanes(ends: &LoopEnds) -> &'static [Side]
-    ensures { result.now ≡ sides_of_lanes ends.now.source ends.now.target (has_one_dock ends.now) }
-{
-    if has_one_dock(ends) {
-        &[]
-    } else {
-        sides_of_pair(ends.source, ends.target)
-    }
-}
-
-// The sides of the lanes of a loop between two different docks on these sides.
-fn sides_of_pair(source: Side, target: Side) -> &'static [Side]
-    ensures { result.now ≡ sides_of_pair source target }
-{
-    match source {
-        Side::North => match target {
-            Side::South => &[Side::North, Side::South],
-            _ => &[Side::North],
-        },
-        Side::South => match target {
-            Side::North => &[Side::North, Side::South],
-            _ => &[Side::South],
-        },
-        Side::East => match target {
-            Side::North => &[Side::North],
-            Side::South => &[Side::South],
-            Side::West => &[Side::North],
-            Side::East => &[],
-        },
-        Side::West => match target {
-            Side::North => &[Side::North],
-            Side::South => &[Side::South],
-            Side::East => &[Side::North],
-            Side::West => &[],
-        },
-    }
-}
-
-// Whether the sides are north and south.
-fn crosses(source: Side, target: Side) -> bool
-    ensures { result ≡ crosses source target }
-{
-    match source {
-        Side::North => target == Side::South,
-        Side::South => target == Side::North,
-        _ => false,
-    }
 }

@@ -9,7 +9,6 @@ use Rattle.elk_doc.specs.declared.document.Slotting.{Slotting}
 use Rattle.elk_doc.specs.declared.document.Slotting.TheVariants.{Fewest, Uncrossed}
 use Rattle.net_routes.specs.declared.Net.{Net}
 use Rattle.net_routes.specs.declared.NetRoute.{NetRoute}
-use Rattle.net_routes.specs.GapFree.{GapFree}
 use Rattle.route_lines.specs.Points.{PlainGap, gap_in, trace_points}
 use Rattle.route_lines.specs.Tidied.{IsTidied, IsSectionOf}
 use Rattle.level_model.specs.Level.{PlainLevel, PlainPlan, Orders, End, end_at, spoke, spot_of, anchor_of_spot, outline}
@@ -17,7 +16,6 @@ use Rattle.level_model.specs.Nets.{gap_left, gap_width, first_slot, column_width
 use Rattle.level_model.specs.FromPlan.{LevelDrawing, AreSlots, counts, IsGap, IsRoute, IsPlaced, IsDrawnFrom, box_place, anchor, trace_at, section_at}
 use Rattle.working_frame.specs.Moved.{moved, moved_point, moved_net, moved_route, moved_step, moved_gap, moved_trace, moved_section, HasPlaces}
 use Rattle.net_routes.proofs.SlotMoves.{fewest_moves, uncrossed_moves}
-use Rattle.net_routes.proofs.GapMoves.{gap_moves}
 use Rattle.drawing_types.proofs.SameShapes.{same_point}
 use Rattle.working_frame.proofs.PathMoves.{tidied_moves, section_moves, gap_is, points_move}
 use Rattle.working_frame.proofs.StepMoves.{steps_move, nets_move}
@@ -70,7 +68,6 @@ module _ (l : PlainLevel) (p : PlainPlan) (o : Orders) (d : LevelDrawing) (x y :
         right = ap (λ k. k.right) is ∙ ap (λ a. a -ℤ x) was.right ∙ behind (gap_in d.gaps g).left (gap_width l p g (counts d.gaps g)) x
             ∙ ap₂ (λ (a : ℤ) (n : ℕ). a +ℤ gap_width l p g n) (sym (ap (λ k. k.left) is)) (sym (same_counts g));
         nets = ap (λ k. k.nets) is ∙ ap (map (moved_net y)) was.nets ∙ sym (nets_move l p o d.top y g);
-        free = subst (λ k. GapFree k.nets k.count k.routes) (sym is) (gap_moves y (gap_in d.gaps g).nets (gap_in d.gaps g).count (gap_in d.gaps g).routes was.free);
         slots = subst (λ k. AreSlots l.choices.slots k.nets k.count k.routes) (sym is) (slots_move y l.choices.slots (gap_in d.gaps g).nets (gap_in d.gaps g).count (gap_in d.gaps g).routes was.slots);
       }
 

@@ -6,15 +6,15 @@ use Rattle.drawing_types.specs.declared.shape.Side.{Side}
 use Rattle.drawing_types.specs.declared.shape.Side.TheVariants.{North, East, South, West}
 use Rattle.net_routes.specs.declared.Pin.{Pin}
 use Rattle.net_routes.specs.declared.Net.{Net}
-use Rattle.self_loops.specs.Loops.{is_upright}
+use Rattle.self_loops.specs.Loops.{is_upright, way}
 use Rattle.route_lines.specs.declared.Step.{Step}
 use Rattle.route_lines.specs.declared.Step.TheVariants.{Lane, Leg}
 use Rattle.elk_layers.specs.Layered.{link_at}
 use Rattle.level_model.specs.Stage.{Line, dock_lane, loop_lane, long_lane}
 use Rattle.level_model.specs.Level.{PlainLevel, PlainPlan, Orders, End, end_at, tail_end, head_end, holds, is_loop, dock_of}
 use Rattle.level_model.specs.Lanes.{has_one_dock}
-use Rattle.level_model.specs.Nets.{Name, of_link, of_dock, of_loop, height_of, is_inverted, pin_at, net_of, nets_in, names_in, a_on_left, b_on_left, a_line, b_line}
-use Rattle.level_model.specs.Traces.{lane_step, leg_step, leaving, entering, chain, chain_steps, oriented_steps, reversed_step, reversed_steps, loop_steps, steps_of}
+use Rattle.level_model.specs.Nets.{Name, of_link, of_dock, height_of, is_inverted, pin_at, net_of, nets_in, names_in, a_on_left, b_on_left, a_line, b_line}
+use Rattle.level_model.specs.Traces.{lane_step, leg_step, leaving, entering, chain, chain_steps, oriented_steps, reversed_step, reversed_steps, loop_step, loop_steps, steps_of}
 use Rattle.working_frame.specs.Moved.{moved_pin, moved_net, moved_step}
 
 further : (h t y : ℤ) → h -ℤ (t +ℤ y) ≡ (h -ℤ t) -ℤ y
@@ -75,35 +75,18 @@ module _ (l : PlainLevel) (p : PlainPlan) (o : Orders) (t y : ℤ) where
   rotated_moves : (steps : List Step) → reversed_steps (move steps) ≡ move (reversed_steps steps)
   rotated_moves steps = ap reverse (rotate_moves steps) ∙ sym (map_reverse (moved_step y) (map reversed_step steps))
 
-  lane_and_leg : (m : Line) (s : Step) → lane_step l p o (t +ℤ y) m ∷ s ∷ [] ≡ moved_step y (lane_step l p o t m) ∷ s ∷ []
-  lane_and_leg m s = ap (λ r. r ∷ s ∷ []) (lane_moves m)
+  loop_step_moves : (e : ℕ) (side : Side) → loop_step l p o (t +ℤ y) e side ≡ moved_step y (loop_step l p o t e side)
+  loop_step_moves e North = lane_moves (loop_lane e North)
+  loop_step_moves e East = refl
+  loop_step_moves e South = lane_moves (loop_lane e South)
+  loop_step_moves e West = refl
 
-  leg_and_lane : (s : Step) (m : Line) → s ∷ lane_step l p o (t +ℤ y) m ∷ [] ≡ s ∷ moved_step y (lane_step l p o t m) ∷ []
-  leg_and_lane s m = ap (λ r. s ∷ r ∷ []) (lane_moves m)
-
-  around : (m : Line) (s : Step) (k : Line) → lane_step l p o (t +ℤ y) m ∷ s ∷ lane_step l p o (t +ℤ y) k ∷ [] ≡ moved_step y (lane_step l p o t m) ∷ s ∷ moved_step y (lane_step l p o t k) ∷ []
-  around m s k = ap₂ (λ (a b : Step). a ∷ s ∷ b ∷ []) (lane_moves m) (lane_moves k)
-
-  across : (s : Step) (m : Line) (r : Step) → s ∷ lane_step l p o (t +ℤ y) m ∷ r ∷ [] ≡ s ∷ moved_step y (lane_step l p o t m) ∷ r ∷ []
-  across s m r = ap (λ q. s ∷ q ∷ r ∷ []) (lane_moves m)
+  along_moves : (e : ℕ) (sides : List Side) → map (loop_step l p o (t +ℤ y) e) sides ≡ move (map (loop_step l p o t e) sides)
+  along_moves e [] = refl
+  along_moves e (side ∷ sides) = ap₂ (λ (s : Step) (steps : List Step). s ∷ steps) (loop_step_moves e side) (along_moves e sides)
 
   loop_moves : (e : ℕ) (from to : Side) → loop_steps l p o (t +ℤ y) e from to ≡ move (loop_steps l p o t e from to)
-  loop_moves e North North = one_lane (loop_lane e North)
-  loop_moves e South South = one_lane (loop_lane e South)
-  loop_moves e East East = refl
-  loop_moves e West West = refl
-  loop_moves e North South = around (loop_lane e North) (leg_step l p o (of_loop e East) true) (loop_lane e South)
-  loop_moves e South North = around (loop_lane e South) (leg_step l p o (of_loop e East) true) (loop_lane e North)
-  loop_moves e East West = across (leg_step l p o (of_loop e East) true) (loop_lane e North) (leg_step l p o (of_loop e West) true)
-  loop_moves e West East = across (leg_step l p o (of_loop e West) true) (loop_lane e North) (leg_step l p o (of_loop e East) true)
-  loop_moves e North East = lane_and_leg (loop_lane e North) (leg_step l p o (of_loop e East) true)
-  loop_moves e North West = lane_and_leg (loop_lane e North) (leg_step l p o (of_loop e West) true)
-  loop_moves e South East = lane_and_leg (loop_lane e South) (leg_step l p o (of_loop e East) true)
-  loop_moves e South West = lane_and_leg (loop_lane e South) (leg_step l p o (of_loop e West) true)
-  loop_moves e East North = leg_and_lane (leg_step l p o (of_loop e East) true) (loop_lane e North)
-  loop_moves e East South = leg_and_lane (leg_step l p o (of_loop e East) true) (loop_lane e South)
-  loop_moves e West North = leg_and_lane (leg_step l p o (of_loop e West) true) (loop_lane e North)
-  loop_moves e West South = leg_and_lane (leg_step l p o (of_loop e West) true) (loop_lane e South)
+  loop_moves e from to = along_moves e (way from to)
 
   either : (b : Bool) (u v u' v' : List Step) → u' ≡ move u → v' ≡ move v → cond b u' v' ≡ move (cond b u v)
   either true u v u' v' f g = f

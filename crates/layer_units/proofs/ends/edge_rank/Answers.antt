@@ -28,7 +28,7 @@ child_rank-requires-clause-ranks c =
 
 pub child_rank-requires-clause-end : goal.child_rank-requires-clause-end
 child_rank-requires-clause-end c =
-    subst IsEndIn (sym c.end_of-end.ensures) (end_near c.args.ranking.now.table.now (length c.args.ranking.now.level.now.edges) c.args.edge c.args.at_source c.requires.ranking.numbers c.requires.ranking.as_many_ends c.requires.edge)
+    subst IsEndIn (sym c.end-end.ensures) (end_near c.args.ranking.now.table.now (length c.args.ranking.now.level.now.edges) c.args.edge c.args.at_source c.requires.ranking.numbers c.requires.ranking.as_many_ends c.requires.edge)
 
 pub returns-clause-value : goal.returns-clause-value
 returns-clause-value c =
@@ -40,5 +40,5 @@ returns-clause-value c =
     let same = length-map vs plain_ranks in
     let inside = there.child in
     c.child_rank.ensures.value
-    ∙ edge_made l c.args.ranking.now.table.now (map plain_ranks vs) c.args.edge c.args.at_source c.args.enters c.spoke_of-spoke.result c.at-child.result.now (plain_ranks (get_or vs c.spoke_of-spoke.result.child c.index-ranking-spoke.result)) c.end_of-end.result
-    c.spoke_of-spoke.ensures child (ranks_read vs c.spoke_of-spoke.result.child c.index-ranking-spoke.result (omega (arith, inside, many, same))) c.end_of-end.ensures
+    ∙ edge_made l c.args.ranking.now.table.now (map plain_ranks vs) c.args.edge c.args.at_source c.args.enters c.spoke_of-spoke.result c.at-child.result.now (plain_ranks (get_or vs c.spoke_of-spoke.result.child c.index-ranking-spoke.result)) c.end-end.result
+    c.spoke_of-spoke.ensures child (ranks_read vs c.spoke_of-spoke.result.child c.index-ranking-spoke.result (omega (arith, inside, many, same))) c.end-end.ensures

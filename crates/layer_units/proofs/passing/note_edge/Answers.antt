@@ -1,4 +1,4 @@
-use Rattle.std.proofs.Common.{refl, eq-eqb, ne_eqb}
+use Rattle.std.proofs.Common.{◌∙◌, refl, sym}
 use Rattle.level_model.specs.Conditions.{plain_level}
 use Rattle.layer_units.specs.Reading.{mark_at}
 use Rattle.layer_units.specs.Passing.{spot_lists}
@@ -33,11 +33,11 @@ pub returns-then-looped : goal.returns-then-looped
 returns-then-looped c =
     let l = plain_level c.args.level.now in
     let is = edge_read l c.args.edge c.at-found.result.now c.requires.level c.requires.edge c.at-found.ensures in
-    loop_noted l c.args.marks.now c.args.edge c.at-found.result.now (spot_lists c.args.spots.now) is (eq-eqb _ _ c.if-looped.true) c.requires.so_far
+    loop_noted l c.args.marks.now c.args.edge c.at-found.result.now (spot_lists c.args.spots.now) is (sym c.is_loop-looped.ensures ∙ c.if-looped.true) c.requires.so_far
 
 pub returns : goal.returns
 returns c =
     let l = plain_level c.args.level.now in
     let is = edge_read l c.args.edge c.at-found.result.now c.requires.level c.requires.edge c.at-found.ensures in
     edge_noted l c.args.marks.now c.args.edge c.at-found.result.now (spot_lists c.args.spots.now) is c.requires.so_far (mark_at c.args.marks.now c.args.edge) (spot_lists c.note_end.new.spots) c.note_end.ensures
-    (spot_lists c.note_end-2.new.spots) refl (ne_eqb _ _ c.if-looped.false) c.note_end-2.ensures
+    (spot_lists c.note_end-2.new.spots) refl (sym c.is_loop-looped.ensures ∙ c.if-looped.false) c.note_end-2.ensures

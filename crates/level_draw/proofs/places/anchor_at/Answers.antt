@@ -1,7 +1,7 @@
 use Rattle.std.proofs.Common.{sym, subst}
 use Rattle.level_model.specs.declared.table.EndAt.{EndAt}
 use Rattle.level_model.specs.Level.{end_at}
-use Rattle.level_nets.specs.Read.{end_number}
+use Rattle.level_model.specs.Table.{end_number}
 use Rattle.level_draw.specs.Reach.{IsNearPoint}
 use Rattle.level_draw.proofs.RangeLemmas.{end_there}
 use Rattle.level_draw.proofs.places.anchor_at.Goals as goal

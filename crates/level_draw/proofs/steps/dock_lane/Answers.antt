@@ -2,7 +2,7 @@ use Rattle.std.proofs.Common.{arith, ap}
 use Rattle.std.proofs.lemmas.Int.{ints}
 use Rattle.level_model.specs.declared.table.EndAt.{EndAt}
 use Rattle.level_model.specs.Level.{end_at}
-use Rattle.level_nets.specs.Read.{end_number}
+use Rattle.level_model.specs.Table.{end_number}
 use Rattle.level_draw.proofs.RangeLemmas.{end_there}
 use Rattle.level_draw.proofs.steps.dock_lane.Goals as goal
 

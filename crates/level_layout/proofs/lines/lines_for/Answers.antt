@@ -20,9 +20,9 @@ returns-in-BrandesKoepf c =
 pub returns-in-NetworkSimplex : goal.returns-in-NetworkSimplex
 returns-in-NetworkSimplex c =
     if_both c.least_lines.result
-    (λ (v : Lines). AreLeastHigh (plain c.args.layered.now) (rows_of c.args.order.now) c.straightness_of.result v.top.items)
+    (λ (v : Lines). AreLeastHigh (plain c.args.layered.now) (rows_of c.args.order.now) c.straightness_for.result v.top.items)
     (λ (v : Lines). EndsWithinStack (plain c.args.layered.now) v.top.items)
     (λ (v : Lines). AreChosenLines (plain c.args.layered.now) (rows_of c.args.order.now) c.args.level.now.placing c.args.level.now.fixed (straightness_for c.args.level.now) v.top.items)
     c.least_lines.ensures.least c.least_lines.ensures.within
     (λ v lines ends. by_height (plain c.args.layered.now) (rows_of c.args.order.now) c.args.level.now.placing c.args.level.now.fixed (straightness_for c.args.level.now) v.top.items c.in-NetworkSimplex.is
-    (subst (λ (s : ℕ). AreLeastHigh (plain c.args.layered.now) (rows_of c.args.order.now) s v.top.items) c.straightness_of.ensures.is lines) ends)
+    (subst (λ (s : ℕ). AreLeastHigh (plain c.args.layered.now) (rows_of c.args.order.now) s v.top.items) c.straightness_for.ensures.is lines) ends)

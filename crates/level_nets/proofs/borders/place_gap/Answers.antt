@@ -1,7 +1,6 @@
 use Rattle.std.proofs.Common.{List, w64, subst, arith}
 use Rattle.std.proofs.lemmas.Int.{ints, to_z-of_z}
 use Rattle.net_routes.specs.declared.Net.{Net}
-use Rattle.net_routes.specs.GapFree.{GapFree}
 use Rattle.level_model.specs.FromPlan.{AreSlots}
 use Rattle.level_nets.proofs.borders.place_gap.Goals as goal
 
@@ -22,6 +21,5 @@ returns-clause-placed c =
       first = omega (arith, ints, low, high, first, first_low, first_high);
       step = omega (arith, ints, step_low, step_high);
       right = omega (arith, ints, low, high, width, width_low, width_high);
-      free = subst (λ (ns : List Net). GapFree ns c.in_ok-gap.field-0.count c.in_ok-gap.field-0.routes.items) c.as_slice.ensures.value c.in_ok-gap.ensures.free;
-      slots = subst (λ (ns : List Net). AreSlots c.args.sheet.now.level.now.choices.slots ns c.in_ok-gap.field-0.count c.in_ok-gap.field-0.routes.items) c.as_slice.ensures.value c.in_ok-gap.ensures.asked;
+      slots = subst (λ (ns : List Net). AreSlots c.args.sheet.now.level.now.choices.slots ns c.in_ok-gap.field-0.count c.in_ok-gap.field-0.routes.items) c.as_slice.ensures.value c.in_ok-gap.ensures;
     }

@@ -1,0 +1,2 @@
+-- What the numbers of a level's choices mean.
+pub mod Numbers
