@@ -52,20 +52,23 @@ test('an edge of many sources and one target has one too', WITH_PROGRAM, async (
   assert.ok(edges[0].sections.every(({ id }, at) => id === `7_s${at}`));
 });
 
-test('its junction points are where its sections meet', WITH_PROGRAM, async () => {
-  const { edges, children } = await placedEdges([
-    { id: 'e', sources: ['a'], targets: ['b', 'c', 'd'] },
-    { id: 'f', sources: ['b', 'c'], targets: ['d'] },
-  ]);
-  for (const { sections, junctionPoints, sources, targets } of edges) {
-    const meetings = sections.flatMap((section) => [
-      ...(section.outgoingSections?.length > 1 ? [pointOf(section.endPoint)] : []),
-      ...(section.incomingSections?.length > 1 ? [pointOf(section.startPoint)] : []),
-    ]);
-    assert.deepEqual(junctionPoints.map(pointOf).sort(), meetings.sort());
-    assert.ok(sources.length + targets.length > 2);
+test('its junction points are where its sections meet, under all routings', WITH_PROGRAM, async () => {
+  for (const edgeRouting of ['ORTHOGONAL', 'POLYLINE', 'SPLINES']) {
+    const given = [
+      { id: 'e', sources: ['a'], targets: ['b', 'c', 'd'] },
+      { id: 'f', sources: ['b', 'c'], targets: ['d'] },
+    ];
+    const { edges, children } = await placedEdges(given, { edgeRouting });
+    for (const { sections, junctionPoints, sources, targets } of edges) {
+      const meetings = sections.flatMap((section) => [
+        ...(section.outgoingSections?.length > 1 ? [pointOf(section.endPoint)] : []),
+        ...(section.incomingSections?.length > 1 ? [pointOf(section.startPoint)] : []),
+      ]);
+      assert.deepEqual(junctionPoints.map(pointOf).sort(), meetings.sort(), edgeRouting);
+      assert.ok(sources.length + targets.length > 2);
+    }
+    assert.deepEqual(children.map(({ ports }) => ports), [undefined, undefined, undefined, undefined]);
   }
-  assert.deepEqual(children.map(({ ports }) => ports), [undefined, undefined, undefined, undefined]);
 });
 
 test('an edge with very many targets is split as one with few', WITH_PROGRAM, async () => {

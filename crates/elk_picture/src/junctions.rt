@@ -1,9 +1,9 @@
 //! Junction points: where routes with a common dock part or join. Circuit drawings mark these points with a dot.
 
 use crate::docks::{Dock, docks_of};
-use crate::element::{elements_of, place_of};
+use crate::element::{elements_of, has_items, place_of};
 use crate::geometry::Point;
-use crate::levels::{Levels, levels_of};
+use crate::levels::{Edge, Levels, levels_of};
 use crate::path::{PointKey, point_key};
 use crate::routes::{Route, add_routes};
 use crate::ways::{Passes, passes_of};
@@ -109,6 +109,13 @@ struct Found {
 }
 
 impl Found {
+    fn tell_once(&mut self, edge: usize, point: Point) -> Result<(), AllocError> {
+        if self.told.contains(&point_key(point)) {
+            return Ok(());
+        }
+        self.tell(edge, point)
+    }
+
     fn tell(&mut self, edge: usize, point: Point) -> Result<(), AllocError> {
         if let Some(points) = self.by_edge.get_mut(edge) {
             points.push(point)?;
@@ -156,6 +163,65 @@ fn join_dock(
     Ok(())
 }
 
+fn has_several(section: &Value, key: &str) -> bool {
+    match section.get(key).and_then(Value::as_array) {
+        Some(items) => items.len() > 1,
+        None => false,
+    }
+}
+
+// The points at which routes of an edge begin or end.
+fn ends_of(alloc: Global, edge: &Edge<'_>) -> Result<BTreeSet<PointKey>, AllocError> {
+    let mut ends = BTreeSet::new(alloc);
+    for section in edge.sections.iter() {
+        if !has_items(section.value, "incomingSections") {
+            if let Some(start) = section.points.first() {
+                ends.insert(point_key(*start))?;
+            }
+        }
+        if !has_items(section.value, "outgoingSections") {
+            if let Some(end) = section.points.last() {
+                ends.insert(point_key(*end))?;
+            }
+        }
+    }
+    Ok(ends)
+}
+
+// The points at which several sections of an edge follow one, or one follows several.
+fn meetings_of(alloc: Global, edge: &Edge<'_>) -> Result<Vec<Point>, AllocError> {
+    let mut meetings = Vec::new(alloc);
+    for section in edge.sections.iter() {
+        if has_several(section.value, "incomingSections") {
+            if let Some(start) = section.points.first() {
+                meetings.push(*start)?;
+            }
+        }
+        if has_several(section.value, "outgoingSections") {
+            if let Some(end) = section.points.last() {
+                meetings.push(*end)?;
+            }
+        }
+    }
+    Ok(meetings)
+}
+
+// Tells where sections of an edge meet, other than at its docks.
+fn join_sections(
+    alloc: Global,
+    (at, edge): (usize, &Edge<'_>),
+    origin: Point,
+    found: &mut Found,
+) -> Result<(), AllocError> {
+    let ends = ends_of(alloc, edge)?;
+    for point in meetings_of(alloc, edge)? {
+        if !ends.contains(&point_key(point)) {
+            found.tell_once(at, point.moved(origin))?;
+        }
+    }
+    Ok(())
+}
+
 // The junction points of each edge in the whole drawing. Each is told once, with the first edge of its dock that passes it.
 fn found_junctions(alloc: Global, levels: &Levels<'_>) -> Result<Vec<Vec<Point>>, AllocError> {
     let mut routes = Vec::new(alloc);
@@ -164,11 +230,13 @@ fn found_junctions(alloc: Global, levels: &Levels<'_>) -> Result<Vec<Vec<Point>>
         told: BTreeSet::new(alloc),
     };
     for (at, edge) in levels.edges.iter().enumerate() {
-        // Slanted and curved routes part by degrees.
+        found.by_edge.push(Vec::new(alloc))?;
         if edge.value.get("routing").is_none() {
             add_routes(alloc, (at, edge), levels, &mut routes)?;
+        } else {
+            // Slanted and curved routes of several edges part by degrees, those of one edge where its sections meet.
+            join_sections(alloc, (at, edge), levels.origin_of(edge.home), &mut found)?;
         }
-        found.by_edge.push(Vec::new(alloc))?;
     }
     for dock in docks_of(alloc, routes.as_slice())? {
         if dock.routes.len() > 1 {
@@ -178,7 +246,7 @@ fn found_junctions(alloc: Global, levels: &Levels<'_>) -> Result<Vec<Vec<Point>>
     Ok(found.by_edge)
 }
 
-/// Where routes with a common dock part or join: for each edge of a placed graph, in document order, its points as pairs of x and y,
+/// Where orthogonal routes with a common dock part or join, and where sections of one edge do: for each edge of a placed graph, in document order, its points as pairs of x and y,
 /// relative to what its route is relative to. Each point is told once in the whole drawing, with the first edge of its dock that
 /// passes it.
 pub fn junction_points(alloc: Global, placed: &Value) -> Result<Vec<Vec<(f64, f64)>>, AllocError> {

@@ -27,6 +27,16 @@ const LEVELS: &str = r#"{"id":"r","children":[{"id":"d"},
     "edges":[{"id":"e","sources":["a"],"targets":["d"],"container":"r","sections":[{"startPoint":{"x":120,"y":110},
         "bendPoints":[{"x":130,"y":110},{"x":130,"y":140}],"endPoint":{"x":200,"y":140}}]}]}"#;
 
+// A curved edge from a to b, c and d, whose sections part at one point inside the group and at one on its border, where it ends too.
+const SECTIONS: &str = r#"{"id":"r","children":[{"id":"d"},
+    {"id":"g","x":100,"y":100,"children":[{"id":"a","width":20,"height":20},{"id":"b"}]}],
+    "edges":[{"id":"e","sources":["a"],"targets":["b","g","d"],"container":"r","routing":"SPLINES","sections":[
+        {"id":0,"incomingShape":"a","outgoingSections":[1,2],"startPoint":{"x":120,"y":110},"endPoint":{"x":130,"y":110}},
+        {"id":1,"incomingSections":[0],"outgoingShape":"b","startPoint":{"x":130,"y":110},"endPoint":{"x":130,"y":140}},
+        {"id":2,"incomingSections":[0],"outgoingSections":[3,4],"startPoint":{"x":130,"y":110},"endPoint":{"x":150,"y":110}},
+        {"id":3,"incomingSections":[2],"outgoingShape":"g","startPoint":{"x":150,"y":110},"endPoint":{"x":150,"y":110}},
+        {"id":4,"incomingSections":[2],"outgoingShape":"d","startPoint":{"x":150,"y":110},"endPoint":{"x":200,"y":110}}]}]}"#;
+
 const OUTLINES: &str = r#"{"children":[
     {"id":"a","width":20,"height":20,"style":{"shape":"circle","outlines":2,"stroke":"red","width":2}},
     {"id":"b","x":40,"width":20,"height":6,"style":{"outlines":9}},
@@ -91,6 +101,17 @@ fn a_junction_is_told_once(rt: HostRuntime) -> Result<(), Fail> {
     }
     let first = told.first().and_then(|points| points.first());
     assert_eq!(rt; first.copied(), Some((130.0, 140.0)));
+    Ok(())
+}
+
+#[test]
+fn sections_of_a_curved_edge_meet_at_junctions(rt: HostRuntime) -> Result<(), Fail> {
+    let alloc = rt.alloc();
+    let placed = Value::from_str(alloc, SECTIONS)?;
+    let told = junction_points(alloc, &placed)?;
+    assert_eq!(rt; told.len(), 1);
+    assert_eq!(rt; told[0].len(), 1);
+    assert_eq!(rt; told[0][0], (130.0, 110.0));
     Ok(())
 }
 

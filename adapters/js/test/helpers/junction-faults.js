@@ -1,5 +1,6 @@
 'use strict';
-// What is wrong with the junction points of a placed document: where orthogonal routes of one dock part or join.
+// What is wrong with the junction points of a placed document: where orthogonal routes of one dock part or join, and slanted or
+// curved routes of one edge.
 
 const { list } = require('./scene');
 
@@ -37,12 +38,38 @@ function routesByDock(routes) {
   return [...docks.values()];
 }
 
-/** Where routes of one dock part or join: for each such point of a dock, the edges there. */
-function partings(routes) {
+/** The points among these, each once, with the edges that may list them. */
+const foundAt = (points, edges) => [...new Set(points.map(keyOf))].map((key) => ({ key, edges: new Set(edges) }));
+
+/** Where orthogonal routes of one dock part or join. */
+function orthogonalPartings(routes) {
   return routesByDock(routes).flatMap((here) => {
     const points = here.flatMap((one, at) => here.slice(at + 1).flatMap((other) => partingsOf(one.points, other.points)));
-    const edges = new Set(here.map(({ edge }) => edge));
-    return [...new Set(points.map(keyOf))].map((key) => ({ key, edges }));
+    return foundAt(points, here.map(({ edge }) => edge));
+  });
+}
+
+/** The last point of what two lists of sections begin with in common, if they begin with anything in common. */
+function lastInCommon(one, other) {
+  const same = (k) => k < one.length && k < other.length && one[k].map(keyOf).join() === other[k].map(keyOf).join();
+  const count = one.findIndex((_, k) => !same(k));
+  return count > 0 ? [one[count - 1].at(-1)] : [];
+}
+
+const backwards = (sections) => sections.map((points) => [...points].reverse()).reverse();
+
+/** Where slanted or curved routes of one edge part or join, other than at its ends. */
+function bentPartings(routes) {
+  const byEdge = new Map();
+  for (const { edge, route } of routes.filter((it) => it.route.routing !== undefined)) {
+    byEdge.set(edge, [...(byEdge.get(edge) ?? []), route]);
+  }
+  return [...byEdge].flatMap(([edge, here]) => {
+    const ends = new Set(here.flatMap(({ points }) => [points[0], points.at(-1)]).map(keyOf));
+    const points = here.flatMap(({ sections: one }, at) =>
+      here.slice(at + 1).flatMap(({ sections: other }) => [...lastInCommon(one, other), ...lastInCommon(backwards(one), backwards(other))]),
+    );
+    return foundAt(points.filter((point) => !ends.has(keyOf(point))), [edge]);
   });
 }
 
@@ -53,13 +80,14 @@ function partings(routes) {
  */
 function junctionFaults(scene, routes) {
   const faults = [];
-  const found = partings(routes);
+  const found = [...orthogonalPartings(routes), ...bentPartings(routes)];
   const told = new Map(found.map(({ key }) => [key, []]));
   for (const edge of scene.edges) {
     const { x, y } = scene.containerOf(edge).box;
     const own = routes.filter((it) => it.edge === edge).map(({ route }) => route);
     for (const point of list(edge.json.junctionPoints).map((it) => ({ x: it.x + x, y: it.y + y }))) {
-      if (!own.some(({ points }) => passesOf(points, point).length > 0)) {
+      const isOrthogonal = own.some(({ routing }) => routing === undefined);
+      if (isOrthogonal && !own.some(({ points }) => passesOf(points, point).length > 0)) {
         faults.push(`${edge.json.id}: a junction point is not on its route`);
       } else if (!found.some(({ key, edges }) => key === keyOf(point) && edges.has(edge))) {
         faults.push(`${edge.json.id}: at a junction point nothing parts`);
