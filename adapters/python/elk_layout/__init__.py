@@ -12,7 +12,7 @@ from .query import close
 from .streams import layout_many, replies
 from .verdict import Verdict, check
 
-__version__ = "0.9.0"
+__version__ = "0.9.1"
 
 __all__ = [
     *("ElkError", "Fault", "LayoutWarning", "Placed", "ProgramError", "Reading", "Refusal", "Verdict"),
