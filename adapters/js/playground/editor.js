@@ -81,7 +81,23 @@ class Editor {
     });
     this.#mirror.on('cursorActivity', onCaret);
     this.#mirror.getInputField().setAttribute('aria-describedby', 'told');
-    new ResizeObserver(() => this.#mirror.refresh()).observe(host);
+    new ResizeObserver(() => {
+      this.#readTyped();
+      this.#mirror.refresh();
+    }).observe(host);
+  }
+
+  /**
+   * Takes in what a keyboard on a screen, or an input method, has just put into the page. CodeMirror does so a little later, and
+   * would undo it if it drew its lines before that.
+   */
+  #readTyped() {
+    const { input } = this.#mirror.display;
+    if (input.composing?.done) {
+      input.ensurePolled();
+    } else if (!input.composing && input.readDOMTimeout !== null) {
+      input.updateFromDOM();
+    }
   }
 
   /** Colours the text as one of this form. */
@@ -92,6 +108,7 @@ class Editor {
   }
 
   get text() {
+    this.#readTyped();
     this.#text ??= this.#mirror.getValue();
     return this.#text;
   }
@@ -138,6 +155,7 @@ class Editor {
    */
   tell(places) {
     const mirror = this.#mirror;
+    this.#readTyped();
     const told = places.filter(({ kind }) => kind === 'fault' || kind === 'warning').slice(0, MOST_MARKS);
     mirror.getInputField().setAttribute('aria-invalid', String(told.some(({ kind }) => kind === 'fault')));
     mirror.operation(() => {

@@ -567,6 +567,22 @@ const CASES = {
     assert.equal(await page.evaluate(`document.getElementById('told').hidden`), true);
   },
 
+  'what was put in just now stays when the page is arranged anew': async (page) => {
+    const before = await page.evaluate(textOfPage);
+    await page.evaluate(`(async () => {
+      ${mirror}.focus();
+      ${mirror}.setCursor(0, 1);
+      document.execCommand('insertText', false, ' ');
+      const { style } = document.getElementById('editor');
+      for (const height of ['100px', '']) {
+        style.maxHeight = height;
+        await new Promise((resolve) => requestAnimationFrame(() => setTimeout(resolve)));
+      }
+    })()`);
+    await until(page, isDrawn('a'));
+    assert.equal(await page.evaluate(textOfPage), before.replace('{', '{ '));
+  },
+
   'a long layout is stopped, and the page stays free meanwhile': async (page) => {
     await putIn(page, slow());
     await until(page, `!document.getElementById('busy').hidden`);
