@@ -207,6 +207,7 @@ fn faults_in(
 ) -> Result<Vec<Fault>, AllocError> {
     faults_of_call(
         alloc,
+        &settings.how.table,
         &sent.document,
         graph,
         &sent.owners,

@@ -118,7 +118,7 @@ pub(crate) fn warnings_in(
     settings: &Settings,
 ) -> Result<Vec<Finding>, AllocError> {
     let mut findings = Vec::new(alloc);
-    for warning in warnings_of(alloc, graph, &settings.general)?.iter() {
+    for warning in warnings_of(alloc, &settings.how.table, graph, &settings.general)?.iter() {
         findings.push(Finding::of_warning(alloc, warning)?)?;
     }
     Ok(findings)

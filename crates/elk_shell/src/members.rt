@@ -69,7 +69,7 @@ fn wanted_warnings(
         return Ok(None);
     }
     let mut values = Vec::new(alloc);
-    for warning in warnings_of(alloc, graph, &settings.general)?.iter() {
+    for warning in warnings_of(alloc, &settings.how.table, graph, &settings.general)?.iter() {
         values.push(warning_value(alloc, warning)?)?;
     }
     Ok(Some(Value::Array(values)))

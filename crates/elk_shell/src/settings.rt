@@ -2,6 +2,7 @@
 
 use graph_draft::{How, Options};
 use graph_layout::whole_options;
+use option_table::known_options;
 use serde_json::value::Map;
 use serde_json::{Value, put};
 use std::alloc::{AllocError, Global};
@@ -28,16 +29,18 @@ impl Settings {
         whole: bool,
     ) -> Result<Settings, AllocError> {
         let general = general.unwrap_or(Value::Null);
+        let table = known_options();
         let mut members = Map::new(alloc);
         let sent = if whole {
-            whole_options(alloc, &general)?
+            whole_options(alloc, &table, &general)?
         } else {
             general.clone()?
         };
         put(&mut members, alloc, "layoutOptions", sent)?;
-        let options = Options::carried_by(alloc, &Value::Object(members))?;
+        let options = Options::carried_by(alloc, &table, &Value::Object(members))?;
         Ok(Settings {
             how: How {
+                table,
                 whole,
                 general: options,
             },

@@ -4,7 +4,7 @@ use crate::draft::Draft;
 use crate::element::{Edge, End, Node, Port};
 use crate::options::{Options, standing};
 use crate::values::number_value;
-use option_names::{Role, is_read, is_read_by};
+use option_names::{OptionTable, Role};
 use serde_json::value::Map;
 use serde_json::{Value, put};
 use std::alloc::{AllocError, Global};
@@ -85,6 +85,7 @@ fn put_option(
 // The options that an element is sent with: those that it has, and those of the call that it reads and doesn't have itself.
 fn sent_options(
     alloc: Global,
+    table: &OptionTable,
     own: &Options,
     general: &Options,
     role: Role,
@@ -94,7 +95,7 @@ fn sent_options(
         return Ok(sent);
     }
     for name in general.names(alloc)? {
-        if own.get(name).is_none() && is_read_by(name, role) {
+        if own.get(name).is_none() && table.is_read_by(name, role) {
             if let Some(value) = general.get(name) {
                 let prefix = general.prefix_of(name);
                 put_option(&mut sent, alloc, prefix, name, value.clone()?)?;
@@ -102,7 +103,7 @@ fn sent_options(
         }
     }
     for name in own.names(alloc)? {
-        if is_read(name) {
+        if table.is_read(name) {
             if let Some(value) = own.get(name) {
                 let prefix = own.prefix_of(name);
                 put_option(&mut sent, alloc, prefix, name, value.clone()?)?;
@@ -115,11 +116,12 @@ fn sent_options(
 // The same for a level, with the options that stand for others.
 fn level_options(
     alloc: Global,
+    table: &OptionTable,
     own: &Options,
     general: &Options,
     children: usize,
 ) -> Result<Map<String, Value>, AllocError> {
-    let mut sent = sent_options(alloc, own, general, Role::Level)?;
+    let mut sent = sent_options(alloc, table, own, general, Role::Level)?;
     for (name, value) in standing(alloc, own, general, children)? {
         let prefix = if own.get(name).is_some() {
             own.prefix_of(name)
@@ -213,7 +215,13 @@ impl Writing<'_> {
         put_number(&mut members, alloc, "height", port.height)?;
         put_number(&mut members, alloc, "x", port.x)?;
         put_number(&mut members, alloc, "y", port.y)?;
-        let sent = sent_options(alloc, &port.options, &self.draft.general, Role::Port)?;
+        let sent = sent_options(
+            alloc,
+            &self.draft.table,
+            &port.options,
+            &self.draft.general,
+            Role::Port,
+        )?;
         put_options(&mut members, alloc, sent)?;
         Ok(Value::Object(members))
     }
@@ -225,7 +233,13 @@ impl Writing<'_> {
         put(&mut members, alloc, "sources", sources)?;
         let targets = self.ends(alloc, edge.targets.as_slice())?;
         put(&mut members, alloc, "targets", targets)?;
-        let sent = sent_options(alloc, &edge.options, &self.draft.general, Role::Edge)?;
+        let sent = sent_options(
+            alloc,
+            &self.draft.table,
+            &edge.options,
+            &self.draft.general,
+            Role::Edge,
+        )?;
         put_options(&mut members, alloc, sent)?;
         Ok(Value::Object(members))
     }
@@ -258,9 +272,15 @@ impl Writing<'_> {
     ) -> Result<Map<String, Value>, AllocError> {
         let general = &self.draft.general;
         if at == 0 || !node.children.is_empty() {
-            return level_options(alloc, &node.options, general, node.children.len());
+            return level_options(
+                alloc,
+                &self.draft.table,
+                &node.options,
+                general,
+                node.children.len(),
+            );
         }
-        sent_options(alloc, &node.options, general, Role::Node)
+        sent_options(alloc, &self.draft.table, &node.options, general, Role::Node)
     }
 
     // A node with the values of its children.

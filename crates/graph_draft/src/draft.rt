@@ -5,6 +5,7 @@ use crate::journal::Change;
 use crate::kinds::{Direction, Side};
 use crate::options::{Options, number_said, says, standing};
 use crate::points::{Point, Size};
+use option_names::OptionTable;
 use serde_json::Value;
 use std::alloc::{AllocError, Global};
 use std::collections::BTreeSet;
@@ -12,6 +13,8 @@ use std::collections::BTreeSet;
 /// How a graph is read.
 #[derive(Drop)]
 pub struct How {
+    /// The table of all options.
+    pub table: OptionTable,
     /// Whether numbers are made whole.
     pub whole: bool,
     /// The options that count wherever an element has none of its own.
@@ -31,6 +34,7 @@ pub struct Draft {
     pub given_edges: usize,
     /// The ports whose ids are those of nodes too. They are sent under others.
     pub renamed: BTreeSet<usize>,
+    pub table: OptionTable,
     pub general: Options,
     pub(crate) journal: Vec<Change>,
 }
@@ -38,7 +42,7 @@ pub struct Draft {
 const NO_NUMBERS: &[usize] = &[];
 
 impl Draft {
-    pub(crate) fn empty(alloc: Global, general: Options) -> Draft {
+    pub(crate) fn empty(alloc: Global, table: OptionTable, general: Options) -> Draft {
         Draft {
             nodes: Vec::new(alloc),
             ports: Vec::new(alloc),
@@ -48,6 +52,7 @@ impl Draft {
             given_ports: 0,
             given_edges: 0,
             renamed: BTreeSet::new(alloc),
+            table,
             general,
             journal: Vec::new(alloc),
         }

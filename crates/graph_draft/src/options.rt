@@ -1,6 +1,6 @@
 //! The options that elements carry, and those that stages ask for in their names.
 
-use option_names::{PREFIX, is_spelling, name_of, number_in, prefix_in, stand_ins};
+use option_names::{OptionTable, PREFIX, is_spelling, number_in, prefix_in, stand_ins};
 use serde_json::Value;
 use serde_json::value::Map;
 use std::alloc::{AllocError, Global};
@@ -40,16 +40,25 @@ impl Options {
 
     /// The options that an element carries: its `properties`, and above these its `layoutOptions`. Of several keys of one option
     /// the longest counts.
-    pub fn carried_by(alloc: Global, element: &Value) -> Result<Options, AllocError> {
+    pub fn carried_by(
+        alloc: Global,
+        table: &OptionTable,
+        element: &Value,
+    ) -> Result<Options, AllocError> {
         let mut options = Options::none(alloc);
-        options.carry(alloc, element.get("properties"))?;
-        options.carry(alloc, element.get("layoutOptions"))?;
+        options.carry(alloc, table, element.get("properties"))?;
+        options.carry(alloc, table, element.get("layoutOptions"))?;
         Ok(options)
     }
 
-    fn carry(&mut self, alloc: Global, given: Option<&Value>) -> Result<(), AllocError> {
+    fn carry(
+        &mut self,
+        alloc: Global,
+        table: &OptionTable,
+        given: Option<&Value>,
+    ) -> Result<(), AllocError> {
         match given {
-            Some(Value::Object(members)) => self.carry_members(alloc, members),
+            Some(Value::Object(members)) => self.carry_members(alloc, table, members),
             _ => Ok(()),
         }
     }
@@ -57,11 +66,12 @@ impl Options {
     fn carry_members(
         &mut self,
         alloc: Global,
+        table: &OptionTable,
         members: &Map<String, Value>,
     ) -> Result<(), AllocError> {
         let mut lengths: BTreeMap<&'static str, usize> = BTreeMap::new(alloc);
         for (key, value) in members.iter() {
-            if let Some(name) = name_of(key.as_str()) {
+            if let Some(name) = table.name_of(key.as_str()) {
                 let before = lengths.get(name).copied().unwrap_or(0);
                 if before <= key.len() {
                     lengths.insert(name, key.len())?;

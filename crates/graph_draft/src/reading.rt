@@ -7,6 +7,7 @@ use crate::numbers::{whole_port, whole_size};
 use crate::options::Options;
 use crate::points::{Point, Size};
 use crate::values::finite_at;
+use option_names::OptionTable;
 use serde_json::Value;
 use serde_json::value::Map;
 use std::alloc::{AllocError, Global};
@@ -99,7 +100,7 @@ fn letters_in(label: &Value) -> Option<f64> {
     }
 }
 
-fn label_in(alloc: Global, value: &Value) -> Result<Label, AllocError> {
+fn label_in(alloc: Global, table: &OptionTable, value: &Value) -> Result<Label, AllocError> {
     let size = size_in(value);
     let place = place_in(value);
     let text = match value.get("text") {
@@ -115,7 +116,7 @@ fn label_in(alloc: Global, value: &Value) -> Result<Label, AllocError> {
         y: place.y,
         has_place: has_place(value),
         placed: false,
-        options: Options::carried_by(alloc, value)?,
+        options: Options::carried_by(alloc, table, value)?,
     })
 }
 
@@ -127,7 +128,8 @@ impl<'a> Reading<'a> {
             for item in items {
                 if item.is_object() {
                     numbers.push(self.draft.labels.len())?;
-                    self.draft.labels.push(label_in(alloc, item)?)?;
+                    let label = label_in(alloc, &self.draft.table, item)?;
+                    self.draft.labels.push(label)?;
                 }
             }
         }
@@ -144,6 +146,7 @@ impl<'a> Reading<'a> {
         let labels = self.labels(alloc, value)?;
         let (given, place) = (size_in(value), place_in(value));
         let size = if self.whole { whole_size(given) } else { given };
+        let options = Options::carried_by(alloc, &self.draft.table, value)?;
         self.draft.nodes.push(Node {
             id: id_in(value)?,
             parent,
@@ -163,7 +166,7 @@ impl<'a> Reading<'a> {
                 y: place.y,
             },
             owner: None,
-            options: Options::carried_by(alloc, value)?,
+            options,
             layering: None,
             altered: false,
         })?;
@@ -185,6 +188,7 @@ impl<'a> Reading<'a> {
         } else {
             (size, place)
         };
+        let options = Options::carried_by(alloc, &self.draft.table, value)?;
         self.draft.ports.push(Port {
             id: id_in(value)?,
             node,
@@ -193,7 +197,7 @@ impl<'a> Reading<'a> {
             height: size.height,
             x: place.x,
             y: place.y,
-            options: Options::carried_by(alloc, value)?,
+            options,
         })?;
         let end = End {
             node,
@@ -207,6 +211,7 @@ impl<'a> Reading<'a> {
     fn edge(&mut self, alloc: Global, value: &'a Value, home: usize) -> Result<usize, AllocError> {
         let at = self.draft.edges.len();
         let labels = self.labels(alloc, value)?;
+        let options = Options::carried_by(alloc, &self.draft.table, value)?;
         self.draft.edges.push(Edge {
             id: id_in(value)?,
             home,
@@ -214,7 +219,7 @@ impl<'a> Reading<'a> {
             targets: Vec::new(alloc),
             labels,
             owner: None,
-            options: Options::carried_by(alloc, value)?,
+            options,
             sections: Vec::new(alloc),
             routing: None,
             junctions: Vec::new(alloc),
@@ -418,7 +423,7 @@ impl Reading<'_> {
 /// Reads a graph; nothing where it lacks the form that stages rely on, so that the engine refuses it as it is.
 pub fn read(alloc: Global, graph: &Value, how: &How) -> Result<Option<Draft>, AllocError> {
     let mut reading = Reading {
-        draft: Draft::empty(alloc, how.general.copy(alloc)?),
+        draft: Draft::empty(alloc, how.table, how.general.copy(alloc)?),
         values: Vec::new(alloc),
         ports: Vec::new(alloc),
         edges: Vec::new(alloc),

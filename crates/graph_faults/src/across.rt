@@ -2,6 +2,7 @@
 
 use graph_rules::{End, Key, is_extended, key_of};
 use json_places::{Element, Kind, carried_key, elements_of, general_key};
+use option_names::OptionTable;
 use serde_json::Value;
 use std::alloc::{AllocError, Global};
 use std::collections::BTreeMap;
@@ -15,6 +16,7 @@ pub(crate) struct Levels<'a> {
     elements: Vec<Element<'a>>,
     nodes: BTreeMap<Key<'a>, usize>,
     ports: BTreeMap<Key<'a>, usize>,
+    table: &'a OptionTable,
     general: &'a Value,
 }
 
@@ -31,6 +33,7 @@ enum Way {
 // The levels of a graph with the options of a call.
 pub(crate) fn levels_of<'a>(
     alloc: Global,
+    table: &'a OptionTable,
     graph: &'a Value,
     general: &'a Value,
 ) -> Result<Levels<'a>, AllocError> {
@@ -38,6 +41,7 @@ pub(crate) fn levels_of<'a>(
         elements: elements_of(alloc, graph)?,
         nodes: BTreeMap::new(alloc),
         ports: BTreeMap::new(alloc),
+        table,
         general,
     };
     levels.name()?;
@@ -129,10 +133,10 @@ impl<'a> Levels<'a> {
 
     fn asked(&self, node: usize) -> Option<&'a Value> {
         let element = self.elements.get(node)?;
-        match carried_key(element.value, "hierarchyHandling") {
+        match carried_key(self.table, element.value, "hierarchyHandling") {
             Some(carried) => Some(carried.value),
             None => {
-                let (_, value) = general_key(self.general, "hierarchyHandling")?;
+                let (_, value) = general_key(self.table, self.general, "hierarchyHandling")?;
                 Some(value)
             }
         }

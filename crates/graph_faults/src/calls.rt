@@ -1,13 +1,14 @@
-//! All faults of a document, and of a graph for which one is sent.
+//! All faults of a graph for which a document is sent.
 
 use crate::across::levels_of;
-use crate::details::{Teller, Turned};
+use crate::details::Teller;
 use crate::fault::Fault;
-use crate::origin::{Origin, own_id};
+use crate::origin::Origin;
 use crate::rules::rule_words;
 use crate::texts::{bare_fault, count_value, grouped};
 use graph_rules::{Case, Context, Find, context_of, finds_in};
-use json_places::{Kind, Step, elements_of, steps_to};
+use json_places::{Kind, elements_of};
+use option_names::OptionTable;
 use serde_json::Value;
 use std::alloc::{AllocError, Global};
 use std::collections::{BTreeMap, BTreeSet};
@@ -26,53 +27,6 @@ fn kind_of(context: &Context, element: Option<usize>) -> Kind {
         Some(element) => element.kind,
         None => Kind::Node,
     }
-}
-
-// What is found in a document, told of the document itself.
-fn as_found<'a>(
-    alloc: Global,
-    context: &Context<'a>,
-    find: Find<'a>,
-) -> Result<Turned<'a>, AllocError> {
-    let id = own_id(context, &find)?;
-    let Find {
-        rule,
-        element,
-        names,
-        case,
-    } = find;
-    let mut steps: Vec<Step> = match element {
-        Some(number) => steps_to(alloc, context.elements.as_slice(), number)?,
-        None => Vec::new(alloc),
-    };
-    for name in names {
-        steps.push(name)?;
-    }
-    Ok(Turned {
-        rule,
-        case,
-        steps,
-        is_of_call: false,
-        id,
-    })
-}
-
-/// All faults of a document that the engine reads as it is, in the order of the rules, and for each rule in that of the document; of
-/// very many the first 10,000.
-pub fn faults_of_document(alloc: Global, document: &Value) -> Result<Vec<Fault>, AllocError> {
-    let context = context_of(alloc, document)?;
-    let owners = BTreeMap::new(alloc);
-    let mut teller = Teller::new(alloc, &context, &owners, false);
-    let mut faults = Vec::new(alloc);
-    for find in finds_in(alloc, &context, document)? {
-        if faults.len() == MOST_FAULTS {
-            break;
-        }
-        let kind = kind_of(&context, find.element);
-        let turned = as_found(alloc, &context, find)?;
-        faults.push(teller.fault(turned, kind)?)?;
-    }
-    Ok(faults)
 }
 
 // The fault of a document that is longer than it may be.
@@ -144,6 +98,7 @@ fn alone(alloc: Global, fault: Fault) -> Result<Vec<Fault>, AllocError> {
 /// made stands behind what is given. `general` are the options of the call. Of very many faults it gives the first 10,000.
 pub fn faults_of_call<'a>(
     alloc: Global,
+    table: &'a OptionTable,
     document: &'a Value,
     graph: &'a Value,
     owners: &'a BTreeMap<String, Value>,
@@ -152,7 +107,7 @@ pub fn faults_of_call<'a>(
     if let Some(fault) = length_fault(alloc, document)? {
         return alone(alloc, fault);
     }
-    let context = context_of(alloc, document)?;
+    let context = context_of(alloc, table, document)?;
     let finds = finds_in(alloc, &context, document)?;
     let mut told = Told {
         faults: Vec::new(alloc),
@@ -160,9 +115,9 @@ pub fn faults_of_call<'a>(
         has_made: has_made(alloc, &context, graph, owners)?,
     };
     let mut teller = Teller::new(alloc, &context, owners, told.has_made);
-    let mut origin = Origin::of(alloc, graph, owners, general);
+    let mut origin = Origin::of(alloc, table, graph, owners, general);
     if finds.iter().any(is_crossing) {
-        origin.levels = Some(levels_of(alloc, graph, general)?);
+        origin.levels = Some(levels_of(alloc, table, graph, general)?);
     }
     for find in finds {
         if told.faults.len() == MOST_FAULTS {

@@ -11,6 +11,6 @@ mod origin;
 mod rules;
 mod texts;
 
-pub use calls::{faults_of_call, faults_of_document};
+pub use calls::faults_of_call;
 pub use fault::{Fault, fault_value};
 pub use texts::{nested_fault, text_fault};

@@ -4,6 +4,7 @@ use crate::across::Levels;
 use crate::details::Turned;
 use graph_rules::{Case, Context, End, Find, is_same, key_of};
 use json_places::{Kind, Step, carried_key, copied, general_key, steps_to, value_at};
+use option_names::OptionTable;
 use serde_json::Value;
 use std::alloc::{AllocError, Global};
 use std::collections::BTreeMap;
@@ -11,6 +12,7 @@ use std::collections::BTreeMap;
 // A graph for which a document is sent.
 #[derive(Drop)]
 pub(crate) struct Origin<'g> {
+    table: &'g OptionTable,
     pub(crate) graph: &'g Value,
     pub(crate) owners: &'g BTreeMap<String, Value>,
     pub(crate) general: &'g Value,
@@ -53,7 +55,7 @@ fn id_at<'a>(context: &Context<'a>, number: usize) -> Option<&'a Value> {
 }
 
 // The id of what is found.
-pub(crate) fn own_id(context: &Context, find: &Find) -> Result<Option<Value>, AllocError> {
+fn own_id(context: &Context, find: &Find) -> Result<Option<Value>, AllocError> {
     match find.element {
         Some(number) if !is_nowhere(find.rule) => match id_at(context, number) {
             Some(id) => Ok(Some(id.clone()?)),
@@ -176,11 +178,13 @@ pub(crate) fn owner_in<'g>(
 impl<'g> Origin<'g> {
     pub(crate) fn of(
         alloc: Global,
+        table: &'g OptionTable,
         graph: &'g Value,
         owners: &'g BTreeMap<String, Value>,
         general: &'g Value,
     ) -> Origin<'g> {
         Origin {
+            table,
             graph,
             owners,
             general,
@@ -234,7 +238,7 @@ impl<'g> Origin<'g> {
 
     // The step to an option of the call.
     fn asked_step(&self, alloc: Global, name: &str, sent: &[Step]) -> Result<Step, AllocError> {
-        match general_key(self.general, name) {
+        match general_key(self.table, self.general, name) {
             Some((key, _)) => Step::named(alloc, key),
             None => Step::named(alloc, last_name(sent)),
         }
@@ -254,7 +258,7 @@ impl<'g> Origin<'g> {
             made_of: _,
         } = place;
         let carried = match value_at(self.graph, owner.as_slice()) {
-            Some(element) => carried_key(element, name),
+            Some(element) => carried_key(self.table, element, name),
             None => None,
         };
         if let Some(carried) = carried {

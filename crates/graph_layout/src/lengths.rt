@@ -1,7 +1,7 @@
 //! Spacings and paddings that are fractions. They are rounded up as sizes are, so that everything has the room that was asked for.
 
 use graph_draft::{Draft, Element, How, Options, number_value, read, rounded_up};
-use option_names::{Description, Kind, described_as, is_read, is_taken, name_of};
+use option_names::{Description, Kind, OptionTable};
 use serde_json::value::Map;
 use serde_json::{Number, Value};
 use std::alloc::{AllocError, Global};
@@ -87,6 +87,7 @@ fn whole_number(number: &Number) -> Option<Value> {
 
 fn rounded_in(
     alloc: Global,
+    table: &OptionTable,
     option: &Description,
     value: &Value,
 ) -> Result<Option<Value>, AllocError> {
@@ -95,7 +96,7 @@ fn rounded_in(
         Value::String(text) => text.as_str(),
         _ => return Ok(None),
     };
-    if is_taken(option, value) {
+    if table.is_taken(option, value) {
         return Ok(None);
     }
     let whole = if option.kind == Kind::Padding {
@@ -113,18 +114,19 @@ fn rounded_in(
 /// option is another one.
 pub(crate) fn whole_length(
     alloc: Global,
+    table: &OptionTable,
     name: &str,
     value: &Value,
 ) -> Result<Option<Value>, AllocError> {
-    let Some(option) = described_as(name) else {
+    let Some(option) = table.described_as(name) else {
         return Ok(None);
     };
-    if !is_read(name) || !is_length(option) {
+    if !table.is_read(name) || !is_length(option) {
         return Ok(None);
     }
-    match rounded_in(alloc, option, value)? {
+    match rounded_in(alloc, table, option, value)? {
         Some(whole) => {
-            if is_taken(option, &whole) {
+            if table.is_taken(option, &whole) {
                 Ok(Some(whole))
             } else {
                 Ok(None)
@@ -135,11 +137,15 @@ pub(crate) fn whole_length(
 }
 
 // The options that are to be rounded, with their new values.
-fn lengths_in(alloc: Global, options: &Options) -> Result<Vec<(&'static str, Value)>, AllocError> {
+fn lengths_in(
+    alloc: Global,
+    table: &OptionTable,
+    options: &Options,
+) -> Result<Vec<(&'static str, Value)>, AllocError> {
     let mut found = Vec::new(alloc);
     for name in options.names(alloc)? {
         if let Some(value) = options.get(name) {
-            if let Some(whole) = whole_length(alloc, name, value)? {
+            if let Some(whole) = whole_length(alloc, table, name, value)? {
                 found.push((name, whole))?;
             }
         }
@@ -161,7 +167,7 @@ fn ask_all(
 fn ask_of_nodes(alloc: Global, draft: &mut Draft) -> Result<(), AllocError> {
     for at in 0..draft.nodes.len() {
         let found = match draft.nodes.get(at) {
-            Some(node) => lengths_in(alloc, &node.options)?,
+            Some(node) => lengths_in(alloc, &draft.table, &node.options)?,
             None => Vec::new(alloc),
         };
         ask_all(draft, Element::Node(at), found)?;
@@ -172,7 +178,7 @@ fn ask_of_nodes(alloc: Global, draft: &mut Draft) -> Result<(), AllocError> {
 fn ask_of_ports(alloc: Global, draft: &mut Draft) -> Result<(), AllocError> {
     for at in 0..draft.ports.len() {
         let found = match draft.ports.get(at) {
-            Some(port) => lengths_in(alloc, &port.options)?,
+            Some(port) => lengths_in(alloc, &draft.table, &port.options)?,
             None => Vec::new(alloc),
         };
         ask_all(draft, Element::Port(at), found)?;
@@ -183,7 +189,7 @@ fn ask_of_ports(alloc: Global, draft: &mut Draft) -> Result<(), AllocError> {
 fn ask_of_edges(alloc: Global, draft: &mut Draft) -> Result<(), AllocError> {
     for at in 0..draft.edges.len() {
         let found = match draft.edges.get(at) {
-            Some(edge) => lengths_in(alloc, &edge.options)?,
+            Some(edge) => lengths_in(alloc, &draft.table, &edge.options)?,
             None => Vec::new(alloc),
         };
         ask_all(draft, Element::Edge(at), found)?;
@@ -219,12 +225,13 @@ pub(crate) fn read_whole(
 
 fn whole_members(
     alloc: Global,
+    table: &OptionTable,
     members: &Map<String, Value>,
 ) -> Result<Map<String, Value>, AllocError> {
     let mut all = Map::new(alloc);
     for (key, value) in members.iter() {
-        let whole = match name_of(key.as_str()) {
-            Some(name) => whole_length(alloc, name, value)?,
+        let whole = match table.name_of(key.as_str()) {
+            Some(name) => whole_length(alloc, table, name, value)?,
             None => None,
         };
         let value = match whole {
@@ -237,9 +244,13 @@ fn whole_members(
 }
 
 /// The options of a call, an object of names and values, with whole spacings and paddings. Whatever else is given stays as it is.
-pub fn whole_options(alloc: Global, given: &Value) -> Result<Value, AllocError> {
+pub fn whole_options(
+    alloc: Global,
+    table: &OptionTable,
+    given: &Value,
+) -> Result<Value, AllocError> {
     match given {
-        Value::Object(members) => Ok(Value::Object(whole_members(alloc, members)?)),
+        Value::Object(members) => Ok(Value::Object(whole_members(alloc, table, members)?)),
         _ => given.clone(),
     }
 }

@@ -2,7 +2,7 @@
 
 use crate::lengths::whole_length;
 use graph_draft::{How, Options};
-use option_names::{PREFIX, Role, is_read, is_read_by, is_spelling, prefix_in, stand_ins};
+use option_names::{PREFIX, Role, is_spelling, prefix_in, stand_ins};
 use serde_json::value::Map;
 use serde_json::{Value, put};
 use std::alloc::{AllocError, Global};
@@ -17,7 +17,7 @@ fn own_length(
     name: &'static str,
 ) -> Result<Option<Value>, AllocError> {
     match own.get(name) {
-        Some(value) if how.whole => whole_length(alloc, name, value),
+        Some(value) if how.whole => whole_length(alloc, &how.table, name, value),
         _ => Ok(None),
     }
 }
@@ -58,7 +58,7 @@ fn put_general(
     role: Role,
 ) -> Result<(), AllocError> {
     for name in how.general.names(alloc)? {
-        if own.get(name).is_none() && is_read_by(name, role) {
+        if own.get(name).is_none() && how.table.is_read_by(name, role) {
             put_option(sent, alloc, PREFIX, name, how.general.get(name))?;
         }
     }
@@ -73,7 +73,7 @@ fn put_own(
     given: &Value,
 ) -> Result<(), AllocError> {
     for name in own.names(alloc)? {
-        if is_read(name) {
+        if how.table.is_read(name) {
             let prefix = prefix_of(given, name);
             match own_length(alloc, own, how, name)? {
                 Some(whole) => put_option(sent, alloc, prefix, name, Some(&whole))?,
@@ -137,7 +137,7 @@ pub(crate) fn rename_options(
         }
     }
     let given = Value::Object(given);
-    let own = Options::carried_by(alloc, &given)?;
+    let own = Options::carried_by(alloc, &how.table, &given)?;
     let mut sent = Map::new(alloc);
     put_general(&mut sent, alloc, &own, how, role)?;
     put_own(&mut sent, alloc, &own, how, &given)?;

@@ -3,7 +3,7 @@
 use crate::context::Context;
 use crate::finds::{Case, Find, Side};
 use json_places::{Element, Kind, Step};
-use option_names::{Description, Role, algorithm_named, is_read_by, is_taken, options};
+use option_names::{Description, OptionTable, Role};
 use serde_json::Value;
 use serde_json::value::Map;
 use std::alloc::{AllocError, Global};
@@ -98,12 +98,12 @@ impl<'a> Asked<'a> {
     }
 
     // Takes what an option says.
-    fn take(&mut self, name: &str, key: &'a str, value: &Value) {
+    fn take(&mut self, table: &OptionTable, name: &str, key: &'a str, value: &Value) {
         let text = value.as_str().unwrap_or("");
         match name {
             "portConstraints" => self.is_fixed = text.eq_ignore_ascii_case("FIXED_POS"),
             "port.side" => self.side = side_named(value),
-            "algorithm" if algorithm_named(text) == Some("box") => self.boxes = Some(key),
+            "algorithm" if table.algorithm_named(text) == Some("box") => self.boxes = Some(key),
             _ => {}
         }
     }
@@ -111,15 +111,16 @@ impl<'a> Asked<'a> {
     fn read(
         &mut self,
         alloc: Global,
+        table: &OptionTable,
         given: &'a Map<String, Value>,
         role: Role,
     ) -> Result<(), AllocError> {
         let spelled = spelled_in(alloc, given)?;
-        for option in options() {
+        for option in table.options() {
             let found = spelled.get(option.name).copied();
             if let Some((key, value)) = found {
-                if !is_read_by(option.name, role) {} else if is_taken(option, value) {
-                    self.take(option.name, key, value);
+                if !table.is_read_by(option.name, role) {} else if table.is_taken(option, value) {
+                    self.take(table, option.name, key, value);
                 } else {
                     self.bad.push(Bad { option, key, value })?;
                 }
@@ -130,11 +131,15 @@ impl<'a> Asked<'a> {
 }
 
 // The options that an element reads.
-pub(crate) fn asked_by<'a>(alloc: Global, element: &Element<'a>) -> Result<Asked<'a>, AllocError> {
+pub(crate) fn asked_by<'a>(
+    alloc: Global,
+    table: &OptionTable,
+    element: &Element<'a>,
+) -> Result<Asked<'a>, AllocError> {
     let mut asked = Asked::none(alloc);
     if let Some(Value::Object(given)) = element.value.get("layoutOptions") {
         if !given.is_empty() {
-            asked.read(alloc, given, role_of(element))?;
+            asked.read(alloc, table, given, role_of(element))?;
         }
     }
     Ok(asked)

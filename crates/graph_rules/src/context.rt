@@ -4,6 +4,7 @@ use crate::asked::{Asked, asked_by};
 use crate::finds::End;
 use crate::ids::{Key, is_id, key_of};
 use json_places::{Element, Kind, elements_of};
+use option_names::OptionTable;
 use serde_json::Value;
 use std::alloc::{AllocError, Global};
 use std::collections::BTreeMap;
@@ -74,9 +75,9 @@ fn is_formed(edge: &Value) -> bool {
 
 impl<'a> Context<'a> {
     // Enters the elements with their options and their ids.
-    fn enter(&mut self, alloc: Global) -> Result<(), AllocError> {
+    fn enter(&mut self, alloc: Global, table: &OptionTable) -> Result<(), AllocError> {
         for (number, element) in self.elements.iter().enumerate() {
-            self.asked.push(asked_by(alloc, element)?)?;
+            self.asked.push(asked_by(alloc, table, element)?)?;
             if let Some(key) = key_of(element.value.get("id")) {
                 if element.kind == Kind::Edge {
                     if self.edges.get(&key).is_none() {
@@ -225,7 +226,11 @@ impl<'a> Context<'a> {
 }
 
 /// What the rules look at in a document.
-pub fn context_of(alloc: Global, document: &Value) -> Result<Context<'_>, AllocError> {
+pub fn context_of<'a>(
+    alloc: Global,
+    table: &OptionTable,
+    document: &'a Value,
+) -> Result<Context<'a>, AllocError> {
     let mut context = Context {
         elements: elements_of(alloc, document)?,
         asked: Vec::new(alloc),
@@ -234,7 +239,7 @@ pub fn context_of(alloc: Global, document: &Value) -> Result<Context<'_>, AllocE
         edges: BTreeMap::new(alloc),
         joins: Vec::new(alloc),
     };
-    context.enter(alloc)?;
+    context.enter(alloc, table)?;
     let joins = context.joins(alloc)?;
     context.joins = joins;
     Ok(context)

@@ -1,11 +1,16 @@
 //! What elements ask for.
 
 use json_places::{carried_key, general_key};
+use option_names::OptionTable;
 use serde_json::Value;
 
 /// What an element asks for by an option: in its `layoutOptions`, or else in its `properties`.
-pub(crate) fn asked_by<'a>(element: &'a Value, name: &str) -> Option<&'a Value> {
-    match carried_key(element, name) {
+pub(crate) fn asked_by<'a>(
+    table: &OptionTable,
+    element: &'a Value,
+    name: &str,
+) -> Option<&'a Value> {
+    match carried_key(table, element, name) {
         Some(carried) => Some(carried.value),
         None => None,
     }
@@ -13,14 +18,15 @@ pub(crate) fn asked_by<'a>(element: &'a Value, name: &str) -> Option<&'a Value> 
 
 /// What an element asks for by an option, or else what the call asks of all.
 pub(crate) fn asked_at<'a>(
+    table: &OptionTable,
     element: &'a Value,
     general: &'a Value,
     name: &str,
 ) -> Option<&'a Value> {
-    match asked_by(element, name) {
+    match asked_by(table, element, name) {
         Some(value) => Some(value),
         None => {
-            let (_, value) = general_key(general, name)?;
+            let (_, value) = general_key(table, general, name)?;
             Some(value)
         }
     }

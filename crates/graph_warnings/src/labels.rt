@@ -3,6 +3,7 @@
 use crate::asked::{asked_at, asked_by, has_name};
 use json_places::{Element, Kind};
 use letter_widths::{letter_size, width_of};
+use option_names::OptionTable;
 use serde_json::{Number, Value};
 use std::alloc::{AllocError, Global};
 
@@ -38,14 +39,15 @@ fn width_of_label(label: &Value) -> f64 {
 
 // What a label, its node or the call asks for.
 fn asked<'a>(
+    table: &OptionTable,
     label: &'a Value,
     node: &'a Value,
     general: &'a Value,
     name: &str,
 ) -> Option<&'a Value> {
-    match asked_by(label, name) {
+    match asked_by(table, label, name) {
         Some(value) => Some(value),
-        None => asked_at(node, general, name),
+        None => asked_at(table, node, general, name),
     }
 }
 
@@ -70,15 +72,20 @@ pub(crate) fn inner_labels<'a>(
 }
 
 /// The width of a label that is wider than its node, which doesn't grow for it.
-pub(crate) fn excess(label: &Value, node: &Value, general: &Value) -> Option<Number> {
-    let placement = asked(label, node, general, "nodeLabels.placement");
+pub(crate) fn excess(
+    table: &OptionTable,
+    label: &Value,
+    node: &Value,
+    general: &Value,
+) -> Option<Number> {
+    let placement = asked(table, label, node, general, "nodeLabels.placement");
     if !label.is_object() || !has_name(placement, "INSIDE") {
         return None;
     }
     let width = width_of_label(label);
     let room = node.get("width").and_then(Value::as_f64).unwrap_or(0.0);
     let grows = has_name(
-        asked_at(node, general, "nodeSize.constraints"),
+        asked_at(table, node, general, "nodeSize.constraints"),
         "NODE_LABELS",
     );
     if width > room && !grows {

@@ -2,10 +2,7 @@
 
 use crate::warning::Said;
 use json_places::quoted;
-use option_names::{
-    Description, Kind, Role, described_as, instead_of, is_read, meanings, nearest, nearest_key,
-    plain_text, prefix_in,
-};
+use option_names::{Description, Kind, OptionTable, Role, nearest, plain_text, prefix_in};
 use serde_json::Value;
 use std::alloc::{AllocError, Global};
 
@@ -77,29 +74,34 @@ fn unclear(alloc: Global, names: &[&str]) -> Result<Said, AllocError> {
 }
 
 // A key that means no one option.
-fn unknown(alloc: Global, key: &str, names: &[&str]) -> Result<Said, AllocError> {
+fn unknown(
+    alloc: Global,
+    table: &OptionTable,
+    key: &str,
+    names: &[&str],
+) -> Result<Said, AllocError> {
     if names.len() > 1 {
         return unclear(alloc, names);
     }
     let bare = key.strip_prefix(prefix_in(key)).unwrap_or(key);
-    let several = meanings(bare);
+    let several = table.meanings(bare);
     if several.len() > 1 {
         return unclear(alloc, several);
     }
     Ok(Said {
         kind: "unknownOption",
         words: String::from_str(alloc, "is not an option of ELK")?,
-        near: nearest_key(alloc, key)?,
+        near: table.nearest_key(alloc, key)?,
         option: None,
     })
 }
 
-fn foreign(alloc: Global, name: &'static str) -> Result<Said, AllocError> {
+fn foreign(alloc: Global, table: &OptionTable, name: &'static str) -> Result<Said, AllocError> {
     let mut words = String::from_str(
         alloc,
         "has no effect, since this engine does not have this option of ELK",
     )?;
-    if let Some(instead) = instead_of(name) {
+    if let Some(instead) = table.instead_of(name) {
         words.push_str(": ")?;
         words.push_str(instead)?;
     }
@@ -202,23 +204,24 @@ fn wrong_value(
 /// What keeps an option from its effect; nothing where it has one.
 pub(crate) fn option_said(
     alloc: Global,
+    table: &OptionTable,
     key: &str,
     value: &Value,
     place: Place,
 ) -> Result<Option<Said>, AllocError> {
-    let names = meanings(key);
+    let names = table.meanings(key);
     let name = match names {
         [name] => *name,
-        _ => return Ok(Some(unknown(alloc, key, names)?)),
+        _ => return Ok(Some(unknown(alloc, table, key, names)?)),
     };
-    let option = match described_as(name) {
+    let option = match table.described_as(name) {
         Some(option) => option,
-        None => return Ok(Some(foreign(alloc, name)?)),
+        None => return Ok(Some(foreign(alloc, table, name)?)),
     };
     if !option.readers.iter().any(|role| place.has(*role)) {
         return Ok(Some(misplaced(alloc, option, place)?));
     }
-    if is_read(name) {
+    if table.is_read(name) {
         return Ok(None);
     }
     wrong_value(alloc, option, value)

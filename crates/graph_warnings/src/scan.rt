@@ -5,7 +5,7 @@ use crate::members::meant_by;
 use crate::options::{Place, option_said};
 use crate::warning::{Said, Spot, Warning, warning_at};
 use json_places::{Element, Kind, Step, copied, elements_of, steps_to, value_text};
-use option_names::plain_number;
+use option_names::{OptionTable, plain_number};
 use serde_json::Value;
 use serde_json::value::Map;
 use std::alloc::{AllocError, Global};
@@ -25,6 +25,7 @@ fn place_of(kind: Kind) -> Place {
 #[derive(Drop)]
 struct Scan<'a> {
     alloc: Global,
+    table: &'a OptionTable,
     general: &'a Value,
     warnings: Vec<Warning>,
 }
@@ -72,7 +73,7 @@ impl<'a> Scan<'a> {
         value: &Value,
     ) -> Result<(), AllocError> {
         let alloc = self.alloc;
-        let Some(said) = option_said(alloc, key, value, holding.place)? else {
+        let Some(said) = option_said(alloc, self.table, key, value, holding.place)? else {
             return Ok(());
         };
         // Properties may well be an editor's own, where they look like no option.
@@ -159,7 +160,7 @@ impl<'a> Scan<'a> {
     ) -> Result<(), AllocError> {
         let alloc = self.alloc;
         for (at, label) in inner_labels(alloc, element)?.iter().enumerate() {
-            let Some(width) = excess(*label, element.value, self.general) else {
+            let Some(width) = excess(self.table, *label, element.value, self.general) else {
                 continue;
             };
             let found = plain_number(alloc, &width)?;
@@ -216,12 +217,14 @@ impl<'a> Scan<'a> {
 /// warnings it gives the first 10,000.
 pub fn warnings_of(
     alloc: Global,
+    table: &OptionTable,
     graph: &Value,
     general: &Value,
 ) -> Result<Vec<Warning>, AllocError> {
     let elements = elements_of(alloc, graph)?;
     let mut scan = Scan {
         alloc,
+        table,
         general,
         warnings: Vec::new(alloc),
     };

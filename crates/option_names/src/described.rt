@@ -1,6 +1,4 @@
-//! What is known of each option that is read.
-
-use crate::table::{BY_NAME, DESCRIBED, INSTEAD, OWN};
+//! What is known of an option that is read.
 
 /// What reads an option: a level (the root, or a node with children), any node, a port, an edge, a label.
 #[derive(Clone, Copy, Drop, PartialEq, Eq)]
@@ -50,52 +48,4 @@ pub struct Description {
     /// The bounds of numbers.
     pub low: i64,
     pub high: i64,
-}
-
-fn place_of(name: &str) -> Option<usize> {
-    match BY_NAME.binary_search_by(|(it, _)| (*it).cmp(&name)) {
-        Ok(at) => BY_NAME.get(at).map(|(_, place)| *place),
-        Err(_) => None,
-    }
-}
-
-/// The options that the engine reads, in the order of the format's table.
-pub fn options() -> &'static [Description] {
-    match DESCRIBED.split_at_checked(OWN) {
-        Some((own, _)) => own,
-        None => &[],
-    }
-}
-
-/// What is known of an option that the engine or the shell reads, by its name.
-pub fn described_as(name: &str) -> Option<&'static Description> {
-    DESCRIBED.get(place_of(name)?)
-}
-
-/// Whether the engine reads an option.
-pub fn is_read(name: &str) -> bool {
-    match place_of(name) {
-        Some(place) => place < OWN,
-        None => false,
-    }
-}
-
-/// Whether the engine reads an option at an element of a role. Levels are nodes too.
-pub fn is_read_by(name: &str, role: Role) -> bool {
-    if !is_read(name) {
-        return false;
-    }
-    match described_as(name) {
-        Some(option) => option.readers.iter().any(|it| *it == role
-            || (role == Role::Level && *it == Role::Node)),
-        None => false,
-    }
-}
-
-/// What is done in place of an option of ELK that nothing reads, where that is known.
-pub fn instead_of(name: &str) -> Option<&'static str> {
-    match INSTEAD.binary_search_by(|(it, _)| (*it).cmp(&name)) {
-        Ok(at) => INSTEAD.get(at).map(|(_, words)| *words),
-        Err(_) => None,
-    }
 }

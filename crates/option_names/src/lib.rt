@@ -2,9 +2,8 @@
 //! by another value, and which options stand for options of ELK.
 #![tactic(auto)]
 
-mod clear_keys;
 mod described;
-mod endings;
+mod given;
 mod meaning;
 mod near;
 mod plain;
@@ -12,11 +11,10 @@ mod standing;
 mod table;
 mod values;
 
-pub use described::{
-    Description, Kind, Role, described_as, instead_of, is_read, is_read_by, options,
-};
-pub use meaning::{PREFIX, is_spelling, meanings, name_of, prefix_in};
-pub use near::{nearest, nearest_key};
+pub use described::{Description, Kind, Role};
+pub use meaning::{PREFIX, is_spelling, prefix_in};
+pub use near::nearest;
 pub use plain::{number_in, plain_number, plain_text};
 pub use standing::stand_ins;
-pub use values::{algorithm_named, is_taken, near_value};
+pub use table::{Endings, MOST_PARTS, OptionTable};
+pub use values::near_value;

@@ -1,7 +1,7 @@
 //! Options of the engine that stand for options of ELK, and what is asked for where a level says nothing.
 
+use crate::given::PLACED_UP_TO;
 use crate::plain::{number_in, plain_text};
-use crate::table::PLACED_UP_TO;
 use serde_json::{Number, Value};
 use std::alloc::{AllocError, Global};
 

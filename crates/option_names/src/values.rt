@@ -1,8 +1,9 @@
 //! Which values an option takes, and what was meant by one that it does not take.
 
 use crate::described::{Description, Kind};
+use crate::given::FOUND_PREFIXES;
 use crate::near::nearest;
-use crate::table::{DESCRIBED, FOUND_PREFIXES};
+use crate::table::OptionTable;
 use serde_json::{Number, Value};
 use std::alloc::{AllocError, Global};
 
@@ -116,42 +117,44 @@ fn are_sides(option: &Description, inside: &str) -> bool {
     true
 }
 
-/// The algorithm that a text names, with a prefix or without.
-pub fn algorithm_named(text: &str) -> Option<&'static str> {
-    let option = DESCRIBED.first()?;
-    option
-        .values
-        .iter()
-        .find(|name| {
-            FOUND_PREFIXES
-                .iter()
-                .any(|prefix| text.strip_prefix(*prefix) == Some(**name))
-        })
-        .copied()
-}
-
-fn is_text_taken(option: &Description, text: &str) -> bool {
-    match option.kind {
-        Kind::Algorithm => algorithm_named(text).is_some(),
-        Kind::Word | Kind::Flag => is_among(option.values, text),
-        Kind::Padding => is_padding(option, text),
-        _ => false,
+impl OptionTable {
+    /// The algorithm that a text names, with a prefix or without.
+    pub fn algorithm_named(&self, text: &str) -> Option<&'static str> {
+        let option = self.described.first()?;
+        option
+            .values
+            .iter()
+            .find(|name| {
+                FOUND_PREFIXES
+                    .iter()
+                    .any(|prefix| text.strip_prefix(*prefix) == Some(**name))
+            })
+            .copied()
     }
-}
 
-/// Whether an option of the engine takes a value.
-pub fn is_taken(option: &Description, value: &Value) -> bool {
-    match value {
-        Value::Bool(_) => option.kind == Kind::Flag,
-        Value::Number(_) => option.kind == Kind::Whole && is_whole_in(option, value),
-        Value::String(text) => {
-            if option.kind == Kind::Whole {
-                is_whole_in(option, value)
-            } else {
-                is_text_taken(option, text.as_str())
-            }
+    fn is_text_taken(&self, option: &Description, text: &str) -> bool {
+        match option.kind {
+            Kind::Algorithm => self.algorithm_named(text).is_some(),
+            Kind::Word | Kind::Flag => is_among(option.values, text),
+            Kind::Padding => is_padding(option, text),
+            _ => false,
         }
-        _ => false,
+    }
+
+    /// Whether an option of the engine takes a value.
+    pub fn is_taken(&self, option: &Description, value: &Value) -> bool {
+        match value {
+            Value::Bool(_) => option.kind == Kind::Flag,
+            Value::Number(_) => option.kind == Kind::Whole && is_whole_in(option, value),
+            Value::String(text) => {
+                if option.kind == Kind::Whole {
+                    is_whole_in(option, value)
+                } else {
+                    self.is_text_taken(option, text.as_str())
+                }
+            }
+            _ => false,
+        }
     }
 }
 

@@ -3,6 +3,7 @@
 use border_levels::{Crossing, Dock, Model, PieceEnd, model_of};
 use edge_labels::Spot;
 use graph_draft::{How, Options, Side};
+use option_table::known_options;
 use serde_json::Value;
 use std::alloc::{AllocError, Global};
 use std::test::Fail;
@@ -12,6 +13,7 @@ fn model_in(alloc: Global, text: &str) -> Result<Option<Model>, AllocError> {
         return Ok(None);
     };
     let how = How {
+        table: known_options(),
         whole: true,
         general: Options::none(alloc),
     };

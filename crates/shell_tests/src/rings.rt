@@ -4,6 +4,7 @@ use border_levels::{Model, model_of};
 use border_ring::{Bounds, Content, Led, Room, Title, led_on, moved_titles, slide_titles};
 use graph_draft::{Direction, How, Options, Point, Size};
 use label_room::Padding;
+use option_table::known_options;
 use serde_json::Value;
 use std::alloc::{AllocError, Global};
 use std::test::Fail;
@@ -35,6 +36,7 @@ const NO_PADDING: Padding = Padding {
 
 fn model_in(alloc: Global, text: &str) -> Result<Model, Fail> {
     let how = How {
+        table: known_options(),
         whole: true,
         general: Options::none(alloc),
     };

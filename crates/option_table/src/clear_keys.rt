@@ -1,5 +1,7 @@
 //! What a key may be, to mean one option. `tools/tables` makes this file from data/options.json of the package for JavaScript.
 
+use option_names::MOST_PARTS;
+
 // Some keys that mean one option. The options that the engine reads come first.
 pub(crate) static KEYS_0: [&str; 140] = [
     "algorithm",
@@ -680,17 +682,16 @@ fn keys_4() -> &'static [&'static str] {
     KEYS_4.as_slice()
 }
 
-// So many parts have the keys that mean one option.
-pub(crate) const KEY_PARTS: usize = 5;
-
-// A part of the keys that mean one option.
-pub(crate) fn keys_in(part: usize) -> &'static [&'static str] {
-    match part {
-        0 => keys_0(),
-        1 => keys_1(),
-        2 => keys_2(),
-        3 => keys_3(),
-        4 => keys_4(),
-        _ => &[],
-    }
+// The keys that mean one option.
+pub(crate) fn clear_keys() -> [&'static [&'static str]; MOST_PARTS] {
+    [
+        keys_0(),
+        keys_1(),
+        keys_2(),
+        keys_3(),
+        keys_4(),
+        &[],
+        &[],
+        &[],
+    ]
 }

@@ -1,5 +1,7 @@
 //! The endings of names of options. `tools/tables` makes this file from data/options.json of the package for JavaScript.
 
+use option_names::{Endings, MOST_PARTS};
+
 // Some endings of names in order. Those that several names have stand as often.
 pub(crate) static ENDINGS_0: [&str; 140] = [
     "activate",
@@ -289,7 +291,10 @@ pub(crate) static ENDED_0: [&str; 140] = [
 ];
 
 fn part_0() -> Endings {
-    (ENDINGS_0.as_slice(), ENDED_0.as_slice())
+    Endings {
+        endings: ENDINGS_0.as_slice(),
+        names: ENDED_0.as_slice(),
+    }
 }
 
 // Some endings of names in order. Those that several names have stand as often.
@@ -581,7 +586,10 @@ pub(crate) static ENDED_1: [&str; 140] = [
 ];
 
 fn part_1() -> Endings {
-    (ENDINGS_1.as_slice(), ENDED_1.as_slice())
+    Endings {
+        endings: ENDINGS_1.as_slice(),
+        names: ENDED_1.as_slice(),
+    }
 }
 
 // Some endings of names in order. Those that several names have stand as often.
@@ -873,7 +881,10 @@ pub(crate) static ENDED_2: [&str; 140] = [
 ];
 
 fn part_2() -> Endings {
-    (ENDINGS_2.as_slice(), ENDED_2.as_slice())
+    Endings {
+        endings: ENDINGS_2.as_slice(),
+        names: ENDED_2.as_slice(),
+    }
 }
 
 // Some endings of names in order. Those that several names have stand as often.
@@ -1165,7 +1176,10 @@ pub(crate) static ENDED_3: [&str; 140] = [
 ];
 
 fn part_3() -> Endings {
-    (ENDINGS_3.as_slice(), ENDED_3.as_slice())
+    Endings {
+        endings: ENDINGS_3.as_slice(),
+        names: ENDED_3.as_slice(),
+    }
 }
 
 // Some endings of names in order. Those that several names have stand as often.
@@ -1415,23 +1429,29 @@ pub(crate) static ENDED_4: [&str; 119] = [
 ];
 
 fn part_4() -> Endings {
-    (ENDINGS_4.as_slice(), ENDED_4.as_slice())
+    Endings {
+        endings: ENDINGS_4.as_slice(),
+        names: ENDED_4.as_slice(),
+    }
 }
 
-// Endings of names in order, and the names that end so.
-pub(crate) type Endings = (&'static [&'static str], &'static [&'static str]);
-
-// The endings among which one stands.
-pub(crate) fn endings_around(ending: &str) -> Endings {
-    if ending < "edgeLabels.centerLabelPlacementStrategy" {
-        part_0()
-    } else if ending < "layered.crossingMinimization.semiInteractive" {
-        part_1()
-    } else if ending < "nodePlacement.bk.edgeStraightening" {
-        part_2()
-    } else if ending < "sizeApproximator" {
-        part_3()
-    } else {
-        part_4()
+fn no_part() -> Endings {
+    Endings {
+        endings: &[],
+        names: &[],
     }
+}
+
+// The endings of all names.
+pub(crate) fn endings() -> [Endings; MOST_PARTS] {
+    [
+        part_0(),
+        part_1(),
+        part_2(),
+        part_3(),
+        part_4(),
+        no_part(),
+        no_part(),
+        no_part(),
+    ]
 }
