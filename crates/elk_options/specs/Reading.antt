@@ -1,6 +1,6 @@
 -- The options of an element.
-use Rattle.std.specs.Prelude.{◌≡◌, ℕ, List, [], ◌∷◌, ◌++◌, Bool, true, false, not, ◌&&◌, is_some, find, Option, Some, None, option_map}
-use Rattle.std.specs.Prelude.{unwrap_or, ℤ, pos, ◌≤ℤ◌, nat_abs, Result, MatchResult}
+use Rattle.std.specs.Prelude.{◌≡◌, ℕ, List, [], ◌∷◌, ◌++◌, map, Bool, true, false, not, ◌&&◌, is_some, find, Option, Some, None, option_map}
+use Rattle.std.specs.Prelude.{unwrap_or, ℤ, pos, nat_abs, Result, MatchResult}
 use Rattle.std.specs.Option.{option_map_or, option_and_then}
 use Rattle.std.specs.Int.{int_max}
 use Rattle.serde_json.specs.Data.{Data}
@@ -13,8 +13,8 @@ use Rattle.elk_doc.specs.declared.document.Choices.{Choices}
 use Rattle.elk_doc.specs.declared.document.Padding.{Padding}
 use Rattle.elk_doc.specs.declared.document.Spacing.{Spacing}
 use Rattle.elk_doc.specs.declared.document.LevelOptions.{LevelOptions}
-use Rattle.level_choices.specs.Numbers.{choices_with}
-use Rattle.level_choices.specs.declared.numbers.RowOrder.TheVariants as order
+use Rattle.level_choices.specs.declared.choices.Choice.{Choice}
+use Rattle.level_choices.specs.Choices.{all_choices, choices_with, form_of}
 use Rattle.elk_options.specs.declared.names.OptionName.{OptionName}
 use Rattle.elk_options.specs.declared.names.OptionName.TheVariants as name
 use Rattle.elk_options.specs.declared.options.Role.{Role}
@@ -29,7 +29,7 @@ use Rattle.serde_json.specs.View.{view}
 use Rattle.serde_json.specs.declared.value.Value.{Value}
 use Rattle.elk_options.specs.Names.{asked, or_empty}
 use Rattle.elk_options.specs.Table.{to_boxes, to_direction, to_rule, to_side, to_index, to_routing, to_padding, to_distance, to_sweep}
-use Rattle.elk_options.specs.Table.{to_shortness, to_truth, to_placing, to_slots, to_effort, to_order, to_straightness, to_position}
+use Rattle.elk_options.specs.Table.{to_shortness, to_truth, to_placing, to_slots, to_number, to_position}
 
 unfoldable pub front_names : List OptionName
 front_names = name.Algorithm ∷ name.Direction ∷ name.PortConstraints ∷ name.EdgeRouting ∷ name.Padding ∷ []
@@ -42,7 +42,7 @@ back_names = name.FixedAlignment ∷ name.SeparateParts ∷ name.ComponentCompon
 
 -- what a level chooses, and the position of its node
 unfoldable pub choice_names : List OptionName
-choice_names = name.Slots ∷ name.Effort ∷ name.Order ∷ name.Straightness ∷ name.Position ∷ []
+choice_names = name.Slots ∷ (map name.Choice all_choices ++ (name.Position ∷ []))
 
 -- the options that are read in a role, in order
 abbrev pub names_of : Role → List OptionName
@@ -72,9 +72,7 @@ is_valued name.SeparateParts d = is_some (to_truth d)
 is_valued name.ComponentComponent d = is_some (to_distance d)
 is_valued name.NodePlacement d = is_some (to_placing d)
 is_valued name.Slots d = is_some (to_slots d)
-is_valued name.Effort d = is_some (to_effort d)
-is_valued name.Order d = is_some (to_order d)
-is_valued name.Straightness d = is_some (to_straightness d)
+is_valued (name.Choice choice) d = is_some (to_number (form_of choice) d)
 is_valued name.Position d = is_some (to_position d)
 
 -- the option is there, with a value outside its table
@@ -106,25 +104,16 @@ spacing_of d = record {
 abbrev pub usual_padding : Padding
 usual_padding = record { top = pos 12; left = pos 12; bottom = pos 12; right = pos 12 }
 
--- the effort, or 0 for what is usual
-unfoldable pub effort_of : Data → ℕ
-effort_of d = nat_abs (value_or to_effort (pos 0) name.Effort d)
-
--- the straightness, or 0 for what is usual
-unfoldable pub straightness_of : Data → ℕ
-straightness_of d = nat_abs (value_or to_straightness (pos 0) name.Straightness d)
+-- the number of a choice, or 0 where it is not asked
+unfoldable pub number_of : Data → Choice → ℕ
+number_of d choice = value_or (to_number (form_of choice)) 0 (name.Choice choice) d
 
 -- the position of a node, which it has where one is given
 unfoldable pub position_of : Data → Option ℤ
 position_of d = value_or to_position None name.Position d
 
 unfoldable pub choices_of : Data → Choices
-choices_of d =
-    choices_with
-    (value_or to_slots slotting.Fewest name.Slots d)
-    (value_or to_order order.Swept name.Order d)
-    (effort_of d)
-    (straightness_of d)
+choices_of d = choices_with (value_or to_slots slotting.Fewest name.Slots d) (number_of d)
 
 unfoldable pub rule_of : Data → PortRule
 rule_of d = value_or to_rule rule.Free name.PortConstraints d
@@ -208,11 +197,3 @@ Reads option d value r =
 -- the options that are handed in
 abbrev pub given : Option (Bor Value) → Data
 given o = or_empty (option_map (λ v. view v.now) o)
-
--- a factor on the work of the search for orders, or 0 for what is usual
-abbrev pub IsFactor : ℤ → Type 0
-IsFactor n = (pos 0 ≤ℤ n) × (n ≤ℤ pos 1000)
-
--- a weight of links that alignment keeps straight, or 0 for what is usual
-abbrev pub IsStraightness : ℤ → Type 0
-IsStraightness n = (pos 0 ≤ℤ n) × (n ≤ℤ pos 64)

@@ -1,6 +1,6 @@
 -- The values of each option, and its default.
 use Rattle.std.specs.Prelude.{ℕ, ◌-◌, ◌^◌, List, Bool, true, false, ◌||◌, bytes_eq, codes, if◌then◌else◌, Option, Some, None}
-use Rattle.std.specs.Prelude.{option_and_then, option_map, ℤ, pos, neg_ℤ}
+use Rattle.std.specs.Prelude.{find, option_and_then, option_map, ℤ, pos, neg_ℤ, nat_abs}
 use Rattle.std.specs.Option.{option_or}
 use Rattle.serde_json.specs.Data.{Data}
 use Rattle.serde_json.specs.Find.{as_bool, as_str}
@@ -16,8 +16,7 @@ use Rattle.elk_doc.specs.declared.document.Placing.{Placing}
 use Rattle.elk_doc.specs.declared.document.Placing.TheVariants as placing
 use Rattle.elk_doc.specs.declared.document.Slotting.{Slotting}
 use Rattle.elk_doc.specs.declared.document.Slotting.TheVariants as slotting
-use Rattle.level_choices.specs.declared.numbers.RowOrder.{RowOrder}
-use Rattle.level_choices.specs.declared.numbers.RowOrder.TheVariants as order
+use Rattle.level_choices.specs.Choices.{Form, Words, Whole}
 use Rattle.elk_doc.specs.declared.document.Padding.{Padding}
 use Rattle.elk_options.specs.Values.{says, whole_within}
 use Rattle.elk_options.specs.PaddingText.{padding_text}
@@ -83,10 +82,9 @@ abbrev pub slots_text : List ℕ → Option Slotting
 slots_text s =
     if says (codes "FEWEST") s then Some slotting.Fewest else (if says (codes "UNCROSSED") s then Some slotting.Uncrossed else None)
 
-abbrev pub order_text : List ℕ → Option RowOrder
-order_text s =
-    if says (codes "SWEPT") s then Some order.Swept
-    else (if says (codes "DOCUMENT") s then Some order.Document else (if says (codes "KEPT") s then Some order.Kept else None))
+-- the number of the first of these words that the text is
+abbrev pub word_number : List (List ℕ × ℕ) → List ℕ → Option ℕ
+word_number words s = option_map (λ word. word.1) (find (λ word. says word.0 s) words)
 
 -- ---- values
 
@@ -130,15 +128,11 @@ to_placing d = option_and_then placing_text (as_str d)
 abbrev pub to_slots : Data → Option Slotting
 to_slots d = option_and_then slots_text (as_str d)
 
-abbrev pub to_effort : Data → Option ℤ
-to_effort d = whole_within (pos 1) (pos 1000) d
-
-abbrev pub to_straightness : Data → Option ℤ
-to_straightness d = whole_within (pos 1) (pos 64) d
+-- the number of a choice with such values
+abbrev pub to_number : Form → Data → Option ℕ
+to_number (Words words) d = option_and_then (word_number words) (as_str d)
+to_number (Whole low high) d = option_map nat_abs (whole_within (pos low) (pos high) d)
 
 -- a position is there where it is given
 abbrev pub to_position : Data → Option (Option ℤ)
 to_position d = option_map Some (whole_within (neg_ℤ (pos (2 ^ 31))) (pos (2 ^ 31 - 1)) d)
-
-abbrev pub to_order : Data → Option RowOrder
-to_order d = option_and_then order_text (as_str d)

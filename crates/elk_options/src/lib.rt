@@ -3,6 +3,7 @@
 
 pub mod laws;
 pub mod names;
+mod numbers;
 pub mod options;
 mod padding;
 mod readers;

@@ -3,11 +3,11 @@ ghost use Rattle.std.specs.Prelude.{◌≡◌, Some, None, MatchResult};
 ghost use Rattle.elk_options.specs.Reading.{given, front_names, front_of, spacing_names, spacing_of, back_names, back_of, choice_names, chosen_of, names_of, level_from, usual_options, first_bad, options_of, ReadsAll};
 
 use crate::names::OptionName;
+use crate::numbers::numbers;
 use crate::readers;
 use drawing_types::shape::Side;
 use drawing_types::sweep::Sweep;
 use elk_doc::document::{Choices, Direction, LevelOptions, Padding, Placing, PortRule, Spacing};
-use level_choices::choices_with;
 use serde_json::Value;
 
 /// What an element is to its options: a compound node, a leaf, a port or an edge.
@@ -120,12 +120,10 @@ fn chosen(options: Option<&Value>) -> Result<ChosenValues, BadValue>
     ensures { ReadsAll choice_names (given options.entry) (chosen_of (given options.entry)) result }
 {
     let slots = readers::slots(options)?;
-    let effort = readers::effort(options)?;
-    let order = readers::order(options)?;
-    let straightness = readers::straightness(options)?;
+    let numbers = numbers(options)?;
     let position = readers::position(options)?;
     Ok(ChosenValues {
-        choices: choices_with(slots, order, effort, straightness),
+        choices: Choices { slots, numbers },
         position,
     })
 }
@@ -224,7 +222,7 @@ fn edge_options(options: Option<&Value>) -> Result<Options, BadValue>
 /// effective, at least 1, in document units; a level of boxes is never split.
 ///
 /// Proved:
-/// - Options are read by their table; the longest spelling counts. The engine's own options are among them: slots, effort, order, straightness and position.
+/// - Options are read by their table; the longest spelling counts. The engine's own options are among them: slots, position and the choices in the table of level_choices.
 /// - The first option whose value is not in the table is named.
 #[tactic(auto, unfolding(crate::specs::Reading::first_bad))]
 pub fn read_options(options: Option<&Value>, role: Role) -> Result<Options, BadValue>

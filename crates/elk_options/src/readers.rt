@@ -6,27 +6,24 @@ ghost use Rattle.serde_json.specs.View.{view};
 ghost use Rattle.elk_doc.specs.declared.document.Direction.TheVariants as direction;
 ghost use Rattle.elk_doc.specs.declared.document.Placing.TheVariants as placing;
 ghost use Rattle.elk_doc.specs.declared.document.Slotting.TheVariants as slotting;
-ghost use Rattle.level_choices.specs.declared.numbers.RowOrder.TheVariants as order;
 ghost use Rattle.elk_options.specs.declared.names.OptionName.TheVariants as name;
-ghost use Rattle.elk_options.specs.Table.{to_boxes, to_direction, to_side, to_index, to_routing, to_padding, to_distance, to_sweep, to_shortness, to_truth, to_placing, to_slots, to_effort, to_order, to_straightness, to_position};
-ghost use Rattle.elk_options.specs.Reading.{given, rule_of, value_or, distance_or, effort_of, straightness_of, position_of, usual_padding, IsFactor, IsStraightness, Reads};
+ghost use Rattle.elk_options.specs.Table.{to_boxes, to_direction, to_side, to_index, to_routing, to_padding, to_distance, to_sweep, to_shortness, to_truth, to_placing, to_slots, to_position};
+ghost use Rattle.elk_options.specs.Reading.{given, rule_of, value_or, distance_or, position_of, usual_padding, Reads};
 
 use crate::names::{OptionName, asked_of};
 use crate::options::BadValue;
 use crate::padding::read_padding;
 use crate::texts::{
-    boxes_of, direction_of, order_of, placing_of, routing_of, rule_of, side_of, slots_of, sweep_of,
-    truth_of,
+    boxes_of, direction_of, placing_of, routing_of, rule_of, side_of, slots_of, sweep_of, truth_of,
 };
 use crate::values::whole_in;
 use drawing_types::shape::Side;
 use drawing_types::sweep::Sweep;
 use elk_doc::document::{Direction, Padding, Placing, PortRule, Slotting};
-use level_choices::RowOrder;
 use serde_json::Value;
 
 // The value, or the default where the option is not there.
-fn settled<T: Drop>(
+pub(crate) fn settled<T: Drop>(
     is_there: bool,
     value: Option<T>,
     default: T,
@@ -302,63 +299,6 @@ pub(crate) fn slots(options: Option<&Value>) -> Result<Slotting, BadValue>
     let asked = asked_of(options, OptionName::Slots);
     let value = asked.and_then(Value::as_str).and_then(slots_of);
     settled(asked.is_some(), value, Slotting::Fewest, OptionName::Slots)
-}
-
-#[tactic(auto, unfolding(crate::specs::Reading::is_bad))]
-pub(crate) fn order(options: Option<&Value>) -> Result<RowOrder, BadValue>
-    ensures { Reads name.Order (given options.entry) (value_or to_order order.Swept name.Order (given options.entry)) result }
-{
-    let asked = asked_of(options, OptionName::Order);
-    let value = asked.and_then(Value::as_str).and_then(order_of);
-    settled(asked.is_some(), value, RowOrder::Swept, OptionName::Order)
-}
-
-fn factor_of(value: &Value) -> Option<i64>
-    ensures { result ≡ to_effort (view value.now) }
-{
-    whole_in(value, 1, 1000)
-}
-
-#[tactic(auto, unfolding(crate::specs::Reading::is_bad))]
-fn factor(options: Option<&Value>) -> Result<i64, BadValue>
-    ensures reads { Reads name.Effort (given options.entry) (value_or to_effort (pos 0) name.Effort (given options.entry)) result }
-    ensures within { IfOk result (λ n. IsFactor n) }
-{
-    let asked = asked_of(options, OptionName::Effort);
-    let value = asked.and_then(factor_of);
-    settled(asked.is_some(), value, 0, OptionName::Effort)
-}
-
-#[tactic(auto, unfolding(crate::specs::Reading::effort_of))]
-pub(crate) fn effort(options: Option<&Value>) -> Result<u32, BadValue>
-    ensures { Reads name.Effort (given options.entry) (effort_of (given options.entry)) result }
-{
-    let factor = factor(options)?;
-    Ok(factor as u32)
-}
-
-fn straightness_from(value: &Value) -> Option<i64>
-    ensures { result ≡ to_straightness (view value.now) }
-{
-    whole_in(value, 1, 64)
-}
-
-#[tactic(auto, unfolding(crate::specs::Reading::is_bad))]
-fn straightness_asked(options: Option<&Value>) -> Result<i64, BadValue>
-    ensures reads { Reads name.Straightness (given options.entry) (value_or to_straightness (pos 0) name.Straightness (given options.entry)) result }
-    ensures within { IfOk result (λ n. IsStraightness n) }
-{
-    let asked = asked_of(options, OptionName::Straightness);
-    let value = asked.and_then(straightness_from);
-    settled(asked.is_some(), value, 0, OptionName::Straightness)
-}
-
-#[tactic(auto, unfolding(crate::specs::Reading::straightness_of))]
-pub(crate) fn straightness(options: Option<&Value>) -> Result<u32, BadValue>
-    ensures { Reads name.Straightness (given options.entry) (straightness_of (given options.entry)) result }
-{
-    let straightness = straightness_asked(options)?;
-    Ok(straightness as u32)
 }
 
 fn position_from(value: &Value) -> Option<Option<i64>>

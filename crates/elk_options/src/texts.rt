@@ -1,12 +1,11 @@
 //! Texts of options.
 ghost use Rattle.std.specs.Prelude.{◌≡◌, bytes_eq};
-ghost use Rattle.elk_options.specs.Table.{boxes_text, direction_text, rule_text, side_text, routing_text, sweep_text, truth_text, placing_text, slots_text, order_text};
+ghost use Rattle.elk_options.specs.Table.{boxes_text, direction_text, rule_text, side_text, routing_text, sweep_text, truth_text, placing_text, slots_text};
 
 use crate::values::is_word;
 use drawing_types::shape::Side;
 use drawing_types::sweep::Sweep;
 use elk_doc::document::{Direction, Placing, PortRule, Slotting};
-use level_choices::RowOrder;
 
 fn is_text(text: &str, word: &str) -> bool
     ensures { result ≡ bytes_eq text.now word.now }
@@ -145,20 +144,6 @@ pub(crate) fn slots_of(text: &str) -> Option<Slotting>
         Some(Slotting::Fewest)
     } else if is_word(text, "UNCROSSED") {
         Some(Slotting::Uncrossed)
-    } else {
-        None
-    }
-}
-
-pub(crate) fn order_of(text: &str) -> Option<RowOrder>
-    ensures { result ≡ order_text text.now }
-{
-    if is_word(text, "SWEPT") {
-        Some(RowOrder::Swept)
-    } else if is_word(text, "DOCUMENT") {
-        Some(RowOrder::Document)
-    } else if is_word(text, "KEPT") {
-        Some(RowOrder::Kept)
     } else {
         None
     }

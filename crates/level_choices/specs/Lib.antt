@@ -1,2 +1,2 @@
--- What the numbers of a level's choices mean.
-pub mod Numbers
+-- The choices of a level.
+pub mod Choices

@@ -14,7 +14,7 @@ use Rattle.elk_layers.specs.Sweeps.{Ends, backward_sweep, far_count, far_sum, fo
 use Rattle.cross_reduce.specs.Reduced.{after_pair, after_pairs, after_row, after_rows, again, at_rest, AtMostOf, FewerThan, IsExchangedFromFewest, IsFirstOfFewest, IsReduced, SettlesTo}
 use Rattle.cross_reduce.specs.Held.{NoBetterFreeSwap}
 use Rattle.layer_units.specs.Fitted.{AreKept}
-use Rattle.level_choices.specs.Numbers.{order_of}
+use Rattle.level_choices.specs.Choices.{order_of}
 use Rattle.level_model.specs.Level.{PlainLevel}
 use Rattle.level_layout.specs.Chosen.{AreChosenRows, IsHeldOrder, held_keys, key_for}
 

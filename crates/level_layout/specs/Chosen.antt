@@ -2,9 +2,9 @@
 use Rattle.std.specs.Prelude.{◌≡◌, ℕ, List, ℤ, pos, map, min, Option, None, Some, option_and_then}
 use Rattle.elk_doc.specs.declared.document.Placing.{Placing}
 use Rattle.elk_doc.specs.declared.document.Placing.TheVariants.{BrandesKoepf, NetworkSimplex}
-use Rattle.level_choices.specs.Numbers.{order_of, straightness_of}
-use Rattle.level_choices.specs.declared.numbers.RowOrder.{RowOrder}
-use Rattle.level_choices.specs.declared.numbers.RowOrder.TheVariants.{Document, Kept, Swept}
+use Rattle.level_choices.specs.Choices.{order_of, straightness_of}
+use Rattle.level_choices.specs.declared.choices.RowOrder.{RowOrder}
+use Rattle.level_choices.specs.declared.choices.RowOrder.TheVariants.{Document, Kept, Swept}
 use Rattle.drawing_types.specs.declared.sweep.Sweep.{Sweep}
 use Rattle.elk_layers.specs.declared.units.Unit.{Unit as LayerUnit}
 use Rattle.elk_layers.specs.Layered.{Plain}

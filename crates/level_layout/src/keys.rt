@@ -1,7 +1,7 @@
 //! The keys by which the children of a layer are held.
 ghost use Rattle.std.specs.Prelude.{◌≡◌, ◌↔◌, map, IfOk, IsNone, IsTrue};
 ghost use Rattle.std.specs.List.{All};
-ghost use Rattle.level_choices.specs.Numbers.{order_of};
+ghost use Rattle.level_choices.specs.Choices.{order_of};
 ghost use Rattle.level_model.specs.Conditions.{plain_level};
 ghost use Rattle.level_model.specs.Level.{child_at};
 ghost use Rattle.level_layout.specs.Chosen.{key_for, unit_key};
