@@ -89,7 +89,8 @@ fn column_of(
     })
 }
 
-// How far the labels of a loop may reach beyond the two ends of a side: in its middle, or beyond its last line.
+// How far the labels of a loop may reach beyond the two ends of a side: in its middle, or, where others have lines there, at the loop
+// or behind the last line.
 fn overhangs(
     alloc: Global,
     draft: &Draft,
@@ -100,24 +101,28 @@ fn overhangs(
     let (node, side) = (column.node, column.side);
     let length = side.along(label.size);
     let is_alone = label.foreign.is_empty();
+    let half = (length / 2.0).ceil();
     if draft.is_level(node) {
-        let half = (length / 2.0).ceil();
-        return Ok(if is_alone {
-            (half, half)
-        } else {
-            (0.0, length + column.beside)
-        });
+        return Ok((
+            half,
+            if is_alone {
+                half
+            } else {
+                length + column.beside
+            },
+        ));
     }
     let spots = spots_at(alloc, draft, node, side, docks)?;
     let first = spots.first().copied().unwrap_or(0.0);
     let last = spots.last().copied().unwrap_or(0.0);
-    let from = if is_alone {
-        ((first + last - length) / 2.0).floor()
+    let middle = ((first + last - length) / 2.0).floor();
+    let (from, to) = if is_alone {
+        (middle, middle + length)
     } else {
-        last + column.beside
+        (first - half, last + column.beside + length)
     };
     let room = side.along(draft.size_of(Element::Node(node)));
-    Ok((-from, from + length - room))
+    Ok((-from, to - room))
 }
 
 // Asks for the room of a loop's labels beyond a side, behind those that stand there already.
